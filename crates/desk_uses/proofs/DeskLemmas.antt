@@ -40,7 +40,7 @@ use Rattle.desk_run.specs.laws.Step.{own_stays}
 use Rattle.desk_uses.specs.Desks.{IsListed, IsPlanned, rows_in}
 
 -- what is said in what is told, if something is
-abbrev said_of : Told → ReplyParts
+abbrev pub said_of : Told → ReplyParts
 said_of (replied reply) = reply
 said_of Told.unknown_operator = said.ready
 said_of Told.no_such_plan = said.ready

@@ -1,5 +1,9 @@
 -- What an operator may rely on at a desk.
-use Rattle.std.specs.Prelude.{◌≡◌, ◌≢◌, [], List, map, Option, Some, None, IsSomeAnd}
+use Rattle.std.specs.Prelude.{◌≡◌, ◌≢◌, ℕ, [], List, map, Option, Some, None, IsSomeAnd, true}
+use Rattle.volume4d.specs.Point.{Point}
+use Rattle.volume4d.specs.Volume.{area_has}
+use Rattle.desk_rules.specs.Conflict.{at_least}
+use Rattle.desk_rules.specs.Permission.{least_blocking}
 use Rattle.desk_rules.specs.declared.plan.PlanRow.{PlanRow}
 use Rattle.desk_rules.specs.declared.plan.PutCall.{PutCall}
 use Rattle.desk_rules.specs.declared.reply.PutReply.{PutReply}
@@ -9,7 +13,7 @@ use Rattle.desk_rules.specs.Replies as said
 use Rattle.desk_rules.specs.Replies.{ReplyParts}
 use Rattle.desk_rules.specs.Terms.{no_terms}
 use Rattle.desk_store.specs.World.{stored_of}
-use Rattle.desk_run.specs.DeskWorld.{DeskWorld}
+use Rattle.desk_run.specs.DeskWorld.{DeskWorld, held_in}
 use Rattle.desk_run.specs.Verdicts.{row_asked}
 
 -- a desk of no operators and no plans, at which no priority is permitted
@@ -45,3 +49,11 @@ IsPlanned reply = IsSomeAnd (given_in reply) LeavesPlan
 -- the plan that is asked for is listed
 abbrev pub IsListed : PutCall → ReplyParts → Type 0
 IsListed asked reply = stored_of asked.id (rows_in reply) ≡ Some (row_asked asked)
+
+-- at each point of the area that is asked for, what others hold in two worlds is the same so far as it could
+-- block the plan: plans of lower priority don't count
+abbrev pub BlockAlike : List ℕ → PutCall → DeskWorld → DeskWorld → Type 0
+BlockAlike operator asked v w =
+    let least = least_blocking w.terms.permitted asked.priority in
+    (x : Point) → area_has asked.area x ≡ true
+    → at_least least (held_in v operator x) ≡ at_least least (held_in w operator x)

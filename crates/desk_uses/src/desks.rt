@@ -5,8 +5,9 @@ ghost use Rattle.desk_rules.specs.Replies.{said_in};
 ghost use Rattle.desk_store.specs.StoreFaults.{IsHonest};
 ghost use Rattle.desk_run.specs.DeskWorld.{enrolled, world_of};
 ghost use Rattle.desk_run.specs.Sides.{HoldAlike, OwnAlike};
-ghost use Rattle.desk_uses.specs.Desks.{IsListed, IsPlanned, new_world};
+ghost use Rattle.desk_uses.specs.Desks.{BlockAlike, IsListed, IsPlanned, new_world};
 
+use desk_rules::laws::{conflict_is_found, one_conflict};
 use desk_rules::operator::Operator;
 use desk_rules::plan::PutCall;
 use desk_rules::words::Style;
@@ -101,4 +102,33 @@ pub fn ask_both<S: PlanStore, T: PlanStore>(
 {
     let told = one.call(alloc, moment, asked)?;
     Ok((told, other.call(alloc, moment, asked)?))
+}
+
+/// Asks for one plan at two desks. If the operator owns the same at both, and others hold the same where the
+/// plan lies so far as it could block the plan, it is told the same: plans of lower priority don't count.
+///
+/// # Errors
+///
+/// Those of `Desk::call`.
+pub fn plan_at_both<S: PlanStore, T: PlanStore>(
+    alloc: Global,
+    one: &mut Desk<S>,
+    other: &mut Desk<T>,
+    moment: i64,
+    operator: Operator,
+    asked: PutCall,
+) -> Result<(Reply, Reply), DeskFault>
+    ensures { IsHonest (S.doubt one.new.store) → IsHonest (T.doubt other.new.store) →
+        OwnAlike operator (world_of S.content one.old) (world_of T.content other.old) →
+        BlockAlike operator asked (world_of S.content one.old) (world_of T.content other.old) →
+        IfOk result (λ replies. said_in replies.0 ≡ said_in replies.1) }
+{
+    one_conflict();
+    conflict_is_found();
+    let put = Asked {
+        operator,
+        call: Call::Put(asked),
+    };
+    let told = one.call(alloc, moment, &put)?;
+    Ok((told, other.call(alloc, moment, &put)?))
 }

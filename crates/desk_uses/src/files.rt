@@ -5,32 +5,39 @@ ghost use Rattle.sqlite_wal.specs.Reads.{AreClean};
 ghost use Rattle.sqlite.specs.Closing.{IsCopied};
 ghost use Rattle.desk_store.specs.World.{World};
 ghost use Rattle.desk_tables.specs.Copying.{ShowsContent};
-ghost use Rattle.desk_tables.specs.Files.{no_files};
-ghost use Rattle.desk_uses.specs.Files.{HoldDesk};
+ghost use Rattle.desk_tables.specs.Files.{OpensIn, no_files};
 
+use desk_run::Desk;
 use desk_tables::{OpenFault, SqliteStore, look_into};
 use sqlite::{Connection, FileFrom, FileStore, Files, Unknown};
 use sqlite_disk::Disk;
 use sqlite_trees::store::Alter;
 use std::alloc::Global;
 
-/// Opens the desk in the files at a path, or makes a new one there, and closes it: the database file alone is
-/// the desk then.
+/// A desk over files.
+pub type FileDesk<D> = Desk<SqliteStore<FileStore<D>>>;
+
+/// Opens the desk in the files at a path, or makes a new one there.
 ///
 /// # Errors
 ///
-/// Why the files can't be opened, or `Store` if the log can't be copied into the database file.
-pub fn open_and_close(rt: &HostRuntime, path: &str) -> Result<Files<FileFrom<Unknown>>, OpenFault>
-    ensures { IfOk result (HoldDesk no_files) }
+/// Why the files can't be opened, or are no desk's.
+pub fn open_desk(rt: &HostRuntime, path: &str) -> Result<FileDesk<FileFrom<Unknown>>, OpenFault>
+    ensures { IfOk result (λ desk. OpensIn no_files desk.store.held desk.store.world) }
 {
     match SqliteStore::open(rt, path) {
-        Ok(store) => close(store),
+        Ok(store) => Ok(Desk::new(store)),
         Err(refused) => Err(refused.fault),
     }
 }
 
-// Closes the files of a store, on whatever disk they are.
-fn close<D: Disk + Drop>(store: SqliteStore<FileStore<D>>) -> Result<Files<D>, OpenFault>
+/// Closes the store of a desk over files, as `into_store` gives it: if the disk returned what was written, the
+/// database file alone is the desk then.
+///
+/// # Errors
+///
+/// `Store` if the log can't be copied into the database file.
+pub fn close_store<D: Disk + Drop>(store: SqliteStore<FileStore<D>>) -> Result<Files<D>, OpenFault>
     ensures { IfOk result (λ files. AreClean D.Disk files.log files.db → IsCopied store.held files) }
 {
     store.close().map_err(|_| OpenFault::Store)
