@@ -148,14 +148,16 @@ pub same_plan_reply :
     → told_to w o moment (call.Put asked) ≡ replied other → one ≡ other
 unfolding held_at
 same_plan_reply one_is found v w o moment asked own_same block_same told too =
-    ap said_of (sym told ∙ told_is v o moment asked ∙ sides ∙ spots ∙ sym (told_is w o moment asked) ∙ too) where
+    ap said_of
+    (sym told ∙ told_is v o moment asked ∙ sides ∙ spots ∙ sym (told_is w o moment asked) ∙ too) where
       mine : Side
       mine = side w o
 
       spot : (Point → Option ℕ) → Option Spot
       spot others = conflict_by mine others asked
 
-      sides : told_by (side v o) (conflict_by (side v o) (held_in v o) asked) moment asked (side v o).own.ceiling
+      sides :
+          told_by (side v o) (conflict_by (side v o) (held_in v o) asked) moment asked (side v o).own.ceiling
           ≡ told_by mine (spot (held_in v o)) moment asked mine.own.ceiling
       sides = λ i. told_by (own_same i) (conflict_by (own_same i) (held_in v o) asked) moment asked
           (own_same i).own.ceiling
