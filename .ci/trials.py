@@ -73,7 +73,6 @@ class Room:
             kept = TOP / "crates" / one / "out"
             if kept.is_dir():
                 link_tree(kept, self.room / "clone" / "crates" / one / "out")
-        shutil.rmtree(self.folder / "must-fail", ignore_errors=True)
 
     def close(self) -> None:
         """Removes the clone."""
@@ -84,7 +83,7 @@ class Room:
 
         A library that was built here has that done, and `rt lib` says so at once."""
         library = self.folder / "out" / "rlib" / f"{self.crate}.rlib"
-        told = self.run("lib") if library.is_file() else self.check(edits)
+        told = self.run("lib") if library.exists() else self.check(edits)
         if not told.is_proved:
             raise SystemExit(f"audit: {self.crate} is not proved as it stands:\n{told.words[-2000:]}")
 

@@ -3,6 +3,7 @@
 ghost use Rattle.std.specs.Prelude.{◌≡◌, IfErr, IfOk};
 ghost use Rattle.std.specs.Option.{IsSomeAnd};
 ghost use Rattle.sqlite_wal.specs.Files.{image_at};
+ghost use Rattle.desk_line.specs.Exits.{failure_word};
 ghost use Rattle.uss_desk.specs.Opening as spec;
 ghost use Rattle.uss_desk.specs.Opening.{IsBlank, IsMemory, IsMovedAt, IsMovedIn, IsOpenedAt, IsOpenedFor};
 ghost use Rattle.uss_desk.specs.Opening.{IsOpenedIn, IsUnreadFor};
@@ -248,4 +249,11 @@ pub fn open_failure(fault: &OpenFault) -> Failure
         OpenFault::NotADesk => Failure::NotADesk,
         OpenFault::OldSchema => Failure::OldSchema,
     }
+}
+
+/// The word that the program prints if a database can't be opened.
+pub fn open_word(fault: &OpenFault) -> &'static str
+    ensures { result.now ≡ failure_word (spec.open_failure fault.now) }
+{
+    open_failure(fault).word()
 }

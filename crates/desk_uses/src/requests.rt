@@ -1,0 +1,50 @@
+//! Requests as bytes, and the answers to them.
+
+ghost use Rattle.std.specs.Prelude.{◌≡◌, All, IfOk, Ok, map};
+ghost use Rattle.desk_reading.specs.Readings.{GivesIfRoom, or_met};
+ghost use Rattle.desk_reading.specs.Requests.{asked};
+ghost use Rattle.desk_run.specs.DeskWorld.{enrolled};
+ghost use Rattle.desk_ends.specs.Moments.{IsMoment};
+ghost use Rattle.desk_wire.specs.AllAnswers.{answers_to};
+ghost use Rattle.desk_uses.specs.Desks.{new_world};
+
+use crate::desks::desk_for;
+use desk_reading::{ReadError, read_request};
+use desk_rules::operator::Operator;
+use desk_run::DeskFault;
+use desk_wire::{Answers, AnswersEnd, answer_all};
+use std::alloc::Global;
+
+/// The operator that the bytes of a whole request name.
+///
+/// # Errors
+///
+/// `OutOfMemory`, or the first fault of the request.
+pub fn sender_of(alloc: Global, request: &[u8]) -> Result<Operator, ReadError>
+    ensures { GivesIfRoom (λ operator. operator) result
+        (or_met (asked request.now) (λ read. Ok read.operator)) }
+{
+    Ok(read_request(alloc, request)?.operator)
+}
+
+/// The answers of a new desk with one operator to requests, each with its moment: if all are answered, they
+/// are decided by the requests alone.
+///
+/// # Errors
+///
+/// `Ceiling` if the ceiling is above 1,000, `OutOfMemory` if memory runs out.
+pub fn answers_at_new_desk(
+    alloc: Global,
+    operator: &Operator,
+    ceiling: u32,
+    requests: &[(i64, Vec<u8>)],
+) -> Result<Answers, DeskFault>
+    requires { All (λ request. IsMoment request.0) requests.now }
+    ensures { IfOk result (λ given. given.ended ≡ AnswersEnd.All →
+        map (λ answer. answer.items) given.answers.items
+        ≡ answers_to (enrolled new_world operator.now ceiling)
+        (map (λ request. (request.0, request.1.items)) requests.now)) }
+{
+    let mut desk = desk_for(alloc, operator, ceiling)?;
+    answer_all(alloc, &mut desk, requests).map_err(|_| DeskFault::OutOfMemory)
+}
