@@ -2,7 +2,7 @@
 use Rattle.std.proofs.Common.{◌≡◌, ℕ, ℤ, Bool, true, false, not, cond, List, [], ◌∷◌, ◌++◌, map, append-nil, Option, Some, None, refl, sym, ap, subst, ◌∙◌, Less, Equal, Greater}
 use Rattle.std.specs.Prelude.{is_some, ⊤}
 use Rattle.std.specs.List.{filter, list_any}
-use Rattle.std.specs.Ordering.{is_eq, is_lt, is_gt, match_ordering}
+use Rattle.std.specs.Ordering.{is_lt, is_gt, match_ordering}
 use Rattle.std.specs.declared.cmp.Ordering.{Ordering}
 use Rattle.std.specs.Cmp.Lexicographic.{nat_list_cmp_total}
 use Rattle.std.proofs.lemmas.Cmp.{tied_itself}
@@ -34,7 +34,7 @@ use Rattle.desk_store.specs.World.{Filed, Listed, Own, World, own, text_cmp, has
 use Rattle.desk_store.specs.Changes.{put_row, closed, close_row, filed_by, is_before, is_after, replaced, with_plans, list_operator, with_operator}
 use Rattle.desk_store.specs.laws.World.{own_replaced}
 use Rattle.desk_run.specs.DeskWorld.{DeskWorld, enrolled, held_in}
-use Rattle.desk_run.specs.Verdicts.{put_outcome, plans_left, put_ruling, row_asked, delete_ruling, show_ruling, clear_ruling, is_in, enrolled_ruling, ruling_under, verdict, world_with_plans, ruling_in, step}
+use Rattle.desk_run.specs.Verdicts.{put_outcome, plans_left, row_asked, delete_ruling, show_ruling, clear_ruling, is_in, enrolled_ruling, ruling_under, verdict, world_with_plans, ruling_in, step}
 
 -- ---- the changes of rows
 
