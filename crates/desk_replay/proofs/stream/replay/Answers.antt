@@ -1,0 +1,38 @@
+use Rattle.std.proofs.Common.{sym, subst, arith}
+use Rattle.desk_store.specs.StoreFaults.{IsHonest}
+use Rattle.desk_store.specs.laws.Fault.{was_honest}
+use Rattle.desk_run.specs.DeskWorld.{world_of}
+use Rattle.desk_replay.specs.Running.{ArePlayed}
+use Rattle.desk_replay.proofs.RunLemmas.{no_more, none_played, one_more}
+use Rattle.desk_replay.proofs.stream.replay.Goals as goal
+
+pub loop-init : goal.loop-init
+loop-init g c =
+    let w = world_of g.S.PlanStore.content c.args.desk.now in
+    record {
+      played = subst (ArePlayed _ _ _ w) (sym (c.none-progress.ensures w)) (none_played _ _ w);
+      doubt = omega arith;
+      counted = omega arith;
+      shield = λ s. s;
+    }
+
+pub loop-preserved : goal.loop-preserved
+loop-preserved g c = record {
+  played = one_more _ _ _ _ _ _ (was_honest c.replay_one.ensures.remembered.doubt) c.loop.invariant.played
+      c.in_default.ensures.steps;
+  doubt = omega (arith, c.loop.invariant.doubt, c.replay_one.ensures.remembered.doubt);
+  counted = omega (arith, c.loop.invariant.counted, c.replay_one.ensures.remembered.counted);
+  shield = λ s. c.replay_one.ensures.remembered.shield (c.loop.invariant.shield s);
+}
+
+pub returns-in-Err-clause-played : goal.returns-in-Err-clause-played
+returns-in-Err-clause-played g c =
+    no_more _ _ _ _ _ _ _ _ (was_honest c.replay_one.ensures.remembered.doubt) c.loop.invariant.played
+    c.in-Err.ensures.steps
+
+pub returns-in-Err-clause-remembered : goal.returns-in-Err-clause-remembered
+returns-in-Err-clause-remembered g c = record {
+  doubt = omega (arith, c.loop.invariant.doubt, c.replay_one.ensures.remembered.doubt);
+  counted = omega (arith, c.loop.invariant.counted, c.replay_one.ensures.remembered.counted);
+  shield = λ s. c.replay_one.ensures.remembered.shield (c.loop.invariant.shield s);
+}

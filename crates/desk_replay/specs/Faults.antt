@@ -1,0 +1,12 @@
+-- Faults of a desk, as a replay hands them on.
+use Rattle.desk_run.specs.declared.fault.DeskFault.{DeskFault}
+use Rattle.desk_run.specs.declared.fault.DeskFault.TheVariants as desk
+use Rattle.desk_replay.specs.declared.fault.ReplayFault.{ReplayFault}
+use Rattle.desk_replay.specs.declared.fault.ReplayFault.TheVariants.{OutOfMemory, Store, NoRecord}
+
+abbrev pub fault_of : DeskFault → ReplayFault
+fault_of desk.OutOfMemory = OutOfMemory
+fault_of desk.Store = Store
+fault_of desk.UnknownOperator = NoRecord
+fault_of desk.NoSuchPlan = NoRecord
+fault_of desk.Ceiling = NoRecord

@@ -1,0 +1,4 @@
+pub mod Faults
+pub mod Replaying
+pub mod Running
+pub mod Written

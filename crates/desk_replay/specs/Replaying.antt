@@ -1,0 +1,245 @@
+-- Replaying: records played at a desk's world, entry by entry (docs/RECORD.md).
+use Rattle.std.specs.Prelude.{◌≡◌, ◌⊎◌, ⊤, ℕ, ℤ, pos, ◌+◌, ◌==◌, min, length, is_none, nat_le, nat_lt, ◌^◌, ◌-◌, List, [], ◌∷◌, ◌++◌, Bool, true, false, not, ◌&&◌, ◌||◌, if◌then◌else◌, Option, Some, None, Result, Ok, Err, codes}
+use Rattle.std.specs.Str.{bytes_eq}
+use Rattle.desk_rules.specs.Limits.{max_priority, max_spans}
+use Rattle.desk_rules.specs.Name.{is_operator_name}
+use Rattle.desk_rules.specs.Permission.{permitted_in}
+use Rattle.desk_rules.specs.Terms.{no_terms}
+use Rattle.desk_rules.specs.declared.terms.Terms.{Terms}
+use Rattle.desk_rules.specs.declared.permission.PermitFault.{PermitFault}
+use Rattle.desk_record.specs.Record.{EntryParts}
+use Rattle.desk_record.specs.declared.kind.Kind.{Kind}
+use Rattle.desk_record.specs.declared.kind.Kind.TheVariants as kind
+use Rattle.desk_reading.specs.Requests.{asked}
+use Rattle.desk_run.specs.DeskWorld.{DeskWorld, enrolled}
+use Rattle.desk_wire.specs.Bytes.{text_for, world_after}
+use Rattle.desk_wire.specs.Refusals.{server_error_text}
+use Rattle.desk_wire.specs.declared.response.ServerError.TheVariants as error
+use Rattle.desk_replay.specs.declared.fault.ReplayFault.{ReplayFault}
+use Rattle.desk_replay.specs.declared.fault.ReplayFault.TheVariants.{OutOfMemory, Store, NoRecord, NotNext, Differs}
+use Rattle.desk_replay.specs.declared.progress.Asking.{Asking}
+use Rattle.desk_replay.specs.declared.progress.Progress.{Progress}
+
+-- a request whose recorded answer is still to come
+pub record AskingParts : Type 0 where
+  pub second : ℕ
+  pub request : List ℕ
+  pub answer : List ℕ
+  pub before : Option (List ℕ)
+  pub reopened : Bool
+
+-- a desk's world at which records were played so far
+pub record State : Type 0 where
+  pub world : DeskWorld
+  pub record_number : Option ℕ
+  pub permitted : List ℕ
+  pub terms : Terms
+  pub asking : Option AskingParts
+  pub requests : ℕ
+
+abbrev pub bytes_of : {V : Type 0} → (V → List ℕ) → Option V → Option (List ℕ)
+bytes_of items None = None
+bytes_of items (Some v) = Some (items v)
+
+abbrev pub asking_shown : Asking → AskingParts
+asking_shown a = record {
+  second = a.second;
+  request = a.request.items;
+  answer = a.answer.items;
+  before = bytes_of (λ v. v.items) a.before;
+  reopened = a.reopened;
+}
+
+abbrev pub asking_in : Option Asking → Option AskingParts
+asking_in None = None
+asking_in (Some a) = Some (asking_shown a)
+
+-- the state of a desk of this world, by the progress
+abbrev pub state_of : DeskWorld → Progress → State
+state_of w p = record {
+  world = w;
+  record_number = p.record;
+  permitted = p.permitted.items;
+  terms = p.terms;
+  asking = asking_in p.asking;
+  requests = p.requests;
+}
+
+-- what comes of an entry: the state after it, or why it is not played
+abbrev pub Outcome : Type 0
+Outcome = Result State ReplayFault
+
+abbrev pub refuse_if : Bool → ReplayFault → Outcome → Outcome
+refuse_if test fault next = if test then Err fault else next
+
+-- the greatest second that is a moment
+abbrev pub last_moment : ℕ
+last_moment = 253370764800
+
+-- the version of the format
+abbrev pub version : List ℕ
+version = codes "1"
+
+-- the number of a record follows the last one's
+abbrev pub follows : Option ℕ → ℕ → Bool
+follows None n = true
+follows (Some last) n = n == last + 1
+
+abbrev pub reopened : Option AskingParts → Option AskingParts
+reopened None = None
+reopened (Some a) = Some (record a { reopened = true })
+
+-- a record begins: no priority is permitted yet, and any number of spans
+unfoldable pub begun : State → ℕ → List ℕ → Outcome
+begun s n bytes =
+    refuse_if (not (bytes_eq bytes version)) NoRecord
+    (refuse_if (not (follows s.record_number n)) NotNext
+    (Ok (record s {
+      world = record s.world { terms = no_terms };
+      record_number = Some n;
+      permitted = [];
+      terms = no_terms;
+      asking = reopened s.asking;
+    })))
+
+-- a priority is permitted beside the others
+abbrev pub permitted_by : State → List ℕ → Result (List ℕ) PermitFault → Outcome
+permitted_by s more (Err fault) = Err NoRecord
+permitted_by s more (Ok permitted) =
+    Ok (record s {
+      world = record s.world { terms = record s.terms { permitted = permitted } };
+      permitted = more;
+      terms = record s.terms { permitted = permitted };
+    })
+
+unfoldable pub permitted : State → ℕ → Outcome
+permitted s p =
+    refuse_if (nat_lt max_priority p) NoRecord
+    (permitted_by s (s.permitted ++ (p ∷ [])) (permitted_in (s.permitted ++ (p ∷ []))))
+
+-- an operator's live plans may have so many spans
+unfoldable pub spanned : State → ℕ → Outcome
+spanned s n =
+    refuse_if (not (nat_le 1 n && nat_le n max_spans)) NoRecord
+    (Ok (record s {
+      world = record s.world { terms = record s.terms { spans = Some n } };
+      terms = record s.terms { spans = Some n };
+    }))
+
+-- an operator is enrolled
+unfoldable pub listed : State → ℕ → List ℕ → Outcome
+listed s ceiling name =
+    refuse_if (not (is_operator_name name)) NoRecord
+    (refuse_if (nat_lt max_priority ceiling) NoRecord
+    (Ok (record s { world = enrolled s.world name ceiling })))
+
+-- it is this request that is to be asked again
+abbrev pub same_asked : AskingParts → ℕ → List ℕ → Bool
+same_asked a second request = a.reopened && ((a.second == second) && bytes_eq a.request request)
+
+-- the first answer to a request that is asked again
+abbrev pub first_of : Option (List ℕ) → List ℕ → List ℕ
+first_of None answer = answer
+first_of (Some before) answer = before
+
+-- whether a request is asked for the first time, or again, with the first answer then; none if it is not
+-- its turn
+abbrev pub turn_of : Option AskingParts → ℕ → List ℕ → Option (Option (List ℕ))
+turn_of None second request = Some None
+turn_of (Some a) second request =
+    if same_asked a second request then Some (Some (first_of a.before a.answer)) else None
+
+-- one request more, unless it is asked again; as many as 64 bits hold at most
+abbrev pub counted : Option (List ℕ) → ℕ → ℕ
+counted None n = min (n + 1) (2 ^ 64 - 1)
+counted (Some before) n = n
+
+-- a request is asked at its moment
+abbrev pub asked_now : State → ℕ → List ℕ → Option (Option (List ℕ)) → Outcome
+asked_now s second request None = Err NoRecord
+asked_now s second request (Some before) =
+    Ok (record s {
+      world = world_after s.world (pos second) (asked request);
+      asking = Some (record {
+        second = second;
+        request = request;
+        answer = text_for s.world (pos second) (asked request);
+        before = before;
+        reopened = false;
+      });
+      requests = counted before s.requests;
+    })
+
+unfoldable pub requested : State → ℕ → List ℕ → Outcome
+requested s second request =
+    refuse_if (nat_lt last_moment second) NoRecord
+    (asked_now s second request (turn_of s.asking second request))
+
+-- an answer says that the desk failed: whether it made the change then is not known
+abbrev pub is_failure : List ℕ → Bool
+is_failure answer =
+    bytes_eq answer (server_error_text error.OutOfMemory) || bytes_eq answer (server_error_text error.Store)
+
+abbrev pub is_first : Option (List ℕ) → List ℕ → Bool
+is_first None answer = false
+is_first (Some before) answer = bytes_eq answer before
+
+-- an answer is the desk's
+abbrev pub is_alike : AskingParts → List ℕ → Bool
+is_alike a answer = bytes_eq answer a.answer || is_first a.before answer
+
+-- the recorded answer to the request that is asked: after a failure it is to be asked again
+abbrev pub answered_by : State → Option AskingParts → ℕ → List ℕ → Outcome
+answered_by s None second answer = Err NoRecord
+answered_by s (Some a) second answer =
+    refuse_if (a.reopened || not (a.second == second)) NoRecord
+    (if is_alike a answer then Ok (record s { asking = None })
+    else refuse_if (not (is_failure answer)) Differs (Ok s))
+
+unfoldable pub answered : State → ℕ → List ℕ → Outcome
+answered s second answer = answered_by s s.asking second answer
+
+-- an entry that has no bytes
+abbrev pub bare : List ℕ → Outcome → Outcome
+bare bytes next = refuse_if (not (length bytes == 0)) NoRecord next
+
+-- what comes of an entry in a record that has begun
+abbrev pub taken_within : Kind → State → ℕ → List ℕ → Outcome
+taken_within kind.Record s n bytes = Err NoRecord
+taken_within kind.Permitted s n bytes = bare bytes (permitted s n)
+taken_within kind.Spans s n bytes = bare bytes (spanned s n)
+taken_within kind.Operator s n bytes = listed s n bytes
+taken_within kind.Request s n bytes = requested s n bytes
+taken_within kind.Answer s n bytes = answered s n bytes
+
+abbrev pub is_record : Kind → Bool
+is_record kind.Record = true
+is_record kind.Permitted = false
+is_record kind.Spans = false
+is_record kind.Operator = false
+is_record kind.Request = false
+is_record kind.Answer = false
+
+-- what comes of an entry
+unfoldable pub taken : State → EntryParts → Outcome
+taken s e =
+    if is_record e.kind then begun s e.number e.bytes
+    else refuse_if (is_none s.record_number) NoRecord (taken_within e.kind s e.number e.bytes)
+
+abbrev pub then_taken : (State → Outcome) → Outcome → Outcome
+then_taken next (Ok s) = next s
+then_taken next (Err fault) = Err fault
+
+-- what comes of entries, one after the other, up to the first that is not played
+unfoldable pub played : State → List EntryParts → Outcome
+played s [] = Ok s
+played s (e ∷ es) = then_taken (λ t. played t es) (taken s e)
+
+-- what stops a replay and says nothing of the record
+abbrev pub IsOwn : ReplayFault → Type 0
+IsOwn fault = (fault ≡ OutOfMemory) ⊎ (fault ≡ Store)
+
+-- the outcome is that new state; or the fault, or one of the desk's own, and all is as it was
+abbrev pub Gives : Result ⊤ ReplayFault → Outcome → State → State → Type 0
+Gives (Ok done) outcome old new = outcome ≡ Ok new
+Gives (Err fault) outcome old new = (IsOwn fault ⊎ (outcome ≡ Err fault)) × (new ≡ old)

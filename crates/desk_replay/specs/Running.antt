@@ -1,0 +1,82 @@
+-- Running: what comes of a replay of a stream of entries.
+use Rattle.std.specs.Prelude.{◌≡◌, ◌⊎◌, ⊤, ℕ, List, [], nat_lt, Bool, false, IsTrue, Option, Some, None, Result, Ok, Err}
+use Rattle.std.specs.List.{AllByRecursion}
+use Rattle.std.specs.Io.KnownBytes.{Consumes, IsAtEnd}
+use Rattle.desk_rules.specs.Terms.{no_terms}
+use Rattle.desk_record.specs.Record.{EntryParts, Fits, entries, entry}
+use Rattle.desk_record.specs.Reading.{Stops}
+use Rattle.desk_record.specs.declared.kind.Kind.{Kind}
+use Rattle.desk_record.specs.declared.kind.Kind.TheVariants as kind
+use Rattle.desk_run.specs.DeskWorld.{DeskWorld}
+use Rattle.desk_replay.specs.declared.fault.ReplayFault.{ReplayFault}
+use Rattle.desk_replay.specs.declared.stream.ReplayEnd.{ReplayEnd}
+use Rattle.desk_replay.specs.declared.stream.ReplayEnd.TheVariants.{End, Until, Unread, Unplayed}
+use Rattle.desk_replay.specs.Replaying.{IsOwn, State, played, taken}
+
+-- no record has begun
+abbrev pub start : DeskWorld → State
+start w = record {
+  world = w;
+  record_number = None;
+  permitted = [];
+  terms = no_terms;
+  asking = None;
+  requests = 0;
+}
+
+abbrev pub is_later : Option ℕ → Kind → ℕ → Bool
+is_later None told n = false
+is_later (Some last) kind.Record n = false
+is_later (Some last) kind.Permitted n = false
+is_later (Some last) kind.Spans n = false
+is_later (Some last) kind.Operator n = false
+is_later (Some last) kind.Request n = nat_lt last n
+is_later (Some last) kind.Answer n = false
+
+-- an entry is read, and, if the store is honest, this comes of it
+pub record IsPlayed (H : Type 0) (old new : Option (List ℕ)) (s t : State) : Type 0 where
+  pub one : EntryParts
+  pub fits : Fits one
+  pub read : Consumes old new (entry one)
+  pub gives : H → taken s one ≡ Ok t
+
+-- an entry is read that is not played, for this reason, or for one of the desk's own
+pub record IsRefused (H : Type 0) (fault : ReplayFault) (old new : Option (List ℕ)) (s : State) : Type 0 where
+  pub one : EntryParts
+  pub fits : Fits one
+  pub read : Consumes old new (entry one)
+  pub refused : H → IsOwn fault ⊎ (taken s one ≡ Err fault)
+
+-- a request is read that is asked later than that
+pub record IsTooLate (until : Option ℕ) (old new : Option (List ℕ)) : Type 0 where
+  pub one : EntryParts
+  pub fits : Fits one
+  pub read : Consumes old new (entry one)
+  pub later : IsTrue (is_later until one.kind one.number)
+
+-- why no more entries are played
+abbrev pub Ends : Type 0 → Option ℕ → ReplayEnd → Option (List ℕ) → Option (List ℕ) → State → Type 0
+Ends H until End old new s = IsAtEnd old
+Ends H until Until old new s = IsTooLate until old new
+Ends H until (Unread fault) old new s = Stops old fault
+Ends H until (Unplayed fault) old new s = IsRefused H fault old new s
+
+-- what comes of one step of a replay
+abbrev pub Steps :
+    Type 0 → Option ℕ → Result ⊤ ReplayEnd → Option (List ℕ) → Option (List ℕ) → State → State → Type 0
+Steps H until (Ok done) old new s t = IsPlayed H old new s t
+Steps H until (Err end) old new s t = Ends H until end old new s × (H → t ≡ s)
+
+-- the first entries of a stream are played
+pub record ArePlayed (H : Type 0) (old new : Option (List ℕ)) (w : DeskWorld) (s : State) : Type 0 where
+  pub all : List EntryParts
+  pub fit : AllByRecursion Fits all
+  pub read : Consumes old new (entries all)
+  pub gives : H → played (start w) all ≡ Ok s
+
+-- and no more
+pub record HasReplayed (H : Type 0) (until : Option ℕ) (ended : ReplayEnd) (old new : Option (List ℕ))
+    (w : DeskWorld) (t : State) : Type 0 where
+  pub mid : Option (List ℕ)
+  pub first : ArePlayed H old mid w t
+  pub ends : Ends H until ended mid new t

@@ -1,0 +1,46 @@
+//! Why an entry is not played.
+
+use desk_run::DeskFault;
+use std::alloc::AllocError;
+
+/// Why an entry is not played.
+#[derive(Clone, Copy, Debug, PartialEq, Eq)]
+pub enum ReplayFault {
+    /// Memory ran out.
+    OutOfMemory,
+    /// The store failed.
+    Store,
+    /// No record has such an entry there.
+    NoRecord,
+    /// A record begins that is not the next of its folder.
+    NotNext,
+    /// The desk gives a request another answer than the recorded one.
+    Differs,
+}
+
+impl From<AllocError> for ReplayFault {
+    ghost use Rattle.std.specs.Prelude.{◌≡◌};
+    ghost use Rattle.desk_replay.specs.declared.fault.ReplayFault.TheVariants as replay_fault;
+
+    ghost from_gives = { λ _ fault. fault ≡ replay_fault.OutOfMemory };
+
+    fn from(_error: AllocError) -> ReplayFault {
+        ReplayFault::OutOfMemory
+    }
+}
+
+impl From<DeskFault> for ReplayFault {
+    ghost use Rattle.std.specs.Prelude.{◌≡◌};
+    ghost use Rattle.desk_replay.specs.Faults.{fault_of};
+
+    ghost from_gives = { λ fault f. f ≡ fault_of fault };
+
+    fn from(fault: DeskFault) -> ReplayFault {
+        match fault {
+            DeskFault::OutOfMemory => ReplayFault::OutOfMemory,
+            DeskFault::Store => ReplayFault::Store,
+            DeskFault::UnknownOperator | DeskFault::NoSuchPlan | DeskFault::Ceiling =>
+                ReplayFault::NoRecord,
+        }
+    }
+}

@@ -1,0 +1,15 @@
+//! Laws of the definitions. Each is the contract of a function that does nothing.
+
+ghost use Rattle.std.specs.Prelude.{◌≡◌, None, IsSome, List, Ok, map};
+ghost use Rattle.std.specs.List.{AllByRecursion};
+ghost use Rattle.desk_wire.specs.AllAnswers.{world_left};
+ghost use Rattle.desk_replay.specs.Replaying.{State, played};
+ghost use Rattle.desk_replay.specs.Written.{Heard, IsTimely, sent, written};
+
+/// Replayed: what a desk writes down of requests that it answers, played where its world was as the first of
+/// them came, differs nowhere, and leaves what the requests left.
+pub fn replayed()
+    ensures { (s : State) (requests : List Heard) → IsSome s.record_number → s.asking ≡ None →
+        AllByRecursion IsTimely requests → (t : State) × (played s (written s.world requests) ≡ Ok t)
+        × (t.world ≡ world_left s.world (map sent requests)) × (t.asking ≡ None) }
+{}

@@ -1,0 +1,14 @@
+//! Records played again at a desk, entry by entry, each answer compared with the recorded one.
+#![tactic(auto)]
+
+mod fault;
+mod laws;
+mod play;
+mod progress;
+mod stream;
+mod terms;
+
+pub use fault::ReplayFault;
+pub use laws::replayed;
+pub use progress::{Asking, Progress};
+pub use stream::{ReplayEnd, Replayed, replay};

@@ -1,0 +1,219 @@
+//! Requests and answers of a record, played at a desk.
+
+ghost use Rattle.std.specs.Prelude.{◌≡◌, ◌⊎◌, pos, IfErr, IfOk, OnErr};
+ghost use Rattle.desk_store.specs.StoreFaults.{IsHonest};
+ghost use Rattle.desk_store.specs.StoreFrames.{Remembers};
+ghost use Rattle.desk_reading.specs.Requests.{asked as asked_in};
+ghost use Rattle.desk_run.specs.DeskWorld.{DeskWorld, world_of};
+ghost use Rattle.desk_ends.specs.Moments.{IsMoment};
+ghost use Rattle.desk_wire.specs.Bytes.{text_for, world_after};
+ghost use Rattle.desk_record.specs.Reading.{entry_shown};
+ghost use Rattle.desk_replay.specs.Replaying as spec;
+ghost use Rattle.desk_replay.specs.Replaying.{Gives, IsOwn, asking_in, asking_shown, bytes_of, is_failure, requested, answered, state_of, taken, turn_of};
+ghost use Rattle.desk_replay.specs.declared.fault.ReplayFault.TheVariants as replay_fault;
+
+use crate::fault::ReplayFault;
+use crate::progress::{Asking, Progress};
+use crate::terms::{begin, enrol, limit_spans, permit};
+use desk_record::{Entry, Kind};
+use desk_run::Desk;
+use desk_store::PlanStore;
+use desk_wire::{AnswersEnd, answer_all};
+use desk_writing::{out_of_memory_answer, store_answer};
+use std::alloc::{AllocError, Global};
+use std::slice;
+use volume4d::MAX_SECOND;
+
+/// Plays one entry at a desk.
+///
+/// # Errors
+///
+/// `NoRecord`, `NotNext` or `Differs` by the entry, `OutOfMemory` or `Store` by the desk. The content and the
+/// progress are as they were.
+#[tactic(auto, unfolding(crate::specs::Replaying::taken))]
+pub(crate) fn take_entry<S: PlanStore>(
+    alloc: Global,
+    desk: &mut Desk<S>,
+    progress: &mut Progress,
+    entry: Entry,
+) -> Result<(), ReplayFault>
+    ensures given { IsHonest (S.doubt desk.new.store) → Gives result
+        (taken (state_of (world_of S.content desk.old) progress.old) (entry_shown entry))
+        (state_of (world_of S.content desk.old) progress.old)
+        (state_of (world_of S.content desk.new) progress.new) }
+    ensures remembered { Remembers S.doubt S.faults S.is_shielded desk.old.store desk.new.store }
+{
+    let Entry {
+        kind,
+        number,
+        bytes,
+    } = entry;
+    if kind == Kind::Record {
+        return begin(alloc, desk, progress, number, &bytes);
+    }
+    if progress.record.is_none() {
+        return Err(ReplayFault::NoRecord);
+    }
+    take_within(alloc, desk, progress, kind, number, bytes)
+}
+
+// Plays an entry other than a record's first.
+fn take_within<S: PlanStore>(
+    alloc: Global,
+    desk: &mut Desk<S>,
+    progress: &mut Progress,
+    kind: Kind,
+    number: u64,
+    bytes: Vec<u8>,
+) -> Result<(), ReplayFault>
+    ensures given { IsHonest (S.doubt desk.new.store) → Gives result
+        (spec.taken_within kind (state_of (world_of S.content desk.old) progress.old) number bytes.items)
+        (state_of (world_of S.content desk.old) progress.old)
+        (state_of (world_of S.content desk.new) progress.new) }
+    ensures remembered { Remembers S.doubt S.faults S.is_shielded desk.old.store desk.new.store }
+{
+    match kind {
+        Kind::Record => Err(ReplayFault::NoRecord),
+        Kind::Permitted if !bytes.is_empty() => Err(ReplayFault::NoRecord),
+        Kind::Permitted => permit(desk, progress, number),
+        Kind::Spans if !bytes.is_empty() => Err(ReplayFault::NoRecord),
+        Kind::Spans => limit_spans(desk, progress, number),
+        Kind::Operator => enrol(desk, progress, number, &bytes),
+        Kind::Request => ask(alloc, desk, progress, number, bytes),
+        Kind::Answer => compare(progress, number, &bytes),
+    }
+}
+
+// Has a request answered at its moment, if it is its turn.
+#[tactic(auto, unfolding(crate::specs::Replaying::requested))]
+fn ask<S: PlanStore>(
+    alloc: Global,
+    desk: &mut Desk<S>,
+    progress: &mut Progress,
+    second: u64,
+    request: Vec<u8>,
+) -> Result<(), ReplayFault>
+    ensures given { IsHonest (S.doubt desk.new.store) → Gives result
+        (requested (state_of (world_of S.content desk.old) progress.old) second request.items)
+        (state_of (world_of S.content desk.old) progress.old)
+        (state_of (world_of S.content desk.new) progress.new) }
+    ensures remembered { Remembers S.doubt S.faults S.is_shielded desk.old.store desk.new.store }
+{
+    if second > MAX_SECOND as u64 {
+        return Err(ReplayFault::NoRecord);
+    }
+    let before = turn(alloc, &progress.asking, second, &request)?;
+    let sent = (second as i64, request);
+    let answer = answer_one(alloc, desk, &sent)?;
+    if before.is_none() {
+        progress.requests = progress.requests.saturating_add(1);
+    }
+    let (_, request) = sent;
+    progress.asking = Some(Asking {
+        second,
+        request,
+        answer,
+        before,
+        reopened: false,
+    });
+    Ok(())
+}
+
+// The first answer to a request that is asked again, if it is.
+fn turn(
+    alloc: Global,
+    asking: &Option<Asking>,
+    second: u64,
+    request: &[u8],
+) -> Result<Option<Vec<u8>>, ReplayFault>
+    ensures ok { IfOk result (λ before.
+        turn_of (asking_in asking.now) second request.now ≡ Some (bytes_of (λ v. v.items) before)) }
+    ensures err { IfErr result (λ f. (f ≡ replay_fault.OutOfMemory)
+        ⊎ ((f ≡ replay_fault.NoRecord) × (turn_of (asking_in asking.now) second request.now ≡ None))) }
+{
+    let Some(asking) = asking else {
+        return Ok(None);
+    };
+    if !(asking.reopened && asking.second == second && asking.request.as_slice() == request) {
+        return Err(ReplayFault::NoRecord);
+    }
+    let first = match &asking.before {
+        Some(before) => before,
+        None => &asking.answer,
+    };
+    Ok(Some(Vec::from_slice(alloc, first)?))
+}
+
+// The answer to one request.
+fn answer_one<S: PlanStore>(
+    alloc: Global,
+    desk: &mut Desk<S>,
+    sent: &(i64, Vec<u8>),
+) -> Result<Vec<u8>, ReplayFault>
+    requires { IsMoment sent.now.0 }
+    ensures ok { IsHonest (S.doubt desk.new.store) → IfOk result (λ answer. answer.items
+        ≡ text_for (world_of S.content desk.old) sent.now.0 (asked_in sent.now.1.items)) }
+    ensures left { IsHonest (S.doubt desk.new.store) → IfOk result (λ _. world_of S.content desk.new
+        ≡ world_after (world_of S.content desk.old) sent.now.0 (asked_in sent.now.1.items)) }
+    ensures err { IsHonest (S.doubt desk.new.store) → OnErr result
+        (world_of S.content desk.new ≡ world_of S.content desk.old) }
+    ensures fault { IfErr result IsOwn }
+    ensures remembered { Remembers S.doubt S.faults S.is_shielded desk.old.store desk.new.store }
+{
+    let mut answers = answer_all(alloc, desk, slice::from_ref(sent))?;
+    let answer = answers.answers.pop();
+    match (answers.ended, answer) {
+        (AnswersEnd::All, Some(answer)) => Ok(answer),
+        (AnswersEnd::Broken, Some(answer)) if answer.as_slice() == store_answer() => Err(
+            ReplayFault::Store,
+        ),
+        _ => Err(ReplayFault::OutOfMemory),
+    }
+}
+
+// Compares the recorded answer with the desk's.
+#[tactic(auto, unfolding(crate::specs::Replaying::answered))]
+fn compare(progress: &mut Progress, second: u64, answer: &[u8]) -> Result<(), ReplayFault>
+    ensures { (w : DeskWorld) → Gives result (answered (state_of w progress.old) second answer.now)
+        (state_of w progress.old) (state_of w progress.new) }
+{
+    let Some(asking) = &progress.asking else {
+        return Err(ReplayFault::NoRecord);
+    };
+    if asking.reopened || asking.second != second {
+        return Err(ReplayFault::NoRecord);
+    }
+    if is_alike(asking, answer) {
+        progress.asking = None;
+        return Ok(());
+    }
+    if says_failure(answer) {
+        Ok(())
+    } else {
+        Err(ReplayFault::Differs)
+    }
+}
+
+// Whether an answer says that the desk failed.
+fn says_failure(answer: &[u8]) -> bool
+    ensures { result ≡ is_failure answer.now }
+{
+    answer == out_of_memory_answer() || answer == store_answer()
+}
+
+// Whether an answer is the desk's, now or when the request was asked first.
+fn is_alike(asking: &Asking, answer: &[u8]) -> bool
+    ensures { result ≡ spec.is_alike (asking_shown asking.now) answer.now }
+{
+    answer == asking.answer.as_slice() || is_first(&asking.before, answer)
+}
+
+// Whether this is the first answer.
+fn is_first(before: &Option<Vec<u8>>, answer: &[u8]) -> bool
+    ensures { result ≡ spec.is_first (bytes_of (λ v. v.items) before.now) answer.now }
+{
+    match before {
+        Some(before) => answer == before.as_slice(),
+        None => false,
+    }
+}

@@ -1,0 +1,124 @@
+//! The terms of the desk that wrote a record.
+
+ghost use Rattle.std.specs.Prelude.{◌≡◌};
+ghost use Rattle.desk_store.specs.StoreFaults.{IsHonest};
+ghost use Rattle.desk_store.specs.StoreFrames.{Remembers};
+ghost use Rattle.desk_run.specs.DeskWorld.{world_of};
+ghost use Rattle.desk_replay.specs.Replaying.{Gives, begun, listed, permitted, spanned, state_of};
+
+use crate::fault::ReplayFault;
+use crate::progress::{Progress, may_follow};
+use desk_rules::decide::MAX_PRIORITY;
+use desk_rules::operator::Operator;
+use desk_rules::permission::Permitted;
+use desk_rules::terms::{MAX_SPANS, Terms};
+use desk_run::Desk;
+use desk_store::PlanStore;
+use std::alloc::Global;
+
+/// The version of the format.
+const VERSION: &[u8] = b"1";
+
+/// Begins a record: no priority is permitted yet, and any number of spans.
+#[tactic(auto, unfolding(crate::specs::Replaying::begun))]
+pub(crate) fn begin<S: PlanStore>(
+    alloc: Global,
+    desk: &mut Desk<S>,
+    progress: &mut Progress,
+    number: u64,
+    version: &[u8],
+) -> Result<(), ReplayFault>
+    ensures given { Gives result
+        (begun (state_of (world_of S.content desk.old) progress.old) number version.now)
+        (state_of (world_of S.content desk.old) progress.old)
+        (state_of (world_of S.content desk.new) progress.new) }
+    ensures store { desk.new.store ≡ desk.old.store }
+{
+    if version != VERSION {
+        return Err(ReplayFault::NoRecord);
+    }
+    if !may_follow(progress.record, number) {
+        return Err(ReplayFault::NotNext);
+    }
+    desk.keep_to(Terms::none());
+    progress.record = Some(number);
+    progress.permitted = Vec::new(alloc);
+    progress.terms = Terms::none();
+    if let Some(asking) = &mut progress.asking {
+        asking.reopened = true;
+    }
+    Ok(())
+}
+
+/// Permits a priority beside the others.
+#[tactic(auto, unfolding(crate::specs::Replaying::permitted))]
+pub(crate) fn permit<S: PlanStore>(
+    desk: &mut Desk<S>,
+    progress: &mut Progress,
+    priority: u64,
+) -> Result<(), ReplayFault>
+    ensures given { Gives result
+        (permitted (state_of (world_of S.content desk.old) progress.old) priority)
+        (state_of (world_of S.content desk.old) progress.old)
+        (state_of (world_of S.content desk.new) progress.new) }
+    ensures store { desk.new.store ≡ desk.old.store }
+{
+    if priority > u64::from(MAX_PRIORITY) {
+        return Err(ReplayFault::NoRecord);
+    }
+    if progress.permitted.push(priority as u32).is_err() {
+        return Err(ReplayFault::OutOfMemory);
+    }
+    let Ok(permitted) = Permitted::try_new(&progress.permitted) else {
+        progress.permitted.pop();
+        return Err(ReplayFault::NoRecord);
+    };
+    progress.terms.permitted = permitted;
+    desk.keep_to(progress.terms);
+    Ok(())
+}
+
+/// Has an operator's live plans have so many spans at most.
+#[tactic(auto, unfolding(crate::specs::Replaying::spanned))]
+pub(crate) fn limit_spans<S: PlanStore>(
+    desk: &mut Desk<S>,
+    progress: &mut Progress,
+    spans: u64,
+) -> Result<(), ReplayFault>
+    ensures given { Gives result
+        (spanned (state_of (world_of S.content desk.old) progress.old) spans)
+        (state_of (world_of S.content desk.old) progress.old)
+        (state_of (world_of S.content desk.new) progress.new) }
+    ensures store { desk.new.store ≡ desk.old.store }
+{
+    if spans < 1 || spans > u64::from(MAX_SPANS) {
+        return Err(ReplayFault::NoRecord);
+    }
+    progress.terms.spans = Some(spans as u32);
+    desk.keep_to(progress.terms);
+    Ok(())
+}
+
+/// Enrols an operator.
+#[tactic(auto, unfolding(crate::specs::Replaying::listed))]
+pub(crate) fn enrol<S: PlanStore>(
+    desk: &mut Desk<S>,
+    progress: &Progress,
+    ceiling: u64,
+    name: &[u8],
+) -> Result<(), ReplayFault>
+    ensures given { IsHonest (S.doubt desk.new.store) → Gives result
+        (listed (state_of (world_of S.content desk.old) progress.now) ceiling name.now)
+        (state_of (world_of S.content desk.old) progress.now)
+        (state_of (world_of S.content desk.new) progress.now) }
+    ensures remembered { Remembers S.doubt S.faults S.is_shielded desk.old.store desk.new.store }
+{
+    let Some(operator) = Operator::try_new(name) else {
+        return Err(ReplayFault::NoRecord);
+    };
+    if ceiling > u64::from(MAX_PRIORITY) {
+        return Err(ReplayFault::NoRecord);
+    }
+    desk.enrol(&operator, ceiling as u32)?;
+    Ok(())
+}
