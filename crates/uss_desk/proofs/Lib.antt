@@ -1,3 +1,6 @@
+mod Idle
 mod KeepLemmas
 mod NameLemmas
 mod RunLemmas
+mod SumLemmas
+mod TwinLemmas

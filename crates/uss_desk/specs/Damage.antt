@@ -38,8 +38,8 @@ IsUndamaged log out now = ((frame commits : ℕ) → ¬ IsDamaged log frame comm
 abbrev pub IsLookedAt :
     Bool → List ℕ → List ℕ → Result Look Failure → Option (List ℕ) → Option (List ℕ) → Type 0
 IsLookedAt copied path log (Ok look) out now =
-    ((look.is_admitted ≡ true) × IsUndamaged log out now)
-    ⊎ ((look.is_admitted ≡ copied) × IsLossTold path log look.cut out now)
+    ((look.is_admitted ≡ true) × (look.is_damaged ≡ false) × IsUndamaged log out now)
+    ⊎ ((look.is_admitted ≡ copied) × (look.is_damaged ≡ true) × IsLossTold path log look.cut out now)
 IsLookedAt copied path log (Err f) out now = ((f ≡ failure.Memory) ⊎ (f ≡ failure.Store)) × (now ≡ out)
 
 -- a task copies its file

@@ -1,8 +1,12 @@
--- Read first: Running, Opening, Guarding, Closing, Keeping; Damage stands alone.
+-- Read first: Running, Opening, Guarding, Closing; then Naming, Twins, Unsummed, Keeping; Damage and Sums
+-- stand alone.
 pub mod Opening
 pub mod Guarding
 pub mod Running
 pub mod Closing
 pub mod Naming
+pub mod Twins
+pub mod Sums
+pub mod Unsummed
 pub mod Keeping
 pub mod Damage

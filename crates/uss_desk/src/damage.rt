@@ -21,26 +21,33 @@ const LEAST: u64 = 1_104;
 pub struct Look {
     /// Whether its file may be opened, or copied.
     pub is_admitted: bool,
+    /// Whether it is damaged.
+    pub is_damaged: bool,
     /// Where the line that tells its damage was broken off, if it was.
     pub cut: Option<WriteFault>,
 }
 
 /// Refuses a task at a file whose log is damaged, and tells why. A copy is made of what can be read, and the
-/// loss is told. A file that another program has open is not looked at: to open it tells that.
+/// loss is told: then it answers that the log is damaged. A file that another program has open is not looked
+/// at: to open it tells that.
 ///
 /// # Errors
 ///
 /// `DamagedLog`; `Memory` if memory runs out; `Store` if the log can't be read.
-pub fn look_before<E: Write>(rt: &HostRuntime, task: &Task, errors: &mut E) -> Result<(), Failure> {
+pub fn look_before<E: Write>(
+    rt: &HostRuntime,
+    task: &Task,
+    errors: &mut E,
+) -> Result<bool, Failure> {
     let Some(path) = file_of(task) else {
-        return Ok(());
+        return Ok(false);
     };
     let Some(mut log) = log_of(rt, path)? else {
-        return Ok(());
+        return Ok(false);
     };
     let look = look_at_log(rt.alloc(), path, is_copy(task), &mut log, errors)?;
     if look.is_admitted {
-        Ok(())
+        Ok(look.is_damaged)
     } else {
         Err(Failure::DamagedLog)
     }
@@ -65,12 +72,14 @@ pub fn look_at_log<R: Read, E: Write>(
     match judge_log(log) {
         Ok(Verdict::Sound) => Ok(Look {
             is_admitted: true,
+            is_damaged: false,
             cut: None,
         }),
         Ok(Verdict::Damaged { frame, commits }) => {
             let cut = tell_damage(alloc, path, frame, commits, errors)?;
             Ok(Look {
                 is_admitted: is_copied,
+                is_damaged: true,
                 cut,
             })
         }
@@ -177,8 +186,8 @@ fn is_long_file(rt: &HostRuntime, path: &str, least: u64) -> bool {
     }
 }
 
-// Whether another program has a file open.
-fn is_in_use(rt: &HostRuntime, path: &str) -> bool {
+/// Whether another program has a file open.
+pub fn is_in_use(rt: &HostRuntime, path: &str) -> bool {
     matches!(
         sqlite_std_file::open(rt, path, Unknown),
         Err(OpenError::Busy)
