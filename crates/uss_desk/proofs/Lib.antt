@@ -1,4 +1,7 @@
+mod Idle
 mod KeepLemmas
 mod NameLemmas
 mod RunLemmas
 mod OperatorLemmas
+mod SumLemmas
+mod TwinLemmas
