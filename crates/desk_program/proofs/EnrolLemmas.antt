@@ -1,6 +1,12 @@
 -- Operators listed one after the other.
-use Rattle.std.proofs.Common.{◌≡◌, List, [], ◌∷◌, ◌++◌, refl}
+use Rattle.std.proofs.Common.{◌≡◌, ◌≤◌, ◌∙◌, ℕ, List, [], ◌∷◌, ◌++◌, Some, Result, Ok, Err, IfErr, ap, refl, sym}
+use Rattle.std.specs.Result.{IsErrAnd}
+use Rattle.desk_store.specs.StoreFaults.{HasRisen}
+use Rattle.desk_run.specs.CallFaults.{IsStoreCounted}
 use Rattle.desk_run.specs.DeskWorld.{DeskWorld, enrolled}
+use Rattle.desk_run.specs.declared.fault.DeskFault.{DeskFault}
+use Rattle.desk_run.specs.declared.fault.DeskFault.TheVariants.{Store}
+use Rattle.desk_run.specs.laws.Crash.{risen_since}
 use Rattle.desk_line.specs.declared.line.Enrolment.{Enrolment}
 use Rattle.desk_program.specs.Enrolling.{with_operators}
 
@@ -9,3 +15,12 @@ pub one_more : (es : List Enrolment) (w : DeskWorld) (e : Enrolment) → with_op
     ≡ enrolled (with_operators w es) e.operator e.ceiling
 one_more [] w e = refl
 one_more (x ∷ xs) w e = one_more xs _ e
+
+-- the fault of the last enrolment was counted, since the first
+pub counted_since : {V S : Type 0} (faults : S → ℕ) (first old new : S) (r : Result V DeskFault)
+    (fault : DeskFault) → IsErrAnd r (λ e. e ≡ fault) → faults first ≤ faults old
+    → (Some fault ≡ Some Store → HasRisen (faults old) (faults new))
+    → IfErr r (IsStoreCounted faults first new)
+counted_since faults first old new (Ok v) fault handed below cause = tt
+counted_since faults first old new (Err e) fault handed below cause = λ store.
+    risen_since _ _ _ below (cause (ap Some (sym handed ∙ store)))

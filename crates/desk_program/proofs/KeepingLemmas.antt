@@ -10,6 +10,7 @@ use Rattle.desk_run.specs.DeskWorld.{DeskWorld, enrolled}
 use Rattle.desk_ends.specs.declared.playing.PlayEnd.{PlayEnd}
 use Rattle.desk_wire.specs.Given.{told_in_play}
 use Rattle.desk_wire.specs.Crashes.{IsCertain, IsFoundNow, IsKept, IsLeftBy}
+use Rattle.desk_wire.specs.Passage.{passed}
 use Rattle.desk_wire.specs.Playing.{HasPlayed}
 use Rattle.desk_wire.specs.Serving.{HasServed, IsTaken}
 use Rattle.desk_line.specs.declared.failure.Failure.{Failure}
@@ -20,7 +21,7 @@ use Rattle.desk_line.specs.Exits.{Ending, EndsWith, failure_after, failure_at}
 use Rattle.desk_program.specs.Enrolling.{AreEnrolled, on_terms, with_operators}
 use Rattle.desk_program.specs.Keeping.{AreKept, AreKeptSoFar, FindsNews, IsFoundServed, IsLeftByOne, IsPlayKept, IsPortKept}
 use Rattle.desk_program.specs.Playing.{done_unless}
-use Rattle.desk_program.specs.Serving.{AreServed, BringsNews, EndsAfter, EndsAtNews, Exchange, Grows, IsDenied, IsLast, IsUnsent, Listens, Traffic, failing, is_whole, news_of}
+use Rattle.desk_program.specs.Serving.{AreServed, BringsNews, EndsAfter, EndsAtNews, Exchange, Grows, IsDenied, IsLast, IsUnsent, Listens, Traffic, failing, is_whole, news_of, passage_of}
 use Rattle.desk_program.proofs.ServedLemmas.{all_then, all_unsent, both_more, both_news, both_served, none_last, none_more, one_ends, served_then, stops}
 
 -- ---- enrolments
@@ -245,7 +246,7 @@ module _ {A B : Type 0} (done : Result A B) (news : List Enrolment) (w after : D
 
 -- one connection is taken
 one_found : (x : Exchange) (w after : DeskWorld) (before : Type 0) (found : Option World)
-    → HasServed ⊤ x.served x.arrival.bytes x.parting.unread x.out x.parting.sent w x.arrival.moment after
+    → HasServed ⊤ x.served (passage_of x) w x.arrival.moment after
     → IsFoundNow x.served (λ z. before) (IsTaken x.arrival.bytes x.parting.unread) w x.arrival.moment after
     found
     → IsFoundServed (x ∷ []) None after found ⊎ ((after ≡ w) × before)
@@ -258,7 +259,7 @@ one_found x w after before found served (inr p) = by p.1
     by (inl h) = inr (p.0, h)
     by (inr h) = inl (inr (inl (inl (
       h.0,
-      subst (λ v. HasServed ⊤ x.served x.arrival.bytes x.parting.unread x.out x.parting.sent v
+      subst (λ v. HasServed ⊤ x.served (passage_of x) v
           x.arrival.moment after)
           (sym p.0) served,
       subst (λ v. IsLeftBy (IsTaken x.arrival.bytes x.parting.unread) v x.arrival.moment found) (sym p.0) h.1,
@@ -283,7 +284,7 @@ pub one_kept : {A : Type 0} (H : Type 0) (done : Result A Failure) (x : Exchange
     → Grows old.closed new.closed (x.parting ∷ []) → IsUnsent old x.out
     → x.parting.is_whole ≡ is_whole x.served → Grows old.news new.news (x.news ∷ [])
     → AreEnrolled H x.news w listed
-    → HasServed H x.served x.arrival.bytes x.parting.unread x.out x.parting.sent listed x.arrival.moment after
+    → HasServed H x.served (passage_of x) listed x.arrival.moment after
     → failing done ≡ failure_at x.served
     → (H → (found : Option World) → mid found
     → (found ≡ Some listed.content) ⊎ ((listed ≡ w) × before found))
@@ -310,8 +311,7 @@ one_kept H done x old new w listed after before mid now listened takes closes fr
       };
       finds = λ p found may. after_news x w listed after (before found) (mid found) found (first p found)
           (one_found x listed after (mid found) found
-          (served_then H ⊤ (λ k. p) x.served x.arrival.bytes x.parting.unread x.out x.parting.sent listed
-          x.arrival.moment after served)
+          (served_then H ⊤ (λ k. p) x.served (passage_of x) listed x.arrival.moment after served)
           (finds p found may));
     }
 
@@ -352,9 +352,9 @@ module _ (H : Type 0) (play : PlayWords) (end : Ending) (ended : PlayEnd) (answe
     (old new out now : Option (List ℕ)) (w begun after : DeskWorld) (given : ℤ)
     (ends : EndsWith (done_unless (failure_after ended)) end) (same : given ≡ play.moment)
     (listed : H → begun ≡ with_operators (on_terms w play.terms) play.enrolments.items)
-    (played : HasPlayed H ended answered old new out now begun given after) where
+    (played : HasPlayed H ended answered (passed old new out now) begun given after) where
   pub run_kept : H → (found : Option World)
-      → IsKept ended (told_in_play ended answered) old out now begun given after found
+      → IsKept ended (told_in_play ended answered) (passed old new out now) begun given after found
       → IsPlayKept H play end old new out now w after found
   run_kept p found kept =
       let start = with_operators (on_terms w play.terms) play.enrolments.items in
@@ -363,12 +363,14 @@ module _ (H : Type 0) (play : PlayWords) (end : Ending) (ended : PlayEnd) (answe
           ended = ended;
           answered = answered;
           ends = ends;
-          played = λ h. subst (λ m. HasPlayed H ended answered old new out now start m after) same
-              (subst (λ v. HasPlayed H ended answered old new out now v given after) (listed h) played);
+          played = λ h. subst (λ m. HasPlayed H ended answered (passed old new out now) start m after) same
+              (subst (λ v. HasPlayed H ended answered (passed old new out now) v given after) (listed h)
+              played);
         },
-        subst (λ m. IsKept ended (told_in_play ended answered) old out now start m after found) same
-            (subst (λ v. IsKept ended (told_in_play ended answered) old out now v given after found)
-            (listed p) kept),
+        subst (λ m. IsKept ended (told_in_play ended answered) (passed old new out now) start m after
+            found) same
+            (subst (λ v. IsKept ended (told_in_play ended answered) (passed old new out now) v given after
+            found) (listed p) kept),
       )
 
 pub on_err : {V E : Type 0} (r : Result V E) {P : Type 0} → P → OnErr r P

@@ -8,6 +8,7 @@ use Rattle.desk_ends.specs.declared.serving.Served.{Served}
 use Rattle.desk_ends.specs.declared.serving.Served.TheVariants.{Answered, End}
 use Rattle.desk_ends.specs.declared.serving.ServeFault.{ServeFault}
 use Rattle.desk_ends.specs.declared.serving.ServeFault.TheVariants.{Read, Write, CutShort, OutOfMemory}
+use Rattle.desk_wire.specs.Passage.{Passage}
 use Rattle.desk_wire.specs.Serving.{HasServed, IsReplied}
 use Rattle.desk_wire.specs.declared.response.ServerError.{ServerError}
 use Rattle.desk_line.specs.declared.failure.Failure.{Failure}
@@ -15,7 +16,7 @@ use Rattle.desk_line.specs.Exits.{failure_at}
 use Rattle.desk_line.specs.declared.line.Serve.{Serve as ServeWords}
 use Rattle.desk_line.specs.declared.line.Enrolment.{Enrolment}
 use Rattle.desk_program.specs.Enrolling.{AreEnrolled, on_terms, with_operators}
-use Rattle.desk_program.specs.Serving.{AreServed, AreTaken, EndsAfter, EndsAtNews, EndsBy, Exchange, Grows, IsAtPort, IsDenied, IsLast, IsUnsent, Listens, Parting, Traffic, failing, is_whole, news_of}
+use Rattle.desk_program.specs.Serving.{AreServed, AreTaken, EndsAfter, EndsAtNews, EndsBy, Exchange, Grows, IsAtPort, IsDenied, IsLast, IsUnsent, Listens, Parting, Traffic, failing, is_whole, news_of, passage_of}
 
 -- ---- the connections that are taken
 
@@ -55,10 +56,10 @@ replied_then : (H K : Type 0) → (K → H) → (w : DeskWorld) (moment : ℤ) (
 replied_then H K by w moment request answer why after replied =
     record { told = λ k. replied.told (by k); failed = replied.failed }
 
-pub served_then : (H K : Type 0) → (K → H) → (r : Result Served ServeFault)
-    (old new out now : Option (List ℕ)) (w : DeskWorld) (moment : ℤ) (after : DeskWorld)
-    → HasServed H r old new out now w moment after → HasServed K r old new out now w moment after
-served_then H K by (Ok (Answered status framed)) old new out now w moment after h = record {
+pub served_then : (H K : Type 0) → (K → H) → (r : Result Served ServeFault) (p : Passage) (w : DeskWorld)
+    (moment : ℤ) (after : DeskWorld)
+    → HasServed H r p w moment after → HasServed K r p w moment after
+served_then H K by (Ok (Answered status framed)) p w moment after h = record {
   request = h.request;
   taken = h.taken;
   framed_is = h.framed_is;
@@ -69,8 +70,8 @@ served_then H K by (Ok (Answered status framed)) old new out now w moment after 
   gave_up = h.gave_up;
   written = h.written;
 }
-served_then H K by (Ok End) old new out now w moment after h = h
-served_then H K by (Err (Write fault)) old new out now w moment after h = record {
+served_then H K by (Ok End) p w moment after h = h
+served_then H K by (Err (Write fault)) p w moment after h = record {
   request = h.request;
   taken = h.taken;
   answer = h.answer;
@@ -78,9 +79,9 @@ served_then H K by (Err (Write fault)) old new out now w moment after h = record
   replied = replied_then H K by w moment h.request h.answer h.why after h.replied;
   off = h.off;
 }
-served_then H K by (Err CutShort) old new out now w moment after h = h
-served_then H K by (Err Read) old new out now w moment after h = h
-served_then H K by (Err OutOfMemory) old new out now w moment after h = h
+served_then H K by (Err CutShort) p w moment after h = h
+served_then H K by (Err Read) p w moment after h = h
+served_then H K by (Err OutOfMemory) p w moment after h = h
 
 pub enrolled_then : (H K : Type 0) → (K → H) → (es : List Enrolment) (w listed : DeskWorld)
     → AreEnrolled H es w listed → AreEnrolled K es w listed
@@ -94,7 +95,7 @@ all_then H K by (x ∷ xs) w after h = (
   h.0,
   h.1,
   enrolled_then H K by x.news w h.0 h.2,
-  served_then H K by x.served x.arrival.bytes x.parting.unread x.out x.parting.sent h.0 x.arrival.moment h.1
+  served_then H K by x.served (passage_of x) h.0 x.arrival.moment h.1
       h.3,
   all_then H K by xs h.1 after h.4,
 )

@@ -5,6 +5,7 @@ use Rattle.desk_store.specs.World.{World}
 use Rattle.desk_run.specs.DeskWorld.{DeskWorld, enrolled}
 use Rattle.desk_wire.specs.Given.{told_in_play}
 use Rattle.desk_wire.specs.Crashes.{IsCertain, IsKept, IsLeftBy}
+use Rattle.desk_wire.specs.Passage.{passed}
 use Rattle.desk_wire.specs.Serving.{HasServed, IsTaken}
 use Rattle.desk_line.specs.declared.failure.Failure.{Failure}
 use Rattle.desk_line.specs.declared.line.Enrolment.{Enrolment}
@@ -15,7 +16,7 @@ use Rattle.desk_line.specs.declared.line.Serve.{Serve as ServeWords}
 use Rattle.desk_line.specs.Exits.{Ending, EndsWith, IsBrokenDown}
 use Rattle.desk_program.specs.Enrolling.{AreListedSoFar, on_terms, with_operators}
 use Rattle.desk_program.specs.Playing.{IsNotPlayed, IsPlayed}
-use Rattle.desk_program.specs.Serving.{AreTaken, Exchange, HasBegun, IsNotBegun, Traffic}
+use Rattle.desk_program.specs.Serving.{AreTaken, Exchange, HasBegun, IsNotBegun, Traffic, passage_of}
 
 -- the first operators are listed, and not all of them; what is found has these, or these and the next one
 pub record AreKeptSoFar (H : Type 0) (es : List Enrolment) (w after : DeskWorld) (found : Option World) :
@@ -46,7 +47,7 @@ abbrev pub IsPlayKept :
     → DeskWorld → DeskWorld → Option World → Type 0
 IsPlayKept H play end old new out now w after found =
     ((run : IsPlayed H play end old new out now w after)
-    × IsKept run.ended (told_in_play run.ended run.answered) old out now
+    × IsKept run.ended (told_in_play run.ended run.answered) (passed old new out now)
     (with_operators (on_terms w play.terms) play.enrolments.items) play.moment after found)
     ⊎ (IsNotPlayed H play end old new out now w after
     × AreKeptSoFar H play.enrolments.items (on_terms w play.terms) after found)
@@ -68,7 +69,7 @@ IsLinePlayKept H (line.Migrate migrate) end old new out now w after found = ⊥
 -- found is what this request would leave there
 abbrev pub IsLeftUncertain : DeskWorld → Option World → Exchange → Type 0
 IsLeftUncertain w found x = (¬ IsCertain x.served)
-    × HasServed ⊤ x.served x.arrival.bytes x.parting.unread x.out x.parting.sent w x.arrival.moment w
+    × HasServed ⊤ x.served (passage_of x) w x.arrival.moment w
     × IsLeftBy (IsTaken x.arrival.bytes x.parting.unread) w x.arrival.moment found
 
 -- the same of one of these connections

@@ -3,6 +3,7 @@ use Rattle.std.specs.Prelude.{◌≡◌, ◌⊎◌, ⊤, ℕ, List, Option, None
 use Rattle.std.specs.Io.KnownBytes.{Appends}
 use Rattle.desk_run.specs.DeskWorld.{DeskWorld}
 use Rattle.desk_ends.specs.declared.playing.PlayEnd.{PlayEnd}
+use Rattle.desk_wire.specs.Passage.{passed}
 use Rattle.desk_wire.specs.Playing.{HasPlayed}
 use Rattle.desk_line.specs.declared.failure.Failure.{Failure}
 use Rattle.desk_line.specs.declared.line.Line.{Line}
@@ -25,7 +26,7 @@ pub record IsPlayed (H : Type 0) (play : PlayWords) (end : Ending) (old new out 
   pub ended : PlayEnd
   pub answered : ℕ
   pub ends : EndsWith (done_unless (failure_after ended)) end
-  pub played : H → HasPlayed H ended answered old new out now
+  pub played : H → HasPlayed H ended answered (passed old new out now)
       (with_operators (on_terms w play.terms) play.enrolments.items) play.moment after
 
 -- an operator could not be listed: those before it are, and nothing is read or written

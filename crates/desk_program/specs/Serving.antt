@@ -5,6 +5,7 @@ use Rattle.desk_run.specs.DeskWorld.{DeskWorld}
 use Rattle.desk_ends.specs.declared.serving.Served.{Served}
 use Rattle.desk_ends.specs.declared.serving.Served.TheVariants.{Answered, End}
 use Rattle.desk_ends.specs.declared.serving.ServeFault.{ServeFault}
+use Rattle.desk_wire.specs.Passage.{Passage, passed}
 use Rattle.desk_wire.specs.Serving.{HasServed}
 use Rattle.desk_line.specs.declared.failure.Failure.{Failure}
 use Rattle.desk_line.specs.declared.line.Serve.{Serve as ServeWords}
@@ -88,6 +89,10 @@ pub record Exchange : Type 0 where
   pub served : Result Served ServeFault
   pub parting : Parting
 
+-- the bytes that it brought, and those that its client was sent
+abbrev pub passage_of : Exchange → Passage
+passage_of x = passed x.arrival.bytes x.parting.unread x.out x.parting.sent
+
 -- no byte of the request of a connection is left unread, as far as is known
 abbrev pub is_whole : Result Served ServeFault → Bool
 is_whole (Ok (Answered status framed)) = framed
@@ -102,8 +107,7 @@ AreServed H (x ∷ xs) w after =
     (listed : DeskWorld)
     × (between : DeskWorld)
     × AreEnrolled H x.news w listed
-    × HasServed H x.served x.arrival.bytes x.parting.unread x.out x.parting.sent listed x.arrival.moment
-    between
+    × HasServed H x.served (passage_of x) listed x.arrival.moment between
     × AreServed H xs between after
 
 -- why the desk ends after a result; none if it goes on

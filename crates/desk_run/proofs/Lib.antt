@@ -1,4 +1,5 @@
 pub mod FaultLemmas
+pub mod DeskLemmas
 pub mod OutcomeLemmas
 pub mod PutLemmas
 pub mod CallLemmas

@@ -1,8 +1,10 @@
 -- Runs: the calls answered so far.
-use Rattle.std.proofs.Common.{◌≡◌, ℕ, ℤ, ◌+◌, ◌<◌, List, [], ◌∷◌, ◌++◌, length, take, get_or, map, Option, Some, Result, Ok, Err, OnOk, OnErr, refl, sym, subst, ap, ◌∙◌, inl, inr, ◌⊎◌}
+use Rattle.std.proofs.Common.{◌≡◌, ℕ, ℤ, ◌+◌, ◌<◌, List, [], ◌∷◌, ◌++◌, length, take, get_or, map, Option, Some, Result, Ok, Err, IfSome, OnOk, OnErr, refl, sym, subst, ap, ◌∙◌, inl, inr, ◌⊎◌}
 use Rattle.std.proofs.lemmas.List.{take_more, map-append, length-append}
 use Rattle.desk_store.specs.World.{World}
-use Rattle.desk_store.specs.Crashes.{LeavesOldOr}
+use Rattle.desk_store.specs.declared.store.PlanStore.{Ghosts}
+use Rattle.desk_store.specs.StoreFaults.{IsHonest}
+use Rattle.desk_run.specs.DeskFrames.{Leaves, fault_in}
 use Rattle.desk_run.specs.DeskWorld.{DeskWorld, IsSettled, Parts, world_of}
 use Rattle.desk_rules.specs.declared.call.Asked.{Asked}
 use Rattle.desk_rules.specs.declared.reply.Reply.{Reply}
@@ -74,22 +76,35 @@ answered_is w after moment asked (Err Store) o told ok err is = cc
 answered_is w after moment asked (Err Ceiling) o told ok err is = cc
 
 -- a call that has an outcome leaves a settled desk settled
-pub settled_next : {S : Type 0} (content : S → World) (may_leave : S → Option World → Type 0)
-    (d e : Parts S) (moment : ℤ) (asked : Asked) (r : Result Reply DeskFault)
-    → OnOk r (IsSettled content may_leave d → IsSettled content may_leave e)
-    → OnErr r (world_of content e ≡ world_of content d)
-    → world_of content e ≡ step (world_of content d) asked.operator moment asked.call
-    → LeavesOldOr (step (world_of content d) asked.operator moment asked.call).content (may_leave d.store)
-    (may_leave e.store)
-    → IsSettled content may_leave d → IsSettled content may_leave e
-settled_next content may_leave d e moment asked (Ok reply) kept err left crash settled = kept settled
-settled_next content may_leave d e moment asked (Err fault) kept err left crash settled = λ found may.
-    either (crash found may) where
-      either : {found : Option World} → may_leave d.store found
-          ⊎ (found ≡ Some (step (world_of content d) asked.operator moment asked.call).content)
-          → found ≡ Some (content e.store)
-      either (inl before) = settled _ before ∙ sym (ap (λ w. Some w.content) err)
+pub settled_next : {S : Type 0} (g : Ghosts S) (d e : Parts S) (moment : ℤ) (asked : Asked)
+    (r : Result Reply DeskFault) → IsHonest (g.doubt e.store)
+    → Leaves g d e (step (world_of g.content d) asked.operator moment asked.call) (fault_in r)
+    → world_of g.content e ≡ step (world_of g.content d) asked.operator moment asked.call
+    → IsSettled g.content g.may_leave d → IsSettled g.content g.may_leave e
+settled_next g d e moment asked (Ok reply) honest leaves left settled = leaves.kept honest refl settled
+settled_next g d e moment asked (Err fault) honest leaves left settled = λ found may.
+    either (leaves.crash honest found may) where
+      either : {found : Option World} → g.may_leave d.store found
+          ⊎ (found ≡ Some (step (world_of g.content d) asked.operator moment asked.call).content)
+          → found ≡ Some (g.content e.store)
+      either (inl before) = settled _ before ∙ sym (ap (λ w. Some w.content) leaves.same)
       either (inr next) = next ∙ sym (ap (λ w. Some w.content) left)
+
+-- what stays at a fault
+pub same_on_err : {V : Type 0} (P : Type 0) (r : Result V DeskFault) → IfSome (fault_in r) (λ _. P)
+    → OnErr r P
+same_on_err P (Ok v) same = tt
+same_on_err P (Err fault) same = same
+
+-- the fault at which a run stopped is that of the call
+pub stopped_by : (r : Result Reply DeskFault) (fault : DeskFault) → outcome_of r ≡ Err fault
+    → fault_in r ≡ Some fault
+stopped_by (Ok reply) fault is = cc
+stopped_by (Err UnknownOperator) fault is = cc
+stopped_by (Err NoSuchPlan) fault is = cc
+stopped_by (Err OutOfMemory) fault is = cc
+stopped_by (Err Store) fault is = cc
+stopped_by (Err Ceiling) fault is = cc
 
 -- the world that one more call leaves
 left_next : (w now : DeskWorld) (calls : List (ℤ × Asked)) (n : ℕ) (outcomes : List Outcome)

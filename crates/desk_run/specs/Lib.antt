@@ -1,6 +1,7 @@
 -- Read first: Verdicts, Sides, TwoRuns. What stands in laws/ is checked and needn't be read.
 pub mod CallFaults
 pub mod DeskWorld
+pub mod DeskFrames
 pub mod Verdicts
 pub mod Calls
 pub mod Clusters

@@ -5,7 +5,7 @@ ghost use Rattle.desk_rules.specs.Limits.{max_priority};
 ghost use Rattle.desk_rules.specs.Terms.{no_terms};
 
 use crate::fault::DeskFault;
-use crate::pending::{Pending, commit_over, prepare_over};
+use crate::pending::{Pending, prepare_over};
 use desk_rules::call::Asked;
 use desk_rules::decide::MAX_PRIORITY;
 use desk_rules::operator::Operator;
@@ -80,8 +80,9 @@ impl<S> Desk<S> {
 impl<S: PlanStore> Desk<S> {
     ghost use Rattle.desk_store.specs.StoreFrames.{Remembers};
     ghost use Rattle.desk_store.specs.StoreFaults.{IsHonest};
-    ghost use Rattle.desk_store.specs.Crashes.{LeavesNoMore, LeavesOldOr};
-    ghost use Rattle.desk_run.specs.DeskWorld.{IsSettled, IsSettledOrSame, enrolled, world_of};
+    ghost use Rattle.desk_store.specs.Crashes.{LeavesNoMore};
+    ghost use Rattle.desk_run.specs.DeskFrames.{Leaves, fault_in};
+    ghost use Rattle.desk_run.specs.DeskWorld.{IsSettled, enrolled, world_of};
     ghost use Rattle.desk_run.specs.CallFaults.{IsBreakdown, IsStoreCounted};
     ghost use Rattle.desk_run.specs.Verdicts.{step_by};
     ghost use Rattle.desk_run.specs.Calls.{Tells, Prepares, CanCommit, reply_in, world_committed};
@@ -92,19 +93,14 @@ impl<S: PlanStore> Desk<S> {
     ///
     /// `Ceiling` above 1,000, else `OutOfMemory` or `Store` where the store gave up: nothing changed.
     pub fn enrol(&mut self, operator: &Operator, ceiling: u32) -> Result<(), DeskFault>
-        ensures ok { IsHonest (S.doubt self.new.store) → OnOk result
-            (world_of S.content self.new ≡ enrolled (world_of S.content self.old) operator.now
-            ceiling) }
-        ensures err { OnErr result (world_of S.content self.new ≡ world_of S.content self.old) }
-        ensures crash { IsHonest (S.doubt self.new.store) →
-            LeavesOldOr (enrolled (world_of S.content self.old) operator.now ceiling).content
-            (S.may_leave self.old.store) (S.may_leave self.new.store) }
-        ensures kept { IsHonest (S.doubt self.new.store) → OnOk result
-            (IsSettled S.content S.may_leave self.new) }
+        ensures ok { IsHonest (S.doubt self.new.store) → OnOk result (world_of S.content self.new
+            ≡ enrolled (world_of S.content self.old) operator.now ceiling) }
+        ensures kept { IsHonest (S.doubt self.new.store) →
+            OnOk result (IsSettled S.content S.may_leave self.new) }
+        ensures leaves { Leaves S.PlanStore self.old self.new
+            (enrolled (world_of S.content self.old) operator.now ceiling) (fault_in result) }
         ensures ceiling { (result ≡ Err DeskFault.Ceiling) ↔ (max_priority < ceiling) }
         ensures fault { IfErr result (λ e. (e ≢ DeskFault.Ceiling) → IsBreakdown e) }
-        ensures remembered { Remembers S.doubt S.faults S.is_shielded self.old.store self.new.store }
-        ensures cause { IfErr result (IsStoreCounted S.faults self.old.store self.new.store) }
     {
         if ceiling > MAX_PRIORITY {
             return Err(DeskFault::Ceiling);
@@ -145,24 +141,21 @@ impl<S: PlanStore> Desk<S> {
     ///
     /// `OutOfMemory`, or `Store` where the store failed: nothing changed.
     pub fn commit(&mut self, pending: Pending) -> Result<Reply, DeskFault>
-        requires { IsHonest (S.doubt self.old.store) → CanCommit (world_of S.content self.old)
-            pending }
+        requires { IsHonest (S.doubt self.old.store) →
+            CanCommit (world_of S.content self.old) pending }
         ensures reply { IfOk result (λ reply. reply ≡ reply_in pending) }
         ensures ok { IsHonest (S.doubt self.new.store) → OnOk result
             (world_of S.content self.new ≡ world_committed (world_of S.content self.old) pending) }
-        ensures err { OnErr result (world_of S.content self.new ≡ world_of S.content self.old) }
-        ensures crash { IsHonest (S.doubt self.new.store) →
-            LeavesOldOr (world_committed (world_of S.content self.old) pending).content
-            (S.may_leave self.old.store) (S.may_leave self.new.store) }
-        ensures kept { IsHonest (S.doubt self.new.store) → OnOk result
-            (IsSettled S.content S.may_leave self.old → IsSettled S.content S.may_leave self.new) }
-        ensures settled { IsHonest (S.doubt self.new.store) → OnOk result
-            (IsSettledOrSame S.content S.may_leave self.old self.new) }
+        ensures leaves { Leaves S.PlanStore self.old self.new
+            (world_committed (world_of S.content self.old) pending) (fault_in result) }
         ensures fault { IfErr result (λ e. IsBreakdown e) }
-        ensures remembered { Remembers S.doubt S.faults S.is_shielded self.old.store self.new.store }
-        ensures cause { IfErr result (IsStoreCounted S.faults self.old.store self.new.store) }
     {
-        commit_over(&mut self.store, pending)
+        let Pending { reply, change } = pending;
+        let Some(change) = change else {
+            return Ok(reply);
+        };
+        self.store.apply(&change)?;
+        Ok(reply)
     }
 
     /// Answers a call at a moment (a Unix second), and makes its change.
@@ -175,16 +168,8 @@ impl<S: PlanStore> Desk<S> {
             Tells (world_of S.content self.old) moment asked.now result }
         ensures ok { IsHonest (S.doubt self.new.store) → OnOk result
             (world_of S.content self.new ≡ step_by (world_of S.content self.old) moment asked.now) }
-        ensures err { OnErr result (world_of S.content self.new ≡ world_of S.content self.old) }
-        ensures crash { IsHonest (S.doubt self.new.store) →
-            LeavesOldOr (step_by (world_of S.content self.old) moment asked.now).content
-            (S.may_leave self.old.store) (S.may_leave self.new.store) }
-        ensures kept { IsHonest (S.doubt self.new.store) → OnOk result
-            (IsSettled S.content S.may_leave self.old → IsSettled S.content S.may_leave self.new) }
-        ensures settled { IsHonest (S.doubt self.new.store) → OnOk result
-            (IsSettledOrSame S.content S.may_leave self.old self.new) }
-        ensures remembered { Remembers S.doubt S.faults S.is_shielded self.old.store self.new.store }
-        ensures cause { IfErr result (IsStoreCounted S.faults self.old.store self.new.store) }
+        ensures leaves { Leaves S.PlanStore self.old self.new
+            (step_by (world_of S.content self.old) moment asked.now) (fault_in result) }
     {
         let pending = self.prepare(alloc, moment, asked)?;
         self.commit(pending)

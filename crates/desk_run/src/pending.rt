@@ -1,12 +1,11 @@
 //! Replies that are ready, and the changes that go with them.
 
-ghost use Rattle.std.specs.Prelude.{◌≡◌, ◌≤◌, ◌⊎◌, Some, IfOk, IfErr, OnOk, OnErr};
-ghost use Rattle.desk_store.specs.StoreFrames.{OnlyReads, Remembers};
+ghost use Rattle.std.specs.Prelude.{◌≡◌, IfOk, IfErr};
+ghost use Rattle.desk_store.specs.StoreFrames.{OnlyReads};
 ghost use Rattle.desk_store.specs.StoreFaults.{IsHonest};
-ghost use Rattle.desk_store.specs.Crashes.{LeavesNoMore, LeavesOldOr, LeavesOnly};
-ghost use Rattle.desk_run.specs.CallFaults.{IsBreakdown, IsStoreCounted};
+ghost use Rattle.desk_run.specs.CallFaults.{IsStoreCounted};
 ghost use Rattle.desk_run.specs.DeskWorld.{with_content};
-ghost use Rattle.desk_run.specs.Calls.{IsSamePending, Prepares, Fits, reply_in, world_with};
+ghost use Rattle.desk_run.specs.Calls.{IsSamePending, Prepares, reply_in};
 
 use crate::fault::DeskFault;
 use clear::ready_clear;
@@ -32,8 +31,8 @@ mod show;
 /// A reply that is ready, and the change that goes with it.
 #[derive(Debug, Drop)]
 pub struct Pending {
-    reply: Reply,
-    change: Option<Change>,
+    pub(crate) reply: Reply,
+    pub(crate) change: Option<Change>,
 }
 
 impl Pending {
@@ -90,36 +89,5 @@ pub fn prepare_over<S: PlanStore>(
         Call::Put(put) => ready_put(store, terms, moment, operator, put, ceiling),
         Call::Delete(id) => ready_delete(store, operator, id),
         Call::Clear(extent) => ready_clear(alloc, store, operator, extent),
-    }
-}
-
-// Makes the change of a pending reply over a store.
-pub fn commit_over<S: PlanStore>(store: &mut S, pending: Pending) -> Result<Reply, DeskFault>
-    requires { IsHonest (S.doubt store.old) → Fits (S.content store.old) pending.change }
-    ensures reply { IfOk result (λ reply. reply ≡ reply_in pending) }
-    ensures ok { IsHonest (S.doubt store.new) → OnOk result
-        (S.content store.new ≡ world_with (S.content store.old) pending.change) }
-    ensures err { OnErr result (S.content store.new ≡ S.content store.old) }
-    ensures crash { IsHonest (S.doubt store.new) →
-        LeavesOldOr (world_with (S.content store.old) pending.change) (S.may_leave store.old)
-        (S.may_leave store.new) }
-    ensures kept { IsHonest (S.doubt store.new) → OnOk result
-        (LeavesOnly (S.content store.old) (S.may_leave store.old) →
-        LeavesOnly (S.content store.new) (S.may_leave store.new)) }
-    ensures settled { IsHonest (S.doubt store.new) → OnOk result
-        (LeavesOnly (S.content store.new) (S.may_leave store.new)
-        ⊎ ((S.content store.new ≡ S.content store.old)
-        × LeavesNoMore (S.may_leave store.old) (S.may_leave store.new))) }
-    ensures fault { IfErr result (λ e. IsBreakdown e) }
-    ensures remembered { Remembers S.doubt S.faults S.is_shielded store.old store.new }
-    ensures cause { IfErr result (IsStoreCounted S.faults store.old store.new) }
-{
-    let Pending { reply, change } = pending;
-    match change {
-        Some(change) => {
-            store.apply(&change)?;
-            Ok(reply)
-        }
-        None => Ok(reply),
     }
 }

@@ -1,10 +1,10 @@
 //! Runs: lists of calls, answered one after the other.
 
-ghost use Rattle.std.specs.Prelude.{◌≡◌, ◌≤◌, length, map, Option, Some, IfOk, OnErr};
+ghost use Rattle.std.specs.Prelude.{◌≡◌, ◌≤◌, length, map, Some, IfOk, OnErr};
 ghost use Rattle.desk_store.specs.StoreFrames.{Remembers};
 ghost use Rattle.desk_store.specs.StoreFaults.{IsHonest, HasRisen};
-ghost use Rattle.desk_store.specs.World.{World};
-ghost use Rattle.desk_run.specs.DeskWorld.{IsSettled, world_of};
+ghost use Rattle.desk_run.specs.DeskFrames.{FindsOnly};
+ghost use Rattle.desk_run.specs.DeskWorld.{world_of};
 ghost use Rattle.desk_run.specs.Runs as spec;
 ghost use Rattle.desk_run.specs.Runs.{IsFoundIn, IsRun, told_by};
 
@@ -80,10 +80,8 @@ impl<S: PlanStore> Desk<S> {
     pub fn run(&mut self, alloc: Global, calls: &[(i64, Asked)]) -> Result<Ran, AllocError>
         ensures ran { IsHonest (S.doubt self.new.store) → IfOk result (λ ran.
             IsRun (world_of S.content self.old) calls.now ran (world_of S.content self.new)) }
-        ensures kept { IsHonest (S.doubt self.new.store) → IfOk result (λ ran.
-            IsSettled S.content S.may_leave self.old →
-            (found : Option World) → S.may_leave self.new.store found → IsFoundIn
-            (world_of S.content self.old) calls.now (length ran.outcomes.items) found) }
+        ensures kept { IfOk result (λ ran. FindsOnly S.PlanStore self.old self.new
+            (IsFoundIn (world_of S.content self.old) calls.now (length ran.outcomes.items))) }
         ensures err { OnErr result (self.new ≡ self.old) }
         ensures remembered { Remembers S.doubt S.faults S.is_shielded self.old.store self.new.store }
         ensures cause { IfOk result (λ ran. ran.stopped ≡ Some DeskFault.Store →
@@ -112,10 +110,8 @@ fn run_over<S: PlanStore>(
 ) -> Result<Ran, AllocError>
     ensures ran { IsHonest (S.doubt desk.new.store) → IfOk result (λ ran.
         IsRun (world_of S.content desk.old) calls.now ran (world_of S.content desk.new)) }
-    ensures kept { IsHonest (S.doubt desk.new.store) → IfOk result (λ ran.
-        IsSettled S.content S.may_leave desk.old →
-        (found : Option World) → S.may_leave desk.new.store found → IsFoundIn
-        (world_of S.content desk.old) calls.now (length ran.outcomes.items) found) }
+    ensures kept { IfOk result (λ ran. FindsOnly S.PlanStore desk.old desk.new
+        (IsFoundIn (world_of S.content desk.old) calls.now (length ran.outcomes.items))) }
     ensures err { OnErr result (desk.new ≡ desk.old) }
     ensures remembered { Remembers S.doubt S.faults S.is_shielded desk.old.store desk.new.store }
     ensures cause { IfOk result (λ ran. ran.stopped ≡ Some DeskFault.Store →

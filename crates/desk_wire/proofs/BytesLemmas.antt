@@ -1,5 +1,5 @@
 -- Bytes: what a desk answers, by what it prepared.
-use Rattle.std.proofs.Common.{◌≡◌, ℤ, List, ℕ, Result, Ok, Err, IfOk, IfSome, OnOk, Option, Some, None, inl, inr, subst, refl, sym, ap, ◌∙◌}
+use Rattle.std.proofs.Common.{◌≡◌, ℤ, List, ℕ, Result, Ok, Err, IfOk, OnOk, refl, sym, ap, ◌∙◌}
 use Rattle.desk_rules.specs.declared.call.Asked.{Asked}
 use Rattle.desk_run.specs.declared.pending.Pending.{Pending}
 use Rattle.desk_run.specs.DeskWorld.{DeskWorld}
@@ -10,10 +10,7 @@ use Rattle.desk_writing.specs.Replies.{reply_text}
 use Rattle.desk_reading.specs.Messages.{MessageParts, message_in}
 use Rattle.desk_reading.specs.Readings.{Reading, or_met}
 use Rattle.desk_reading.specs.Requests.{asked, asked_by}
-use Rattle.desk_store.specs.StoreFaults.{HasRisen}
-use Rattle.desk_wire.specs.Bytes.{IsAnswered, IsAnsweredSo, IsDone, IsServerError, status, status_for, text, world_after}
-use Rattle.desk_wire.specs.declared.response.ServerError.{ServerError}
-use Rattle.desk_wire.specs.declared.response.ServerError.TheVariants.{OutOfMemory, Store}
+use Rattle.desk_wire.specs.Bytes.{IsDone, status, status_for, text, world_after}
 
 -- the answer and the change of what was pending
 pub done_pending : (w after : DeskWorld) (moment : ℤ) (asked : Asked) (p : Pending) (answer : List ℕ)
@@ -69,18 +66,3 @@ pub left_read : (w : DeskWorld) (given moment : ℤ) (text : List ℕ) (reading 
     → world_after w given (or_met reading asked_by) ≡ world_after w moment (asked text)
 left_read w given moment text reading m r = ap (λ z. world_after w z (or_met reading asked_by)) m
     ∙ ap (world_after w moment) (asked_read text text reading r refl)
-
--- a request is answered, whether the desk failed or not
-pub answered_so : (H : Type 0) (w after : DeskWorld) (given moment : ℤ) (text : List ℕ)
-    (reading : Reading MessageParts) (answer : List ℕ) (e : Option ServerError) (old new : ℕ)
-    → given ≡ moment → reading ≡ message_in text
-    → (H → IsAnsweredSo e w given (or_met reading asked_by) answer after)
-    → IfSome e (λ why. IsServerError why w answer after) → (e ≡ Some Store → HasRisen old new)
-    → IsAnswered H w moment text answer after old new
-answered_so H w after given moment text reading answer None old new m r told failed cause =
-    inl (λ h. subst (λ z. IsDone w z (asked text) answer after) m
-    (subst (λ a. IsDone w given a answer after) (asked_read text text reading r refl) (told h)))
-answered_so H w after given moment text reading answer (Some OutOfMemory) old new m r told failed cause =
-    inr (OutOfMemory, failed, tt)
-answered_so H w after given moment text reading answer (Some Store) old new m r told failed cause =
-    inr (Store, failed, cause refl)

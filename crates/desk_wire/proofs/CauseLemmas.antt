@@ -5,6 +5,7 @@ use Rattle.std.proofs.KnownBytes.{Appends-nil, Appends-trans}
 use Rattle.std.specs.Io.KnownBytes.{Appends}
 use Rattle.desk_store.specs.StoreFaults.{HasRisen}
 use Rattle.desk_run.specs.DeskWorld.{DeskWorld}
+use Rattle.desk_run.specs.laws.Crash.{risen_since}
 use Rattle.desk_ends.specs.declared.serving.Served.{Served}
 use Rattle.desk_ends.specs.declared.serving.Served.TheVariants.{Answered}
 use Rattle.desk_wire.specs.declared.response.ServerError.{ServerError}
@@ -32,10 +33,6 @@ failed_there IsSaid (Some why) w after answer old new some says risen said = rec
 pub not_none : {A : Type 0} (e : Option A) → is_some e ≡ true → e ≢ None
 not_none (Some a) some is = cc
 not_none None some is = cc
-
--- a count that was lower before
-pub risen_since : (first old new : ℕ) → first ≤ old → HasRisen old new → HasRisen first new
-risen_since first old new below risen = λ small. omega (arith, below, risen small)
 
 pub cause_since : (why : ServerError) (first old new : ℕ) → first ≤ old → HasCause why old new
     → HasCause why first new

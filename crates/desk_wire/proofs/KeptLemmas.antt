@@ -1,6 +1,6 @@
 -- What may be found of requests of a stream.
 use Rattle.std.proofs.Common.{◌≡◌, ◌≢◌, ◌-◌, Bool, IfSome, ℕ, ℤ, ◌⊎◌, inl, inr, refl, sym, ap, subst, ◌∙◌, arith, List, [], ◌∷◌, ◌++◌, Option, Some, None, Result, Ok, Err}
-use Rattle.std.proofs.Common.{false, is_some, length, map, take, get_or, ◌<◌}
+use Rattle.std.proofs.Common.{option_map, false, is_some, length, map, take, get_or, ◌<◌}
 use Rattle.std.proofs.lemmas.List.{map-append}
 use Rattle.std.proofs.lemmas.List.Elements.{recursion_from_All}
 use Rattle.std.specs.Result.{IsErrAnd}
@@ -10,7 +10,11 @@ use Rattle.desk_reading.specs.Messages.{MessageParts, message_in}
 use Rattle.desk_reading.specs.Readings.{Reading, or_met}
 use Rattle.desk_reading.specs.Requests.{asked, asked_by}
 use Rattle.desk_rules.specs.declared.call.Asked.{Asked}
-use Rattle.desk_run.specs.DeskWorld.{DeskWorld}
+use Rattle.desk_store.specs.declared.store.PlanStore.{Ghosts}
+use Rattle.desk_store.specs.StoreFaults.{IsHonest}
+use Rattle.desk_run.specs.DeskFrames.{Leaves}
+use Rattle.desk_run.specs.DeskWorld.{DeskWorld, Parts, world_of}
+use Rattle.desk_wire.specs.Failing.{desk_fault}
 use Rattle.desk_ends.specs.declared.playing.PlayEnd.{PlayEnd}
 use Rattle.desk_ends.specs.declared.playing.PlayEnd.TheVariants.{End, Unframed, Broken, Limit, Fault}
 use Rattle.desk_ends.specs.declared.serving.Served.{Served}
@@ -22,8 +26,10 @@ use Rattle.desk_wire.specs.declared.response.ServerError.{ServerError}
 use Rattle.desk_wire.specs.AllAnswers.{Sent, answers_to, world_left}
 use Rattle.desk_wire.specs.Bytes.{IsServerError, status_so, world_after}
 use Rattle.desk_wire.specs.Given.{IsNextIn, answered, told_in_play}
-use Rattle.desk_wire.specs.Crashes.{FindsBy, IsCertain, IsFoundAfter, IsFoundIn, IsFoundNow, IsKept, IsLeftBy, IsOldOrNext}
+use Rattle.desk_wire.specs.Crashes.{FindsBy, IsCertain, IsFoundAfter, IsFoundIn, IsFoundNow, IsKept, IsLeftBy, IsOldOrNext, IsServedKept}
+use Rattle.desk_wire.specs.Passage.{Passage, passed}
 use Rattle.desk_wire.specs.Playing.{ArePlayed, EndsBy, IsWhole, at_moment}
+use Rattle.desk_wire.specs.Streams.{requests_in}
 use Rattle.desk_wire.specs.Serving.{IsTaken}
 use Rattle.desk_wire.proofs.AllLemmas.{HaveAnswers, left_more, take_map}
 use Rattle.desk_wire.proofs.BytesLemmas.{left_read}
@@ -105,6 +111,39 @@ pub if_some_all : (why : Option ServerError) {P : Type 0} → P → IfSome why (
 if_some_all None p = tt
 if_some_all (Some error) p = p
 
+-- what a start may find after one request, if the desk failed, and if the answer says whether it did
+module _ {S : Type 0} (g : Ghosts S) (old new : Parts S) (r : Result Served ServeFault) (q : Passage)
+    (moment : ℤ) where
+  abbrev MayBeNext : Type 0
+  MayBeNext = IsHonest (g.doubt new.store) → (found : Option World) → g.may_leave new.store found
+      → g.may_leave old.store found
+      ⊎ IsLeftBy (IsTaken q.reads.before q.reads.after) (world_of g.content old) moment found
+
+  pub kept_failed : world_of g.content new ≡ world_of g.content old → ¬ IsCertain r → MayBeNext
+      → IsServedKept g old new r q moment
+  kept_failed same unsure next = record {
+    crash = next;
+    kept = λ honest certain. absurd (unsure certain);
+    found = λ honest. found_failed r (g.may_leave old.store) (g.may_leave new.store)
+        (IsTaken q.reads.before q.reads.after) moment (world_of g.content old) (world_of g.content new) same
+        unsure (next honest);
+  }
+
+  pub kept_answered : (after : DeskWorld) (error : Option ServerError) (answer : List ℕ)
+      → Leaves g old new after (option_map desk_fault error)
+      → IfSome error (λ why. IsServerError why (world_of g.content old) answer (world_of g.content new))
+      → (IsHonest (g.doubt new.store) → IfSome error (λ why. ¬ IsCertain r))
+      → (IsHonest (g.doubt new.store) → IsCertain r → error ≡ None) → MayBeNext
+      → IsServedKept g old new r q moment
+  kept_answered after error answer leaves failed unsure sure next = record {
+    crash = next;
+    kept = λ honest certain. leaves.kept honest (ap (option_map desk_fault) (sure honest certain));
+    found = λ honest. found_answered r (g.may_leave old.store) (g.may_leave new.store)
+        (IsTaken q.reads.before q.reads.after) moment (world_of g.content old) (world_of g.content new) error
+        answer (λ none. leaves.settled honest (ap (option_map desk_fault) none)) failed (unsure honest)
+        (next honest);
+  }
+
 -- what is found once what was settled may have one request more
 pub old_or_next : (before : Option World → Type 0) (w : DeskWorld) (IsNext : List ℕ → Type 0) (moment : ℤ)
     (found : Option World) → (before found → found ≡ Some w.content)
@@ -115,7 +154,7 @@ old_or_next before w IsNext moment found only (inr next) = inr next
 -- the place of the next request
 next_in : (H : Type 0) (count : ℕ) (old input new out output : Option (List ℕ)) (w : DeskWorld) (moment : ℤ)
     (world : DeskWorld) (found : Option World) → H
-    → (f : ArePlayed H count old input out output w moment world)
+    → (f : ArePlayed H count (passed old input out output) w moment world)
     → IsOldOrNext (IsTaken input new) world moment found
     → IsOldOrNext (IsNextIn old count f.requests) (world_left w (at_moment moment f.requests)) moment found
 next_in H count old input new out output w moment world found p f (inl is) =
@@ -153,28 +192,28 @@ fault_last before world after IsNext moment found (Write fault) certain only lef
     old_or_next before world IsNext moment found only left
 
 module _ (H : Type 0) (old out : Option (List ℕ)) (w : DeskWorld) (moment : ℤ) (p : H) where
-  abbrev Kept : PlayEnd → ℕ → Option (List ℕ) → DeskWorld → Option World → Type 0
-  Kept ended n now after found = IsKept ended n old out now w moment after found
+  abbrev Kept : PlayEnd → ℕ → Option (List ℕ) → Option (List ℕ) → DeskWorld → Option World → Type 0
+  Kept ended n new now after found = IsKept ended n (passed old new out now) w moment after found
 
   kept_by : (ended : PlayEnd) (count answered : ℕ) (input new output now : Option (List ℕ))
       (world after : DeskWorld) (found : Option World)
-      → ArePlayed H count old input out output w moment world
-      → EndsBy H ended count answered input new output now world moment after
+      → ArePlayed H count (passed old input out output) w moment world
+      → EndsBy H ended count answered (passed input new output now) world moment after
       → FindsLast ended (IsTaken input new) world moment after found
-      → Kept ended (told_in_play ended answered) now after found
+      → Kept ended (told_in_play ended answered) new now after found
   kept_by End count answered input new output now world after found f last is =
-      let given = given_first H old out w moment p End count input output now world after last.2 refl f
+      let given = given_first H old out w moment p End count input new output now world after last.2 refl f
       (λ e. e) in
-      subst (λ n. Kept End n now after found) (sym last.0) (record {
+      subst (λ n. Kept End n new now after found) (sym last.0) (record {
         requests = f.requests;
         answers = answers_to w (at_moment moment f.requests);
         given = given;
         finds = is ∙ ap (λ v. Some v.content) given.left;
       })
   kept_by Limit count answered input new output now world after found f last is =
-      let given = given_first H old out w moment p Limit count input output now world after last.2 refl f
+      let given = given_first H old out w moment p Limit count input new output now world after last.2 refl f
       (λ e. e) in
-      subst (λ n. Kept Limit n now after found) (sym last.0) (record {
+      subst (λ n. Kept Limit n new now after found) (sym last.0) (record {
         requests = f.requests;
         answers = answers_to w (at_moment moment f.requests);
         given = given;
@@ -182,7 +221,7 @@ module _ (H : Type 0) (old out : Option (List ℕ)) (w : DeskWorld) (moment : �
       })
   kept_by Unframed count answered input new output now world after found f last is =
       let given = given_unframed H old out w moment p count input new output now world after f last.1 in
-      subst (λ n. Kept Unframed n now after found) (sym last.0) (record {
+      subst (λ n. Kept Unframed n new now after found) (sym last.0) (record {
         requests = f.requests ++ last.1.served.request ∷ [];
         answers = answers_to w (at_moment moment (f.requests ++ last.1.served.request ∷ []));
         given = given;
@@ -190,40 +229,40 @@ module _ (H : Type 0) (old out : Option (List ℕ)) (w : DeskWorld) (moment : �
       })
   kept_by Broken count answered input new output now world after found f last is =
       let less : answered - 1 ≡ count = omega (arith, last.0) in
-      subst (λ n. Kept Broken n now after found) (sym less) (record {
+      subst (λ n. Kept Broken n new now after found) (sym less) (record {
         requests = f.requests;
         answers = answers_to w (at_moment moment f.requests);
         given = given_broken H old out w moment p count input new output now world after f last.1;
         finds = next_in H count old input new out output w moment world found p f is;
       })
   kept_by (Fault (Write stopped)) count answered input new output now world after found f last is =
-      subst (λ n. Kept (Fault (Write stopped)) n now after found) (sym last.0) (record {
+      subst (λ n. Kept (Fault (Write stopped)) n new now after found) (sym last.0) (record {
         requests = f.requests;
         answers = answers_to w (at_moment moment f.requests);
         given = given_off H old out w moment p count stopped input new output now world after f last.1;
         finds = next_in H count old input new out output w moment world found p f is;
       })
   kept_by (Fault OutOfMemory) count answered input new output now world after found f last is =
-      subst (λ n. Kept (Fault OutOfMemory) n now after found) (sym last.0) (record {
+      subst (λ n. Kept (Fault OutOfMemory) n new now after found) (sym last.0) (record {
         requests = f.requests;
         answers = answers_to w (at_moment moment f.requests);
-        given = given_first H old out w moment p (Fault OutOfMemory) count input output now world after
+        given = given_first H old out w moment p (Fault OutOfMemory) count input new output now world after
             last.1 refl f (λ e. e);
         finds = next_in H count old input new out output w moment world found p f is;
       })
   kept_by (Fault Read) count answered input new output now world after found f last is =
-      let given = given_first H old out w moment p (Fault Read) count input output now world after last.1
+      let given = given_first H old out w moment p (Fault Read) count input new output now world after last.1
       refl f (λ e. e) in
-      subst (λ n. Kept (Fault Read) n now after found) (sym last.0) (record {
+      subst (λ n. Kept (Fault Read) n new now after found) (sym last.0) (record {
         requests = f.requests;
         answers = answers_to w (at_moment moment f.requests);
         given = given;
         finds = is ∙ ap (λ v. Some v.content) given.left;
       })
   kept_by (Fault CutShort) count answered input new output now world after found f last is =
-      let given = given_first H old out w moment p (Fault CutShort) count input output now world after
+      let given = given_first H old out w moment p (Fault CutShort) count input new output now world after
       last.1.1 refl f (λ e. e) in
-      subst (λ n. Kept (Fault CutShort) n now after found) (sym last.0) (record {
+      subst (λ n. Kept (Fault CutShort) n new now after found) (sym last.0) (record {
         requests = f.requests;
         answers = answers_to w (at_moment moment f.requests);
         given = given;
@@ -234,24 +273,29 @@ module _ (H : Type 0) (old out : Option (List ℕ)) (w : DeskWorld) (moment : �
 pub kept_so : (H : Type 0) (ended : PlayEnd) (count answered : ℕ)
     (old input new out output now : Option (List ℕ)) (w world after : DeskWorld) (given moment : ℤ)
     (found : Option World) → H → given ≡ moment
-    → ArePlayed H count old input out output w given world
-    → EndsBy H ended count answered input new output now world given after
+    → ArePlayed H count (passed old input out output) w given world
+    → EndsBy H ended count answered (passed input new output now) world given after
     → FindsLast ended (IsTaken input new) world given after found
-    → IsKept ended (told_in_play ended answered) old out now w moment after found
+    → IsKept ended (told_in_play ended answered) (passed old new out now) w moment after found
 kept_so H ended count answered old input new out output now w world after given moment found p same f last
     is =
-    subst (λ m. IsKept ended (told_in_play ended answered) old out now w m after found) same
+    subst (λ m. IsKept ended (told_in_play ended answered) (passed old new out now) w m after found) same
     (kept_by H old out w given p ended count answered input new output now world after found f last is)
 
 -- what is found, by the number of requests that a known stream has answered
-pub found_after : (ended : PlayEnd) (n : ℕ) (stream : List ℕ) (out now : Option (List ℕ)) (w : DeskWorld)
-    (moment : ℤ) (after : DeskWorld) (found : Option World)
-    → IsKept ended n (Some stream) out now w moment after found → IsFoundAfter w moment stream n found
-found_after ended n stream out now w moment after found k = by ended k.finds
+pub found_after : (ended : PlayEnd) (n : ℕ) (q : Passage) (stream : List ℕ) (w : DeskWorld) (moment : ℤ)
+    (after : DeskWorld) (found : Option World) → q.reads.before ≡ Some stream
+    → IsKept ended n q w moment after found → IsFoundAfter w moment stream n found
+found_after ended n q stream w moment after found is_known k =
+    by ended (subst (λ old. FindsBy ended (IsNextIn old n k.requests)
+    (world_left w (at_moment moment k.requests)) moment found) is_known k.finds)
   where
+    begins : k.requests ≡ requests_in n stream
+    begins = subst (λ old. IfSome old (λ stream. k.requests ≡ requests_in n stream)) is_known k.given.first
+
     first : found ≡ Some (world_left w (at_moment moment k.requests)).content
         → IsFoundAfter w moment stream n found
-    first is = inl (is ∙ ap (λ rs. Some (world_left w (at_moment moment rs)).content) k.given.first)
+    first is = inl (is ∙ ap (λ rs. Some (world_left w (at_moment moment rs)).content) begins)
 
     either : IsOldOrNext (IsNextIn (Some stream) n k.requests) (world_left w (at_moment moment k.requests))
         moment found → IsFoundAfter w moment stream n found

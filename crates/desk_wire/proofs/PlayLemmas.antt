@@ -14,6 +14,7 @@ use Rattle.desk_run.specs.DeskWorld.{DeskWorld}
 use Rattle.desk_wire.specs.declared.response.ServerError.{ServerError}
 use Rattle.desk_wire.specs.AllAnswers.{Sent, answers_to, world_left}
 use Rattle.desk_wire.specs.Bytes.{IsAnsweredSo, IsDone, IsServerError, status_so, text_for, world_after}
+use Rattle.desk_wire.specs.Passage.{passed}
 use Rattle.desk_wire.specs.Playing.{ArePlayed, IsBroken, IsWhole, at_moment}
 use Rattle.desk_wire.specs.Serving.{IsServed}
 use Rattle.desk_wire.proofs.AllLemmas.{told_more, left_more}
@@ -36,7 +37,7 @@ concat_one : (xs : List (List ℕ)) (x : List ℕ) → concat (xs ++ x ∷ []) �
 concat_one xs x = concat-append xs (x ∷ []) ∙ ap (λ ys. concat xs ++ ys) (append-nil x)
 
 pub none_played : (H : Type 0) (old out : Option (List ℕ)) (w : DeskWorld) (moment : ℤ)
-    → ArePlayed H 0 old old out out w moment w
+    → ArePlayed H 0 (passed old old out out) w moment w
 none_played H old out w moment = record {
   requests = [];
   count_is = refl;
@@ -48,8 +49,8 @@ none_played H old out w moment = record {
 
 -- the same under a stronger premise
 pub played_if : (H K : Type 0) (count : ℕ) (old new out now : Option (List ℕ)) (w : DeskWorld) (moment : ℤ)
-    (after : DeskWorld) → (K → H) → ArePlayed H count old new out now w moment after
-    → ArePlayed K count old new out now w moment after
+    (after : DeskWorld) → (K → H) → ArePlayed H count (passed old new out now) w moment after
+    → ArePlayed K count (passed old new out now) w moment after
 played_if H K count old new out now w moment after implies h = record {
   requests = h.requests;
   count_is = h.count_is;
@@ -72,9 +73,9 @@ told_one w now after moment more answer request done left =
 
 pub one_played : (H : Type 0) (count : ℕ) (old mid new out then_out now : Option (List ℕ)) (w : DeskWorld)
     (moment : ℤ) (now_world after : DeskWorld) (code : ℕ) (framed : Bool)
-    → ArePlayed H count old mid out then_out w moment now_world
-    → IsServed H mid new then_out now now_world moment after code framed → code ≢ 500 → framed ≡ true
-    → ArePlayed H (count + 1) old new out now w moment after
+    → ArePlayed H count (passed old mid out then_out) w moment now_world
+    → IsServed H (passed mid new then_out now) now_world moment after code framed → code ≢ 500 → framed ≡ true
+    → ArePlayed H (count + 1) (passed old new out now) w moment after
 one_played H count old mid new out then_out now w moment now_world after code framed h s other is =
     let done : H → IsDone now_world moment (asked s.request) s.answer after =
     λ p. done_by_status now_world after moment (asked s.request) s.answer s.why code (s.replied.told p)
@@ -102,8 +103,8 @@ one_played H count old mid new out then_out now w moment now_world after code fr
 
 pub broken_next : (H : Type 0) (old new out now : Option (List ℕ)) (w : DeskWorld) (moment : ℤ)
     (after : DeskWorld)
-    (code : ℕ) (framed : Bool) → IsServed H old new out now w moment after code framed → code ≡ 500
-    → IsBroken old new out now w after
+    (code : ℕ) (framed : Bool) → IsServed H (passed old new out now) w moment after code framed → code ≡ 500
+    → IsBroken (passed old new out now) w after
 broken_next H old new out now w moment after code framed s is = record {
   request = s.request;
   taken = s.taken;

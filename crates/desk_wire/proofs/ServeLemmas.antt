@@ -17,6 +17,7 @@ use Rattle.desk_ends.specs.declared.writing.WriteFault.{WriteFault}
 use Rattle.desk_ends.specs.Writing.{BreaksOff}
 use Rattle.desk_wire.specs.declared.response.ServerError.{ServerError}
 use Rattle.desk_wire.specs.Bytes.{IsAnsweredSo, IsServerError, status_so}
+use Rattle.desk_wire.specs.Passage.{passed}
 use Rattle.desk_wire.specs.Serving.{HasServed, IsReplied, IsServed, IsTaken, IsUntouched, Stops}
 use Rattle.desk_wire.specs.Streams.{IsCut, IsFront, front_read, is_framed, size_said, with_body}
 use Rattle.desk_wire.proofs.BytesLemmas.{asked_read}
@@ -73,24 +74,24 @@ framed_as (Err f) bytes framed is read = is ∙ ap is_ok read
 pub served_as : (H : Type 0) (s : Served) (status : ℕ) (framed : Bool)
     (old new out now : Option (List ℕ))
     (w after : DeskWorld) (moment : ℤ) → s ≡ Answered status framed
-    → IsServed H old new out now w moment after status framed
-    → HasServed H (Ok s) old new out now w moment after
+    → IsServed H (passed old new out now) w moment after status framed
+    → HasServed H (Ok s) (passed old new out now) w moment after
 served_as H s status framed old new out now w after moment is served =
-    subst (λ r. HasServed H (Ok r) old new out now w moment after) (sym is) served
+    subst (λ r. HasServed H (Ok r) (passed old new out now) w moment after) (sym is) served
 
 -- the exit of a `?` that hands on what stopped the reading
 pub stopped : (H cut : Type 0) (r : Result Served ServeFault) (f : ServeFault)
     (old new out : Option (List ℕ))
     (w : DeskWorld) (moment : ℤ) → IsErrAnd r (λ e. e ≡ f) → Stops cut f → (cut → IfSome old IsCut)
-    → HasServed H r old new out out w moment w
+    → HasServed H r (passed old new out out) w moment w
 stopped H cut (Ok s) f old new out w moment is stops then_cut = absurd is
 stopped H cut (Err e) f old new out w moment is stops then_cut =
-    subst (λ z. HasServed H (Err z) old new out out w moment w) (sym is) (by f stops)
+    subst (λ z. HasServed H (Err z) (passed old new out out) w moment w) (sym is) (by f stops)
   where
     untouched : IsUntouched out out w w
     untouched = record { written = Keeps-refl out; left = refl }
 
-    by : (f : ServeFault) → Stops cut f → HasServed H (Err f) old new out out w moment w
+    by : (f : ServeFault) → Stops cut f → HasServed H (Err f) (passed old new out out) w moment w
     by Read s = untouched
     by OutOfMemory s = untouched
     by CutShort s = (then_cut s, untouched)
@@ -101,10 +102,10 @@ pub broken : (H : Type 0) (r : Result Served ServeFault) (fault : WriteFault)
     (old new out now : Option (List ℕ))
     (w after : DeskWorld) (moment : ℤ) (request answer : List ℕ) (why : Option ServerError)
     → IsErrAnd r (λ e. e ≡ Write fault) → BreaksOff answer out now fault → IsTaken old new request
-    → IsReplied H w moment request answer why after → HasServed H r old new out now w moment after
+    → IsReplied H w moment request answer why after → HasServed H r (passed old new out now) w moment after
 broken H (Ok s) fault old new out now w after moment request answer why is off taken told = absurd is
 broken H (Err e) fault old new out now w after moment request answer why is off taken told =
-    subst (λ z. HasServed H (Err z) old new out now w moment after) (sym is) (record {
+    subst (λ z. HasServed H (Err z) (passed old new out now) w moment after) (sym is) (record {
       request = request;
       taken = taken;
       answer = answer;

@@ -22,10 +22,11 @@ use Rattle.desk_wire.specs.AllAnswers.{answers_to, world_left}
 use Rattle.desk_wire.specs.Bytes.{IsAnsweredSo, IsDone, world_after}
 use Rattle.desk_wire.specs.Given.{AreGiven, IsNextIn, LeavesBy, FollowsBy, told_in_play}
 use Rattle.desk_wire.specs.Headline.{sender, LookAlike, world_at}
+use Rattle.desk_wire.specs.Passage.{Passage, passed}
 use Rattle.desk_wire.specs.Playing.{ArePlayed, EndsBy, HasPlayed, IsBroken, IsUnframed, IsWhole, at_moment}
 use Rattle.desk_wire.specs.Serving.{IsBrokenOff, IsTaken, IsUntouched}
 use Rattle.desk_wire.specs.Streams.{IsRequest, is_framed, request_len, requests_in, with_next}
-use Rattle.desk_wire.specs.TwoRuns.{requests_of}
+use Rattle.desk_wire.specs.TwoRuns.{SparesQuiet, requests_of}
 use Rattle.desk_wire.proofs.AllLemmas.{left_more}
 use Rattle.desk_wire.proofs.FrontLemmas.{request_more}
 use Rattle.desk_wire.proofs.GivenLemmas.{quiet_take}
@@ -123,17 +124,17 @@ next_first (Some xs) n rs next h = sym h
 
 module _ (H : Type 0) (old out : Option (List ℕ)) (w : DeskWorld) (moment : ℤ) (p : H) where
   -- where nothing more is taken and written
-  pub given_first : (ended : PlayEnd) (count : ℕ) (input output now : Option (List ℕ))
+  pub given_first : (ended : PlayEnd) (count : ℕ) (input new output now : Option (List ℕ))
       (world after : DeskWorld)
       → IsUntouched output now world after → FollowsBy ended []
-      → (f : ArePlayed H count old input out output w moment world)
+      → (f : ArePlayed H count (passed old input out output) w moment world)
       → (after ≡ world_left w (at_moment moment f.requests)
       → LeavesBy ended (IsNextIn old count f.requests) (world_left w (at_moment moment f.requests))
       moment
       after)
-      → AreGiven ended count old out now w moment after f.requests
+      → AreGiven ended count (passed old new out now) w moment after f.requests
       (answers_to w (at_moment moment f.requests))
-  given_first ended count input output now world after rest follows f leaves =
+  given_first ended count input new output now world after rest follows f leaves =
       let answers = concat (answers_to w (at_moment moment f.requests)) in
       record {
         count = f.count_is;
@@ -149,9 +150,9 @@ module _ (H : Type 0) (old out : Option (List ℕ)) (w : DeskWorld) (moment : �
 
   -- where one more is answered by the desk's failure
   pub given_broken : (count : ℕ) (input new output now : Option (List ℕ)) (world after : DeskWorld)
-      → (f : ArePlayed H count old input out output w moment world)
-      → (b : IsBroken input new output now world after)
-      → AreGiven Broken count old out now w moment after f.requests
+      → (f : ArePlayed H count (passed old input out output) w moment world)
+      → (b : IsBroken (passed input new output now) world after)
+      → AreGiven Broken count (passed old new out now) w moment after f.requests
       (answers_to w (at_moment moment f.requests))
   given_broken count input new output now world after f b =
       let answers = concat (answers_to w (at_moment moment f.requests)) in
@@ -176,9 +177,9 @@ module _ (H : Type 0) (old out : Option (List ℕ)) (w : DeskWorld) (moment : �
 
   pub given_off : (count : ℕ) (fault : WriteFault) (input new output now : Option (List ℕ))
       (world after : DeskWorld)
-      → (f : ArePlayed H count old input out output w moment world)
-      → (b : IsBrokenOff H input new output now world moment after fault)
-      → AreGiven (Fault (Write fault)) count old out now w moment after f.requests
+      → (f : ArePlayed H count (passed old input out output) w moment world)
+      → (b : IsBrokenOff H (passed input new output now) world moment after fault)
+      → AreGiven (Fault (Write fault)) count (passed old new out now) w moment after f.requests
       (answers_to w (at_moment moment f.requests))
   given_off count fault input new output now world after f b =
       let answers = concat (answers_to w (at_moment moment f.requests)) in
@@ -200,9 +201,10 @@ module _ (H : Type 0) (old out : Option (List ℕ)) (w : DeskWorld) (moment : �
 
   -- where one more is answered, after which the place of the next is unknown
   pub given_unframed : (count : ℕ) (input new output now : Option (List ℕ)) (world after : DeskWorld)
-      → (f : ArePlayed H count old input out output w moment world)
-      → (u : IsUnframed H input new output now world moment after)
-      → AreGiven Unframed (count + 1) old out now w moment after (f.requests ++ u.served.request ∷ [])
+      → (f : ArePlayed H count (passed old input out output) w moment world)
+      → (u : IsUnframed H (passed input new output now) world moment after)
+      → AreGiven Unframed (count + 1) (passed old new out now) w moment after
+      (f.requests ++ u.served.request ∷ [])
       (answers_to w (at_moment moment (f.requests ++ u.served.request ∷ [])))
   given_unframed count input new output now world after f u =
       let s = u.served in
@@ -233,23 +235,24 @@ module _ (H : Type 0) (old out : Option (List ℕ)) (w : DeskWorld) (moment : �
             ∙ sym (left_more w more (moment, s.request)) ∙ ap (world_left w) (sym both);
       }
 
-  abbrev Given : PlayEnd → ℕ → Option (List ℕ) → DeskWorld → Type 0
-  Given ended n now after =
-      (requests answers : List (List ℕ)) × AreGiven ended n old out now w moment after requests answers
+  abbrev Given : PlayEnd → ℕ → Option (List ℕ) → Option (List ℕ) → DeskWorld → Type 0
+  Given ended n new now after =
+      (requests answers : List (List ℕ))
+      × AreGiven ended n (passed old new out now) w moment after requests answers
 
   given_by : (ended : PlayEnd) (count answered : ℕ) (input new output now : Option (List ℕ))
       (world after : DeskWorld)
-      → ArePlayed H count old input out output w moment world
-      → EndsBy H ended count answered input new output now world moment after
-      → Given ended (told_in_play ended answered) now after
+      → ArePlayed H count (passed old input out output) w moment world
+      → EndsBy H ended count answered (passed input new output now) world moment after
+      → Given ended (told_in_play ended answered) new now after
   given_by End count answered input new output now world after f last =
-      subst (λ n. Given End n now after) (sym last.0)
-      (f.requests, _, given_first End count input output now world after last.2 refl f (λ e. e))
+      subst (λ n. Given End n new now after) (sym last.0)
+      (f.requests, _, given_first End count input new output now world after last.2 refl f (λ e. e))
   given_by Limit count answered input new output now world after f last =
-      subst (λ n. Given Limit n now after) (sym last.0)
-      (f.requests, _, given_first Limit count input output now world after last.2 refl f (λ e. e))
+      subst (λ n. Given Limit n new now after) (sym last.0)
+      (f.requests, _, given_first Limit count input new output now world after last.2 refl f (λ e. e))
   given_by Unframed count answered input new output now world after f last =
-      subst (λ n. Given Unframed n now after) (sym last.0) (
+      subst (λ n. Given Unframed n new now after) (sym last.0) (
         f.requests ++ last.1.served.request ∷ [],
         _,
         given_unframed count input new output now world after f
@@ -257,42 +260,40 @@ module _ (H : Type 0) (old out : Option (List ℕ)) (w : DeskWorld) (moment : �
       )
   given_by Broken count answered input new output now world after f last =
       let less : answered - 1 ≡ count = omega (arith, last.0) in
-      subst (λ n. Given Broken n now after) (sym less)
+      subst (λ n. Given Broken n new now after) (sym less)
       (f.requests, _, given_broken count input new output now world after f last.1)
   given_by (Fault (Write fault)) count answered input new output now world after f last =
-      subst (λ n. Given (Fault (Write fault)) n now after) (sym last.0)
+      subst (λ n. Given (Fault (Write fault)) n new now after) (sym last.0)
       (f.requests, _, given_off count fault input new output now world after f last.1)
   given_by (Fault Read) count answered input new output now world after f last =
-      subst (λ n. Given (Fault Read) n now after) (sym last.0) (
+      subst (λ n. Given (Fault Read) n new now after) (sym last.0) (
         f.requests,
         _,
-        given_first (Fault Read) count input output now world after last.1 refl f
+        given_first (Fault Read) count input new output now world after last.1 refl f
             (λ e. e),
       )
   given_by (Fault CutShort) count answered input new output now world after f last =
-      subst (λ n. Given (Fault CutShort) n now after) (sym last.0) (
+      subst (λ n. Given (Fault CutShort) n new now after) (sym last.0) (
         f.requests,
         _,
-        given_first (Fault CutShort) count input output now world after last.1.1 refl f
+        given_first (Fault CutShort) count input new output now world after last.1.1 refl f
             (λ e. e),
       )
   given_by (Fault OutOfMemory) count answered input new output now world after f last =
-      subst (λ n. Given (Fault OutOfMemory) n now after) (sym last.0) (
+      subst (λ n. Given (Fault OutOfMemory) n new now after) (sym last.0) (
         f.requests,
         _,
-        given_first (Fault OutOfMemory) count input output now world after last.1 refl f
+        given_first (Fault OutOfMemory) count input new output now world after last.1 refl f
             (λ e. e),
       )
 
-pub play_given : (H : Type 0) (ended : PlayEnd) (count : ℕ) (old new out now : Option (List ℕ))
-    (w : DeskWorld)
-    (moment : ℤ)
-    (after : DeskWorld) → HasPlayed H ended count old new out now w moment after → H
+pub play_given : (H : Type 0) (ended : PlayEnd) (count : ℕ) (q : Passage) (w : DeskWorld) (moment : ℤ)
+    (after : DeskWorld) → HasPlayed H ended count q w moment after → H
     → (requests answers : List (List ℕ))
-    × AreGiven ended (told_in_play ended count) old out now w moment after requests answers
-play_given H ended count old new out now w moment after h p =
-    given_by H old out w moment p ended h.count count h.input new h.output now h.world after h.first
-    h.last
+    × AreGiven ended (told_in_play ended count) q w moment after requests answers
+play_given H ended count q w moment after h p =
+    given_by H q.reads.before q.writes.before w moment p ended h.count count h.input q.reads.after h.output
+    q.writes.after h.world after h.first h.last
 
 -- ---- equal answers
 
@@ -300,17 +301,14 @@ sent_at : (moment : ℤ) (rs : List (List ℕ)) (i : ℕ) (r : List ℕ) → sli
     → slice_get (at_moment moment rs) i ≡ Some (moment, r)
 sent_at moment rs i r e = slice_get-map (λ q. (moment, q)) rs i ∙ ap (option_map (λ q. (moment, q))) e
 
-pub given_same : (e f : PlayEnd) (m n : ℕ) (old out now old_too out_too now_too : Option (List ℕ))
-    (v w v_after w_after : DeskWorld) (moment : ℤ) (rs ss xs ys : List (List ℕ)) (i j : ℕ) (r : List ℕ)
-    → AreGiven e m old out now v moment v_after rs xs
-    → AreGiven f n old_too out_too now_too w moment w_after ss ys
+pub given_same : (e f : PlayEnd) (m n : ℕ) (p q : Passage) (v w v_after w_after : DeskWorld) (moment : ℤ)
+    (rs ss xs ys : List (List ℕ)) (i j : ℕ) (r : List ℕ)
+    → AreGiven e m p v moment v_after rs xs → AreGiven f n q w moment w_after ss ys
     → slice_get rs i ≡ Some r → slice_get ss j ≡ Some r
     → LookAlike (sender (moment, r)) (world_at v (at_moment moment rs) i)
     (world_at w (at_moment moment ss) j)
     → slice_get xs i ≡ slice_get ys j
-given_same e f m n old out now old_too out_too now_too v w v_after w_after moment rs ss xs ys i j r g h
-    is
-    there alike =
+given_same e f m n p q v w v_after w_after moment rs ss xs ys i j r g h is there alike =
     ap (λ zs. slice_get zs i) g.told
     ∙ headline.decided v w (at_moment moment rs) (at_moment moment ss) i j (moment, r)
     (sent_at moment rs i r is)
@@ -382,13 +380,14 @@ module _ (o stream : List ℕ) (w : DeskWorld) (moment : ℤ) (count : ℕ)
         | inr e ↦ ap (λ v. side v o) e ∙ quiet_left count requests (omega arith) is
       ]
 
-pub play_quiet : (H : Type 0) (ended : PlayEnd) (count : ℕ) (stream : List ℕ)
-    (new out now : Option (List ℕ))
-    (w : DeskWorld)
-    (moment : ℤ) (after : DeskWorld) (o : List ℕ) → HasPlayed H ended count (Some stream) new out now w
-    moment
-    after → H
-    → requests_of o (at_moment moment (requests_in (count + 1) stream)) ≡ [] → OwnAlike o after w
-play_quiet H ended count stream new out now w moment after o h p none =
-    let given = play_given H ended count (Some stream) new out now w moment after h p in
-    quiet_by o stream w moment count none ended given.0 after given.2.first given.2.left
+pub play_quiet : (H : Type 0) (ended : PlayEnd) (count : ℕ) (q : Passage) (stream : List ℕ)
+    (w : DeskWorld) (moment : ℤ) (after : DeskWorld) → HasPlayed H ended count q w moment after → H
+    → q.reads.before ≡ Some stream
+    → SparesQuiet w (at_moment moment (requests_in (count + 1) stream)) after
+play_quiet H ended count q stream w moment after h p is o none =
+    let given = play_given H ended count q w moment after h p in
+    quiet_by o stream w moment count none ended given.0 after
+    (subst (λ old. IfSome old (λ stream. given.0 ≡ requests_in (told_in_play ended count) stream)) is
+    given.2.first)
+    (subst (λ old. LeavesBy ended (IsNextIn old (told_in_play ended count) given.0)
+    (world_left w (at_moment moment given.0)) moment after) is given.2.left)

@@ -1,6 +1,8 @@
 -- The answers to requests, one after the other.
-use Rattle.std.specs.Prelude.{◌≡◌, ◌<◌, ℕ, ℤ, List, [], ◌∷◌, ◌++◌, length, take}
+use Rattle.std.specs.Prelude.{◌≡◌, ◌<◌, ℕ, ℤ, List, [], ◌∷◌, ◌++◌, length, map, take, Vec}
+use Rattle.std.specs.Global.{Global}
 use Rattle.desk_run.specs.DeskWorld.{DeskWorld}
+use Rattle.desk_wire.specs.declared.batch.Answers.{Answers}
 use Rattle.desk_wire.specs.declared.batch.AnswersEnd.{AnswersEnd}
 use Rattle.desk_wire.specs.declared.batch.AnswersEnd.TheVariants.{All, Broken, NoMemory}
 use Rattle.desk_wire.specs.declared.response.ServerError.{ServerError}
@@ -11,6 +13,13 @@ use Rattle.desk_reading.specs.Requests.{asked}
 -- the bytes of a request, with its moment
 abbrev pub Sent : Type 0
 Sent = ℤ × List ℕ
+
+-- requests as they are given, and answers as bytes
+abbrev pub sent_in : List (ℤ × Vec ℕ Global) → List Sent
+sent_in requests = map (λ request. (request.0, request.1.items)) requests
+
+abbrev pub texts_in : Answers → List (List ℕ)
+texts_in answers = map (λ answer. answer.items) answers.answers.items
 
 -- each answer is that to what the request asks, at the world that those before it leave
 abbrev pub answers_to : DeskWorld → List Sent → List (List ℕ)

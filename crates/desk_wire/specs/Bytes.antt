@@ -1,15 +1,13 @@
 -- Bytes: the text that a desk answers to the bytes of one request, and what the request leaves.
-use Rattle.std.specs.Prelude.{◌≡◌, ◌≢◌, ◌⊎◌, ℕ, ℤ, List, Option, Some, None, IfSome, Ok, Err}
+use Rattle.std.specs.Prelude.{◌≡◌, ◌≢◌, ℕ, ℤ, List, Option, Some, None, IfSome, Ok, Err}
 use Rattle.desk_rules.specs.declared.call.Asked.{Asked}
 use Rattle.desk_reading.specs.FaultWords.{fault_status}
 use Rattle.desk_reading.specs.Readings.{Reading}
-use Rattle.desk_reading.specs.Requests.{asked}
 use Rattle.desk_writing.specs.Replies.{reply_text}
 use Rattle.desk_wire.specs.declared.refusal.Refusal.TheVariants.{Fault, UnknownOperator, NoSuchPlan}
 use Rattle.desk_wire.specs.declared.answering.Response.{Response}
 use Rattle.desk_wire.specs.declared.response.Answer.{Answer}
 use Rattle.desk_wire.specs.declared.response.ServerError.{ServerError}
-use Rattle.desk_wire.specs.Causes.{HasCause}
 use Rattle.desk_wire.specs.Refusals.{refusal_status, refusal_text, server_error_text}
 use Rattle.desk_run.specs.Verdicts.{Told, replied, unknown_operator, no_such_plan, told_to, step}
 use Rattle.desk_run.specs.DeskWorld.{DeskWorld}
@@ -62,13 +60,6 @@ IsAnsweredSo (Some why) w moment reading answer after = IsServerError why w answ
 abbrev pub status_so : Option ServerError → DeskWorld → ℤ → Reading Asked → ℕ
 status_so None w moment reading = status_for w moment reading
 status_so (Some why) w moment reading = 500
-
--- the answer to a request, and what it leaves, if the store is honest; or the desk failed, whether it is or
--- not, and if its store did, that has counted a fault
-abbrev pub IsAnswered : Type 0 → DeskWorld → ℤ → List ℕ → List ℕ → DeskWorld → ℕ → ℕ → Type 0
-IsAnswered H w moment request answer after old new =
-    (H → IsDone w moment (asked request) answer after)
-    ⊎ ((why : ServerError) × IsServerError why w answer after × HasCause why old new)
 
 -- what was made of what is asked, where the desk didn't fail: the text and its status code, never 500
 pub record IsMade (H : Type 0) (w : DeskWorld) (moment : ℤ) (reading : Reading Asked) (after : DeskWorld)

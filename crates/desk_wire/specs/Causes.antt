@@ -4,8 +4,11 @@ use Rattle.std.specs.Io.KnownBytes.{Appends}
 use Rattle.desk_store.specs.StoreFaults.{HasRisen}
 use Rattle.desk_ends.specs.declared.serving.Served.{Served}
 use Rattle.desk_ends.specs.declared.serving.Served.TheVariants.{Answered, End}
+use Rattle.desk_wire.specs.declared.batch.Answers.{Answers}
+use Rattle.desk_wire.specs.declared.batch.AnswersEnd.TheVariants.{Broken}
 use Rattle.desk_wire.specs.declared.response.ServerError.{ServerError}
 use Rattle.desk_wire.specs.declared.response.ServerError.TheVariants.{OutOfMemory, Store}
+use Rattle.desk_wire.specs.AllAnswers.{texts_in}
 use Rattle.desk_wire.specs.Refusals.{server_error_text}
 
 -- a store that is said to have failed has counted a fault
@@ -22,6 +25,10 @@ pub record HasFailed (IsSaid : List ℕ → Type 0) (old new : ℕ) : Type 0 whe
 -- the last of some answers
 abbrev pub IsLast : List (List ℕ) → List ℕ → Type 0
 IsLast answers last = (before : List (List ℕ)) × (answers ≡ before ++ last ∷ [])
+
+-- if a list of answers ended since the desk failed, its last answer says why
+abbrev pub HaveCause : Answers → ℕ → ℕ → Type 0
+HaveCause answers old new = answers.ended ≡ Broken → HasFailed (IsLast (texts_in answers)) old new
 
 -- the last bytes that were written to an output
 abbrev pub AppendsLast : Option (List ℕ) → Option (List ℕ) → List ℕ → Type 0

@@ -3,7 +3,9 @@
 use Rattle.std.specs.Prelude.{◌≡◌, ◌≢◌, ◌⊎◌, ◌+◌, ℕ, ℤ, ⊤, List, Option, Some, Result, Ok, Err}
 use Rattle.desk_store.specs.World.{World}
 use Rattle.desk_reading.specs.Requests.{asked}
-use Rattle.desk_run.specs.DeskWorld.{DeskWorld}
+use Rattle.desk_store.specs.declared.store.PlanStore.{Ghosts}
+use Rattle.desk_store.specs.StoreFaults.{IsHonest}
+use Rattle.desk_run.specs.DeskWorld.{DeskWorld, IsSettled, Parts, world_of}
 use Rattle.desk_ends.specs.declared.playing.PlayEnd.{PlayEnd}
 use Rattle.desk_ends.specs.declared.playing.PlayEnd.TheVariants.{End, Unframed, Broken, Limit, Fault}
 use Rattle.desk_ends.specs.declared.serving.Served.{Served}
@@ -14,7 +16,9 @@ use Rattle.desk_wire.specs.AllAnswers.{Sent, world_left}
 use Rattle.desk_wire.specs.Bytes.{world_after}
 use Rattle.desk_wire.specs.Given.{AreGiven, IsNextIn}
 use Rattle.desk_wire.specs.Headline.{world_at}
+use Rattle.desk_wire.specs.Passage.{Passage}
 use Rattle.desk_wire.specs.Playing.{at_moment}
+use Rattle.desk_wire.specs.Serving.{IsTaken}
 use Rattle.desk_wire.specs.Streams.{requests_in}
 
 -- what is found is the content that the next request leaves
@@ -44,6 +48,18 @@ abbrev pub IsFoundNow :
 IsFoundNow served before IsNext w moment after found = (found ≡ Some after.content)
     ⊎ ((after ≡ w) × (before found ⊎ ((¬ IsCertain served) × IsLeftBy IsNext w moment found)))
 
+-- what a start may find after one request, at whatever moment the program ends
+pub record IsServedKept {S : Type 0} (g : Ghosts S) (old new : Parts S) (served : Result Served ServeFault)
+    (p : Passage) (moment : ℤ) : Type 0 where
+  pub crash : IsHonest (g.doubt new.store) → (found : Option World) → g.may_leave new.store found
+      → g.may_leave old.store found
+      ⊎ IsLeftBy (IsTaken p.reads.before p.reads.after) (world_of g.content old) moment found
+  pub kept : IsHonest (g.doubt new.store) → IsCertain served → IsSettled g.content g.may_leave old
+      → IsSettled g.content g.may_leave new
+  pub found : IsHonest (g.doubt new.store) → (found : Option World) → g.may_leave new.store found
+      → IsFoundNow served (g.may_leave old.store) (IsTaken p.reads.before p.reads.after)
+      (world_of g.content old) moment (world_of g.content new) found
+
 -- by why a run ended: the change of a request whose answer is a 500, or isn't whole, may be found or not
 abbrev pub FindsBy : PlayEnd → (List ℕ → Type 0) → DeskWorld → ℤ → Option World → Type 0
 FindsBy End IsNext w moment found = found ≡ Some w.content
@@ -56,12 +72,13 @@ FindsBy (Fault OutOfMemory) IsNext w moment found = IsOldOrNext IsNext w moment 
 FindsBy (Fault (Write fault)) IsNext w moment found = IsOldOrNext IsNext w moment found
 
 -- the first requests of a stream have their answers, which were written; and what is found
-pub record IsKept (ended : PlayEnd) (n : ℕ) (old out now : Option (List ℕ)) (w : DeskWorld) (moment : ℤ)
-    (after : DeskWorld) (found : Option World) : Type 0 where
+pub record IsKept (ended : PlayEnd) (n : ℕ) (p : Passage) (w : DeskWorld) (moment : ℤ) (after : DeskWorld)
+    (found : Option World) : Type 0 where
   pub requests : List (List ℕ)
   pub answers : List (List ℕ)
-  pub given : AreGiven ended n old out now w moment after requests answers
-  pub finds : FindsBy ended (IsNextIn old n requests) (world_left w (at_moment moment requests)) moment found
+  pub given : AreGiven ended n p w moment after requests answers
+  pub finds : FindsBy ended (IsNextIn p.reads.before n requests)
+      (world_left w (at_moment moment requests)) moment found
 
 -- after n answers, what is found is what the first n requests of a list left, or what the first n + 1 left
 abbrev pub IsFoundIn : DeskWorld → List Sent → ℕ → Option World → Type 0

@@ -13,6 +13,7 @@ use Rattle.desk_wire.specs.declared.batch.AnswersEnd.TheVariants.{All, Broken, N
 use Rattle.desk_wire.specs.declared.response.ServerError.{ServerError}
 use Rattle.desk_wire.specs.AllAnswers.{answers_to, world_left}
 use Rattle.desk_wire.specs.Bytes.{world_after}
+use Rattle.desk_wire.specs.Passage.{Passage}
 use Rattle.desk_wire.specs.Playing.{at_moment}
 use Rattle.desk_wire.specs.Refusals.{server_error_text}
 use Rattle.desk_wire.specs.Streams.{requests_in}
@@ -62,12 +63,13 @@ IsNextIn old n requests next = IfSome old (λ stream. requests_in (n + 1) stream
 
 -- the first n requests of a stream, all sent at one moment, have these answers, which are written one after
 -- the other
-pub record AreGiven (ended : PlayEnd) (n : ℕ) (old out now : Option (List ℕ)) (w : DeskWorld) (moment : ℤ)
+pub record AreGiven (ended : PlayEnd) (n : ℕ) (p : Passage) (w : DeskWorld) (moment : ℤ)
     (after : DeskWorld) (requests answers : List (List ℕ)) : Type 0 where
   pub count : length requests ≡ n
-  pub first : IfSome old (λ stream. requests ≡ requests_in n stream)
+  pub first : IfSome p.reads.before (λ stream. requests ≡ requests_in n stream)
   pub told : answers ≡ answers_to w (at_moment moment requests)
   pub more : List ℕ
-  pub written : Appends out now (concat answers ++ more)
+  pub written : Appends p.writes.before p.writes.after (concat answers ++ more)
   pub follows : FollowsBy ended more
-  pub left : LeavesBy ended (IsNextIn old n requests) (world_left w (at_moment moment requests)) moment after
+  pub left : LeavesBy ended (IsNextIn p.reads.before n requests) (world_left w (at_moment moment requests))
+      moment after

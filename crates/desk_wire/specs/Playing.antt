@@ -8,6 +8,7 @@ use Rattle.desk_ends.specs.declared.playing.PlayEnd.TheVariants.{End, Unframed, 
 use Rattle.desk_wire.specs.declared.response.ServerError.{ServerError}
 use Rattle.desk_wire.specs.AllAnswers.{Sent, answers_to, world_left}
 use Rattle.desk_wire.specs.Bytes.{IsServerError}
+use Rattle.desk_wire.specs.Passage.{Passage, passed}
 use Rattle.desk_wire.specs.Serving.{HasServed, IsServed, IsTaken, IsUntouched}
 use Rattle.desk_wire.specs.Streams.{IsRequest, is_framed}
 
@@ -26,51 +27,50 @@ pub record IsWhole (request : List ℕ) : Type 0 where
 
 -- so many requests are taken one after the other, and, if the store is honest, their answers are
 -- written and what they leave is left
-pub record ArePlayed (H : Type 0) (count : ℕ) (old new out now : Option (List ℕ)) (w : DeskWorld)
-    (moment : ℤ) (after : DeskWorld) : Type 0 where
+pub record ArePlayed (H : Type 0) (count : ℕ) (p : Passage) (w : DeskWorld) (moment : ℤ)
+    (after : DeskWorld) : Type 0 where
   pub requests : List (List ℕ)
   pub count_is : length requests ≡ count
   pub whole : All IsWhole requests
-  pub taken : Consumes old new (concat requests)
-  pub written : H → Appends out now (concat (answers_to w (at_moment moment requests)))
+  pub taken : Consumes p.reads.before p.reads.after (concat requests)
+  pub written :
+      H → Appends p.writes.before p.writes.after (concat (answers_to w (at_moment moment requests)))
   pub left : H → after ≡ world_left w (at_moment moment requests)
 
 -- one more request is taken, and its answer is that the desk failed
-pub record IsBroken (old new out now : Option (List ℕ)) (w after : DeskWorld) : Type 0 where
+pub record IsBroken (p : Passage) (w after : DeskWorld) : Type 0 where
   pub request : List ℕ
-  pub taken : IsTaken old new request
+  pub taken : IsTaken p.reads.before p.reads.after request
   pub answer : List ℕ
-  pub written : Appends out now answer
+  pub written : Appends p.writes.before p.writes.after answer
   pub failed : (why : ServerError) × IsServerError why w answer after
 
 -- one more request has the answer to what it asks, and the place of the next is unknown
-pub record IsUnframed (H : Type 0) (old new out now : Option (List ℕ)) (w : DeskWorld) (moment : ℤ)
-    (after : DeskWorld) : Type 0 where
+pub record IsUnframed (H : Type 0) (p : Passage) (w : DeskWorld) (moment : ℤ) (after : DeskWorld) :
+    Type 0 where
   pub status : ℕ
-  pub served : IsServed H old new out now w moment after status false
+  pub served : IsServed H p w moment after status false
   pub answered : status ≢ 500
 
 -- what comes after the first requests, by why the run ended; the number of requests that are answered
-abbrev pub EndsBy :
-    Type 0 → PlayEnd → ℕ → ℕ → Option (List ℕ) → Option (List ℕ) → Option (List ℕ) → Option (List ℕ)
-    → DeskWorld → ℤ → DeskWorld → Type 0
-EndsBy H End count answered old new out now w moment after =
-    (answered ≡ count) × IsAtEnd old × IsUntouched out now w after
-EndsBy H Unframed count answered old new out now w moment after =
-    (answered ≡ count + 1) × IsUnframed H old new out now w moment after
-EndsBy H Broken count answered old new out now w moment after =
-    (answered ≡ count + 1) × IsBroken old new out now w after
-EndsBy H Limit count answered old new out now w moment after =
-    (answered ≡ count) × (count ≡ max_answered) × IsUntouched out now w after
-EndsBy H (Fault fault) count answered old new out now w moment after =
-    (answered ≡ count) × HasServed H (Err fault) old new out now w moment after
+abbrev pub EndsBy : Type 0 → PlayEnd → ℕ → ℕ → Passage → DeskWorld → ℤ → DeskWorld → Type 0
+EndsBy H End count answered p w moment after =
+    (answered ≡ count) × IsAtEnd p.reads.before × IsUntouched p.writes.before p.writes.after w after
+EndsBy H Unframed count answered p w moment after =
+    (answered ≡ count + 1) × IsUnframed H p w moment after
+EndsBy H Broken count answered p w moment after = (answered ≡ count + 1) × IsBroken p w after
+EndsBy H Limit count answered p w moment after = (answered ≡ count) × (count ≡ max_answered)
+    × IsUntouched p.writes.before p.writes.after w after
+EndsBy H (Fault fault) count answered p w moment after =
+    (answered ≡ count) × HasServed H (Err fault) p w moment after
 
 -- the first requests are answered in their order, and then the run ends
-pub record HasPlayed (H : Type 0) (ended : PlayEnd) (answered : ℕ)
-    (old new out now : Option (List ℕ)) (w : DeskWorld) (moment : ℤ) (after : DeskWorld) : Type 0 where
+pub record HasPlayed (H : Type 0) (ended : PlayEnd) (answered : ℕ) (p : Passage) (w : DeskWorld)
+    (moment : ℤ) (after : DeskWorld) : Type 0 where
   pub count : ℕ
   pub input : Option (List ℕ)
   pub output : Option (List ℕ)
   pub world : DeskWorld
-  pub first : ArePlayed H count old input out output w moment world
-  pub last : EndsBy H ended count answered input new output now world moment after
+  pub first : ArePlayed H count (passed p.reads.before input p.writes.before output) w moment world
+  pub last : EndsBy H ended count answered (passed input p.reads.after output p.writes.after) world moment
+      after

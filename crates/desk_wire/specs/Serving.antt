@@ -2,7 +2,11 @@
 use Rattle.std.specs.Prelude.{◌≡◌, ◌≢◌, ℕ, ℤ, ⊤, List, Bool, Option, None, IfSome, Result, Ok, Err}
 use Rattle.std.specs.Io.KnownBytes.{Appends, Consumes, IsAtEnd, Keeps}
 use Rattle.desk_reading.specs.Requests.{asked}
-use Rattle.desk_run.specs.DeskWorld.{DeskWorld}
+use Rattle.std.specs.Prelude.{option_map}
+use Rattle.desk_store.specs.declared.store.PlanStore.{Ghosts}
+use Rattle.desk_store.specs.StoreFaults.{IsHonest}
+use Rattle.desk_run.specs.DeskFrames.{Leaves}
+use Rattle.desk_run.specs.DeskWorld.{DeskWorld, Parts, world_of}
 use Rattle.desk_ends.specs.declared.serving.Served.{Served}
 use Rattle.desk_ends.specs.declared.serving.Served.TheVariants.{Answered, End}
 use Rattle.desk_ends.specs.declared.serving.ServeFault.{ServeFault}
@@ -10,7 +14,9 @@ use Rattle.desk_ends.specs.declared.serving.ServeFault.TheVariants.{Read, Write,
 use Rattle.desk_ends.specs.declared.writing.WriteFault.{WriteFault}
 use Rattle.desk_ends.specs.Writing.{BreaksOff}
 use Rattle.desk_wire.specs.declared.response.ServerError.{ServerError}
-use Rattle.desk_wire.specs.Bytes.{IsAnsweredSo, IsServerError, status_so}
+use Rattle.desk_wire.specs.Bytes.{IsAnsweredSo, IsServerError, status_so, world_after}
+use Rattle.desk_wire.specs.Failing.{desk_fault}
+use Rattle.desk_wire.specs.Passage.{Passage}
 use Rattle.desk_wire.specs.Streams.{IsCut, IsRequest, is_framed}
 
 -- nothing is written, and all is as it was
@@ -30,27 +36,27 @@ pub record IsReplied (H : Type 0) (w : DeskWorld) (moment : ℤ) (request answer
   pub failed : IfSome why (λ error. IsServerError error w answer after)
 
 -- one request is taken, answered, and the answer written
-pub record IsServed (H : Type 0) (old new out now : Option (List ℕ)) (w : DeskWorld) (moment : ℤ)
-    (after : DeskWorld) (status : ℕ) (framed : Bool) : Type 0 where
+pub record IsServed (H : Type 0) (p : Passage) (w : DeskWorld) (moment : ℤ) (after : DeskWorld)
+    (status : ℕ) (framed : Bool) : Type 0 where
   pub request : List ℕ
-  pub taken : IsTaken old new request
+  pub taken : IsTaken p.reads.before p.reads.after request
   pub framed_is : framed ≡ is_framed request
   pub answer : List ℕ
   pub why : Option ServerError
   pub replied : IsReplied H w moment request answer why after
   pub status_is : H → status ≡ status_so why w moment (asked request)
   pub gave_up : status ≡ 500 → why ≢ None
-  pub written : Appends out now answer
+  pub written : Appends p.writes.before p.writes.after answer
 
 -- the same, but the writing of the answer broke off
-pub record IsBrokenOff (H : Type 0) (old new out now : Option (List ℕ)) (w : DeskWorld) (moment : ℤ)
-    (after : DeskWorld) (fault : WriteFault) : Type 0 where
+pub record IsBrokenOff (H : Type 0) (p : Passage) (w : DeskWorld) (moment : ℤ) (after : DeskWorld)
+    (fault : WriteFault) : Type 0 where
   pub request : List ℕ
-  pub taken : IsTaken old new request
+  pub taken : IsTaken p.reads.before p.reads.after request
   pub answer : List ℕ
   pub why : Option ServerError
   pub replied : IsReplied H w moment request answer why after
-  pub off : BreaksOff answer out now fault
+  pub off : BreaksOff answer p.writes.before p.writes.after fault
 
 -- what stops the reading of a request: its end is cut off, or a fault that says nothing of it
 abbrev pub Stops : Type 0 → ServeFault → Type 0
@@ -60,15 +66,21 @@ Stops cut OutOfMemory = ⊤
 Stops cut (Write fault) = ⊥
 
 -- what comes of one request of a stream
-abbrev pub HasServed :
-    Type 0 → Result Served ServeFault → Option (List ℕ) → Option (List ℕ) → Option (List ℕ)
-    → Option (List ℕ) → DeskWorld → ℤ → DeskWorld → Type 0
-HasServed H (Ok (Answered status framed)) old new out now w moment after =
-    IsServed H old new out now w moment after status framed
-HasServed H (Ok End) old new out now w moment after = IsAtEnd old × IsUntouched out now w after
-HasServed H (Err (Write fault)) old new out now w moment after =
-    IsBrokenOff H old new out now w moment after fault
-HasServed H (Err CutShort) old new out now w moment after =
-    IfSome old IsCut × IsUntouched out now w after
-HasServed H (Err Read) old new out now w moment after = IsUntouched out now w after
-HasServed H (Err OutOfMemory) old new out now w moment after = IsUntouched out now w after
+abbrev pub HasServed : Type 0 → Result Served ServeFault → Passage → DeskWorld → ℤ → DeskWorld → Type 0
+HasServed H (Ok (Answered status framed)) p w moment after = IsServed H p w moment after status framed
+HasServed H (Ok End) p w moment after =
+    IsAtEnd p.reads.before × IsUntouched p.writes.before p.writes.after w after
+HasServed H (Err (Write fault)) p w moment after = IsBrokenOff H p w moment after fault
+HasServed H (Err CutShort) p w moment after =
+    IfSome p.reads.before IsCut × IsUntouched p.writes.before p.writes.after w after
+HasServed H (Err Read) p w moment after = IsUntouched p.writes.before p.writes.after w after
+HasServed H (Err OutOfMemory) p w moment after = IsUntouched p.writes.before p.writes.after w after
+
+-- the answer to a request whose bytes alone are known: why the desk failed, if it did, and what it leaves
+pub record IsAnswered {S : Type 0} (g : Ghosts S) (old new : Parts S) (moment : ℤ)
+    (request answer : List ℕ) : Type 0 where
+  pub why : Option ServerError
+  pub replied : IsReplied (IsHonest (g.doubt new.store)) (world_of g.content old) moment request answer why
+      (world_of g.content new)
+  pub leaves : Leaves g old new (world_after (world_of g.content old) moment (asked request))
+      (option_map desk_fault why)

@@ -1,5 +1,5 @@
 -- One operator's part of a run of requests by many, and what is the same for it in two runs.
-use Rattle.std.specs.Prelude.{◌≡◌, ℕ, List}
+use Rattle.std.specs.Prelude.{◌≡◌, ℕ, List, []}
 use Rattle.desk_run.specs.DeskWorld.{DeskWorld, Side, side}
 use Rattle.desk_reading.specs.Requests.{asked}
 use Rattle.desk_run.specs.Sides.{OwnAlike, beside, along}
@@ -26,6 +26,11 @@ met_by o w rs = beside sender o rs (along left (λ u r. u) w rs)
 -- what the operator owns after each of them
 abbrev pub owned_by : List ℕ → DeskWorld → List Sent → List Side
 owned_by o w rs = beside sender o rs (along left (λ u r. side (left u r) o) w rs)
+
+-- an operator that sent nothing owns what it did
+abbrev pub SparesQuiet : DeskWorld → List Sent → DeskWorld → Type 0
+SparesQuiet w requests after =
+    (operator : List ℕ) → requests_of operator requests ≡ [] → OwnAlike operator after w
 
 -- two runs are the same for an operator: its answers are equal byte for byte, and it owns the same after
 -- each of its requests and at the end

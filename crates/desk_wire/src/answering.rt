@@ -1,20 +1,20 @@
 //! Requests answered at a desk, from bytes to bytes.
 
-ghost use Rattle.std.specs.Prelude.{◌≡◌, ◌≢◌, ◌⊎◌, IfErr, IfOk, OnOk, OnErr, Ok};
+ghost use Rattle.std.specs.Prelude.{◌≡◌, ◌≢◌, IfErr, IfOk, OnOk, OnErr, Ok};
 ghost use Rattle.desk_reading.specs.Messages.{message_read, message_shown};
 ghost use Rattle.desk_reading.specs.Readings.{or_met};
-ghost use Rattle.desk_reading.specs.Requests.{asked, asked_by};
-ghost use Rattle.desk_store.specs.StoreFrames.{Remembers};
-ghost use Rattle.desk_store.specs.Crashes.{LeavesOldOr};
+ghost use Rattle.desk_reading.specs.Requests.{asked_by};
 ghost use Rattle.desk_store.specs.StoreFaults.{IsHonest};
-ghost use Rattle.desk_run.specs.DeskWorld.{IsSettled, IsSettledOrSame, world_of};
+ghost use Rattle.desk_run.specs.DeskFrames.{Leaves};
+ghost use Rattle.desk_run.specs.DeskWorld.{world_of};
 ghost use Rattle.desk_run.specs.Calls.{CanCommit, reply_in, world_committed};
 ghost use Rattle.desk_rules.specs.Replies.{said_in};
 ghost use Rattle.desk_writing.specs.Replies.{reply_text};
 ghost use Rattle.desk_ends.specs.Moments.{IsMoment};
-ghost use Rattle.desk_wire.specs.Bytes.{IsAnswered, IsMade, IsTold, world_after};
-ghost use Rattle.desk_wire.specs.Leaving.{IsFailure, Leaves, failure_of, failure_told};
+ghost use Rattle.desk_wire.specs.Bytes.{IsMade, IsTold, world_after};
+ghost use Rattle.desk_wire.specs.Failing.{failure_of, failure_told};
 ghost use Rattle.desk_wire.specs.Refusals.{refusal_status, refusal_text};
+ghost use Rattle.desk_wire.specs.Serving.{IsAnswered};
 
 use crate::refusal::Refusal;
 use crate::response::{Answer, ServerError};
@@ -49,18 +49,9 @@ pub fn answer<S: PlanStore>(
     text: &[u8],
 ) -> Result<Vec<u8>, AllocError>
     requires { IsMoment moment }
-    ensures bytes { IfOk result (λ bytes. IsAnswered (IsHonest (S.doubt desk.new.store))
-        (world_of S.content desk.old) moment text.now bytes.items (world_of S.content desk.new)
-        (S.faults desk.old.store) (S.faults desk.new.store)) }
+    ensures answered { IfOk result (λ bytes.
+        IsAnswered S.PlanStore desk.old desk.new moment text.now bytes.items) }
     ensures err { OnErr result (desk.new ≡ desk.old) }
-    ensures crash { IsHonest (S.doubt desk.new.store) → LeavesOldOr
-        (world_after (world_of S.content desk.old) moment (asked text.now)).content
-        (S.may_leave desk.old.store) (S.may_leave desk.new.store) }
-    ensures kept { IsHonest (S.doubt desk.new.store) → IsSettled S.content S.may_leave desk.old →
-        IfOk result (λ bytes. IsSettled S.content S.may_leave desk.new ⊎ IsFailure bytes.items) }
-    ensures settled { IsHonest (S.doubt desk.new.store) → IfOk result (λ bytes.
-        IsSettledOrSame S.content S.may_leave desk.old desk.new ⊎ IsFailure bytes.items) }
-    ensures remembered { Remembers S.doubt S.faults S.is_shielded desk.old.store desk.new.store }
 {
     let answer = answer_request(alloc, desk, moment, &read_message(text))?;
     Ok(answer.bytes)
@@ -80,7 +71,7 @@ pub fn answer_request<S: PlanStore>(
     requires { IsMoment moment }
     ensures told { IfOk result (IsTold (IsHonest (S.doubt desk.new.store)) (world_of S.content desk.old)
         moment (or_met (message_read request.now) asked_by) (world_of S.content desk.new)) }
-    ensures leaves { Leaves S.content S.doubt S.faults S.may_leave S.is_shielded desk.old desk.new
+    ensures leaves { Leaves S.PlanStore desk.old desk.new
         (world_after (world_of S.content desk.old) moment (or_met (message_read request.now) asked_by))
         (failure_told result) }
     ensures err { OnErr result (desk.new ≡ desk.old) }
@@ -113,7 +104,7 @@ fn respond<S: PlanStore>(
     requires { IsMoment moment }
     ensures made { IfOk result (IsMade (IsHonest (S.doubt desk.new.store)) (world_of S.content desk.old)
         moment (or_met (message_read request.now) asked_by) (world_of S.content desk.new)) }
-    ensures leaves { Leaves S.content S.doubt S.faults S.may_leave S.is_shielded desk.old desk.new
+    ensures leaves { Leaves S.PlanStore desk.old desk.new
         (world_after (world_of S.content desk.old) moment (or_met (message_read request.now) asked_by))
         (failure_of result) }
 {
@@ -133,7 +124,7 @@ fn answer_message<S: PlanStore>(
     requires { IsMoment moment }
     ensures made { IfOk result (IsMade (IsHonest (S.doubt desk.new.store)) (world_of S.content desk.old)
         moment (asked_by (message_shown message.now)) (world_of S.content desk.new)) }
-    ensures leaves { Leaves S.content S.doubt S.faults S.may_leave S.is_shielded desk.old desk.new
+    ensures leaves { Leaves S.PlanStore desk.old desk.new
         (world_after (world_of S.content desk.old) moment (asked_by (message_shown message.now)))
         (failure_of result) }
 {
@@ -154,9 +145,8 @@ fn answer_call<S: PlanStore>(
     requires { IsMoment moment }
     ensures made { IfOk result (IsMade (IsHonest (S.doubt desk.new.store)) (world_of S.content desk.old)
         moment (Ok asked.now) (world_of S.content desk.new)) }
-    ensures leaves { Leaves S.content S.doubt S.faults S.may_leave S.is_shielded desk.old desk.new
-        (world_after (world_of S.content desk.old) moment (Ok asked.now))
-        (failure_of result) }
+    ensures leaves { Leaves S.PlanStore desk.old desk.new
+        (world_after (world_of S.content desk.old) moment (Ok asked.now)) (failure_of result) }
 {
     match desk.prepare(alloc, moment, asked) {
         Ok(pending) => answer_pending(alloc, desk, pending),
@@ -179,7 +169,7 @@ fn answer_pending<S: PlanStore>(
     ensures status { IfOk result (λ r. r.status ≡ 200) }
     ensures ok { IsHonest (S.doubt desk.new.store) → OnOk result
         (world_of S.content desk.new ≡ world_committed (world_of S.content desk.old) pending) }
-    ensures leaves { Leaves S.content S.doubt S.faults S.may_leave S.is_shielded desk.old desk.new
+    ensures leaves { Leaves S.PlanStore desk.old desk.new
         (world_committed (world_of S.content desk.old) pending) (failure_of result) }
 {
     let bytes = reply_answer(alloc, pending.reply())?;

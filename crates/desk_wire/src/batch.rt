@@ -1,17 +1,16 @@
 //! Batches: the answers to requests that are all at hand.
 
-ghost use Rattle.std.specs.Prelude.{◌≡◌, ◌≤◌, ℕ, List, [], All, Option, IfOk, OnErr, map};
+ghost use Rattle.std.specs.Prelude.{◌≡◌, ◌≤◌, All, IfOk, OnErr, OnOk, map};
 ghost use Rattle.desk_store.specs.StoreFrames.{Remembers};
-ghost use Rattle.desk_store.specs.World.{World};
 ghost use Rattle.desk_store.specs.StoreFaults.{IsHonest};
-ghost use Rattle.desk_run.specs.DeskWorld.{IsSettled, world_of};
-ghost use Rattle.desk_run.specs.Sides.{OwnAlike};
+ghost use Rattle.desk_run.specs.DeskFrames.{FindsOnly};
+ghost use Rattle.desk_run.specs.DeskWorld.{world_of};
 ghost use Rattle.desk_ends.specs.Moments.{IsMoment};
-ghost use Rattle.desk_wire.specs.AllAnswers.{AreAnswers};
-ghost use Rattle.desk_wire.specs.Causes.{HasFailed, IsLast};
+ghost use Rattle.desk_wire.specs.AllAnswers.{AreAnswers, sent_in, texts_in};
+ghost use Rattle.desk_wire.specs.Causes.{HaveCause};
 ghost use Rattle.desk_wire.specs.Given.{answered};
 ghost use Rattle.desk_wire.specs.Crashes.{IsFoundIn};
-ghost use Rattle.desk_wire.specs.TwoRuns.{requests_of};
+ghost use Rattle.desk_wire.specs.TwoRuns.{SparesQuiet};
 
 use crate::answering::answer_request;
 use crate::response::Answer;
@@ -82,22 +81,15 @@ pub fn answer_all<S: PlanStore>(
     requests: &[(i64, Vec<u8>)],
 ) -> Result<Answers, AllocError>
     requires { All (λ request. IsMoment request.0) requests.now }
-    ensures answers { IsHonest (S.doubt desk.new.store) → IfOk result (λ a.
-        AreAnswers a.ended (world_of S.content desk.old) (map (λ r. (r.0, r.1.items)) requests.now)
-        (map (λ v. v.items) a.answers.items) (world_of S.content desk.new)) }
-    ensures quiet { IsHonest (S.doubt desk.new.store) → IfOk result (λ _. (operator : List ℕ) →
-        requests_of operator (map (λ r. (r.0, r.1.items)) requests.now) ≡ [] →
-        OwnAlike operator (world_of S.content desk.new) (world_of S.content desk.old)) }
-    ensures kept { IsHonest (S.doubt desk.new.store) → IfOk result (λ a.
-        IsSettled S.content S.may_leave desk.old →
-        (found : Option World) → S.may_leave desk.new.store found →
-        IsFoundIn (world_of S.content desk.old) (map (λ r. (r.0, r.1.items)) requests.now)
-        (answered a.ended (map (λ v. v.items) a.answers.items)) found) }
+    ensures answers { IsHonest (S.doubt desk.new.store) → IfOk result (λ a. AreAnswers a.ended
+        (world_of S.content desk.old) (sent_in requests.now) (texts_in a) (world_of S.content desk.new)) }
+    ensures quiet { IsHonest (S.doubt desk.new.store) → OnOk result (SparesQuiet
+        (world_of S.content desk.old) (sent_in requests.now) (world_of S.content desk.new)) }
+    ensures kept { IfOk result (λ a. FindsOnly S.PlanStore desk.old desk.new (IsFoundIn
+        (world_of S.content desk.old) (sent_in requests.now) (answered a.ended (texts_in a)))) }
     ensures err { OnErr result (world_of S.content desk.new ≡ world_of S.content desk.old) }
     ensures remembered { Remembers S.doubt S.faults S.is_shielded desk.old.store desk.new.store }
-    ensures cause { IfOk result (λ a. a.ended ≡ AnswersEnd.Broken →
-        HasFailed (IsLast (map (λ v. v.items) a.answers.items))
-        (S.faults desk.old.store) (S.faults desk.new.store)) }
+    ensures cause { IfOk result (λ a. HaveCause a (S.faults desk.old.store) (S.faults desk.new.store)) }
 {
     let mut answers = Vec::with_capacity(alloc, requests.len())?;
     for (moment, text) in requests {

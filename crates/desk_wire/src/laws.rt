@@ -1,21 +1,19 @@
 //! Laws of the definitions. Each is the contract of a function that does nothing.
 
-ghost use Rattle.std.specs.Prelude.{◌≡◌, ◌<◌, ◌+◌, ◌++◌, ℕ, ℤ, List, [], Option, Some, length, take};
-ghost use Rattle.std.specs.List.{AllZip, slice_get};
+ghost use Rattle.std.specs.Prelude.{◌≡◌, ◌++◌, ℕ, ℤ, List, Option, Some, length};
+ghost use Rattle.std.specs.List.{AllZip};
 ghost use Rattle.desk_store.specs.World.{World};
-ghost use Rattle.desk_store.specs.StoreFaults.{IsHonest};
 ghost use Rattle.desk_run.specs.DeskWorld.{DeskWorld};
 ghost use Rattle.desk_run.specs.Sides.{HoldAlike, OwnAlike};
 ghost use Rattle.desk_ends.specs.declared.playing.PlayEnd.{PlayEnd};
-ghost use Rattle.desk_wire.specs.declared.batch.AnswersEnd.{AnswersEnd};
 ghost use Rattle.desk_reading.specs.Requests.{asked};
 ghost use Rattle.desk_wire.specs.Bytes.{world_after};
-ghost use Rattle.desk_wire.specs.AllAnswers.{AreAnswers, AreFirst, Sent};
-ghost use Rattle.desk_wire.specs.Given.{answered, AreGiven, told_in_play};
-ghost use Rattle.desk_wire.specs.Headline.{Headline, LookAlike, sender, world_at};
+ghost use Rattle.desk_wire.specs.AllAnswers.{Sent};
+ghost use Rattle.desk_wire.specs.GivenLaws.{AnswersGiven, StreamGiven};
+ghost use Rattle.desk_wire.specs.Headline.{Headline};
 ghost use Rattle.desk_wire.specs.Crashes.{IsFoundAfter, IsKept};
-ghost use Rattle.desk_wire.specs.Playing.{HasPlayed, at_moment};
-ghost use Rattle.desk_wire.specs.Streams.{IsRequest, request_len, requests_in};
+ghost use Rattle.desk_wire.specs.Passage.{Passage};
+ghost use Rattle.desk_wire.specs.Streams.{IsRequest, request_len};
 ghost use Rattle.desk_wire.specs.TwoRuns.{IsSameFor, met_by, requests_of};
 
 /// For every list of requests, each answer, byte for byte, is decided by that request's bytes and
@@ -37,51 +35,16 @@ pub fn two_runs()
         IsSameFor operator v requests w others }
 {}
 
-/// The laws above, of the answers that a desk gave to a list of requests (the clause of
-/// `answer_all`). `first`: up to an answer 500 they are the answers of a run. `decided`: so one request,
-/// answered in two lists at worlds that look alike to its operator, was given equal bytes. `quiet`: an
-/// operator that sent nothing owns what it did.
+/// The laws above, of the answers that a desk gave to a list of requests (the clause of `answer_all`).
+/// `specs/GivenLaws.antt` says this part by part.
 pub fn answers_given()
-    ensures first { (end : AnswersEnd) (w after : DeskWorld) (requests : List Sent)
-        (answers : List (List ℕ)) → AreAnswers end w requests answers after →
-        AreFirst w requests (answered end answers) (take (answered end answers) answers) after }
-    ensures decided { (e f : AnswersEnd) (v w v_after w_after : DeskWorld) (rs ss : List Sent)
-        (xs ys : List (List ℕ)) (i j : ℕ) (r : Sent) →
-        AreAnswers e v rs xs v_after → AreAnswers f w ss ys w_after →
-        i < answered e xs → j < answered f ys →
-        slice_get rs i ≡ Some r → slice_get ss j ≡ Some r →
-        LookAlike (sender r) (world_at v rs i) (world_at w ss j) →
-        slice_get xs i ≡ slice_get ys j }
-    ensures quiet { (end : AnswersEnd) (w after : DeskWorld) (requests : List Sent)
-        (answers : List (List ℕ)) (operator : List ℕ) → AreAnswers end w requests answers after →
-        requests_of operator requests ≡ [] → OwnAlike operator after w }
+    ensures { AnswersGiven }
 {}
 
 /// The laws above, of what a desk wrote for a stream of requests (the clause of `play_all`), if its
-/// store is honest. `first`: the first requests of the stream, all sent at the moment, are answered as in a
-/// run, and their answers are written one after the other. `decided`: so one request, sent at one
-/// moment in two streams at worlds that look alike to its operator, was given equal bytes. `quiet`: an
-/// operator that sent nothing owns what it did.
+/// store is honest. `specs/GivenLaws.antt` says this part by part.
 pub fn stream_given()
-    ensures first { (ended : PlayEnd) (doubt count : ℕ) (old new out now : Option (List ℕ))
-        (w : DeskWorld) (moment : ℤ) (after : DeskWorld) →
-        HasPlayed (IsHonest doubt) ended count old new out now w moment after → IsHonest doubt →
-        (requests answers : List (List ℕ)) ×
-        AreGiven ended (told_in_play ended count) old out now w moment after requests answers }
-    ensures decided { (e f : PlayEnd) (m n : ℕ) (old out now old_too out_too now_too : Option (List ℕ))
-        (v w v_after w_after : DeskWorld) (moment : ℤ) (rs ss xs ys : List (List ℕ)) (i j : ℕ)
-        (r : List ℕ) → AreGiven e m old out now v moment v_after rs xs →
-        AreGiven f n old_too out_too now_too w moment w_after ss ys →
-        slice_get rs i ≡ Some r → slice_get ss j ≡ Some r →
-        LookAlike (sender (moment, r)) (world_at v (at_moment moment rs) i)
-        (world_at w (at_moment moment ss) j) → slice_get xs i ≡ slice_get ys j }
-    ensures quiet { (ended : PlayEnd) (doubt count : ℕ) (stream : List ℕ)
-        (new out now : Option (List ℕ)) (w : DeskWorld) (moment : ℤ) (after : DeskWorld)
-        (operator : List ℕ) →
-        HasPlayed (IsHonest doubt) ended count (Some stream) new out now w moment after →
-        IsHonest doubt →
-        requests_of operator (at_moment moment (requests_in (count + 1) stream)) ≡ [] →
-        OwnAlike operator after w }
+    ensures { StreamGiven }
 {}
 
 /// Kept: what a start may find of the desk, whatever ended the run over a stream (the clause `kept` of
@@ -89,9 +52,9 @@ pub fn stream_given()
 /// left, or the content that these and the next one left. After n answers other than a 500 these are the
 /// first n requests of the stream.
 pub fn kept()
-    ensures { (ended : PlayEnd) (n : ℕ) (stream : List ℕ) (out now : Option (List ℕ)) (w : DeskWorld)
+    ensures { (ended : PlayEnd) (n : ℕ) (passage : Passage) (stream : List ℕ) (w : DeskWorld)
         (moment : ℤ) (after : DeskWorld) (found : Option World) →
-        IsKept ended n (Some stream) out now w moment after found →
+        passage.reads.before ≡ Some stream → IsKept ended n passage w moment after found →
         IsFoundAfter w moment stream n found }
 {}
 

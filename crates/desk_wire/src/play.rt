@@ -1,14 +1,15 @@
 //! Runs over a stream: requests served one after the other.
 
-ghost use Rattle.std.specs.Prelude.{◌≡◌, ◌≤◌, ◌==◌, Option};
+ghost use Rattle.std.specs.Prelude.{◌≡◌, ◌≤◌, ◌==◌};
 ghost use Rattle.desk_store.specs.StoreFrames.{Remembers};
-ghost use Rattle.desk_store.specs.World.{World};
 ghost use Rattle.desk_store.specs.StoreFaults.{IsHonest};
-ghost use Rattle.desk_run.specs.DeskWorld.{IsSettled, world_of};
+ghost use Rattle.desk_run.specs.DeskFrames.{FindsOnly};
+ghost use Rattle.desk_run.specs.DeskWorld.{world_of};
 ghost use Rattle.desk_ends.specs.Moments.{IsMoment};
 ghost use Rattle.desk_wire.specs.Causes.{AppendsLast, HasFailed};
 ghost use Rattle.desk_wire.specs.Given.{told_in_play};
 ghost use Rattle.desk_wire.specs.Crashes.{IsKept};
+ghost use Rattle.desk_wire.specs.Passage.{passage};
 ghost use Rattle.desk_wire.specs.Playing.{HasPlayed};
 
 use crate::stream::serve_one;
@@ -41,18 +42,14 @@ pub fn play_all<S: PlanStore, R: Read, W: Write>(
 ) -> Played
     requires { IsMoment moment }
     ensures played { HasPlayed (IsHonest (S.doubt desk.new.store)) result.ended result.answered
-        (R.remaining input.old) (R.remaining input.new)
-        (W.contents output.old) (W.contents output.new)
+        (passage R.Read W.Write input.old input.new output.old output.new)
         (world_of S.content desk.old) moment (world_of S.content desk.new) }
-    ensures kept { IsHonest (S.doubt desk.new.store) → IsSettled S.content S.may_leave desk.old →
-        (found : Option World) → S.may_leave desk.new.store found →
-        IsKept result.ended (told_in_play result.ended result.answered) (R.remaining input.old)
-        (W.contents output.old) (W.contents output.new)
-        (world_of S.content desk.old) moment (world_of S.content desk.new) found }
+    ensures kept { FindsOnly S.PlanStore desk.old desk.new (IsKept result.ended
+        (told_in_play result.ended result.answered) (passage R.Read W.Write input.old input.new
+        output.old output.new) (world_of S.content desk.old) moment (world_of S.content desk.new)) }
     ensures remembered { Remembers S.doubt S.faults S.is_shielded desk.old.store desk.new.store }
-    ensures cause { result.ended ≡ PlayEnd.Broken →
-        HasFailed (AppendsLast (W.contents output.old) (W.contents output.new))
-        (S.faults desk.old.store) (S.faults desk.new.store) }
+    ensures cause { result.ended ≡ PlayEnd.Broken → HasFailed (AppendsLast (W.contents output.old)
+        (W.contents output.new)) (S.faults desk.old.store) (S.faults desk.new.store) }
 {
     for before in 0..MAX_ANSWERED {
         let served = match serve_one(alloc, desk, moment, input, output) {

@@ -1,19 +1,19 @@
 //! Connections: requests read from a stream, and their answers written to one.
 
-ghost use Rattle.std.specs.Prelude.{◌≡◌, ◌<◌, ◌+◌, ◌++◌, [], length, take, ◌⊎◌, Option, IfErr, IfOk};
+ghost use Rattle.std.specs.Prelude.{◌≡◌, ◌<◌, ◌+◌, ◌++◌, [], length, take, IfErr, IfOk};
 ghost use Rattle.std.specs.Prelude.{IfSome, None};
 ghost use Rattle.std.specs.Io.{ReadsAtMost};
 ghost use Rattle.std.specs.Result.{is_ok};
 ghost use Rattle.std.specs.Io.KnownBytes.{Appends, Consumes, IsAtEnd, ReadConsumes};
 ghost use Rattle.desk_reading.specs.Messages.{message_read};
 ghost use Rattle.desk_store.specs.StoreFrames.{Remembers};
-ghost use Rattle.desk_store.specs.World.{World};
 ghost use Rattle.desk_store.specs.StoreFaults.{IsHonest};
-ghost use Rattle.desk_run.specs.DeskWorld.{IsSettled, world_of};
+ghost use Rattle.desk_run.specs.DeskWorld.{world_of};
 ghost use Rattle.desk_ends.specs.Moments.{IsMoment};
 ghost use Rattle.desk_ends.specs.declared.serving.ServeFault.TheVariants as serve_fault;
 ghost use Rattle.desk_wire.specs.Causes.{HasFailed, IsGivenUp};
-ghost use Rattle.desk_wire.specs.Crashes.{IsCertain, IsFoundNow, IsLeftBy};
+ghost use Rattle.desk_wire.specs.Crashes.{IsServedKept};
+ghost use Rattle.desk_wire.specs.Passage.{passage};
 ghost use Rattle.desk_wire.specs.Serving.{HasServed, IsTaken, Stops};
 ghost use Rattle.desk_wire.specs.Streams.{IsCut, IsFront, byte_list, front_read, front_reading, size_said, with_body};
 
@@ -47,23 +47,13 @@ pub fn serve_one<S: PlanStore, R: Read, W: Write>(
 ) -> Result<Served, ServeFault>
     requires { IsMoment moment }
     ensures served { HasServed (IsHonest (S.doubt desk.new.store)) result
-        (R.remaining input.old) (R.remaining input.new)
-        (W.contents output.old) (W.contents output.new)
+        (passage R.Read W.Write input.old input.new output.old output.new)
         (world_of S.content desk.old) moment (world_of S.content desk.new) }
-    ensures crash { IsHonest (S.doubt desk.new.store) → (found : Option World) →
-        S.may_leave desk.new.store found → S.may_leave desk.old.store found
-        ⊎ IsLeftBy (IsTaken (R.remaining input.old) (R.remaining input.new))
-        (world_of S.content desk.old) moment found }
-    ensures kept { IsHonest (S.doubt desk.new.store) → IsCertain result →
-        IsSettled S.content S.may_leave desk.old → IsSettled S.content S.may_leave desk.new }
-    ensures found { IsHonest (S.doubt desk.new.store) → (found : Option World) →
-        S.may_leave desk.new.store found → IsFoundNow result (S.may_leave desk.old.store)
-        (IsTaken (R.remaining input.old) (R.remaining input.new))
-        (world_of S.content desk.old) moment (world_of S.content desk.new) found }
+    ensures kept { IsServedKept S.PlanStore desk.old desk.new result
+        (passage R.Read W.Write input.old input.new output.old output.new) moment }
     ensures remembered { Remembers S.doubt S.faults S.is_shielded desk.old.store desk.new.store }
-    ensures cause { IfOk result (λ served. IsGivenUp served →
-        HasFailed (Appends (W.contents output.old) (W.contents output.new))
-        (S.faults desk.old.store) (S.faults desk.new.store)) }
+    ensures cause { IfOk result (λ served. IsGivenUp served → HasFailed (Appends (W.contents output.old)
+        (W.contents output.new)) (S.faults desk.old.store) (S.faults desk.new.store)) }
 {
     let mut reads = MAX_READS;
     let text = receive_head(alloc, input, &mut reads)?;

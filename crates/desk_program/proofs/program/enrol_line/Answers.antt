@@ -1,4 +1,4 @@
-use Rattle.std.proofs.Common.{◌∙◌, Err, ap, arith, inr, refl, rules}
+use Rattle.std.proofs.Common.{◌∙◌, Err, Some, ap, arith, inr, refl, rules}
 use Rattle.desk_run.specs.DeskWorld.{world_of}
 use Rattle.desk_line.specs.Exits.{ending}
 use Rattle.desk_program.proofs.EndLemmas.{broken_down, found_enrolled}
@@ -18,7 +18,7 @@ returns-in-Err-clause-enrolled g c =
             c.requires,
           ))) (c.conclude-in-Err.ensures.status, c.conclude-in-Err.ensures.told),
       refl,
-      c.in-Err.ensures.err,
+      c.in-Err.ensures.leaves.same,
     ))
 
 pub returns-in-Err-clause-kept : goal.returns-in-Err-clause-kept
@@ -33,7 +33,7 @@ returns-in-Err-clause-kept g c = λ p settled found may.
       c.enrol.ensures.ceiling.0 (c.in-Err.is ∙ ap Err is),
       c.requires,
     ))) (c.conclude-in-Err.ensures.status, c.conclude-in-Err.ensures.told))
-    (settled found) (c.enrol.ensures.crash p found may)
+    (settled found) (c.enrol.ensures.leaves.crash p found may)
 
 -- why the line ends so
 pub returns-in_default-clause-cause : goal.returns-in_default-clause-cause
@@ -41,7 +41,8 @@ returns-in_default-clause-cause g c = search (rules, ends_memory)
 
 pub returns-in-Err-clause-cause : goal.returns-in-Err-clause-cause
 returns-in-Err-clause-cause g c =
-    ends_counted c.in-Err.fault c.from.result _ _ _ c.from.ensures c.in-Err.ensures.cause
+    ends_counted c.in-Err.fault c.from.result _ _ _ c.from.ensures
+    (λ is. c.in-Err.ensures.leaves.cause (ap Some is))
     (c.conclude-in-Err.ensures.status, c.conclude-in-Err.ensures.told)
 
 pub returns-in-Ok-write_whole-clause-cause : goal.returns-in-Ok-write_whole-clause-cause

@@ -3,6 +3,7 @@ use Rattle.desk_store.specs.StoreFaults.{IsHonest}
 use Rattle.desk_store.specs.laws.Fault.{was_honest}
 use Rattle.desk_run.specs.DeskWorld.{world_of}
 use Rattle.desk_ends.specs.laws.Moment.{same_moment}
+use Rattle.desk_wire.specs.Passage.{passed}
 use Rattle.desk_wire.specs.Playing.{HasPlayed}
 use Rattle.desk_line.specs.Exits.{EndsWith, ending}
 use Rattle.desk_program.specs.Enrolling.{AreListedSoFar, on_terms, with_operators}
@@ -63,10 +64,10 @@ returns-clause-played g c =
       played = λ h.
           let listed = c.in_default.ensures.ok (was_honest c.play_all-played.ensures.remembered.doubt h)
           ∙ ap (with_operators begun) c.deref.ensures.value in
-          subst (λ m. HasPlayed honest played.ended played.answered old new out now
+          subst (λ m. HasPlayed honest played.ended played.answered (passed old new out now)
           (with_operators begun c.args.play.now.enrolments.items) m after)
           (same_moment moment c.requires.moment)
-          (subst (λ v. HasPlayed honest played.ended played.answered old new out now v
+          (subst (λ v. HasPlayed honest played.ended played.answered (passed old new out now) v
           (to_z w64 (of_z w64 moment)) after) listed c.play_all-played.ensures.played);
     })
 

@@ -4,6 +4,7 @@ use Rattle.desk_store.specs.laws.Fault.{was_honest}
 use Rattle.desk_run.specs.DeskWorld.{world_of}
 use Rattle.desk_ends.specs.laws.Moment.{same_moment}
 use Rattle.desk_wire.specs.Crashes.{IsFoundNow}
+use Rattle.desk_wire.specs.Passage.{passed}
 use Rattle.desk_wire.specs.Serving.{HasServed, IsTaken}
 use Rattle.desk_line.specs.Exits.{enrolment_failure}
 use Rattle.desk_program.specs.Enrolling.{AreEnrolled, AreListedSoFar}
@@ -131,7 +132,7 @@ returns-clause-kept g c =
     (enrolled_then _ honest was news w listed
     (subst (λ es. AreEnrolled (IsHonest (g.S.PlanStore.doubt c.enrol_news.new.desk.store)) es w listed)
     c.deref.ensures.value c.in_ok-enrol_news.ensures.ok))
-    (subst (λ m. HasServed honest c.serve_one-served.result bytes unread out now listed m after)
+    (subst (λ m. HasServed honest c.serve_one-served.result (passed bytes unread out now) listed m after)
     (same_moment client.moment c.in_ok-client.ensures.moment) c.serve_one-served.ensures.served)
     c.done_after.ensures
     (λ p found may. listed_found c.enrol_news.result news w listed before mid
@@ -139,7 +140,7 @@ returns-clause-kept g c =
     (c.enrol_news.ensures.found (was p))) found c.in_ok-enrol_news.field-0 c.in_ok-enrol_news.was may)
     (λ p found may. subst (λ m. IsFoundNow c.serve_one-served.result mid (IsTaken bytes unread) listed m after
     found) (same_moment client.moment c.in_ok-client.ensures.moment)
-    (c.serve_one-served.ensures.found p found may))
+    (c.serve_one-served.ensures.kept.found p found may))
 
 pub returns-clause-served : goal.returns-clause-served
 returns-clause-served g c = (returns-clause-kept g c).taken

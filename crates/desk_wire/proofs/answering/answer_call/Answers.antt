@@ -8,7 +8,9 @@ use Rattle.desk_run.specs.Calls.{IsPending, Prepares, world_committed}
 use Rattle.desk_run.specs.Verdicts.{unknown_operator, no_such_plan}
 use Rattle.desk_wire.specs.Bytes.{status, text}
 use Rattle.desk_wire.proofs.BytesLemmas.{done_if_ok, done_unanswered, status_pending, status_unanswered}
-use Rattle.desk_wire.proofs.LeavingLemmas.{leaves_after, leaves_refused, made_if, no_500}
+use Rattle.desk_run.specs.laws.Crash.{leaves_after, leaves_read}
+use Rattle.desk_wire.specs.Failing.{failure_of}
+use Rattle.desk_wire.proofs.LeavingLemmas.{made_if, no_500, not_store}
 use Rattle.desk_wire.proofs.answering.answer_call.Goals as goal
 
 -- the reply that is pending, and its status code
@@ -72,8 +74,7 @@ returns-in-Err-NoSuchPlan-clause-made g c =
 pub returns-in-Ok-clause-leaves : goal.returns-in-Ok-clause-leaves
 returns-in-Ok-clause-leaves g c =
     let w = world_of g.S.PlanStore.content c.args.desk.now in
-    leaves_after g.S.PlanStore.content g.S.PlanStore.doubt g.S.PlanStore.faults g.S.PlanStore.may_leave
-    g.S.PlanStore.is_shielded c.args.desk.now c.prepare.new.self c.answer_pending.new.desk _ _ _
+    leaves_after g.S.PlanStore c.args.desk.now c.prepare.new.self c.answer_pending.new.desk _ _ _
     c.prepare.ensures.same c.prepare.ensures.crash c.prepare.ensures.remembered
     c.answer_pending.ensures.leaves
     (λ before. ap (λ v. (world_committed v c.in-Ok.pending).content) c.prepare.ensures.same
@@ -82,13 +83,13 @@ returns-in-Ok-clause-leaves g c =
 
 pub returns-in-Err-UnknownOperator-clause-leaves : goal.returns-in-Err-UnknownOperator-clause-leaves
 returns-in-Err-UnknownOperator-clause-leaves g c =
-    leaves_refused g.S.PlanStore.content g.S.PlanStore.doubt g.S.PlanStore.faults g.S.PlanStore.may_leave
-    g.S.PlanStore.is_shielded c.args.desk.now c.prepare.new.self _ c.refuse.result c.prepare.ensures.same
-    c.prepare.ensures.crash c.prepare.ensures.remembered c.refuse.ensures.error
+    leaves_read g.S.PlanStore c.args.desk.now c.prepare.new.self _ (failure_of c.refuse.result)
+    c.prepare.ensures.same c.prepare.ensures.crash c.prepare.ensures.remembered
+    (λ said. absurd (not_store c.refuse.result c.refuse.ensures.error said))
 
 pub returns-in-Err-NoSuchPlan-clause-leaves : goal.returns-in-Err-NoSuchPlan-clause-leaves
 returns-in-Err-NoSuchPlan-clause-leaves g c =
-    leaves_refused g.S.PlanStore.content g.S.PlanStore.doubt g.S.PlanStore.faults g.S.PlanStore.may_leave
-    g.S.PlanStore.is_shielded c.args.desk.now c.prepare.new.self _ c.refuse-in-Err-NoSuchPlan.result
-    c.prepare.ensures.same c.prepare.ensures.crash c.prepare.ensures.remembered
-    c.refuse-in-Err-NoSuchPlan.ensures.error
+    leaves_read g.S.PlanStore c.args.desk.now c.prepare.new.self _
+    (failure_of c.refuse-in-Err-NoSuchPlan.result) c.prepare.ensures.same c.prepare.ensures.crash
+    c.prepare.ensures.remembered (λ said. absurd
+    (not_store c.refuse-in-Err-NoSuchPlan.result c.refuse-in-Err-NoSuchPlan.ensures.error said))

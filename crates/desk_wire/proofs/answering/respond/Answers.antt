@@ -1,9 +1,11 @@
 use Rattle.std.proofs.Common.{refl, arith}
-use Rattle.desk_wire.proofs.LeavingLemmas.{leaves_refused}
+use Rattle.desk_run.specs.laws.Crash.{leaves_read}
+use Rattle.desk_wire.specs.Failing.{failure_of}
+use Rattle.desk_wire.proofs.LeavingLemmas.{not_store}
 use Rattle.desk_wire.proofs.answering.respond.Goals as goal
 
 pub returns-in-Err-clause-leaves : goal.returns-in-Err-clause-leaves
 returns-in-Err-clause-leaves g c =
-    leaves_refused g.S.PlanStore.content g.S.PlanStore.doubt g.S.PlanStore.faults g.S.PlanStore.may_leave
-    g.S.PlanStore.is_shielded c.args.desk.now c.args.desk.now _ c.refuse.result refl (λ honest found may. may)
-    (record { doubt = omega arith; counted = omega arith; shield = λ s. s }) c.refuse.ensures.error
+    leaves_read g.S.PlanStore c.args.desk.now c.args.desk.now _ (failure_of c.refuse.result) refl
+    (λ honest found may. may) (record { doubt = omega arith; counted = omega arith; shield = λ s. s })
+    (λ said. absurd (not_store c.refuse.result c.refuse.ensures.error said))

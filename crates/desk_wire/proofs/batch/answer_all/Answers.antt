@@ -1,4 +1,4 @@
-use Rattle.std.proofs.Common.{◌≡◌, ◌≤◌, ◌+◌, ◌-◌, ◌∙◌, [], ◌∷◌, map, sym, ap, subst, length, arith}
+use Rattle.std.proofs.Common.{◌≡◌, ◌≤◌, ◌+◌, ◌-◌, ◌∙◌, [], ◌∷◌, map, option_map, sym, ap, subst, length, arith}
 use Rattle.std.proofs.lemmas.List.{length-append, length-map}
 use Rattle.desk_reading.specs.Messages.{message_read}
 use Rattle.desk_store.specs.laws.Fault.{was_honest}
@@ -9,7 +9,9 @@ use Rattle.desk_wire.specs.declared.batch.AnswersEnd.TheVariants.{All, Broken, N
 use Rattle.desk_wire.proofs.GivenLemmas.{given_quiet}
 use Rattle.desk_wire.specs.Crashes.{IsFoundIn}
 use Rattle.desk_wire.specs.Causes.{IsLast}
-use Rattle.desk_wire.proofs.CauseLemmas.{failed_there, last_said, not_none, risen_since}
+use Rattle.desk_run.specs.laws.Crash.{risen_since}
+use Rattle.desk_wire.specs.Failing.{desk_fault}
+use Rattle.desk_wire.proofs.CauseLemmas.{failed_there, last_said, not_none}
 use Rattle.desk_wire.proofs.AllLemmas.{HaveAnswers, one_answered, cut_answered, all_answered, done_so, failed_so}
 use Rattle.desk_wire.proofs.KeptLemmas.{found_next, found_settled, is_none_by}
 use Rattle.desk_wire.proofs.batch.answer_all.Goals as goal
@@ -42,7 +44,8 @@ loop-moment-preserved g c =
           (c.loop-moment.invariant.answered
           (was_honest c.answer_request-answer.ensures.leaves.remembered.doubt honest))
           c.loop-moment-test.true c.loop-moment-item.is done);
-      settled = λ honest h. c.in-Ok.ensures.leaves.kept honest (is_none_by c.in-Ok.field-0.error none)
+      settled = λ honest h. c.in-Ok.ensures.leaves.kept honest
+          (ap (option_map desk_fault) (is_none_by c.in-Ok.field-0.error none))
           (c.loop-moment.invariant.settled
           (was_honest c.answer_request-answer.ensures.leaves.remembered.doubt honest) h);
       count = ap length c.push_reserved.ensures.items
@@ -183,7 +186,8 @@ returns-then-is_some-clause-cause g c = λ broken.
     (world_of g.S.PlanStore.content c.loop-moment.desk)
     (world_of g.S.PlanStore.content c.answer_request-answer.new.desk) c.in-Ok.field-0.bytes.items
     first new (not_none c.in-Ok.field-0.error some) c.in-Ok.ensures.told.failed
-    (λ store. risen_since first old new c.loop-moment.invariant.counted (c.in-Ok.ensures.leaves.cause store))
+    (λ store. risen_since first old new c.loop-moment.invariant.counted
+    (c.in-Ok.ensures.leaves.cause (ap (option_map desk_fault) store)))
     (subst (λ xs. IsLast (map (λ v. v.items) xs) c.in-Ok.field-0.bytes.items)
     (sym c.push_reserved.ensures.items)
     (last_said (λ v. v.items) c.loop-moment.answers.items c.in-Ok.field-0.bytes))

@@ -6,6 +6,7 @@ use Rattle.desk_store.specs.laws.Fault.{was_honest}
 use Rattle.desk_run.specs.DeskWorld.{world_of}
 use Rattle.desk_ends.specs.declared.playing.PlayEnd.TheVariants.{End, Unframed, Broken, Limit, Fault}
 use Rattle.desk_ends.specs.declared.serving.Served.TheVariants as outcome
+use Rattle.desk_wire.specs.Passage.{passed}
 use Rattle.desk_wire.specs.Playing.{ArePlayed}
 use Rattle.desk_wire.proofs.KeptLemmas.{fault_last, kept_so, old_or_next}
 use Rattle.desk_wire.proofs.PlayLemmas.{none_played, one_played, broken_next, played_if, is_500, not_500}
@@ -35,9 +36,10 @@ returns-then-is_server_error-clause-played g c =
       output = g.W.Write.contents c.loop-before.output;
       world = w;
       first =
-          subst (λ m. ArePlayed honest c.loop-before.before (g.R.Read.remaining c.args.input.now)
+          subst (λ m. ArePlayed honest c.loop-before.before (passed (g.R.Read.remaining c.args.input.now)
           (g.R.Read.remaining c.loop-before.input) (g.W.Write.contents c.args.output.now)
-          (g.W.Write.contents c.loop-before.output) (world_of g.S.PlanStore.content c.args.desk.now) m w) same
+          (g.W.Write.contents c.loop-before.output)) (world_of g.S.PlanStore.content c.args.desk.now) m w)
+          same
           (played_if (IsHonest (g.S.PlanStore.doubt c.loop-before.desk.store)) honest _ _ _ _ _ _ _ _
           (was_honest c.serve_one.ensures.remembered.doubt) c.loop-before.invariant.played);
       last = (
@@ -55,6 +57,7 @@ loop-before-preserved g c =
     let served = rw c.in-Answered.is at c.in-Ok.ensures.served in
     let first = played_if (IsHonest (g.S.PlanStore.doubt c.loop-before.desk.store)) honest _ _ _ _ _ _ _ _
     (was_honest c.serve_one.ensures.remembered.doubt) c.loop-before.invariant.played in
+    let kept = rw c.in-Answered.is at c.in-Ok.ensures.kept in
     record {
       played = one_played honest c.loop-before.before (g.R.Read.remaining c.args.input.now)
           (g.R.Read.remaining c.loop-before.input) (g.R.Read.remaining c.serve_one.new.input)
@@ -64,7 +67,7 @@ loop-before-preserved g c =
           c.in-Answered.status c.in-Answered.framed first served
           (not_500 c.in-Answered.status (sym c.is_server_error.ensures ∙ c.if-is_server_error.false))
           c.if-not-framed.false;
-      settled = λ p h. (rw c.in-Answered.is at c.in-Ok.ensures.kept) p
+      settled = λ p h. kept.kept p
           (not_500 c.in-Answered.status (sym c.is_server_error.ensures ∙ c.if-is_server_error.false))
           (c.loop-before.invariant.settled (was_honest c.serve_one.ensures.remembered.doubt p) h);
       doubt = omega (arith, c.loop-before.invariant.doubt, c.serve_one.ensures.remembered.doubt);
@@ -93,8 +96,8 @@ returns-in-Err-clause-kept g c = λ p settled found may.
     (was_honest c.serve_one.ensures.remembered.doubt) c.loop-before.invariant.played)
     (refl, c.in-Err.ensures.served)
     (fault_last (g.S.PlanStore.may_leave c.loop-before.desk.store) w after _ _ found c.in-Err.fault
-    (λ certain. c.in-Err.ensures.kept p certain here found may) (here found)
-    (c.in-Err.ensures.crash p found may))
+    (λ certain. c.in-Err.ensures.kept.kept p certain here found may) (here found)
+    (c.in-Err.ensures.kept.crash p found may))
 
 pub returns-in_default-clause-kept : goal.returns-in_default-clause-kept
 returns-in_default-clause-kept g c = λ p settled found may.
@@ -104,6 +107,7 @@ returns-in_default-clause-kept g c = λ p settled found may.
     let here = c.loop-before.invariant.settled (was_honest c.serve_one.ensures.remembered.doubt p) settled in
     let is : c.in-Ok.served ≡ outcome.End = search rules in
     let served = rw is at c.in-Ok.ensures.served in
+    let kept = rw is at c.in-Ok.ensures.kept in
     kept_so honest End c.loop-before.before c.loop-before.before (g.R.Read.remaining c.args.input.now)
     (g.R.Read.remaining c.loop-before.input) (g.R.Read.remaining c.serve_one.new.input)
     (g.W.Write.contents c.args.output.now) (g.W.Write.contents c.loop-before.output)
@@ -113,7 +117,7 @@ returns-in_default-clause-kept g c = λ p settled found may.
     (played_if (IsHonest (g.S.PlanStore.doubt c.loop-before.desk.store)) honest _ _ _ _ _ _ _ _
     (was_honest c.serve_one.ensures.remembered.doubt) c.loop-before.invariant.played)
     (refl, served.0, served.1)
-    ((rw is at c.in-Ok.ensures.kept) p tt here found may)
+    (kept.kept p tt here found may)
 
 pub returns-then-is_server_error-clause-kept : goal.returns-then-is_server_error-clause-kept
 returns-then-is_server_error-clause-kept g c = λ p settled found may.
@@ -136,7 +140,7 @@ returns-then-is_server_error-clause-kept g c = λ p settled found may.
           (is_500 c.in-Answered.status (sym c.is_server_error.ensures ∙ c.if-is_server_error.true)),
     )
     (old_or_next (g.S.PlanStore.may_leave c.loop-before.desk.store) w _ _ found (here found)
-    (c.in-Ok.ensures.crash p found may))
+    (c.in-Ok.ensures.kept.crash p found may))
 
 pub returns-then-not-framed-clause-kept : goal.returns-then-not-framed-clause-kept
 returns-then-not-framed-clause-kept g c = λ p settled found may.
@@ -145,6 +149,7 @@ returns-then-not-framed-clause-kept g c = λ p settled found may.
     let after = world_of g.S.PlanStore.content c.serve_one.new.desk in
     let here = c.loop-before.invariant.settled (was_honest c.serve_one.ensures.remembered.doubt p) settled in
     let served = rw c.in-Answered.is at c.in-Ok.ensures.served in
+    let kept = rw c.in-Answered.is at c.in-Ok.ensures.kept in
     let other = not_500 c.in-Answered.status (sym c.is_server_error.ensures ∙ c.if-is_server_error.false) in
     kept_so honest Unframed c.loop-before.before (c.loop-before.before + 1)
     (g.R.Read.remaining c.args.input.now)
@@ -162,7 +167,7 @@ returns-then-not-framed-clause-kept g c = λ p settled found may.
         answered = other;
       },
     )
-    ((rw c.in-Answered.is at c.in-Ok.ensures.kept) p other here found may)
+    (kept.kept p other here found may)
 
 pub returns-clause-kept : goal.returns-clause-kept
 returns-clause-kept g c = λ p settled found may.

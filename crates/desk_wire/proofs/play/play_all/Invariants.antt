@@ -1,6 +1,7 @@
 use Rattle.std.proofs.Common.{◌≤◌}
 use Rattle.desk_store.specs.StoreFaults.{IsHonest}
 use Rattle.desk_run.specs.DeskWorld.{IsSettled, world_of}
+use Rattle.desk_wire.specs.Passage.{passed}
 use Rattle.desk_wire.specs.Playing.{ArePlayed}
 use Rattle.desk_wire.proofs.CauseLemmas.{Grows}
 use Rattle.desk_wire.proofs.play.play_all.Given as goal
@@ -10,8 +11,8 @@ abbrev pub invariant-loop-before : goal.invariant-loop-before
 invariant-loop-before g l =
     record {
       played : ArePlayed (IsHonest (g.S.PlanStore.doubt l.desk.store)) l.before
-          (g.R.Read.remaining l.fn.input)
-          (g.R.Read.remaining l.input) (g.W.Write.contents l.fn.output) (g.W.Write.contents l.output)
+          (passed (g.R.Read.remaining l.fn.input) (g.R.Read.remaining l.input)
+          (g.W.Write.contents l.fn.output) (g.W.Write.contents l.output))
           (world_of g.S.PlanStore.content l.fn.desk) l.moment (world_of g.S.PlanStore.content l.desk);
       settled : IsHonest (g.S.PlanStore.doubt l.desk.store)
           → IsSettled g.S.PlanStore.content g.S.PlanStore.may_leave l.fn.desk

@@ -1,4 +1,4 @@
-use Rattle.std.proofs.Common.{◌<◌, ◌++◌, IfSome, Ok, w64, refl, sym, ap, subst, ◌∙◌, length}
+use Rattle.std.proofs.Common.{◌<◌, ◌++◌, IfSome, Ok, option_map, w64, refl, sym, ap, subst, ◌∙◌, length}
 use Rattle.std.specs.Result.{is_ok}
 use Rattle.std.proofs.lemmas.Int.{to_z-of_z}
 use Rattle.desk_reading.specs.Messages.{message_read}
@@ -7,8 +7,8 @@ use Rattle.desk_run.specs.DeskWorld.{world_of}
 use Rattle.desk_wire.specs.Streams.{front_read, front_reading, size_said, with_body}
 use Rattle.desk_wire.proofs.FrontLemmas.{some_count, told_cut_body}
 use Rattle.desk_wire.specs.Crashes.{IsCertain}
-use Rattle.desk_wire.specs.Serving.{IsTaken}
-use Rattle.desk_wire.proofs.KeptLemmas.{found_answered, found_failed, if_some_all, left_served, no_failure, uncertain_memory, uncertain_write, unsure_500}
+use Rattle.desk_wire.specs.Failing.{desk_fault}
+use Rattle.desk_wire.proofs.KeptLemmas.{if_some_all, kept_answered, kept_failed, left_served, no_failure, uncertain_memory, uncertain_write, unsure_500}
 use Rattle.std.specs.Io.KnownBytes.{Appends}
 use Rattle.desk_wire.proofs.CauseLemmas.{failed_served, failed_there}
 use Rattle.desk_wire.proofs.ServeLemmas.{broken, framed_as, received, replied, served_as, status_as, stopped}
@@ -99,122 +99,87 @@ returns-clause-served g c =
       written = rw c.deref-3.ensures.value at c.in_ok-write_whole.ensures.ok;
     }
 
--- what may be found is what might have been before, or what the request that was taken leaves
-pub returns-in_err-answer-clause-crash : goal.returns-in_err-answer-clause-crash
-returns-in_err-answer-clause-crash g c = λ honest.
-    let text = c.in_ok-text.text.items in
-    let body = c.in_ok-body.body.items in
-    let some = some_count c.in_ok-text.text.len (length text) c.if-is_empty.ensures
-    (sym c.in_ok-text.text.ok.0) in
-    let front = c.front_of-front.ensures ∙ ap front_read c.deref.ensures.value in
-    let message = c.message_of-request.ensures ∙ ap (with_body (front_reading c.front_of-front.result))
-    c.deref-2.ensures.value in
-    let got = received (g.R.Read.remaining c.args.input.now) (g.R.Read.remaining c.receive_head.new.input)
-    (g.R.Read.remaining c.receive_body.new.input) text body (front_reading c.front_of-front.result)
-    (message_read c.message_of-request.result)
-    c.in_ok-text.ensures.taken (c.in_ok-text.ensures.front some) front c.in_ok-body.ensures.taken
-    (c.in_ok-body.ensures.size ∙ c.size_of.ensures) message in
-    left_served (g.S.PlanStore.may_leave c.args.desk.now.store)
-    (g.S.PlanStore.may_leave c.answer_request.new.desk.store) (g.R.Read.remaining c.args.input.now)
-    (g.R.Read.remaining c.receive_body.new.input) _ c.args.moment
-    (world_of g.S.PlanStore.content c.args.desk.now) (message_read c.message_of-request.result)
-    (text ++ body) (to_z-of_z w64 c.args.moment c.ranges.moment) got.taken got.read
-    (c.answer_request.ensures.leaves.crash honest)
-
-pub returns-in_err-write_whole-clause-crash : goal.returns-in_err-write_whole-clause-crash
-returns-in_err-write_whole-clause-crash g c = λ honest.
-    let text = c.in_ok-text.text.items in
-    let body = c.in_ok-body.body.items in
-    let some = some_count c.in_ok-text.text.len (length text) c.if-is_empty.ensures
-    (sym c.in_ok-text.text.ok.0) in
-    let front = c.front_of-front.ensures ∙ ap front_read c.deref.ensures.value in
-    let message = c.message_of-request.ensures ∙ ap (with_body (front_reading c.front_of-front.result))
-    c.deref-2.ensures.value in
-    let got = received (g.R.Read.remaining c.args.input.now) (g.R.Read.remaining c.receive_head.new.input)
-    (g.R.Read.remaining c.receive_body.new.input) text body (front_reading c.front_of-front.result)
-    (message_read c.message_of-request.result)
-    c.in_ok-text.ensures.taken (c.in_ok-text.ensures.front some) front c.in_ok-body.ensures.taken
-    (c.in_ok-body.ensures.size ∙ c.size_of.ensures) message in
-    left_served (g.S.PlanStore.may_leave c.args.desk.now.store)
-    (g.S.PlanStore.may_leave c.answer_request.new.desk.store) (g.R.Read.remaining c.args.input.now)
-    (g.R.Read.remaining c.receive_body.new.input) _ c.args.moment
-    (world_of g.S.PlanStore.content c.args.desk.now) (message_read c.message_of-request.result)
-    (text ++ body) (to_z-of_z w64 c.args.moment c.ranges.moment) got.taken got.read
-    (c.answer_request.ensures.leaves.crash honest)
-
-pub returns-clause-crash : goal.returns-clause-crash
-returns-clause-crash g c = λ honest.
-    let text = c.in_ok-text.text.items in
-    let body = c.in_ok-body.body.items in
-    let some = some_count c.in_ok-text.text.len (length text) c.if-is_empty.ensures
-    (sym c.in_ok-text.text.ok.0) in
-    let front = c.front_of-front.ensures ∙ ap front_read c.deref.ensures.value in
-    let message = c.message_of-request.ensures ∙ ap (with_body (front_reading c.front_of-front.result))
-    c.deref-2.ensures.value in
-    let got = received (g.R.Read.remaining c.args.input.now) (g.R.Read.remaining c.receive_head.new.input)
-    (g.R.Read.remaining c.receive_body.new.input) text body (front_reading c.front_of-front.result)
-    (message_read c.message_of-request.result)
-    c.in_ok-text.ensures.taken (c.in_ok-text.ensures.front some) front c.in_ok-body.ensures.taken
-    (c.in_ok-body.ensures.size ∙ c.size_of.ensures) message in
-    left_served (g.S.PlanStore.may_leave c.args.desk.now.store)
-    (g.S.PlanStore.may_leave c.answer_request.new.desk.store) (g.R.Read.remaining c.args.input.now)
-    (g.R.Read.remaining c.receive_body.new.input) _ c.args.moment
-    (world_of g.S.PlanStore.content c.args.desk.now) (message_read c.message_of-request.result)
-    (text ++ body) (to_z-of_z w64 c.args.moment c.ranges.moment) got.taken got.read
-    (c.answer_request.ensures.leaves.crash honest)
-
--- the answer is whole and no 500, or what stopped it leaves its change uncertain
+-- what may be found is what might have been before, or what the request that was taken leaves; its change is
+-- uncertain if the answer is not whole, or says that the desk failed
 pub returns-in_err-answer-clause-kept : goal.returns-in_err-answer-clause-kept
-returns-in_err-answer-clause-kept g c = λ honest certain.
-    absurd (uncertain_memory _ c.from_residual-in_err-answer.ensures.1 certain)
+returns-in_err-answer-clause-kept g c =
+    let text = c.in_ok-text.text.items in
+    let body = c.in_ok-body.body.items in
+    let some = some_count c.in_ok-text.text.len (length text) c.if-is_empty.ensures
+    (sym c.in_ok-text.text.ok.0) in
+    let front = c.front_of-front.ensures ∙ ap front_read c.deref.ensures.value in
+    let message = c.message_of-request.ensures ∙ ap (with_body (front_reading c.front_of-front.result))
+    c.deref-2.ensures.value in
+    let got = received (g.R.Read.remaining c.args.input.now) (g.R.Read.remaining c.receive_head.new.input)
+    (g.R.Read.remaining c.receive_body.new.input) text body (front_reading c.front_of-front.result)
+    (message_read c.message_of-request.result)
+    c.in_ok-text.ensures.taken (c.in_ok-text.ensures.front some) front c.in_ok-body.ensures.taken
+    (c.in_ok-body.ensures.size ∙ c.size_of.ensures) message in
+    kept_failed g.S.PlanStore c.args.desk.now c.answer_request.new.desk c.from_residual-in_err-answer.result _
+    c.args.moment c.in_err-answer.ensures.leaves.same
+    (uncertain_memory _ c.from_residual-in_err-answer.ensures.1)
+    (λ honest. left_served (g.S.PlanStore.may_leave c.args.desk.now.store)
+    (g.S.PlanStore.may_leave c.answer_request.new.desk.store) (g.R.Read.remaining c.args.input.now)
+    (g.R.Read.remaining c.receive_body.new.input) _ c.args.moment
+    (world_of g.S.PlanStore.content c.args.desk.now) (message_read c.message_of-request.result)
+    (text ++ body) (to_z-of_z w64 c.args.moment c.ranges.moment) got.taken got.read
+    (c.answer_request.ensures.leaves.crash honest))
 
 pub returns-in_err-write_whole-clause-kept : goal.returns-in_err-write_whole-clause-kept
-returns-in_err-write_whole-clause-kept g c = λ honest certain.
-    absurd (uncertain_write c.from_residual-in_err-write_whole.result c.in_err-write_whole.field-0.0
-    c.from_residual-in_err-write_whole.ensures.1 certain)
+returns-in_err-write_whole-clause-kept g c =
+    let text = c.in_ok-text.text.items in
+    let body = c.in_ok-body.body.items in
+    let some = some_count c.in_ok-text.text.len (length text) c.if-is_empty.ensures
+    (sym c.in_ok-text.text.ok.0) in
+    let front = c.front_of-front.ensures ∙ ap front_read c.deref.ensures.value in
+    let message = c.message_of-request.ensures ∙ ap (with_body (front_reading c.front_of-front.result))
+    c.deref-2.ensures.value in
+    let got = received (g.R.Read.remaining c.args.input.now) (g.R.Read.remaining c.receive_head.new.input)
+    (g.R.Read.remaining c.receive_body.new.input) text body (front_reading c.front_of-front.result)
+    (message_read c.message_of-request.result)
+    c.in_ok-text.ensures.taken (c.in_ok-text.ensures.front some) front c.in_ok-body.ensures.taken
+    (c.in_ok-body.ensures.size ∙ c.size_of.ensures) message in
+    let unsure = uncertain_write c.from_residual-in_err-write_whole.result c.in_err-write_whole.field-0.0
+    c.from_residual-in_err-write_whole.ensures.1 in
+    kept_answered g.S.PlanStore c.args.desk.now c.answer_request.new.desk
+    c.from_residual-in_err-write_whole.result _ c.args.moment _ c.in_ok-answer.answer.error _
+    c.in_ok-answer.ensures.leaves c.in_ok-answer.ensures.told.failed
+    (λ honest. if_some_all c.in_ok-answer.answer.error unsure)
+    (λ honest certain. absurd (unsure certain))
+    (λ honest. left_served (g.S.PlanStore.may_leave c.args.desk.now.store)
+    (g.S.PlanStore.may_leave c.answer_request.new.desk.store) (g.R.Read.remaining c.args.input.now)
+    (g.R.Read.remaining c.receive_body.new.input) _ c.args.moment
+    (world_of g.S.PlanStore.content c.args.desk.now) (message_read c.message_of-request.result)
+    (text ++ body) (to_z-of_z w64 c.args.moment c.ranges.moment) got.taken got.read
+    (c.answer_request.ensures.leaves.crash honest))
 
 pub returns-clause-kept : goal.returns-clause-kept
-returns-clause-kept g c = λ honest certain.
-    let other = subst (λ s. IsCertain (Ok s)) c.answered.ensures certain in
-    c.in_ok-answer.ensures.leaves.kept honest
-    (no_failure _ _ _ _ _ (c.in_ok-answer.ensures.told.status honest) other)
-
--- the content is settled, or it stays and no more may be found, or the answer is that the desk failed
-pub returns-in_err-answer-clause-found : goal.returns-in_err-answer-clause-found
-returns-in_err-answer-clause-found g c = λ honest.
-    found_failed c.from_residual-in_err-answer.result (g.S.PlanStore.may_leave c.args.desk.now.store)
-    (g.S.PlanStore.may_leave c.answer_request.new.desk.store)
-    (IsTaken (g.R.Read.remaining c.args.input.now) (g.R.Read.remaining c.receive_body.new.input))
-    c.args.moment (world_of g.S.PlanStore.content c.args.desk.now)
-    (world_of g.S.PlanStore.content c.answer_request.new.desk) c.in_err-answer.ensures.leaves.same
-    (uncertain_memory _ c.from_residual-in_err-answer.ensures.1)
-    (returns-in_err-answer-clause-crash g c honest)
-
-pub returns-in_err-write_whole-clause-found : goal.returns-in_err-write_whole-clause-found
-returns-in_err-write_whole-clause-found g c = λ honest.
-    found_answered c.from_residual-in_err-write_whole.result
-    (g.S.PlanStore.may_leave c.args.desk.now.store)
-    (g.S.PlanStore.may_leave c.answer_request.new.desk.store)
-    (IsTaken (g.R.Read.remaining c.args.input.now) (g.R.Read.remaining c.receive_body.new.input))
-    c.args.moment (world_of g.S.PlanStore.content c.args.desk.now)
-    (world_of g.S.PlanStore.content c.answer_request.new.desk) c.in_ok-answer.answer.error _
-    (c.in_ok-answer.ensures.leaves.settled honest) c.in_ok-answer.ensures.told.failed
-    (if_some_all c.in_ok-answer.answer.error
-    (uncertain_write c.from_residual-in_err-write_whole.result c.in_err-write_whole.field-0.0
-    c.from_residual-in_err-write_whole.ensures.1))
-    (returns-in_err-write_whole-clause-crash g c honest)
-
-pub returns-clause-found : goal.returns-clause-found
-returns-clause-found g c = λ honest.
-    found_answered (Ok c.answered.result) (g.S.PlanStore.may_leave c.args.desk.now.store)
-    (g.S.PlanStore.may_leave c.answer_request.new.desk.store)
-    (IsTaken (g.R.Read.remaining c.args.input.now) (g.R.Read.remaining c.receive_body.new.input))
-    c.args.moment (world_of g.S.PlanStore.content c.args.desk.now)
-    (world_of g.S.PlanStore.content c.answer_request.new.desk) c.in_ok-answer.answer.error _
-    (c.in_ok-answer.ensures.leaves.settled honest) c.in_ok-answer.ensures.told.failed
-    (unsure_500 _ _ _ _ _ _ c.in_ok-answer.answer.error c.answered.ensures
+returns-clause-kept g c =
+    let text = c.in_ok-text.text.items in
+    let body = c.in_ok-body.body.items in
+    let some = some_count c.in_ok-text.text.len (length text) c.if-is_empty.ensures
+    (sym c.in_ok-text.text.ok.0) in
+    let front = c.front_of-front.ensures ∙ ap front_read c.deref.ensures.value in
+    let message = c.message_of-request.ensures ∙ ap (with_body (front_reading c.front_of-front.result))
+    c.deref-2.ensures.value in
+    let got = received (g.R.Read.remaining c.args.input.now) (g.R.Read.remaining c.receive_head.new.input)
+    (g.R.Read.remaining c.receive_body.new.input) text body (front_reading c.front_of-front.result)
+    (message_read c.message_of-request.result)
+    c.in_ok-text.ensures.taken (c.in_ok-text.ensures.front some) front c.in_ok-body.ensures.taken
+    (c.in_ok-body.ensures.size ∙ c.size_of.ensures) message in
+    kept_answered g.S.PlanStore c.args.desk.now c.answer_request.new.desk (Ok c.answered.result) _
+    c.args.moment _ c.in_ok-answer.answer.error _ c.in_ok-answer.ensures.leaves
+    c.in_ok-answer.ensures.told.failed
+    (λ honest. unsure_500 _ _ _ _ _ _ c.in_ok-answer.answer.error c.answered.ensures
     (c.in_ok-answer.ensures.told.status honest))
-    (returns-clause-crash g c honest)
+    (λ honest certain. no_failure _ _ _ _ _ (c.in_ok-answer.ensures.told.status honest)
+    (subst (λ s. IsCertain (Ok s)) c.answered.ensures certain))
+    (λ honest. left_served (g.S.PlanStore.may_leave c.args.desk.now.store)
+    (g.S.PlanStore.may_leave c.answer_request.new.desk.store) (g.R.Read.remaining c.args.input.now)
+    (g.R.Read.remaining c.receive_body.new.input) _ c.args.moment
+    (world_of g.S.PlanStore.content c.args.desk.now) (message_read c.message_of-request.result)
+    (text ++ body) (to_z-of_z w64 c.args.moment c.ranges.moment) got.taken got.read
+    (c.answer_request.ensures.leaves.crash honest))
 
 -- why the desk failed, if the answer says so
 pub returns-clause-cause : goal.returns-clause-cause
@@ -229,5 +194,5 @@ returns-clause-cause g c =
     (world_of g.S.PlanStore.content c.args.desk.now)
     (world_of g.S.PlanStore.content c.answer_request.new.desk) c.in_ok-answer.answer.bytes.items
     old new (c.in_ok-answer.ensures.told.gave_up is) c.in_ok-answer.ensures.told.failed
-    c.in_ok-answer.ensures.leaves.cause
+    (λ is. c.in_ok-answer.ensures.leaves.cause (ap (option_map desk_fault) is))
     (rw c.deref-3.ensures.value at c.in_ok-write_whole.ensures.ok))

@@ -1,8 +1,9 @@
-use Rattle.std.proofs.Common.{◌∙◌, ap, subst, arith}
+use Rattle.std.proofs.Common.{◌∙◌, ap, arith}
 use Rattle.std.proofs.lemmas.Result.{err_from_is_err_and}
-use Rattle.desk_store.specs.Crashes.{LeavesOldOr}
+use Rattle.desk_store.specs.Changes.{with_operator}
 use Rattle.desk_store.specs.StoreChange.{changed_by, IsFitting}
 use Rattle.desk_run.specs.DeskWorld.{enrolled, with_content, world_of}
+use Rattle.desk_run.proofs.DeskLemmas.{leaves_failed, leaves_made}
 use Rattle.desk_run.proofs.FaultLemmas.{never_ceiling}
 use Rattle.desk_run.proofs.desk.Desk.enrol.Goals as goal
 
@@ -25,18 +26,17 @@ returns-clause-ok g c = λ honest.
 pub returns-clause-ceiling : goal.returns-clause-ceiling
 returns-clause-ceiling g c = (λ e. cc, λ h. absurd (omega arith))
 
-pub returns-clause-crash : goal.returns-clause-crash
+pub returns-clause-leaves : goal.returns-clause-leaves
 unfolding changed_by
-returns-clause-crash g c = λ honest.
-    subst (λ d. LeavesOldOr (enrolled (world_of g.S.PlanStore.content d) c.args.operator.now
-    c.args.ceiling).content
-    (g.S.PlanStore.may_leave d.store) (g.S.PlanStore.may_leave c.apply.new.self))
-    c.self.view_is (c.apply.ensures.crash honest)
+returns-clause-leaves g c =
+    leaves_made g.S.PlanStore _ _ c.apply.new.self c.self.view_is
+    (λ w. with_operator w c.args.operator.now c.args.ceiling) c.apply.ensures.crash
+    c.in_ok-apply.ensures.kept c.apply.ensures.remembered
 
-pub returns-in_err-apply-clause-crash : goal.returns-in_err-apply-clause-crash
+pub returns-in_err-apply-clause-leaves : goal.returns-in_err-apply-clause-leaves
 unfolding changed_by
-returns-in_err-apply-clause-crash g c = λ honest.
-    subst (λ d. LeavesOldOr (enrolled (world_of g.S.PlanStore.content d) c.args.operator.now
-    c.args.ceiling).content
-    (g.S.PlanStore.may_leave d.store) (g.S.PlanStore.may_leave c.apply.new.self))
-    c.self.view_is (c.apply.ensures.crash honest)
+returns-in_err-apply-clause-leaves g c =
+    leaves_failed g.S.PlanStore _ _ c.apply.new.self c.self.view_is
+    (λ w. with_operator w c.args.operator.now c.args.ceiling) c.from_residual.result _
+    c.from_residual.ensures.1 c.in_err-apply.ensures.err c.in_err-apply.ensures.cause
+    c.apply.ensures.crash c.apply.ensures.remembered

@@ -1,0 +1,36 @@
+-- What calls leave of a desk.
+use Rattle.std.specs.Prelude.{◌≡◌, Option, Some, None, IfSome, Result, Ok, Err}
+use Rattle.desk_store.specs.declared.store.PlanStore.{Ghosts}
+use Rattle.desk_store.specs.Crashes.{LeavesOldOr}
+use Rattle.desk_store.specs.StoreFaults.{IsHonest, HasRisen}
+use Rattle.desk_store.specs.StoreFrames.{Remembers}
+use Rattle.desk_store.specs.World.{World}
+use Rattle.desk_run.specs.DeskWorld.{DeskWorld, Parts, IsSettled, IsSettledOrSame, world_of}
+use Rattle.desk_run.specs.declared.fault.DeskFault.{DeskFault}
+use Rattle.desk_run.specs.declared.fault.DeskFault.TheVariants.{Store}
+
+-- the fault of a call, if it answered one
+abbrev pub fault_in : {V : Type 0} → Result V DeskFault → Option DeskFault
+fault_in (Ok v) = None
+fault_in (Err fault) = Some fault
+
+module _ {S : Type 0} (g : Ghosts S) (old new : Parts S) where
+  -- what a call leaves that may change the desk: at a fault the desk is as it was, and a store that failed
+  -- has counted one; a start finds what it might have found before, or what the call makes of it, and without
+  -- a fault that alone
+  pub record Leaves (after : DeskWorld) (fault : Option DeskFault) : Type 0 where
+    pub same : IfSome fault (λ _. world_of g.content new ≡ world_of g.content old)
+    pub cause : fault ≡ Some Store → HasRisen (g.faults old.store) (g.faults new.store)
+    pub crash : IsHonest (g.doubt new.store)
+        → LeavesOldOr after.content (g.may_leave old.store) (g.may_leave new.store)
+    pub kept : IsHonest (g.doubt new.store) → fault ≡ None → IsSettled g.content g.may_leave old
+        → IsSettled g.content g.may_leave new
+    pub settled : IsHonest (g.doubt new.store) → fault ≡ None
+        → IsSettledOrSame g.content g.may_leave old new
+    pub remembered : Remembers g.doubt g.faults g.is_shielded old.store new.store
+
+  -- if the store is honest, and a start could find the desk's content alone before, then all that a start
+  -- may find now is so
+  abbrev pub FindsOnly : (Option World → Type 0) → Type 0
+  FindsOnly IsSo = IsHonest (g.doubt new.store) → IsSettled g.content g.may_leave old
+      → (found : Option World) → g.may_leave new.store found → IsSo found
