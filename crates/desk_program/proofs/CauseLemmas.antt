@@ -1,6 +1,7 @@
 -- Why a line ends with a store that failed.
 use Rattle.std.proofs.Common.{◌≡◌, ◌∙◌, ◌==◌, ◌≤◌, ℕ, List, Bool, true, false, Option, Some, None, if◌then◌else◌, Result, Ok, Err, inl, inr, sym, subst, ap, refl, arith}
 use Rattle.std.specs.Prelude.{⊤}
+use Rattle.desk_store.specs.declared.store.PlanStore.{Ghosts}
 use Rattle.desk_store.specs.StoreFaults.{HasRisen}
 use Rattle.desk_run.specs.declared.fault.DeskFault.{DeskFault}
 use Rattle.desk_run.specs.declared.fault.DeskFault.TheVariants as desk
@@ -14,7 +15,8 @@ use Rattle.desk_line.specs.declared.failure.Failure.TheVariants as failure
 use Rattle.desk_line.specs.Exits.{Ending, EndsWith, enrolment_failure, failure_at}
 use Rattle.desk_program.specs.Causes.{HasCause, IsCounted}
 use Rattle.desk_store.specs.World.{World}
-use Rattle.desk_run.specs.DeskWorld.{DeskWorld}
+use Rattle.desk_run.specs.DeskWorld.{DeskWorld, Parts}
+use Rattle.desk_wire.specs.Passage.{passed}
 use Rattle.desk_line.specs.declared.line.Line.{Line}
 use Rattle.desk_line.specs.declared.line.Line.TheVariants as line
 use Rattle.desk_program.specs.Keeping.{IsLineKept, IsLinePlayKept}
@@ -39,23 +41,26 @@ enrolment_counted {A} fault f old new is cause store =
       same_failure : ◌≡◌ {A = Result A Failure} (Err f) (Err Store) → f ≡ Store
       same_failure e = cc
 
--- a line that ends so
-pub ends_counted : (fault : DeskFault) (f : Failure) (end : Ending) (old new : ℕ)
-    → f ≡ enrolment_failure fault → (fault ≡ desk.Store → HasRisen old new)
-    → EndsWith {A = ⊤} (Err f) end → HasCause end old new
-ends_counted fault f end old new is cause ends =
-    record { done = Err f; ends = ends; cause = enrolment_counted fault f old new is cause }
+module _ {S : Type 0} {g : Ghosts S} {old new : Parts S} where
+  -- a line that ends so
+  pub ends_counted : (fault : DeskFault) (f : Failure) (end : Ending) → f ≡ enrolment_failure fault
+      → (fault ≡ desk.Store → HasRisen (g.faults old.store) (g.faults new.store))
+      → EndsWith {A = ⊤} (Err f) end → HasCause g old new end
+  ends_counted fault f end is cause ends = record {
+    done = Err f;
+    ends = ends;
+    cause = enrolment_counted fault f (g.faults old.store) (g.faults new.store) is cause;
+  }
 
--- a line that ends well, for want of memory, or as a write failed
-pub ends_well : (end : Ending) (old new : ℕ) → EndsWith {A = ⊤} (Ok tt) end → HasCause end old new
-ends_well end old new ends = record { done = Ok tt; ends = ends; cause = λ store. cc }
+  -- a line that ends well, for want of memory, or as a write failed
+  pub ends_well : (end : Ending) → EndsWith {A = ⊤} (Ok tt) end → HasCause g old new end
+  ends_well end ends = record { done = Ok tt; ends = ends; cause = λ store. cc }
 
-pub ends_memory : (end : Ending) (old new : ℕ) → EndsWith {A = ⊤} (Err Memory) end → HasCause end old new
-ends_memory end old new ends = record { done = Err Memory; ends = ends; cause = λ store. cc }
+  pub ends_memory : (end : Ending) → EndsWith {A = ⊤} (Err Memory) end → HasCause g old new end
+  ends_memory end ends = record { done = Err Memory; ends = ends; cause = λ store. cc }
 
-pub ends_write : (end : Ending) (old new : ℕ) → EndsWith {A = ⊤} (Err failure.Write) end
-    → HasCause end old new
-ends_write end old new ends = record { done = Err failure.Write; ends = ends; cause = λ store. cc }
+  pub ends_write : (end : Ending) → EndsWith {A = ⊤} (Err failure.Write) end → HasCause g old new end
+  ends_write end ends = record { done = Err failure.Write; ends = ends; cause = λ store. cc }
 
 -- connections end with no such failure
 at_no_store : (served : Result Served ServeFault) → failure_at served ≡ Some Store → ⊥
@@ -113,7 +118,7 @@ counted_on {A} one (Err e) f old mid new was is more h store =
 -- a line that takes no connection is carried out, and kept, as it is played
 pub carried_out : (H : Type 0) (line : Line) (end : Ending) (port : Traffic)
     (old new out now : Option (List ℕ)) (w after : DeskWorld)
-    → IsLinePlayed H line end old new out now w after
+    → IsLinePlayed H line end (passed old new out now) w after
     → IsCarriedOut H line end port port old new out now w after
 carried_out H (line.Play play) end port old new out now w after h = (refl, h)
 carried_out H (line.Enrol enrol) end port old new out now w after h = (refl, h)
@@ -124,7 +129,7 @@ carried_out H (line.Migrate migrate) end port old new out now w after h = absurd
 
 pub line_kept : (H : Type 0) (line : Line) (end : Ending) (port : Traffic)
     (old new out now : Option (List ℕ)) (w after : DeskWorld) (found : Option World)
-    → IsLinePlayKept H line end old new out now w after found
+    → IsLinePlayKept H line end (passed old new out now) w after found
     → IsLineKept H line end port port old new out now w after found
 line_kept H (line.Play play) end port old new out now w after found h = h
 line_kept H (line.Enrol enrol) end port old new out now w after found h = h

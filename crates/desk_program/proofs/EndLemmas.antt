@@ -5,6 +5,7 @@ use Rattle.desk_store.specs.World.{World}
 use Rattle.desk_run.specs.DeskWorld.{DeskWorld, enrolled}
 use Rattle.desk_run.specs.declared.fault.DeskFault.{DeskFault}
 use Rattle.desk_run.specs.CallFaults.{IsBreakdown as IsDeskBreakdown}
+use Rattle.desk_wire.specs.Passage.{course, passed}
 use Rattle.desk_line.specs.declared.failure.Failure.{Failure}
 use Rattle.desk_line.specs.declared.line.Enrolment.{Enrolment}
 use Rattle.desk_line.specs.declared.line.Play.{Play as PlayWords}
@@ -32,7 +33,7 @@ broken_down fault f end is down ends = ends_broken f end (told_breakdown fault f
 pub found_enrolled : (before : Type 0) (e : Enrolment) (end : Ending) (out : Option (List ℕ)) (w : DeskWorld)
     (found : Option World) → IsBrokenDown end → (before → found ≡ Some w.content)
     → before ⊎ (found ≡ Some (enrolled w e.operator e.ceiling).content)
-    → FindsEnrolled e end out out w found
+    → FindsEnrolled e end (course out out) w found
 found_enrolled before e end out w found down only (inl was) = inr (down, refl, only was)
 found_enrolled before e end out w found down only (inr is) = inl is
 
@@ -41,7 +42,7 @@ pub not_played : (H : Type 0) (play : PlayWords) (end : Ending) (old out : Optio
     (w after : DeskWorld) (fault : DeskFault) (f : Failure) → f ≡ enrolment_failure fault
     → IsDeskBreakdown fault → EndsWith {A = ⊤} (Err f) end
     → AreListedSoFar H play.enrolments.items (on_terms w play.terms) after
-    → IsNotPlayed H play end old old out out w after
+    → IsNotPlayed H play end (passed old old out out) w after
 not_played H play end old out w after fault f is down ends listed = record {
   ends = broken_down fault f end is down ends;
   listed = listed;

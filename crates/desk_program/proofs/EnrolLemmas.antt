@@ -8,7 +8,7 @@ use Rattle.desk_run.specs.declared.fault.DeskFault.{DeskFault}
 use Rattle.desk_run.specs.declared.fault.DeskFault.TheVariants.{Store}
 use Rattle.desk_run.specs.laws.Crash.{risen_since}
 use Rattle.desk_line.specs.declared.line.Enrolment.{Enrolment}
-use Rattle.desk_program.specs.Enrolling.{with_operators}
+use Rattle.desk_program.specs.Enrolling.{AreListedSoFar, HasListed, with_operators}
 
 -- some, and then one more
 pub one_more : (es : List Enrolment) (w : DeskWorld) (e : Enrolment) → with_operators w (es ++ e ∷ [])
@@ -24,3 +24,9 @@ pub counted_since : {V S : Type 0} (faults : S → ℕ) (first old new : S) (r :
 counted_since faults first old new (Ok v) fault handed below cause = tt
 counted_since faults first old new (Err e) fault handed below cause = λ store.
     risen_since _ _ _ below (cause (ap Some (sym handed ∙ store)))
+
+-- an enrolment that failed: those before it are listed
+pub listed_err : {A B : Type 0} (done : Result A B) (P : B → Type 0) (H : Type 0) (es : List Enrolment)
+    (w after : DeskWorld) → IsErrAnd done P → AreListedSoFar H es w after → HasListed H done es w after
+listed_err (Ok d) P H es w after is so_far = absurd is
+listed_err (Err e) P H es w after is so_far = so_far

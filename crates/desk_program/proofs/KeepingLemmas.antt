@@ -1,5 +1,5 @@
 -- What may be found of a desk's content, over several connections and enrolments.
-use Rattle.std.proofs.Common.{◌≡◌, ◌≤◌, ◌<◌, ◌⊎◌, inl, inr, ◌+◌, ℕ, ℤ, List, [], ◌∷◌, ◌++◌, ◌∙◌, Option, Some, None, Result, Ok, Err, OnErr, length, map, take, refl, ap, sym, subst, arith}
+use Rattle.std.proofs.Common.{◌≡◌, ◌≤◌, ◌<◌, ◌⊎◌, inl, inr, ◌+◌, ℕ, ℤ, List, [], ◌∷◌, ◌++◌, ◌∙◌, Option, Some, None, Result, Ok, Err, length, map, take, refl, ap, sym, subst, arith}
 use Rattle.std.specs.Prelude.{⊤}
 use Rattle.std.specs.Result.{IsErrAnd}
 use Rattle.std.proofs.lemmas.List.{length-append, map-append}
@@ -10,7 +10,7 @@ use Rattle.desk_run.specs.DeskWorld.{DeskWorld, enrolled}
 use Rattle.desk_ends.specs.declared.playing.PlayEnd.{PlayEnd}
 use Rattle.desk_wire.specs.Given.{told_in_play}
 use Rattle.desk_wire.specs.Crashes.{IsCertain, IsFoundNow, IsKept, IsLeftBy}
-use Rattle.desk_wire.specs.Passage.{passed}
+use Rattle.desk_wire.specs.Passage.{Passage, course}
 use Rattle.desk_wire.specs.Playing.{HasPlayed}
 use Rattle.desk_wire.specs.Serving.{HasServed, IsTaken}
 use Rattle.desk_line.specs.declared.failure.Failure.{Failure}
@@ -18,8 +18,8 @@ use Rattle.desk_line.specs.declared.line.Enrolment.{Enrolment}
 use Rattle.desk_line.specs.declared.line.Play.{Play as PlayWords}
 use Rattle.desk_line.specs.declared.line.Serve.{Serve as ServeWords}
 use Rattle.desk_line.specs.Exits.{Ending, EndsWith, failure_after, failure_at}
-use Rattle.desk_program.specs.Enrolling.{AreEnrolled, on_terms, with_operators}
-use Rattle.desk_program.specs.Keeping.{AreKept, AreKeptSoFar, FindsNews, IsFoundServed, IsLeftByOne, IsPlayKept, IsPortKept}
+use Rattle.desk_program.specs.Enrolling.{AreEnrolled, HasListed, on_terms, with_operators}
+use Rattle.desk_program.specs.Keeping.{AreKept, AreKeptSoFar, FindsListed, FindsNews, IsFoundServed, IsLeftByOne, IsPlayKept, IsPortKept}
 use Rattle.desk_program.specs.Playing.{done_unless}
 use Rattle.desk_program.specs.Serving.{AreServed, BringsNews, EndsAfter, EndsAtNews, Exchange, Grows, IsDenied, IsLast, IsUnsent, Listens, Traffic, failing, is_whole, news_of, passage_of}
 use Rattle.desk_program.proofs.ServedLemmas.{all_then, all_unsent, both_more, both_news, both_served, none_last, none_more, one_ends, served_then, stops}
@@ -27,7 +27,7 @@ use Rattle.desk_program.proofs.ServedLemmas.{all_then, all_unsent, both_more, bo
 -- ---- enrolments
 
 -- what is found if one more enrolment failed
-pub kept_so_far : (H : Type 0) (es : List Enrolment) (w v after : DeskWorld) (e : Enrolment) (count : ℕ)
+kept_so_far : (H : Type 0) (es : List Enrolment) (w v after : DeskWorld) (e : Enrolment) (count : ℕ)
     (before now : Option World → Type 0) → count < length es → (H → after ≡ v)
     → (H → v ≡ with_operators w (take count es))
     → enrolled v e.operator e.ceiling ≡ with_operators w (take (count + 1) es)
@@ -79,6 +79,32 @@ pub finds_ok : (w after : DeskWorld) (before now : Option World → Type 0)
     → (found : Option World) → now found → (found ≡ Some after.content) ⊎ ((after ≡ w) × before found)
 finds_ok w after before now (inl only) found may = inl (only found may)
 finds_ok w after before now (inr p) found may = inr (p.0, p.1 found may)
+
+-- if the desk was settled, what is found is what enrolments left, or what one more would leave
+pub settled_news : {A B : Type 0} (H : Type 0) (done : Result A B) (es : List Enrolment)
+    (w after : DeskWorld) (before now : Option World → Type 0) → HasListed H done es w after
+    → FindsNews done es w after before now → LeavesOnly w.content before
+    → (found : Option World) → now found → FindsListed H done es w after found
+settled_news H (Ok d) es w after before now listed finds only found may = by (finds found may)
+  where
+    by : (found ≡ Some after.content) ⊎ ((after ≡ w) × before found) → found ≡ Some after.content
+    by (inl is) = is
+    by (inr p) = only found p.1 ∙ ap (λ x. Some x.content) (sym p.0)
+settled_news H (Err e) es w after before now listed finds only found may = by (finds found may)
+  where
+    by : AreKeptSoFar ⊤ es w after found ⊎ ((after ≡ w) × before found) → AreKeptSoFar H es w after found
+    by (inl kept) = record {
+      listed = record {
+        count = kept.listed.count;
+        few = kept.listed.few;
+        left = λ h. kept.listed.left tt;
+      };
+      finds = kept.finds;
+    }
+    by (inr p) = record {
+      listed = record { count = 0; few = omega (arith, listed.few); left = λ h. p.0 };
+      finds = inl (only found p.1);
+    }
 
 -- ---- connections
 
@@ -329,7 +355,7 @@ module _ {A : Type 0} (H : Type 0) (done : Result A Failure) (serve : ServeWords
     (only : (found : Option World) → before found → found ≡ Some begun.content) where
   pub port_kept : (old mid new : Traffic) → Listens old mid serve.port
       → AreKept H done serve.connections mid new begun after before now
-      → (found : Option World) → now found → IsPortKept H done serve old new w after found
+      → (found : Option World) → now found → IsPortKept H done serve (course old new) w after found
   port_kept old mid new listens h found may =
       inl (
         record { begun = begun; listed = listed; port = mid; listens = listens; taken = h.taken },
@@ -341,7 +367,7 @@ module _ {A : Type 0} (H : Type 0) (done : Result A Failure) (serve : ServeWords
   pub unserved_kept : (f : Failure) (old new : Traffic) → IsErrAnd done (λ e. e ≡ f)
       → IsDenied f → Listens old new serve.port → after ≡ begun
       → ((found : Option World) → now found → before found)
-      → (found : Option World) → now found → IsPortKept H done serve old new w after found
+      → (found : Option World) → now found → IsPortKept H done serve (course old new) w after found
   unserved_kept f old new is denied listens left stays = port_kept old new new listens
       (none_kept H done serve.connections new new begun after before now refl left
       (stops done f is serve.connections [] None denied) stays)
@@ -349,13 +375,13 @@ module _ {A : Type 0} (H : Type 0) (done : Result A Failure) (serve : ServeWords
 -- ---- a run over the input
 
 module _ (H : Type 0) (play : PlayWords) (end : Ending) (ended : PlayEnd) (answered : ℕ)
-    (old new out now : Option (List ℕ)) (w begun after : DeskWorld) (given : ℤ)
+    (q : Passage) (w begun after : DeskWorld) (given : ℤ)
     (ends : EndsWith (done_unless (failure_after ended)) end) (same : given ≡ play.moment)
     (listed : H → begun ≡ with_operators (on_terms w play.terms) play.enrolments.items)
-    (played : HasPlayed H ended answered (passed old new out now) begun given after) where
+    (played : HasPlayed H ended answered q begun given after) where
   pub run_kept : H → (found : Option World)
-      → IsKept ended (told_in_play ended answered) (passed old new out now) begun given after found
-      → IsPlayKept H play end old new out now w after found
+      → IsKept ended (told_in_play ended answered) q begun given after found
+      → IsPlayKept H play end q w after found
   run_kept p found kept =
       let start = with_operators (on_terms w play.terms) play.enrolments.items in
       inl (
@@ -363,16 +389,10 @@ module _ (H : Type 0) (play : PlayWords) (end : Ending) (ended : PlayEnd) (answe
           ended = ended;
           answered = answered;
           ends = ends;
-          played = λ h. subst (λ m. HasPlayed H ended answered (passed old new out now) start m after) same
-              (subst (λ v. HasPlayed H ended answered (passed old new out now) v given after) (listed h)
-              played);
+          played = λ h. subst (λ m. HasPlayed H ended answered q start m after) same
+              (subst (λ v. HasPlayed H ended answered q v given after) (listed h) played);
         },
-        subst (λ m. IsKept ended (told_in_play ended answered) (passed old new out now) start m after
-            found) same
-            (subst (λ v. IsKept ended (told_in_play ended answered) (passed old new out now) v given after
-            found) (listed p) kept),
+        subst (λ m. IsKept ended (told_in_play ended answered) q start m after found) same
+            (subst (λ v. IsKept ended (told_in_play ended answered) q v given after found)
+            (listed p) kept),
       )
-
-pub on_err : {V E : Type 0} (r : Result V E) {P : Type 0} → P → OnErr r P
-on_err (Ok v) h = tt
-on_err (Err e) h = h

@@ -1,5 +1,5 @@
 -- Enrolling: the world in which operators are listed, and the line that tells of one.
-use Rattle.std.specs.Prelude.{◌≡◌, ◌<◌, ℕ, List, [], ◌∷◌, ◌++◌, length, take, codes, decimal, Option}
+use Rattle.std.specs.Prelude.{◌≡◌, ◌<◌, ℕ, List, [], ◌∷◌, ◌++◌, length, take, codes, decimal, Option, Result, Ok, Err}
 use Rattle.desk_rules.specs.declared.terms.Terms.{Terms}
 use Rattle.desk_run.specs.DeskWorld.{DeskWorld, enrolled}
 use Rattle.desk_ends.specs.Writing.{BreaksOff}
@@ -25,6 +25,17 @@ pub record AreListedSoFar (H : Type 0) (es : List Enrolment) (w after : DeskWorl
   pub count : ℕ
   pub few : count < length es
   pub left : H → after ≡ with_operators w (take count es)
+
+-- by whether all could be listed
+abbrev pub HasListed : {A B : Type 0} → Type 0 → Result A B → List Enrolment → DeskWorld → DeskWorld → Type 0
+HasListed H (Ok done) es w after = H → after ≡ with_operators w es
+HasListed H (Err fault) es w after = AreListedSoFar H es w after
+
+-- and of news, which may have none
+abbrev pub HasListedNews :
+    {A B : Type 0} → Type 0 → Result A B → List Enrolment → DeskWorld → DeskWorld → Type 0
+HasListedNews H (Ok done) es w after = AreEnrolled H es w after
+HasListedNews H (Err fault) es w after = AreListedSoFar H es w after
 
 -- if the store is honest, the operator is listed under its ceiling, and nothing else is changed
 abbrev pub Lists : Type 0 → Enrolment → DeskWorld → DeskWorld → Type 0

@@ -5,7 +5,7 @@ use Rattle.desk_store.specs.World.{World}
 use Rattle.desk_run.specs.DeskWorld.{DeskWorld, enrolled}
 use Rattle.desk_wire.specs.Given.{told_in_play}
 use Rattle.desk_wire.specs.Crashes.{IsCertain, IsKept, IsLeftBy}
-use Rattle.desk_wire.specs.Passage.{passed}
+use Rattle.desk_wire.specs.Passage.{Course, Passage, course, passed}
 use Rattle.desk_wire.specs.Serving.{HasServed, IsTaken}
 use Rattle.desk_line.specs.declared.failure.Failure.{Failure}
 use Rattle.desk_line.specs.declared.line.Enrolment.{Enrolment}
@@ -25,6 +25,13 @@ pub record AreKeptSoFar (H : Type 0) (es : List Enrolment) (w after : DeskWorld)
   pub finds : (found ≡ Some (with_operators w (take listed.count es)).content)
       ⊎ (found ≡ Some (with_operators w (take (listed.count + 1) es)).content)
 
+-- what is found once operators were enrolled at a settled desk: what that left, or, if one could not be
+-- listed, what one more would leave
+abbrev pub FindsListed :
+    {A B : Type 0} → Type 0 → Result A B → List Enrolment → DeskWorld → DeskWorld → Option World → Type 0
+FindsListed H (Ok done) es w after found = found ≡ Some after.content
+FindsListed H (Err fault) es w after found = AreKeptSoFar H es w after found
+
 -- what is found once operators were enrolled is what that left; or, if an enrolment failed, what one more
 -- would leave. If nothing was changed, it may be what might have been found before
 abbrev pub FindsNews :
@@ -37,33 +44,30 @@ FindsNews (Err fault) es w after before now = (found : Option World) → now fou
 
 -- what is found has the operator listed; or it is what was there before, and nothing was printed
 abbrev pub FindsEnrolled :
-    Enrolment → Ending → Option (List ℕ) → Option (List ℕ) → DeskWorld → Option World → Type 0
-FindsEnrolled e end out now w found = (found ≡ Some (enrolled w e.operator e.ceiling).content)
-    ⊎ (IsBrokenDown end × (now ≡ out) × (found ≡ Some w.content))
+    Enrolment → Ending → Course (Option (List ℕ)) → DeskWorld → Option World → Type 0
+FindsEnrolled e end writes w found = (found ≡ Some (enrolled w e.operator e.ceiling).content)
+    ⊎ (IsBrokenDown end × (writes.after ≡ writes.before) × (found ≡ Some w.content))
 
 -- the requests of the input are played, and what is found is theirs; or an operator could not be listed
 abbrev pub IsPlayKept :
-    Type 0 → PlayWords → Ending → Option (List ℕ) → Option (List ℕ) → Option (List ℕ) → Option (List ℕ)
-    → DeskWorld → DeskWorld → Option World → Type 0
-IsPlayKept H play end old new out now w after found =
-    ((run : IsPlayed H play end old new out now w after)
-    × IsKept run.ended (told_in_play run.ended run.answered) (passed old new out now)
+    Type 0 → PlayWords → Ending → Passage → DeskWorld → DeskWorld → Option World → Type 0
+IsPlayKept H play end p w after found =
+    ((run : IsPlayed H play end p w after)
+    × IsKept run.ended (told_in_play run.ended run.answered) p
     (with_operators (on_terms w play.terms) play.enrolments.items) play.moment after found)
-    ⊎ (IsNotPlayed H play end old new out now w after
+    ⊎ (IsNotPlayed H play end p w after
     × AreKeptSoFar H play.enrolments.items (on_terms w play.terms) after found)
 
 -- by the line that is carried out, by reading and writing alone
 abbrev pub IsLinePlayKept :
-    Type 0 → Line → Ending → Option (List ℕ) → Option (List ℕ) → Option (List ℕ) → Option (List ℕ)
-    → DeskWorld → DeskWorld → Option World → Type 0
-IsLinePlayKept H (line.Play play) end old new out now w after found =
-    IsPlayKept H play end old new out now w after found
-IsLinePlayKept H (line.Enrol enrol) end old new out now w after found =
-    FindsEnrolled enrol.enrolment end out now w found
-IsLinePlayKept H (line.Token token) end old new out now w after found = ⊥
-IsLinePlayKept H (line.Serve serve) end old new out now w after found = ⊥
-IsLinePlayKept H (line.Cover cover) end old new out now w after found = ⊥
-IsLinePlayKept H (line.Migrate migrate) end old new out now w after found = ⊥
+    Type 0 → Line → Ending → Passage → DeskWorld → DeskWorld → Option World → Type 0
+IsLinePlayKept H (line.Play play) end p w after found = IsPlayKept H play end p w after found
+IsLinePlayKept H (line.Enrol enrol) end p w after found =
+    FindsEnrolled enrol.enrolment end p.writes w found
+IsLinePlayKept H (line.Token token) end p w after found = ⊥
+IsLinePlayKept H (line.Serve serve) end p w after found = ⊥
+IsLinePlayKept H (line.Cover cover) end p w after found = ⊥
+IsLinePlayKept H (line.Migrate migrate) end p w after found = ⊥
 
 -- the request of a connection left a world as it was, its answer was a 500 or is not whole, and what is
 -- found is what this request would leave there
@@ -99,31 +103,31 @@ pub record AreKept {A : Type 0} (H : Type 0) (done : Result A Failure) (count : 
 
 -- connections are taken once all operators are listed, or an operator could not be listed
 abbrev pub IsPortKept :
-    {A : Type 0} → Type 0 → Result A Failure → ServeWords → Traffic → Traffic
-    → DeskWorld → DeskWorld → Option World → Type 0
-IsPortKept H done serve old new w after found =
-    ((port : HasBegun H done serve old new w after)
-    × IsFoundServed port.taken.exchanges port.taken.last after found)
-    ⊎ (IsNotBegun H done serve old new w after
+    {A : Type 0} → Type 0 → Result A Failure → ServeWords → Course Traffic → DeskWorld → DeskWorld
+    → Option World → Type 0
+IsPortKept H done serve port w after found =
+    ((begun : HasBegun H done serve port.before port.after w after)
+    × IsFoundServed begun.taken.exchanges begun.taken.last after found)
+    ⊎ (IsNotBegun H done serve port.before port.after w after
     × AreKeptSoFar H serve.enrolments.items (on_terms w serve.terms) after found)
 
 -- a line of `serve` is carried out, and that is what is found
-pub record IsServeKept (H : Type 0) (serve : ServeWords) (end : Ending)
-    (old new : Traffic) (w after : DeskWorld) (found : Option World) : Type 0 where
+pub record IsServeKept (H : Type 0) (serve : ServeWords) (end : Ending) (port : Course Traffic)
+    (w after : DeskWorld) (found : Option World) : Type 0 where
   pub done : Result ⊤ Failure
   pub ends : EndsWith done end
-  pub kept : IsPortKept H done serve old new w after found
+  pub kept : IsPortKept H done serve port w after found
 
 -- by the line that is carried out at a desk. `from` and `to` are what the port told before and tells after
 abbrev pub IsLineKept :
     Type 0 → Line → Ending → Traffic → Traffic → Option (List ℕ) → Option (List ℕ)
     → Option (List ℕ) → Option (List ℕ) → DeskWorld → DeskWorld → Option World → Type 0
 IsLineKept H (line.Play play) end from to old new out now w after found =
-    IsLinePlayKept H (line.Play play) end old new out now w after found
+    IsLinePlayKept H (line.Play play) end (passed old new out now) w after found
 IsLineKept H (line.Enrol enrol) end from to old new out now w after found =
-    IsLinePlayKept H (line.Enrol enrol) end old new out now w after found
+    IsLinePlayKept H (line.Enrol enrol) end (passed old new out now) w after found
 IsLineKept H (line.Serve serve) end from to old new out now w after found =
-    IsServeKept H serve end from to w after found
+    IsServeKept H serve end (course from to) w after found
 IsLineKept H (line.Token token) end from to old new out now w after found = ⊥
 IsLineKept H (line.Cover cover) end from to old new out now w after found = ⊥
 IsLineKept H (line.Migrate migrate) end from to old new out now w after found = ⊥

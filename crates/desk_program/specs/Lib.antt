@@ -2,6 +2,7 @@
 pub mod Causes
 pub mod Enrolling
 pub mod Serving
+pub mod Outside
 pub mod Playing
 pub mod Waiting
 pub mod Keeping

@@ -3,7 +3,7 @@ use Rattle.std.specs.Prelude.{◌≡◌, ◌⊎◌, ⊤, ℕ, List, Option, None
 use Rattle.std.specs.Io.KnownBytes.{Appends}
 use Rattle.desk_run.specs.DeskWorld.{DeskWorld}
 use Rattle.desk_ends.specs.declared.playing.PlayEnd.{PlayEnd}
-use Rattle.desk_wire.specs.Passage.{passed}
+use Rattle.desk_wire.specs.Passage.{Course, Passage}
 use Rattle.desk_wire.specs.Playing.{HasPlayed}
 use Rattle.desk_line.specs.declared.failure.Failure.{Failure}
 use Rattle.desk_line.specs.declared.line.Line.{Line}
@@ -21,39 +21,41 @@ done_unless (Some failure) = Err failure
 
 -- the requests of the input are played at the world on the line's terms in which its operators are
 -- listed, and the line ends as they do
-pub record IsPlayed (H : Type 0) (play : PlayWords) (end : Ending) (old new out now : Option (List ℕ))
-    (w after : DeskWorld) : Type 0 where
+pub record IsPlayed (H : Type 0) (play : PlayWords) (end : Ending) (p : Passage) (w after : DeskWorld) :
+    Type 0 where
   pub ended : PlayEnd
   pub answered : ℕ
   pub ends : EndsWith (done_unless (failure_after ended)) end
-  pub played : H → HasPlayed H ended answered (passed old new out now)
+  pub played : H → HasPlayed H ended answered p
       (with_operators (on_terms w play.terms) play.enrolments.items) play.moment after
 
 -- an operator could not be listed: those before it are, and nothing is read or written
-pub record IsNotPlayed (H : Type 0) (play : PlayWords) (end : Ending) (old new out now : Option (List ℕ))
-    (w after : DeskWorld) : Type 0 where
+pub record IsNotPlayed (H : Type 0) (play : PlayWords) (end : Ending) (p : Passage) (w after : DeskWorld) :
+    Type 0 where
   pub ends : IsBrokenDown end
   pub listed : AreListedSoFar H play.enrolments.items (on_terms w play.terms) after
-  pub unread : new ≡ old
-  pub unwritten : now ≡ out
+  pub unread : p.reads.after ≡ p.reads.before
+  pub unwritten : p.writes.after ≡ p.writes.before
+
+-- a line of `play` is carried out
+abbrev pub IsPlayDone : Type 0 → PlayWords → Ending → Passage → DeskWorld → DeskWorld → Type 0
+IsPlayDone H play end p w after = IsPlayed H play end p w after ⊎ IsNotPlayed H play end p w after
 
 -- the operator is listed and its line printed; or its line is cut off, and it stays listed; or
 -- nothing is changed and printed
 abbrev pub IsEnrolled :
-    Type 0 → Enrolment → Ending → Option (List ℕ) → Option (List ℕ) → DeskWorld → DeskWorld → Type 0
-IsEnrolled H enrolment end out now w after =
-    (EndsWell end × Appends out now (enrolled_line enrolment) × Lists H enrolment w after)
-    ⊎ (FailsWith failure.Write end × IsCutOff (enrolled_line enrolment) out now × Lists H enrolment w after)
-    ⊎ (IsBrokenDown end × (now ≡ out) × (after ≡ w))
+    Type 0 → Enrolment → Ending → Course (Option (List ℕ)) → DeskWorld → DeskWorld → Type 0
+IsEnrolled H enrolment end writes w after =
+    (EndsWell end × Appends writes.before writes.after (enrolled_line enrolment) × Lists H enrolment w after)
+    ⊎ (FailsWith failure.Write end × IsCutOff (enrolled_line enrolment) writes.before writes.after
+    × Lists H enrolment w after)
+    ⊎ (IsBrokenDown end × (writes.after ≡ writes.before) × (after ≡ w))
 
-abbrev pub IsLinePlayed :
-    Type 0 → Line → Ending → Option (List ℕ) → Option (List ℕ) → Option (List ℕ) → Option (List ℕ)
-    → DeskWorld → DeskWorld → Type 0
-IsLinePlayed H (line.Play play) end old new out now w after =
-    IsPlayed H play end old new out now w after ⊎ IsNotPlayed H play end old new out now w after
-IsLinePlayed H (line.Token token) end old new out now w after = ⊥
-IsLinePlayed H (line.Serve serve) end old new out now w after = ⊥
-IsLinePlayed H (line.Cover cover) end old new out now w after = ⊥
-IsLinePlayed H (line.Enrol enrol) end old new out now w after =
-    (new ≡ old) × IsEnrolled H enrol.enrolment end out now w after
-IsLinePlayed H (line.Migrate migrate) end old new out now w after = ⊥
+abbrev pub IsLinePlayed : Type 0 → Line → Ending → Passage → DeskWorld → DeskWorld → Type 0
+IsLinePlayed H (line.Play play) end p w after = IsPlayDone H play end p w after
+IsLinePlayed H (line.Token token) end p w after = ⊥
+IsLinePlayed H (line.Serve serve) end p w after = ⊥
+IsLinePlayed H (line.Cover cover) end p w after = ⊥
+IsLinePlayed H (line.Enrol enrol) end p w after =
+    (p.reads.after ≡ p.reads.before) × IsEnrolled H enrol.enrolment end p.writes w after
+IsLinePlayed H (line.Migrate migrate) end p w after = ⊥

@@ -5,7 +5,7 @@ use Rattle.desk_run.specs.DeskWorld.{DeskWorld}
 use Rattle.desk_ends.specs.declared.serving.Served.{Served}
 use Rattle.desk_ends.specs.declared.serving.Served.TheVariants.{Answered, End}
 use Rattle.desk_ends.specs.declared.serving.ServeFault.{ServeFault}
-use Rattle.desk_wire.specs.Passage.{Passage, passed}
+use Rattle.desk_wire.specs.Passage.{Course, Passage, passed}
 use Rattle.desk_wire.specs.Serving.{HasServed}
 use Rattle.desk_line.specs.declared.failure.Failure.{Failure}
 use Rattle.desk_line.specs.declared.line.Serve.{Serve as ServeWords}
@@ -192,9 +192,9 @@ IsAtPort H done serve old new w after =
     HasBegun H done serve old new w after ⊎ IsNotBegun H done serve old new w after
 
 -- a line of `serve` is carried out, prints that it listens, and ends as that does
-pub record IsLineServed (H : Type 0) (serve : ServeWords) (end : Ending)
-    (old new : Traffic) (out now : Option (List ℕ)) (w after : DeskWorld) : Type 0 where
+pub record IsLineServed (H : Type 0) (serve : ServeWords) (end : Ending) (port : Course Traffic)
+    (writes : Course (Option (List ℕ))) (w after : DeskWorld) : Type 0 where
   pub done : Result ⊤ Failure
   pub ends : EndsWith done end
-  pub printed : IsAnnounced done (listening_line serve.port) out now
-  pub came : IsAtPort H done serve old new w after
+  pub printed : IsAnnounced done (listening_line serve.port) writes.before writes.after
+  pub came : IsAtPort H done serve port.before port.after w after

@@ -1,20 +1,21 @@
 //! What the program does at a desk: enrolments, and the requests of an input.
 
-ghost use Rattle.std.specs.Prelude.{◌≡◌, ◌≤◌, ◌⊎◌, Option, IfErr, IfOk, OnErr, OnOk, string_bytes};
-ghost use Rattle.desk_run.specs.DeskWorld.{IsSettled, world_of};
+ghost use Rattle.std.specs.Prelude.{◌≡◌, ◌≤◌, IfErr, IfOk, string_bytes};
+ghost use Rattle.desk_run.specs.DeskFrames.{FindsOnly};
+ghost use Rattle.desk_run.specs.DeskWorld.{world_of};
 ghost use Rattle.desk_run.specs.CallFaults.{IsBreakdown, IsStoreCounted};
 ghost use Rattle.desk_store.specs.StoreFrames.{Remembers};
 ghost use Rattle.desk_store.specs.StoreFaults.{IsHonest};
-ghost use Rattle.desk_store.specs.World.{World};
+ghost use Rattle.desk_wire.specs.Passage.{passage};
 ghost use Rattle.desk_line.specs.Exits as spec;
-ghost use Rattle.desk_line.specs.Exits.{ending};
 ghost use Rattle.desk_rules.specs.Limits.{max_priority};
 ghost use Rattle.desk_line.specs.Lines.{AreEnrolments, HasDesk, IsLine, IsPlay};
 ghost use Rattle.desk_program.specs.Causes.{HasCause};
 ghost use Rattle.desk_program.specs.Enrolling as enrolling;
-ghost use Rattle.desk_program.specs.Enrolling.{AreEnrolled, AreListedSoFar, on_terms, with_operators};
-ghost use Rattle.desk_program.specs.Keeping.{AreKeptSoFar, FindsEnrolled, FindsNews, IsLinePlayKept, IsPlayKept};
-ghost use Rattle.desk_program.specs.Playing.{IsEnrolled, IsLinePlayed, IsNotPlayed, IsPlayed, done_unless};
+ghost use Rattle.desk_program.specs.Enrolling.{HasListed, HasListedNews, on_terms};
+ghost use Rattle.desk_program.specs.Keeping.{FindsEnrolled, FindsListed, FindsNews, IsLinePlayKept, IsPlayKept};
+ghost use Rattle.desk_program.specs.Outside.{ended, written};
+ghost use Rattle.desk_program.specs.Playing.{IsEnrolled, IsLinePlayed, IsPlayDone, done_unless};
 
 use desk_ends::{PlayEnd, write_whole};
 use desk_line::{Enrolment, Exit, Failure, Line, Play, conclude};
@@ -38,20 +39,13 @@ pub fn with_desk<S: PlanStore, R: Read, W: Write, E: Write>(
     requires line { IsLine line.now }
     requires desk { HasDesk line.now }
     ensures played { IsLinePlayed (IsHonest (S.doubt desk.new.store)) line.now
-        (ending result (E.contents errors.old) (E.contents errors.new))
-        (R.remaining input.old) (R.remaining input.new)
-        (W.contents output.old) (W.contents output.new)
-        (world_of S.content desk.old) (world_of S.content desk.new) }
-    ensures kept { IsHonest (S.doubt desk.new.store) → IsSettled S.content S.may_leave desk.old →
-        (found : Option World) → S.may_leave desk.new.store found →
-        IsLinePlayKept (IsHonest (S.doubt desk.new.store)) line.now
-        (ending result (E.contents errors.old) (E.contents errors.new))
-        (R.remaining input.old) (R.remaining input.new)
-        (W.contents output.old) (W.contents output.new)
-        (world_of S.content desk.old) (world_of S.content desk.new) found }
+        (ended E.Write result errors.old errors.new) (passage R.Read W.Write input.old input.new
+        output.old output.new) (world_of S.content desk.old) (world_of S.content desk.new) }
+    ensures kept { FindsOnly S.PlanStore desk.old desk.new (IsLinePlayKept (IsHonest (S.doubt desk.new.store))
+        line.now (ended E.Write result errors.old errors.new) (passage R.Read W.Write input.old input.new
+        output.old output.new) (world_of S.content desk.old) (world_of S.content desk.new)) }
     ensures remembered { Remembers S.doubt S.faults S.is_shielded desk.old.store desk.new.store }
-    ensures cause { HasCause (ending result (E.contents errors.old) (E.contents errors.new))
-        (S.faults desk.old.store) (S.faults desk.new.store) }
+    ensures cause { HasCause S.PlanStore desk.old desk.new (ended E.Write result errors.old errors.new) }
 {
     match line {
         Line::Play(play) => play_line(alloc, play, desk, input, output, errors),
@@ -83,26 +77,14 @@ fn play_line<S: PlanStore, R: Read, W: Write, E: Write>(
     errors: &mut E,
 ) -> Exit
     requires { IsPlay play.now }
-    ensures played { IsPlayed (IsHonest (S.doubt desk.new.store)) play.now
-        (ending result (E.contents errors.old) (E.contents errors.new))
-        (R.remaining input.old) (R.remaining input.new)
-        (W.contents output.old) (W.contents output.new) (world_of S.content desk.old)
-        (world_of S.content desk.new)
-        ⊎ IsNotPlayed (IsHonest (S.doubt desk.new.store)) play.now
-        (ending result (E.contents errors.old) (E.contents errors.new))
-        (R.remaining input.old) (R.remaining input.new)
-        (W.contents output.old) (W.contents output.new) (world_of S.content desk.old)
-        (world_of S.content desk.new) }
-    ensures kept { IsHonest (S.doubt desk.new.store) → IsSettled S.content S.may_leave desk.old →
-        (found : Option World) → S.may_leave desk.new.store found →
-        IsPlayKept (IsHonest (S.doubt desk.new.store)) play.now
-        (ending result (E.contents errors.old) (E.contents errors.new))
-        (R.remaining input.old) (R.remaining input.new)
-        (W.contents output.old) (W.contents output.new)
-        (world_of S.content desk.old) (world_of S.content desk.new) found }
+    ensures played { IsPlayDone (IsHonest (S.doubt desk.new.store)) play.now
+        (ended E.Write result errors.old errors.new) (passage R.Read W.Write input.old input.new
+        output.old output.new) (world_of S.content desk.old) (world_of S.content desk.new) }
+    ensures kept { FindsOnly S.PlanStore desk.old desk.new (IsPlayKept (IsHonest (S.doubt desk.new.store))
+        play.now (ended E.Write result errors.old errors.new) (passage R.Read W.Write input.old input.new
+        output.old output.new) (world_of S.content desk.old) (world_of S.content desk.new)) }
     ensures remembered { Remembers S.doubt S.faults S.is_shielded desk.old.store desk.new.store }
-    ensures cause { HasCause (ending result (E.contents errors.old) (E.contents errors.new))
-        (S.faults desk.old.store) (S.faults desk.new.store) }
+    ensures cause { HasCause S.PlanStore desk.old desk.new (ended E.Write result errors.old errors.new) }
 {
     if let Err(fault) = set_up(desk, &play.terms, &play.enrolments) {
         return conclude(errors, Err(Failure::from(fault)));
@@ -121,18 +103,13 @@ fn enrol_line<S: PlanStore, W: Write, E: Write>(
 ) -> Exit
     requires { enrolment.now.ceiling ≤ max_priority }
     ensures enrolled { IsEnrolled (IsHonest (S.doubt desk.new.store)) enrolment.now
-        (ending result (E.contents errors.old) (E.contents errors.new))
-        (W.contents output.old) (W.contents output.new) (world_of S.content desk.old)
-        (world_of S.content desk.new) }
-    ensures kept { IsHonest (S.doubt desk.new.store) → IsSettled S.content S.may_leave desk.old →
-        (found : Option World) → S.may_leave desk.new.store found →
-        FindsEnrolled enrolment.now
-        (ending result (E.contents errors.old) (E.contents errors.new))
-        (W.contents output.old) (W.contents output.new)
-        (world_of S.content desk.old) found }
+        (ended E.Write result errors.old errors.new) (written W.Write output.old output.new)
+        (world_of S.content desk.old) (world_of S.content desk.new) }
+    ensures kept { FindsOnly S.PlanStore desk.old desk.new (FindsEnrolled enrolment.now
+        (ended E.Write result errors.old errors.new) (written W.Write output.old output.new)
+        (world_of S.content desk.old)) }
     ensures remembered { Remembers S.doubt S.faults S.is_shielded desk.old.store desk.new.store }
-    ensures cause { HasCause (ending result (E.contents errors.old) (E.contents errors.new))
-        (S.faults desk.old.store) (S.faults desk.new.store) }
+    ensures cause { HasCause S.PlanStore desk.old desk.new (ended E.Write result errors.old errors.new) }
 {
     let Ok(text) = enrolled_text(alloc, enrolment) else {
         return conclude(errors, Err(Failure::Memory));
@@ -179,17 +156,11 @@ pub fn set_up<S: PlanStore>(
     enrolments: &[Enrolment],
 ) -> Result<(), DeskFault>
     requires { AreEnrolments enrolments.now }
-    ensures ok { IsHonest (S.doubt desk.new.store) → OnOk result (world_of S.content desk.new ≡
-        with_operators (on_terms (world_of S.content desk.old) terms.now) enrolments.now) }
-    ensures err { OnErr result (AreListedSoFar (IsHonest (S.doubt desk.new.store)) enrolments.now
+    ensures listed { HasListed (IsHonest (S.doubt desk.new.store)) result enrolments.now
+        (on_terms (world_of S.content desk.old) terms.now) (world_of S.content desk.new) }
+    ensures kept { FindsOnly S.PlanStore desk.old desk.new (FindsListed
+        (IsHonest (S.doubt desk.new.store)) result enrolments.now
         (on_terms (world_of S.content desk.old) terms.now) (world_of S.content desk.new)) }
-    ensures kept { IsHonest (S.doubt desk.new.store) → IsSettled S.content S.may_leave desk.old →
-        OnOk result (IsSettled S.content S.may_leave desk.new) }
-    ensures crash { IsHonest (S.doubt desk.new.store) → IsSettled S.content S.may_leave desk.old →
-        OnErr result ((found : Option World) → S.may_leave desk.new.store found →
-        AreKeptSoFar (IsHonest (S.doubt desk.new.store)) enrolments.now
-        (on_terms (world_of S.content desk.old) terms.now)
-        (world_of S.content desk.new) found) }
     ensures fault { IfErr result IsBreakdown }
     ensures remembered { Remembers S.doubt S.faults S.is_shielded desk.old.store desk.new.store }
     ensures cause { IfErr result (IsStoreCounted S.faults desk.old.store desk.new.store) }
@@ -205,10 +176,8 @@ pub fn set_up<S: PlanStore>(
 /// The first fault of an enrolment, `OutOfMemory` or `Store`; the operators before it are enrolled.
 pub fn enrol_news<S: PlanStore>(desk: &mut Desk<S>, news: &[Enrolment]) -> Result<(), DeskFault>
     requires { AreEnrolments news.now }
-    ensures ok { OnOk result (AreEnrolled (IsHonest (S.doubt desk.new.store)) news.now
-        (world_of S.content desk.old) (world_of S.content desk.new)) }
-    ensures err { OnErr result (AreListedSoFar (IsHonest (S.doubt desk.new.store)) news.now
-        (world_of S.content desk.old) (world_of S.content desk.new)) }
+    ensures listed { HasListedNews (IsHonest (S.doubt desk.new.store)) result news.now
+        (world_of S.content desk.old) (world_of S.content desk.new) }
     ensures found { IsHonest (S.doubt desk.new.store) → FindsNews result news.now
         (world_of S.content desk.old) (world_of S.content desk.new) (S.may_leave desk.old.store)
         (S.may_leave desk.new.store) }
@@ -226,17 +195,8 @@ pub fn enrol_news<S: PlanStore>(desk: &mut Desk<S>, news: &[Enrolment]) -> Resul
 // an enrolment, `OutOfMemory` or `Store`, those before it stand.
 fn enrol_all<S: PlanStore>(desk: &mut Desk<S>, enrolments: &[Enrolment]) -> Result<(), DeskFault>
     requires { AreEnrolments enrolments.now }
-    ensures ok { IsHonest (S.doubt desk.new.store) → OnOk result
-        (world_of S.content desk.new ≡ with_operators (world_of S.content desk.old)
-        enrolments.now) }
-    ensures err { OnErr result (AreListedSoFar (IsHonest (S.doubt desk.new.store)) enrolments.now
-        (world_of S.content desk.old) (world_of S.content desk.new)) }
-    ensures kept { IsHonest (S.doubt desk.new.store) → IsSettled S.content S.may_leave desk.old →
-        OnOk result (IsSettled S.content S.may_leave desk.new) }
-    ensures crash { IsHonest (S.doubt desk.new.store) → IsSettled S.content S.may_leave desk.old →
-        OnErr result ((found : Option World) → S.may_leave desk.new.store found →
-        AreKeptSoFar (IsHonest (S.doubt desk.new.store)) enrolments.now
-        (world_of S.content desk.old) (world_of S.content desk.new) found) }
+    ensures listed { HasListed (IsHonest (S.doubt desk.new.store)) result enrolments.now
+        (world_of S.content desk.old) (world_of S.content desk.new) }
     ensures found { IsHonest (S.doubt desk.new.store) → FindsNews result enrolments.now
         (world_of S.content desk.old) (world_of S.content desk.new) (S.may_leave desk.old.store)
         (S.may_leave desk.new.store) }

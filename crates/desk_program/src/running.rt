@@ -7,9 +7,11 @@ ghost use Rattle.desk_store.specs.World.{World};
 ghost use Rattle.desk_line.specs.Exits.{FailsWith, ending};
 ghost use Rattle.desk_line.specs.Lines.{HasDatabase, IsLine};
 ghost use Rattle.desk_run.specs.DeskWorld.{IsSettled, world_of};
+ghost use Rattle.desk_wire.specs.Passage.{passage};
 ghost use Rattle.desk_program.specs.Causes.{HasCause};
 ghost use Rattle.desk_program.specs.Keeping.{IsLineKept};
-ghost use Rattle.desk_program.specs.Running.{IsCarriedOut};
+ghost use Rattle.desk_program.specs.Outside.{ended, outside};
+ghost use Rattle.desk_program.specs.Running.{CarriesOut, IsCarriedOut};
 
 use crate::port::Port;
 use crate::program::with_desk;
@@ -50,8 +52,7 @@ pub fn run_opened<S: PlanStore + Drop, P: Port, R: Read, W: Write, E: Write>(
         (W.contents output.old) (W.contents output.new) (world_of S.content desk)
         (world_of S.content left) found)) }
     ensures cause { IfOk opened (λ desk. IsSomeAnd result.1 (λ left.
-        HasCause (ending result.0 (E.contents errors.old) (E.contents errors.new))
-        (S.faults desk.store) (S.faults left.store))) }
+        HasCause S.PlanStore desk left (ended E.Write result.0 errors.old errors.new))) }
     ensures unopened { IfErr opened (λ f.
         FailsWith f (ending result.0 (E.contents errors.old) (E.contents errors.new))
         × (result.1 ≡ None) × (P.traffic port.new ≡ P.traffic port.old)
@@ -79,22 +80,9 @@ fn carry_out<S: PlanStore, P: Port, R: Read, W: Write, E: Write>(
 ) -> Exit
     requires line { IsLine line.now }
     requires desk { HasDatabase line.now }
-    ensures done { IsCarriedOut (IsHonest (S.doubt desk.new.store)) line.now
-        (ending result (E.contents errors.old) (E.contents errors.new))
-        (P.traffic port.old) (P.traffic port.new) (R.remaining input.old) (R.remaining input.new)
-        (W.contents output.old) (W.contents output.new) (world_of S.content desk.old)
-        (world_of S.content desk.new) }
-    ensures kept { IsHonest (S.doubt desk.new.store) → IsSettled S.content S.may_leave desk.old →
-        (found : Option World) → S.may_leave desk.new.store found →
-        IsLineKept (IsHonest (S.doubt desk.new.store)) line.now
-        (ending result (E.contents errors.old) (E.contents errors.new))
-        (P.traffic port.old) (P.traffic port.new) (R.remaining input.old) (R.remaining input.new)
-        (W.contents output.old) (W.contents output.new) (world_of S.content desk.old)
-        (world_of S.content desk.new) found }
-    ensures cause { HasCause (ending result (E.contents errors.old) (E.contents errors.new))
-        (S.faults desk.old.store) (S.faults desk.new.store) }
-    ensures doubt { S.doubt desk.old.store ≤ S.doubt desk.new.store }
-    ensures shield { S.is_shielded desk.old.store → S.is_shielded desk.new.store }
+    ensures { CarriesOut S.PlanStore line.now (outside
+        (passage R.Read W.Write input.old input.new output.old output.new) (P.traffic port.old)
+        (P.traffic port.new) (ended E.Write result errors.old errors.new)) desk.old desk.new }
 {
     match line {
         Line::Serve(words) => serve(alloc, port, words, desk, output, errors),

@@ -1,16 +1,18 @@
 //! The desk at a port: one request a connection, one connection after the other.
 
-ghost use Rattle.std.specs.Prelude.{◌≡◌, ◌≤◌, ◌⊎◌, Option, IfOk, IfErr, OnOk, string_bytes};
+ghost use Rattle.std.specs.Prelude.{◌≡◌, ◌≤◌, IfOk, IfErr, OnOk, string_bytes};
 ghost use Rattle.std.specs.Io.KnownBytes.{Appends};
 ghost use Rattle.desk_store.specs.StoreFrames.{Remembers};
 ghost use Rattle.desk_store.specs.StoreFaults.{IsHonest};
-ghost use Rattle.desk_store.specs.World.{World};
-ghost use Rattle.desk_line.specs.Exits.{IsAnnounced, ending, failure_at};
+ghost use Rattle.desk_line.specs.Exits.{IsAnnounced, failure_at};
 ghost use Rattle.desk_line.specs.Lines.{IsServe};
 ghost use Rattle.desk_line.specs.Written.{HasBegun};
-ghost use Rattle.desk_run.specs.DeskWorld.{IsSettled, world_of};
+ghost use Rattle.desk_run.specs.DeskFrames.{FindsOnly};
+ghost use Rattle.desk_run.specs.DeskWorld.{world_of};
+ghost use Rattle.desk_wire.specs.Passage.{course};
 ghost use Rattle.desk_program.specs.Causes.{HasCause, IsCounted};
 ghost use Rattle.desk_program.specs.Keeping.{AreKept, IsPortKept, IsServeKept};
+ghost use Rattle.desk_program.specs.Outside.{ended, written};
 ghost use Rattle.desk_program.specs.Serving as spec;
 ghost use Rattle.desk_program.specs.Serving.{AreTaken, IsAtPort, IsDenied, IsLineServed, Listens, failing, listening_line};
 
@@ -39,18 +41,13 @@ pub fn serve<S: PlanStore, P: Port, W: Write, E: Write>(
 ) -> Exit
     requires { IsServe line.now }
     ensures served { IsLineServed (IsHonest (S.doubt desk.new.store)) line.now
-        (ending result (E.contents errors.old) (E.contents errors.new))
-        (P.traffic port.old) (P.traffic port.new) (W.contents output.old) (W.contents output.new)
-        (world_of S.content desk.old) (world_of S.content desk.new) }
-    ensures kept { IsHonest (S.doubt desk.new.store) → IsSettled S.content S.may_leave desk.old →
-        (found : Option World) → S.may_leave desk.new.store found →
-        IsServeKept (IsHonest (S.doubt desk.new.store)) line.now
-        (ending result (E.contents errors.old) (E.contents errors.new))
-        (P.traffic port.old) (P.traffic port.new) (world_of S.content desk.old)
-        (world_of S.content desk.new) found }
+        (ended E.Write result errors.old errors.new) (course (P.traffic port.old) (P.traffic port.new))
+        (written W.Write output.old output.new) (world_of S.content desk.old) (world_of S.content desk.new) }
+    ensures kept { FindsOnly S.PlanStore desk.old desk.new (IsServeKept (IsHonest (S.doubt desk.new.store))
+        line.now (ended E.Write result errors.old errors.new) (course (P.traffic port.old)
+        (P.traffic port.new)) (world_of S.content desk.old) (world_of S.content desk.new)) }
     ensures remembered { Remembers S.doubt S.faults S.is_shielded desk.old.store desk.new.store }
-    ensures cause { HasCause (ending result (E.contents errors.old) (E.contents errors.new))
-        (S.faults desk.old.store) (S.faults desk.new.store) }
+    ensures cause { HasCause S.PlanStore desk.old desk.new (ended E.Write result errors.old errors.new) }
 {
     conclude(errors, serve_line(alloc, port, line, desk, output))
 }
@@ -64,13 +61,11 @@ fn serve_line<S: PlanStore, P: Port, W: Write>(
     output: &mut W,
 ) -> Result<(), Failure>
     requires { IsServe line.now }
-    ensures served { IsAtPort (IsHonest (S.doubt desk.new.store)) result line.now
-        (P.traffic port.old) (P.traffic port.new) (world_of S.content desk.old)
-        (world_of S.content desk.new) }
-    ensures kept { IsHonest (S.doubt desk.new.store) → IsSettled S.content S.may_leave desk.old →
-        (found : Option World) → S.may_leave desk.new.store found →
-        IsPortKept (IsHonest (S.doubt desk.new.store)) result line.now (P.traffic port.old)
-        (P.traffic port.new) (world_of S.content desk.old) (world_of S.content desk.new) found }
+    ensures served { IsAtPort (IsHonest (S.doubt desk.new.store)) result line.now (P.traffic port.old)
+        (P.traffic port.new) (world_of S.content desk.old) (world_of S.content desk.new) }
+    ensures kept { FindsOnly S.PlanStore desk.old desk.new (IsPortKept (IsHonest (S.doubt desk.new.store))
+        result line.now (course (P.traffic port.old) (P.traffic port.new)) (world_of S.content desk.old)
+        (world_of S.content desk.new)) }
     ensures printed { IsAnnounced result (listening_line line.now.port) (W.contents output.old)
         (W.contents output.new) }
     ensures remembered { Remembers S.doubt S.faults S.is_shielded desk.old.store desk.new.store }

@@ -3,9 +3,9 @@ use Rattle.std.proofs.lemmas.List.{take_more}
 use Rattle.desk_store.specs.StoreFaults.{IsHonest}
 use Rattle.desk_store.specs.laws.Fault.{was_honest}
 use Rattle.desk_run.specs.DeskWorld.{enrolled, world_of}
-use Rattle.desk_program.specs.Enrolling.{AreListedSoFar, with_operators}
-use Rattle.desk_program.proofs.EnrolLemmas.{counted_since, one_more}
-use Rattle.desk_program.proofs.KeepingLemmas.{finds_err, finds_ok, found_so_far, kept_so_far, on_err}
+use Rattle.desk_program.specs.Enrolling.{with_operators}
+use Rattle.desk_program.proofs.EnrolLemmas.{counted_since, listed_err, one_more}
+use Rattle.desk_program.proofs.KeepingLemmas.{finds_err, finds_ok, found_so_far}
 use Rattle.desk_program.proofs.program.enrol_all.Goals as goal
 
 pub loop-enrolment-preserved : goal.loop-enrolment-preserved
@@ -21,7 +21,6 @@ loop-enrolment-preserved g c =
           ∙ sym (one_more (take index es) w e)
           ∙ ap (λ x. with_operators w (take index es ++ x ∷ [])) c.enrolment-item.is
           ∙ ap (with_operators w) (sym (take_more es index e c.loop-enrolment-test.true));
-      settled = λ h was. c.in_ok-enrol.ensures.kept h;
       sure = λ h. inl (c.in_ok-enrol.ensures.kept h);
       doubt = omega (arith, c.loop-enrolment.invariant.doubt, c.enrol.ensures.leaves.remembered.doubt);
       counted = omega (arith, c.loop-enrolment.invariant.counted, c.enrol.ensures.leaves.remembered.counted);
@@ -29,44 +28,23 @@ loop-enrolment-preserved g c =
     }
 
 -- those before it are listed, and why it failed
-pub returns-in_err-enrol-clause-err : goal.returns-in_err-enrol-clause-err
-returns-in_err-enrol-clause-err g c =
+pub returns-in_err-enrol-clause-listed : goal.returns-in_err-enrol-clause-listed
+returns-in_err-enrol-clause-listed g c =
     let es = c.args.enrolments.now in
     let w = world_of g.S.PlanStore.content c.args.desk.now in
-    let so_far : AreListedSoFar (IsHonest (g.S.PlanStore.doubt c.enrol.new.self.store)) es w
-    (world_of g.S.PlanStore.content c.enrol.new.self) = record {
+    listed_err c.from_residual.result _ (IsHonest (g.S.PlanStore.doubt c.enrol.new.self.store)) es w
+    (world_of g.S.PlanStore.content c.enrol.new.self) c.from_residual.ensures.1 (record {
       count = c.loop-enrolment.enrolment-index;
       few = c.loop-enrolment-test.true;
       left = λ h. c.in_err-enrol.ensures.leaves.same
           ∙ c.loop-enrolment.invariant.listed (was_honest c.enrol.ensures.leaves.remembered.doubt h);
-    } in
-    on_err c.from_residual.result so_far
+    })
 
 pub returns-in_err-enrol-clause-cause : goal.returns-in_err-enrol-clause-cause
 returns-in_err-enrol-clause-cause g c =
     counted_since g.S.PlanStore.faults c.args.desk.now.store c.loop-enrolment.desk.store
     c.enrol.new.self.store c.from_residual.result _ c.from_residual.ensures.1
     c.loop-enrolment.invariant.counted c.in_err-enrol.ensures.leaves.cause
-
-pub returns-in_err-enrol-clause-crash : goal.returns-in_err-enrol-clause-crash
-returns-in_err-enrol-clause-crash g c = λ p settled.
-    let index = c.loop-enrolment.enrolment-index in
-    let es = c.args.enrolments.now in
-    let e = c.enrolment-item.result in
-    let w = world_of g.S.PlanStore.content c.args.desk.now in
-    let v = world_of g.S.PlanStore.content c.loop-enrolment.desk in
-    let before = was_honest c.enrol.ensures.leaves.remembered.doubt p in
-    let listed = c.loop-enrolment.invariant.listed in
-    on_err c.from_residual.result
-    (kept_so_far (IsHonest (g.S.PlanStore.doubt c.enrol.new.self.store)) es w v
-    (world_of g.S.PlanStore.content c.enrol.new.self) e index
-    (g.S.PlanStore.may_leave c.loop-enrolment.desk.store) (g.S.PlanStore.may_leave c.enrol.new.self.store)
-    c.loop-enrolment-test.true (λ h. c.in_err-enrol.ensures.leaves.same)
-    (λ h. listed (was_honest c.enrol.ensures.leaves.remembered.doubt h))
-    (ap (λ x. enrolled x e.operator e.ceiling) (listed before) ∙ sym (one_more (take index es) w e)
-    ∙ ap (λ x. with_operators w (take index es ++ x ∷ [])) c.enrolment-item.is
-    ∙ ap (with_operators w) (sym (take_more es index e c.loop-enrolment-test.true)))
-    (c.loop-enrolment.invariant.settled before settled) (c.enrol.ensures.leaves.crash p) p)
 
 pub returns-in_err-enrol-clause-found : goal.returns-in_err-enrol-clause-found
 returns-in_err-enrol-clause-found g c = λ p.

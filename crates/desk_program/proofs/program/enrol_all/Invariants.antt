@@ -1,6 +1,6 @@
 use Rattle.std.proofs.Common.{◌≡◌, ◌≤◌, take}
 use Rattle.desk_store.specs.StoreFaults.{IsHonest}
-use Rattle.desk_run.specs.DeskWorld.{IsSettled, IsSettledOrSame, world_of}
+use Rattle.desk_run.specs.DeskWorld.{IsSettledOrSame, world_of}
 use Rattle.desk_program.specs.Enrolling.{with_operators}
 use Rattle.desk_program.proofs.program.enrol_all.Given as goal
 
@@ -11,9 +11,6 @@ invariant-loop-enrolment g l =
       listed : IsHonest (g.S.PlanStore.doubt l.desk.store)
           → world_of g.S.PlanStore.content l.desk
           ≡ with_operators (world_of g.S.PlanStore.content l.fn.desk) (take l.enrolment-index l.enrolments);
-      settled : IsHonest (g.S.PlanStore.doubt l.desk.store)
-          → IsSettled g.S.PlanStore.content g.S.PlanStore.may_leave l.fn.desk
-          → IsSettled g.S.PlanStore.content g.S.PlanStore.may_leave l.desk;
       sure : IsHonest (g.S.PlanStore.doubt l.desk.store)
           → IsSettledOrSame g.S.PlanStore.content g.S.PlanStore.may_leave l.fn.desk l.desk;
       doubt : g.S.PlanStore.doubt l.fn.desk.store ≤ g.S.PlanStore.doubt l.desk.store;

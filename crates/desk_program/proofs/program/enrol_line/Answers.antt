@@ -41,7 +41,7 @@ returns-in_default-clause-cause g c = search (rules, ends_memory)
 
 pub returns-in-Err-clause-cause : goal.returns-in-Err-clause-cause
 returns-in-Err-clause-cause g c =
-    ends_counted c.in-Err.fault c.from.result _ _ _ c.from.ensures
+    ends_counted c.in-Err.fault c.from.result _ c.from.ensures
     (λ is. c.in-Err.ensures.leaves.cause (ap Some is))
     (c.conclude-in-Err.ensures.status, c.conclude-in-Err.ensures.told)
 

@@ -3,7 +3,7 @@ use Rattle.desk_store.specs.StoreFaults.{IsHonest}
 use Rattle.desk_store.specs.laws.Fault.{was_honest}
 use Rattle.desk_run.specs.DeskWorld.{world_of}
 use Rattle.desk_ends.specs.laws.Moment.{same_moment}
-use Rattle.desk_wire.specs.Passage.{passed}
+use Rattle.desk_wire.specs.Passage.{passage}
 use Rattle.desk_wire.specs.Playing.{HasPlayed}
 use Rattle.desk_line.specs.Exits.{EndsWith, ending}
 use Rattle.desk_program.specs.Enrolling.{AreListedSoFar, on_terms, with_operators}
@@ -24,7 +24,7 @@ returns-in-Err-clause-played g c =
     (g.W.Write.contents c.args.output.now) w after c.in-Err.fault c.from.result c.from.ensures
     c.in-Err.ensures.fault (c.conclude.ensures.status, c.conclude.ensures.told)
     (subst (λ es. AreListedSoFar honest es (on_terms w c.args.play.now.terms) after)
-    c.deref.ensures.value c.in-Err.ensures.err))
+    c.deref.ensures.value c.in-Err.ensures.listed))
 
 pub returns-in-Err-clause-kept : goal.returns-in-Err-clause-kept
 returns-in-Err-clause-kept g c = λ p settled found may.
@@ -38,19 +38,17 @@ returns-in-Err-clause-kept g c = λ p settled found may.
           (g.W.Write.contents c.args.output.now) w after c.in-Err.fault c.from.result c.from.ensures
           c.in-Err.ensures.fault (c.conclude.ensures.status, c.conclude.ensures.told)
           (subst (λ es. AreListedSoFar honest es (on_terms w c.args.play.now.terms) after)
-          c.deref.ensures.value c.in-Err.ensures.err),
+          c.deref.ensures.value c.in-Err.ensures.listed),
       subst (λ es. AreKeptSoFar honest es (on_terms w c.args.play.now.terms) after found)
-          c.deref.ensures.value (c.in-Err.ensures.crash p settled found may),
+          c.deref.ensures.value (c.in-Err.ensures.kept p settled found may),
     )
 
 pub returns-clause-played : goal.returns-clause-played
 returns-clause-played g c =
     let honest = IsHonest (g.S.PlanStore.doubt c.play_all-played.new.desk.store) in
     let played = c.play_all-played.result in
-    let old = g.R.Read.remaining c.args.input.now in
-    let new = g.R.Read.remaining c.play_all-played.new.input in
-    let out = g.W.Write.contents c.args.output.now in
-    let now = g.W.Write.contents c.play_all-played.new.output in
+    let bytes = passage g.R.Read g.W.Write c.args.input.now c.play_all-played.new.input c.args.output.now
+    c.play_all-played.new.output in
     let w = world_of g.S.PlanStore.content c.args.desk.now in
     let begun = on_terms w c.args.play.now.terms in
     let after = world_of g.S.PlanStore.content c.play_all-played.new.desk in
@@ -62,12 +60,12 @@ returns-clause-played g c =
           (g.E.Write.contents c.conclude-2.new.errors))) c.done_after.ensures
           (c.conclude-2.ensures.status, c.conclude-2.ensures.told);
       played = λ h.
-          let listed = c.in_default.ensures.ok (was_honest c.play_all-played.ensures.remembered.doubt h)
+          let listed = c.in_default.ensures.listed (was_honest c.play_all-played.ensures.remembered.doubt h)
           ∙ ap (with_operators begun) c.deref.ensures.value in
-          subst (λ m. HasPlayed honest played.ended played.answered (passed old new out now)
+          subst (λ m. HasPlayed honest played.ended played.answered bytes
           (with_operators begun c.args.play.now.enrolments.items) m after)
           (same_moment moment c.requires.moment)
-          (subst (λ v. HasPlayed honest played.ended played.answered (passed old new out now) v
+          (subst (λ v. HasPlayed honest played.ended played.answered bytes v
           (to_z w64 (of_z w64 moment)) after) listed c.play_all-played.ensures.played);
     })
 
@@ -79,19 +77,18 @@ returns-clause-kept g c = λ p settled found may.
     let end = ending c.conclude-2.result (g.E.Write.contents c.args.errors.now)
     (g.E.Write.contents c.conclude-2.new.errors) in
     run_kept (IsHonest (g.S.PlanStore.doubt c.play_all-played.new.desk.store)) c.args.play.now end
-    played.ended played.answered (g.R.Read.remaining c.args.input.now)
-    (g.R.Read.remaining c.play_all-played.new.input) (g.W.Write.contents c.args.output.now)
-    (g.W.Write.contents c.play_all-played.new.output) w (world_of g.S.PlanStore.content c.set_up.new.desk)
+    played.ended played.answered (passage g.R.Read g.W.Write c.args.input.now c.play_all-played.new.input
+    c.args.output.now c.play_all-played.new.output) w (world_of g.S.PlanStore.content c.set_up.new.desk)
     (world_of g.S.PlanStore.content c.play_all-played.new.desk) _
     (subst (λ d. EndsWith d end) c.done_after.ensures
     (c.conclude-2.ensures.status, c.conclude-2.ensures.told))
     (same_moment c.args.play.now.moment c.requires.moment)
-    (λ h. c.in_default.ensures.ok (was_honest c.play_all-played.ensures.remembered.doubt h)
+    (λ h. c.in_default.ensures.listed (was_honest c.play_all-played.ensures.remembered.doubt h)
     ∙ ap (with_operators (on_terms w c.args.play.now.terms)) c.deref.ensures.value)
     c.play_all-played.ensures.played p found
     (c.play_all-played.ensures.kept p (c.in_default.ensures.kept before settled) found may)
 
 pub returns-in-Err-clause-cause : goal.returns-in-Err-clause-cause
 returns-in-Err-clause-cause g c =
-    ends_counted c.in-Err.fault c.from.result _ _ _ c.from.ensures c.in-Err.ensures.cause
+    ends_counted c.in-Err.fault c.from.result _ c.from.ensures c.in-Err.ensures.cause
     (c.conclude.ensures.status, c.conclude.ensures.told)

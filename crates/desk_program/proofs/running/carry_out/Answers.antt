@@ -7,7 +7,6 @@ returns-in_default g c =
       done = carried_out _ c.args.line.now _ _ _ _ _ _ _ _ c.with_desk.ensures.played;
       kept = λ honest settled found may. line_kept _ c.args.line.now _ _ _ _ _ _ _ _ found
           (c.with_desk.ensures.kept honest settled found may);
-      doubt = c.with_desk.ensures.remembered.doubt;
-      shield = c.with_desk.ensures.remembered.shield;
       cause = c.with_desk.ensures.cause;
+      remembered = c.with_desk.ensures.remembered;
     }

@@ -49,7 +49,7 @@ returns-in_err-enrol_news-clause-kept g c =
     c.from_residual-in_err-enrol_news.ensures.1 c.in_ok-news.ensures.brings
     (inl (
       told_breakdown fault (enrolment_failure fault) refl c.in_err-enrol_news.ensures.fault,
-      subst (λ es. AreListedSoFar honest es w after) c.deref.ensures.value c.in_err-enrol_news.ensures.err,
+      subst (λ es. AreListedSoFar honest es w after) c.deref.ensures.value c.in_err-enrol_news.ensures.listed,
     ))
     (λ p found may. unlisted_found c.enrol_news.result news w after before now
     (subst (λ es. FindsNews c.enrol_news.result es w after before now) c.deref.ensures.value
@@ -80,7 +80,7 @@ returns-in_err-client-clause-kept g c =
     c.in_ok-news.ensures.brings)
     (inr (
       c.in_err-client.ensures.fault,
-      subst (λ es. AreEnrolled honest es w after) c.deref.ensures.value c.in_ok-enrol_news.ensures.ok,
+      subst (λ es. AreEnrolled honest es w after) c.deref.ensures.value c.in_ok-enrol_news.ensures.listed,
     ))
     (λ p found may. untaken_found c.enrol_news.result news w after before now
     (subst (λ es. FindsNews c.enrol_news.result es w after before now) c.deref.ensures.value
@@ -131,7 +131,7 @@ returns-clause-kept g c =
     (sym (c.close.ensures.3 ∙ taken.3)) brings.0)
     (enrolled_then _ honest was news w listed
     (subst (λ es. AreEnrolled (IsHonest (g.S.PlanStore.doubt c.enrol_news.new.desk.store)) es w listed)
-    c.deref.ensures.value c.in_ok-enrol_news.ensures.ok))
+    c.deref.ensures.value c.in_ok-enrol_news.ensures.listed))
     (subst (λ m. HasServed honest c.serve_one-served.result (passed bytes unread out now) listed m after)
     (same_moment client.moment c.in_ok-client.ensures.moment) c.serve_one-served.ensures.served)
     c.done_after.ensures

@@ -26,7 +26,7 @@ returns-in_err-listen-clause-served g c =
     c.in_err-listen.field-0.0 c.args.line.now _ _ (world_of g.S.PlanStore.content c.args.desk.now)
     (world_of g.S.PlanStore.content c.set_up.new.desk) c.from_residual-in_err-listen.ensures.1
     c.in_err-listen.ensures.fault c.in_err-listen.ensures.listens
-    (λ h. c.in_ok-set_up.ensures.ok h
+    (λ h. c.in_ok-set_up.ensures.listed h
     ∙ ap (with_operators (on_terms (world_of g.S.PlanStore.content c.args.desk.now)
     c.args.line.now.terms)) c.deref.ensures.value)
 
@@ -38,7 +38,7 @@ returns-clause-served g c =
     let after = world_of g.S.PlanStore.content c.serve_connections.new.desk in
     inl (record {
       begun = begun;
-      listed = λ h. c.in_ok-set_up.ensures.ok (was_honest c.serve_connections.ensures.remembered.doubt h)
+      listed = λ h. c.in_ok-set_up.ensures.listed (was_honest c.serve_connections.ensures.remembered.doubt h)
           ∙ ap (with_operators (on_terms w c.args.line.now.terms)) c.deref.ensures.value;
       port = _;
       listens = c.in_ok-listen.ensures.listens;
@@ -51,7 +51,7 @@ returns-in_err-listen-clause-kept g c = λ p settled.
     c.from_residual-in_err-listen.result c.args.line.now (world_of g.S.PlanStore.content c.args.desk.now)
     (world_of g.S.PlanStore.content c.set_up.new.desk) (world_of g.S.PlanStore.content c.set_up.new.desk)
     (g.S.PlanStore.may_leave c.set_up.new.desk.store) (g.S.PlanStore.may_leave c.set_up.new.desk.store) p
-    (λ h. c.in_ok-set_up.ensures.ok h
+    (λ h. c.in_ok-set_up.ensures.listed h
     ∙ ap (with_operators (on_terms (world_of g.S.PlanStore.content c.args.desk.now)
     c.args.line.now.terms)) c.deref.ensures.value) (c.in_ok-set_up.ensures.kept p settled)
     c.in_err-listen.field-0.0 _ _ c.from_residual-in_err-listen.ensures.1 c.in_err-listen.ensures.fault
@@ -66,7 +66,7 @@ returns-clause-kept g c = λ p settled.
     (world_of g.S.PlanStore.content c.serve_connections.new.desk)
     (g.S.PlanStore.may_leave c.set_up.new.desk.store)
     (g.S.PlanStore.may_leave c.serve_connections.new.desk.store) p
-    (λ h. c.in_ok-set_up.ensures.ok (was_honest c.serve_connections.ensures.remembered.doubt h)
+    (λ h. c.in_ok-set_up.ensures.listed (was_honest c.serve_connections.ensures.remembered.doubt h)
     ∙ ap (with_operators (on_terms (world_of g.S.PlanStore.content c.args.desk.now)
     c.args.line.now.terms)) c.deref.ensures.value) (c.in_ok-set_up.ensures.kept listed settled)
     _ _ _ c.in_ok-listen.ensures.listens c.serve_connections.ensures.kept

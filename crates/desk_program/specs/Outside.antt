@@ -1,0 +1,24 @@
+-- Outside: what is known of what a line reads and writes, of its port, and of how it ended.
+use Rattle.std.specs.Prelude.{ℕ, List, Option}
+use Rattle.std.specs.declared.io.Write as write
+use Rattle.desk_wire.specs.Passage.{Course, Passage, course}
+use Rattle.desk_line.specs.declared.failure.Exit.{Exit}
+use Rattle.desk_line.specs.Exits.{Ending, ending}
+use Rattle.desk_program.specs.Serving.{Traffic}
+
+-- the bytes of the streams; what the port told before and tells after; the end
+pub record Outside : Type 0 where
+  pub bytes : Passage
+  pub port : Course Traffic
+  pub end : Ending
+
+abbrev pub outside : Passage → Traffic → Traffic → Ending → Outside
+outside bytes from to end = record { bytes = bytes; port = course from to; end = end }
+
+-- the bytes that a writer has
+abbrev pub written : {W : Type 0} → write.Ghosts W → W → W → Course (Option (List ℕ))
+written w before after = course (w.contents before) (w.contents after)
+
+-- how a line ended, by its error writer
+abbrev pub ended : {E : Type 0} → write.Ghosts E → Exit → E → E → Ending
+ended e exit before now = ending exit (e.contents before) (e.contents now)
