@@ -1,10 +1,12 @@
 //! Which word of a line is malformed, told once the line was refused for one.
 
-ghost use Rattle.std.specs.Prelude.{◌≡◌, IfSome, None, false};
+ghost use Rattle.std.specs.Prelude.{◌≡◌, [], codes, IfSome, Some, is_none, is_some, map, not, option_map, string_bytes, unwrap_or};
+ghost use Rattle.clap.specs.Matches.{found_of};
+ghost use Rattle.clap.specs.Walk.{all_of, rows_of};
 ghost use Rattle.desk_rules.specs.Name.{is_operator_name};
 ghost use Rattle.desk_line.specs.Equal.{priority_in};
 ghost use Rattle.desk_line.specs.Grammar.{enrolment_by, enrolment_in};
-ghost use Rattle.desk_line.specs.Malformed.{IsMalformed};
+ghost use Rattle.desk_line.specs.Malformed.{IsBadAtDesk, IsBadBy, IsBadOperator, IsFirstBad, IsMalformed, first_bad};
 
 use crate::equal::{permitted_by, priority_of};
 use crate::line::{WordsFault, matches_of, text_of};
@@ -24,22 +26,30 @@ const NO_LIST: &str =
 /// The first word of a line that is malformed, and what it is not. None if there is none, or if memory runs
 /// out.
 pub fn malformed_word<'w>(alloc: Global, words: &'w [String]) -> Option<(&'w str, &'static str)>
-    ensures { IfSome result (λ found. IsMalformed found.0.now) }
+    ensures { IfSome result (λ found. IsMalformed (map string_bytes words.now) found.0.now) }
 {
     let matches = matches_of(alloc, words).ok()?;
     let (name, given) = matches.subcommand()?;
+    malformed_in(alloc, name, given)
+}
+
+// The first word of a line of this name that is malformed.
+fn malformed_in<'w>(
+    alloc: Global,
+    name: &str,
+    given: &ArgMatches<'w>,
+) -> Option<(&'w str, &'static str)>
+    ensures { IfSome result (λ found. IsFirstBad name.now (rows_of (found_of given.now)) found.0.now) }
+{
     if name == "enrol" {
         return malformed_operator(given);
     }
-    match malformed_list(alloc, given) {
-        Some(found) => Some(found),
-        None => malformed_enrolment(given.get_strs("enrolments").unwrap_or(&[])),
-    }
+    malformed_at_desk(alloc, given)
 }
 
 // The name or the ceiling of `enrol`, if it is malformed.
 fn malformed_operator<'w>(given: &ArgMatches<'w>) -> Option<(&'w str, &'static str)>
-    ensures { IfSome result (λ found. IsMalformed found.0.now) }
+    ensures { IfSome result (λ found. IsBadOperator (rows_of (found_of given.now)) found.0.now) }
 {
     let name = text_of(given, "NAME")?;
     if let Some(cause) = name_cause(name) {
@@ -52,12 +62,28 @@ fn malformed_operator<'w>(given: &ArgMatches<'w>) -> Option<(&'w str, &'static s
     }
 }
 
-// The list of equal priorities, if it is malformed.
-fn malformed_list<'w>(alloc: Global, given: &ArgMatches<'w>) -> Option<(&'w str, &'static str)>
-    ensures { IfSome result (λ found. IsMalformed found.0.now) }
+// The list of equal priorities, or the first word that is no enrolment, if one is malformed.
+fn malformed_at_desk<'w>(alloc: Global, given: &ArgMatches<'w>) -> Option<(&'w str, &'static str)>
+    ensures { IfSome result (λ found. IsBadAtDesk (rows_of (found_of given.now)) found.0.now) }
 {
-    let word = text_of(given, "equal")?;
+    let words = given.get_strs("enrolments").unwrap_or(&[]);
+    malformed_by(alloc, text_of(given, "equal"), words)
+}
+
+// The same, by the list, if there is one, and these words.
+fn malformed_by<'w>(
+    alloc: Global,
+    equal: Option<&'w str>,
+    words: &[&'w str],
+) -> Option<(&'w str, &'static str)>
+    ensures { IfSome result (λ found. IsBadBy (option_map (λ word. word.now) equal.entry)
+        (map (λ word. word.now) words.now) found.0.now) }
+{
+    let Some(word) = equal else {
+        return malformed_enrolment(words);
+    };
     match permitted_by(alloc, Some(word)) {
+        Ok(_) => malformed_enrolment(words),
         Err(WordsFault::Value) => Some((word, NO_LIST)),
         _ => None,
     }
@@ -65,7 +91,7 @@ fn malformed_list<'w>(alloc: Global, given: &ArgMatches<'w>) -> Option<(&'w str,
 
 // The first of these words that is no enrolment.
 fn malformed_enrolment<'w>(words: &[&'w str]) -> Option<(&'w str, &'static str)>
-    ensures { IfSome result (λ found. enrolment_in found.0.now ≡ None) }
+    ensures { IfSome result (λ found. first_bad (map (λ word. word.now) words.now) ≡ Some found.0.now) }
 {
     for word in words {
         if let Some(cause) = enrolment_cause(word) {
@@ -78,7 +104,7 @@ fn malformed_enrolment<'w>(words: &[&'w str]) -> Option<(&'w str, &'static str)>
 // Why a word is no enrolment, if it is none.
 #[tactic(auto, unfolding(crate::specs::Grammar::enrolment_in))]
 fn enrolment_cause(word: &str) -> Option<&'static str>
-    ensures { IfSome result (λ _. enrolment_in word.now ≡ None) }
+    ensures { is_some result ≡ is_none (enrolment_in word.now) }
 {
     match word.split_once('=') {
         None => Some(NO_PAIR),
@@ -88,7 +114,7 @@ fn enrolment_cause(word: &str) -> Option<&'static str>
 
 // Why a name and a ceiling are no enrolment, if they are none.
 fn cause_by(name: &str, ceiling: &str) -> Option<&'static str>
-    ensures { IfSome result (λ _. enrolment_by name.now ceiling.now ≡ None) }
+    ensures { is_some result ≡ is_none (enrolment_by name.now ceiling.now) }
 {
     match name_cause(name) {
         Some(cause) => Some(cause),
@@ -98,7 +124,7 @@ fn cause_by(name: &str, ceiling: &str) -> Option<&'static str>
 
 // What a text is not that is no operator's name.
 fn name_cause(name: &str) -> Option<&'static str>
-    ensures { IfSome result (λ _. is_operator_name name.now ≡ false) }
+    ensures { is_some result ≡ not (is_operator_name name.now) }
 {
     match Operator::try_new(name.as_bytes()) {
         Some(_) => None,
@@ -108,7 +134,7 @@ fn name_cause(name: &str) -> Option<&'static str>
 
 // What a text is not that is no ceiling.
 fn ceiling_cause(ceiling: &str) -> Option<&'static str>
-    ensures { IfSome result (λ _. priority_in ceiling.now ≡ None) }
+    ensures { is_some result ≡ is_none (priority_in ceiling.now) }
 {
     match priority_of(ceiling) {
         Some(_) => None,

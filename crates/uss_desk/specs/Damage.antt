@@ -67,7 +67,7 @@ is_copy (task.Run line) = false
 is_copy (task.Check database) = false
 is_copy (task.Copy words) = true
 
--- the database of a task, if it has one, and the path of its file, if it is in one
+-- the database of a line, or of a task, if it has one, and the path of its file, if it is in one
 abbrev pub database_of_line : Line → Option Database
 database_of_line (line.Play words) = Some words.database
 database_of_line (line.Token text) = None
@@ -80,6 +80,9 @@ abbrev pub database_of : Task → Option Database
 database_of (task.Run line) = database_of_line line
 database_of (task.Check database) = Some database
 database_of (task.Copy words) = Some words.database
+
+abbrev pub path_of_line : Line → Option (List ℕ)
+path_of_line line = option_and_then file_of (database_of_line line)
 
 abbrev pub path_of : Task → Option (List ℕ)
 path_of task = option_and_then file_of (database_of task)

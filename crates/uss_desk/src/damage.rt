@@ -177,7 +177,9 @@ fn file_of(task: &Task) -> Option<&str>
 }
 
 /// The file that a line names, if it names one.
-pub fn file_of_line(line: &Line) -> Option<&str> {
+pub fn file_of_line(line: &Line) -> Option<&str>
+    ensures { option_map (λ path. path.now) result ≡ spec.path_of_line line.now }
+{
     path_of(database_of_line(line)?)
 }
 
