@@ -2,3 +2,4 @@ mod KeepLemmas
 mod NameLemmas
 mod RunLemmas
 mod OperatorLemmas
+mod WatchLemmas
