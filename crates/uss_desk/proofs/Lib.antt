@@ -5,3 +5,4 @@ mod RunLemmas
 mod OperatorLemmas
 mod SumLemmas
 mod TwinLemmas
+mod WatchLemmas

@@ -1,0 +1,11 @@
+use Rattle.std.proofs.Common.{subst}
+use Rattle.desk_store.specs.Crashes.{LeavesOldOr}
+use Rattle.desk_store.specs.StoreChange.{changed_by}
+use Rattle.desk_tables.specs.Leaving.{MayLeave}
+use Rattle.uss_desk.proofs.watching.WatchedPlanStore.apply.Goals as goal
+
+pub returns-clause-crash : goal.returns-clause-crash
+returns-clause-crash g c = λ honest.
+    subst (λ s. LeavesOldOr (changed_by c.args.change.now s.world) (MayLeave g.S.Store s.held)
+    (MayLeave g.S.Store c.apply_at.new.store.held))
+    c.self.view_is (c.apply_at.ensures.crash honest)
