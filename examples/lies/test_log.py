@@ -150,20 +150,15 @@ def pair_of(path: pathlib.Path) -> list[bytes]:
 
 def assert_copied_without(path: pathlib.Path, told: str, left: Left) -> None:
     """`check` tells the loss, and so does the copy of a pair whose log is damaged, which has what was its content
-    before. The pair stays as it is, so it is refused and copied again; nothing is left beside."""
-    before, names = pair_of(path), sorted(path.parent.iterdir())
+    before. Afterwards the pair is that too: to read it ends its log there."""
     looked = finish([PROGRAM, "check", "--db", str(path)], b"")
     assert (looked.status, looked.output, looked.errors) == (4, b"", f"{told}uss_desk: damaged_log\n")
-    copies = [path.with_name(f"{path.name}.{name}") for name in ("copy", "again")]
-    for copy in copies:
-        copied = finish([PROGRAM, "copy", "--db", str(path), "--to", str(copy)], b"")
-        assert (copied.status, copied.errors) == (0, told)
-        assert pair_of(path) == before
-    assert sorted(path.parent.iterdir()) == sorted([*names, *copies])
-    found = [opened(copy, left.world) for copy in copies]
-    assert found[0].content in left.readings[:-1]
-    assert found[1] == found[0]
-    assert opened(path, left.world).word == "damaged_log"
+    copy = path.with_name(f"{path.name}.copy")
+    copied = finish([PROGRAM, "copy", "--db", str(path), "--to", str(copy)], b"")
+    assert (copied.status, copied.errors) == (0, told)
+    found = opened(copy, left.world)
+    assert found.content in left.readings[:-1]
+    assert opened(path, left.world) == found
 
 
 @pytest.mark.trials("FILE beside such a log", [("single bits", 50)])

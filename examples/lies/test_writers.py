@@ -3,9 +3,7 @@ a file that one has written to is refused."""
 
 import pathlib
 import random
-import re
 import sqlite3
-from collections.abc import Callable
 
 import pytest
 from faults.program import PROGRAM, finish
@@ -97,50 +95,6 @@ def test_write(kind: str, text: str, pairs: dict[str, Pair], room: pathlib.Path)
     copy = copy_pair(path, room / "desk.db")
     assert sqlite(copy, text)[0] == 0
     assert opened(copy, world) == ("store", b"")
-
-
-def with_ceilings(world: World) -> World:
-    """A world after the first of WRITES."""
-    return world._replace(ceilings=dict.fromkeys(world.ceilings, 99))
-
-
-COPIED = [(WRITES[0], with_ceilings), *((text, lambda world: world) for text in WRITES[3:])]
-"""Those after which the rows are a desk's, and the world that they are then."""
-
-
-@pytest.mark.parametrize("kind", ["closed", "killed"])
-@pytest.mark.parametrize("text, after", COPIED)
-def test_copied(
-    kind: str, text: str, after: Callable[[World], World], pairs: dict[str, Pair], room: pathlib.Path
-) -> None:
-    """A file that was written to is copied if its rows are a desk's, and the copy opens; the file stays as it is."""
-    path, world = pairs[kind]
-    left, copy = copy_pair(path, room / "desk.db"), room / "copy.db"
-    assert sqlite(left, text)[0] == 0
-    before = left.read_bytes()
-    ran = finish([PROGRAM, "copy", "--db", str(left), "--to", str(copy)], b"")
-    assert ran.status == 0
-    assert re.fullmatch(r"uss_desk: .*: \d+ pages without their sums: the rows alone were tested\n", ran.errors)
-    assert left.read_bytes() == before
-    assert opened(copy, after(world)) == (None, read_all(after(world))[1])
-
-
-@pytest.mark.parametrize("kind", ["closed", "killed"])
-def test_not_copied(kind: str, pairs: dict[str, Pair], room: pathlib.Path) -> None:
-    """A file into which another table was written isn't."""
-    left, copy = copy_pair(pairs[kind][0], room / "desk.db"), room / "copy.db"
-    assert sqlite(left, WRITES[2])[0] == 0
-    looked = finish([PROGRAM, "check", "--db", str(left)], b"")
-    assert looked.status == 4
-    assert re.fullmatch(
-        r"uss_desk: .*: \d+ pages without their sums, as sqlite3 leaves them; the rows are no desk's\n"
-        r"uss_desk: store\n",
-        looked.errors,
-    )
-    ran = finish([PROGRAM, "copy", "--db", str(left), "--to", str(copy)], b"")
-    told = f"uss_desk: {left}: other tables than a desk's\nuss_desk: not_a_desk\n"
-    assert (ran.status, ran.output, ran.errors) == (4, b"", told)
-    assert [path for path in room.iterdir() if path.name not in (left.name, f"{left.name}-wal")] == []
 
 
 def test_new_file_has_sums(made: Made) -> None:

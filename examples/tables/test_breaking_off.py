@@ -54,26 +54,6 @@ def test_copy_killed(call: str, least: int, room: pathlib.Path) -> None:
     assert number - 1 >= least
 
 
-@pytest.mark.parametrize("call, least", [("pwrite64", 10), ("write", 10), ("unlink", 3), ("rename", 1)])
-def test_copy_by_a_twin_killed(call: str, least: int, room: pathlib.Path) -> None:
-    """A copy of a file to which sqlite3 has written, killed at each of these calls: no file of the new name, or the
-    whole of it; the file stays as it is, and what is left beside keeps no later copy from it."""
-    made, path = made_file(str(room / "made.db"), PLAN), str(room / "desk.db")
-    assert copied(made, path).status == 0
-    stated_file(path, ["UPDATE operator SET ceiling = 99"])
-    before, data = rows_of(path), bytes_of(path)
-    for number in range(1, MOST):
-        new = f"{path}.{number}"
-        ran = run("copy", "--db", path, "--to", new, under=killed_at(call, number))
-        assert bytes_of(path) == data
-        assert_whole_or_nothing(before, path, new)
-        assert bytes_of(path) == data
-        if not was_killed(ran.status):
-            break
-    assert ran.status == 0
-    assert number - 1 >= least
-
-
 @pytest.mark.parametrize("call, least", [pytest.param(call, least, id=call) for call, _, least in CALLS])
 def test_packed_opening_killed(call: str, least: int, room: pathlib.Path) -> None:
     """A packed file, the opening of which is killed at each of these calls: its rows stay, and it opens afterwards."""

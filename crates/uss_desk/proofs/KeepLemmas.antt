@@ -1,5 +1,5 @@
 -- What a look and a copy come to.
-use Rattle.std.proofs.Common.{◌≡◌, ℕ, true, false, if◌then◌else◌, List, [], ◌++◌, take, Option, None, Some, Result, Ok, Err, OnOk, IfErr, inl, inr, refl, sym, subst}
+use Rattle.std.proofs.Common.{◌≡◌, ℕ, List, [], ◌++◌, take, Option, None, Some, Result, Ok, Err, OnOk, IfErr, inl, inr, refl, sym, subst}
 use Rattle.std.specs.Option.{IsSomeAnd}
 use Rattle.std.proofs.KnownBytes.{Appends-nil, Appends-trans}
 use Rattle.std.specs.Io.KnownBytes.{Appends}
@@ -27,16 +27,12 @@ use Rattle.desk_tables.specs.declared.closing.Unclosed.{Unclosed}
 use Rattle.desk_tables.specs.declared.opening.files.CopyFault.{CopyFault}
 use Rattle.desk_tables.specs.declared.opening.files.FilesFault.{FilesFault}
 use Rattle.uss_desk.specs.declared.opening.Unopened.{Unopened}
-use Rattle.uss_desk.specs.Keeping.{CopyEnd, FailsAtFiles, FailsAtSteps, FailsBy, FailsToCopy, FailsToLook, IsCopyMade, IsNamedIf, IsReadAs, IsUncopied, IsUntold, Tells, TellsHoldings}
+use Rattle.uss_desk.specs.Keeping.{CopyEnd, FailsAtFiles, FailsBy, FailsToCopy, FailsToLook, IsCopyMade, IsNamedIf, IsReadAs, IsUncopied, IsUntold, Tells, TellsHoldings}
 use Rattle.std.specs.Result.{IsErrAnd}
-use Rattle.uss_desk.specs.Naming.{Follows, IsUnnamed, Step}
+use Rattle.uss_desk.specs.Naming.{IsUnnamed, Step, free_steps}
 use Rattle.uss_desk.specs.Opening.{open_failure}
 use Rattle.desk_tables.specs.Copying.{AreNotCopied, AreNotRead}
-use Rattle.uss_desk.proofs.NameLemmas.{failed_after, follows_none}
-use Rattle.uss_desk.specs.Twins.{beside, has_twin, is_summed, passing}
-use Rattle.uss_desk.specs.declared.ways.Way.{Way}
 use Rattle.uss_desk.proofs.RunLemmas.{fails_over}
-use Rattle.uss_desk.specs.Unsummed.{TellsLine}
 
 -- nothing is told
 pub tells_nothing : (now : Option (List ℕ)) → Tells now now
@@ -54,12 +50,6 @@ pub tells_written : {U : Type 0} (line : List ℕ) (old now : Option (List ℕ))
     → OnOk done (Appends old now line) → IfErr done (BreaksOff line old now) → Tells old now
 tells_written line old now (Ok u) whole off = record { text = line; told = whole }
 tells_written line old now (Err stop) whole off = record { text = take stop.sent line; told = off.written }
-
--- the same of a line that is known
-pub tells_line : {U : Type 0} (line : List ℕ) (old now : Option (List ℕ)) (done : Result U WriteFault)
-    → OnOk done (Appends old now line) → IfErr done (BreaksOff line old now) → TellsLine line old now
-tells_line line old now (Ok u) whole off = record { cut = None; written = whole }
-tells_line line old now (Err stop) whole off = record { cut = Some stop; written = off }
 
 module _ {D : Type 0} {g : disk.Ghosts D} (image : Image) (database : Database)
     (it : Unopened (FileStore D g))
@@ -107,24 +97,20 @@ module _ {D E : Type 0} {g : disk.Ghosts D} {k : disk.Ghosts E} (image other : I
     unprinted = refl;
   }
 
--- what the files refused, or a step, is told on
+-- what the files refused is told on
 pub copy_fails : {D E V : Type 0} {g : disk.Ghosts D} {k : disk.Ghosts E} (image other : Image)
-    (database : Database) (old mid new : Option (List Step)) (xs : List Step) (r : Result V (CopyEnd g k))
-    (it : CopyEnd g k) → Follows old mid xs → IsErrAnd r (λ e. e ≡ it) → FailsAtSteps image other mid new it
+    (database : Database) (old new : Option (List Step)) (r : Result V (CopyEnd g k)) (it : CopyEnd g k)
+    → IsErrAnd r (λ e. e ≡ it) → FailsAtFiles image other it
     → IfErr r (FailsToCopy image other database old new)
-copy_fails image other database old mid new xs (Ok v) it first is fails = tt
-copy_fails image other database old mid new xs (Err e) it first is (inl failed) =
-    subst (FailsToCopy image other database old new) (sym is)
-    (inr (inr (inl (failed_after old mid new xs first failed.0, failed.1))))
-copy_fails image other database old mid new xs (Err e) it first is (inr fails) =
+copy_fails image other database old new (Ok v) it is fails = tt
+copy_fails image other database old new (Err e) it is fails =
     subst (FailsToCopy image other database old new) (sym is) (inr (inr (inr fails)))
 
 -- what failed got no name
-pub named_if : {A B : Type 0} (P : B → Type 0) (first : List Step) (to : List ℕ)
-    (old new : Option (List Step)) (r : Result A B) → IsErrAnd r P → IsUnnamed first to old new
-    → IsNamedIf r first to old new
-named_if P first to old new (Ok v) is unnamed = absurd is
-named_if P first to old new (Err e) is unnamed = unnamed
+pub named_if : {A B : Type 0} (P : B → Type 0) (to : List ℕ) (old new : Option (List Step)) (r : Result A B)
+    → IsErrAnd r P → IsUnnamed (free_steps to) to old new → IsNamedIf r to old new
+named_if P to old new (Ok v) is unnamed = absurd is
+named_if P to old new (Err e) is unnamed = unnamed
 
 -- what was read is told as it was counted
 pub read_as : {D : Type 0} {g : disk.Ghosts D} (image : Image) (left : Held (FileStore D g))
@@ -153,31 +139,3 @@ copy_made k image other left files counts store counted looks made settled close
   settled = settled;
   closed = closed;
 }
-
--- ---- a copy itself, or by a twin
-
--- files that were refused fail
-pub at_files : {D E V : Type 0} {g : disk.Ghosts D} {k : disk.Ghosts E} (image other : Image)
-    (Are : List ℕ → Type 0) (As : List ℕ → Type 0) (old new : Option (List Step)) (r : Result V (CopyEnd g k))
-    → IfErr r (FailsAtFiles image other)
-    → IfErr r (λ e. (to : List ℕ) → Are to → As to → FailsAtSteps image other old new e)
-at_files image other Are As old new (Ok v) fails = tt
-at_files image other Are As old new (Err e) fails = λ to are also. inr fails
-
--- nothing was done beside
-pub kept_beside : {V E : Type 0} (As : List ℕ → Type 0) (way : Way) (path : List ℕ)
-    (old new : Option (List Step)) (r : Result V E) → has_twin way ≡ false → OnOk r (new ≡ old)
-    → OnOk r ((to : List ℕ) → As to → Follows old new (beside way path to))
-kept_beside As way path old new (Err e) is kept = tt
-kept_beside As way path old new (Ok v) is kept = λ to also.
-    subst (λ b. Follows old new (if b then passing path (is_summed way) to else [])) (sym is)
-    (subst (λ s. Follows old s []) (sym kept) (follows_none old))
-
--- a twin was
-pub passed_beside : {V E : Type 0} (As : List ℕ → Type 0) (way : Way) (path : List ℕ)
-    (old new : Option (List Step)) (r : Result V E) → has_twin way ≡ true
-    → OnOk r ((to : List ℕ) → As to → Follows old new (passing path (is_summed way) to))
-    → OnOk r ((to : List ℕ) → As to → Follows old new (beside way path to))
-passed_beside As way path old new (Err e) is passed = tt
-passed_beside As way path old new (Ok v) is passed = λ to also.
-    subst (λ b. Follows old new (if b then passing path (is_summed way) to else [])) (sym is) (passed to also)

@@ -2,7 +2,7 @@
 use Rattle.std.proofs.Common.{◌≡◌, ℕ, Bool, true, false, not, List, [], ◌∷◌, ◌++◌, Option, None, Some, append-nil, append_assoc, ap, inl, inr, subst, sym, ◌∙◌}
 use Rattle.std.proofs.lemmas.List.Elements.{All-append, All-cons, All-nil, All-weaker}
 use Rattle.std.specs.Prelude.{All, MatchOption}
-use Rattle.uss_desk.specs.Naming.{ChangesFound, ChangesOwn, Cleared, ClearsOwn, Failed, Follows, Free, GivesNoName, GivesUp, HasFailed, IsNotFree, IsUnnamed, LeavesNames, LeavesOthers, Removed, Renamed, Step, Synced, Takes, TakesAll, TakesIfNone, Tried, Twinned, clearing, free_steps, log_of, named_steps, part_of}
+use Rattle.uss_desk.specs.Naming.{ChangesFound, ChangesOwn, Cleared, ClearsOwn, Failed, Follows, Free, GivesNoName, GivesUp, HasFailed, IsNotFree, IsUnnamed, LeavesNames, LeavesOthers, Removed, Renamed, Step, Synced, Takes, TakesAll, TakesIfNone, Tried, clearing, free_steps, log_of, named_steps, part_of}
 
 -- steps after steps
 pub follows_both : (old mid new : Option (List Step)) (xs ys : List Step) → Follows old mid xs
@@ -13,7 +13,7 @@ follows_both (Some a) (Some b) None xs ys first next = absurd next
 follows_both (Some a) (Some b) (Some c) xs ys first next =
     next ∙ ap (λ v. v ++ ys) first ∙ append_assoc a xs ys
 
-pub follows_none : (now : Option (List Step)) → Follows now now []
+follows_none : (now : Option (List Step)) → Follows now now []
 follows_none None = tt
 follows_none (Some xs) = sym (append-nil xs)
 
@@ -30,7 +30,7 @@ takes_both {Is} {old} {mid} {new} first next = record {
   each = All-append Is first.steps next.steps first.each next.each;
 }
 
-pub one : (Is : Step → Type 0) (step : Step) → Is step → All Is (step ∷ [])
+one : (Is : Step → Type 0) (step : Step) → Is step → All Is (step ∷ [])
 one Is step is = All-cons Is step [] is (All-nil Is)
 
 pub takes_one : (Is : Step → Type 0) (old new : Option (List Step)) (done : Bool) (step : Step)
@@ -39,6 +39,13 @@ takes_one Is old new true step made is fails =
     record { steps = step ∷ []; made = made; each = one Is step is }
 takes_one Is old new false step made is fails =
     record { steps = Failed ∷ []; made = made; each = one Is Failed fails }
+
+-- no step is made
+pub leaves_none : (now : Option (List Step)) → LeavesNames now now
+leaves_none now = record { steps = []; made = follows_none now; unnamed = All-nil GivesNoName }
+
+pub leaves_all : (to : List ℕ) (now : Option (List Step)) → LeavesOthers to now now
+leaves_all to now = inl (takes_none (ClearsOwn to) now)
 
 -- ---- a step that fails
 
@@ -70,26 +77,6 @@ failed_after old mid new xs first failed = record {
   made = subst (Follows old new) (sym (append_assoc xs failed.before (Failed ∷ failed.after)))
       (follows_both old mid new xs (failed.before ++ Failed ∷ failed.after) first failed.made);
 }
-
--- a step that was made or failed, and one that failed after it
-pub failed_last : (old mid new : Option (List Step)) (step : Step) (b : Bool) → Takes old mid b step
-    → HasFailed mid new → HasFailed old new
-failed_last old mid new step true made failed = failed_after old mid new (step ∷ []) made failed
-failed_last old mid new step false made failed = failed_after old mid new (Failed ∷ []) made failed
-
--- steps after one that failed
-pub failed_then : (old mid new : Option (List Step)) (xs : List Step) → HasFailed old mid
-    → Follows mid new xs → HasFailed old new
-failed_then old mid new xs failed next = record {
-  before = failed.before;
-  after = failed.after ++ xs;
-  made = subst (Follows old new) (append_assoc failed.before (Failed ∷ failed.after) xs)
-      (follows_both old mid new (failed.before ++ Failed ∷ failed.after) xs failed.made next);
-}
-
-pub failed_not : (old new : Option (List Step)) (step : Step) (b : Bool) → Takes old new (not b) step
-    → b ≡ true → HasFailed old new
-failed_not old new step b made is = failed_now old new (subst (λ c. Takes old new (not c) step) is made)
 
 -- ---- the names of a new file
 
@@ -163,7 +150,6 @@ module _ {to : List ℕ} {old new : Option (List Step)} (it : IsNotFree to old n
     names_none (Free path) is = tt
     names_none (Cleared part log) is = tt
     names_none (Tried path) is = tt
-    names_none (Twinned source summed file log) is = absurd is
     names_none (Removed path) is = tt
     names_none (Renamed from into) is = is
     names_none (Synced path) is = tt
@@ -178,7 +164,7 @@ module _ {to : List ℕ} {old new : Option (List Step)} (it : IsNotFree to old n
 
 -- ---- once nothing was found at its names
 
-pub free_no_name : (to : List ℕ) → All GivesNoName (free_steps to)
+free_no_name : (to : List ℕ) → All GivesNoName (free_steps to)
 free_no_name to =
     let six = one GivesNoName (Tried (part_of to)) tt in
     let five = All-cons GivesNoName (Free (log_of (part_of to))) (Tried (part_of to) ∷ []) tt six in
@@ -193,3 +179,39 @@ free_no_name to =
     (Free (log_of to) ∷ clearing to ∷ Free (part_of to) ∷ Free (log_of (part_of to))
     ∷ Tried (part_of to) ∷ [])
     tt two
+
+module _ (old mid new : Option (List Step)) (to : List ℕ) (free : Follows old mid (free_steps to)) where
+  pub found_own : TakesAll (ChangesOwn to) mid new → LeavesOthers to old new
+  found_own own = inr (record {
+    rest = own.steps;
+    made = follows_both old mid new (free_steps to) own.steps free own.made;
+    own = own.each;
+  })
+
+  pub gone_own : GivesUp to mid new → LeavesOthers to old new
+  gone_own gone = found_own (record {
+    steps = gone.steps;
+    made = gone.made;
+    each = All-weaker (λ step. ChangesOwn to step × GivesNoName step) (ChangesOwn to) (λ step is. is.0)
+        gone.steps gone.each;
+  })
+
+  pub gone_names : GivesUp to mid new → LeavesNames old new
+  gone_names gone = record {
+    steps = free_steps to ++ gone.steps;
+    made = follows_both old mid new (free_steps to) gone.steps free gone.made;
+    unnamed = All-append GivesNoName (free_steps to) gone.steps (free_no_name to)
+        (All-weaker (λ step. ChangesOwn to step × GivesNoName step) GivesNoName (λ step is. is.1)
+        gone.steps gone.each);
+  }
+
+  -- what a naming that failed comes to
+  pub unnamed_after : IsUnnamed [] to mid new → IsUnnamed (free_steps to) to old new
+  unnamed_after failed = elim failed [
+    | inl none ↦ inl (record {
+      steps = free_steps to ++ none.steps;
+      made = follows_both old mid new (free_steps to) none.steps free none.made;
+      unnamed = All-append GivesNoName (free_steps to) none.steps (free_no_name to) none.unnamed;
+    })
+    | inr half ↦ inr (follows_both old mid new (free_steps to) (named_steps to Failed) free half)
+  ]

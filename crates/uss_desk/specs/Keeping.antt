@@ -1,5 +1,5 @@
 -- Keeping: what a keeper is told of a file, and what is copied of it.
-use Rattle.std.specs.Prelude.{◌≡◌, ⊤, ℕ, Bool, List, length, Option, Result, Ok, Err, ◌⊎◌, None}
+use Rattle.std.specs.Prelude.{◌≡◌, ⊤, ℕ, List, length, Option, Result, Ok, Err, ◌⊎◌, None}
 use Rattle.std.specs.Option.{IsSomeAnd}
 use Rattle.std.specs.Io.KnownBytes.{Appends}
 use Rattle.sqlite_disk.specs.declared.Disk as disk
@@ -31,12 +31,8 @@ use Rattle.uss_desk.specs.declared.keeping.Uncopied.{Uncopied}
 use Rattle.uss_desk.specs.declared.opening.Unopened.{Unopened}
 use Rattle.uss_desk.specs.declared.opening.Opened.{Opened}
 use Rattle.uss_desk.specs.declared.opening.Opened.TheVariants as opened
-use Rattle.uss_desk.specs.declared.rows.Rows.{Rows}
-use Rattle.uss_desk.specs.declared.ways.Way.{Way}
-use Rattle.uss_desk.specs.declared.ways.Way.TheVariants as way
-use Rattle.uss_desk.specs.Naming.{IsNamed, IsUnnamed, Step, HasFailed}
+use Rattle.uss_desk.specs.Naming.{IsNamed, IsUnnamed, Step, free_steps, HasFailed}
 use Rattle.uss_desk.specs.Opening.{open_failure, FailsOver, IsInMemory, IsUnreadFor}
-use Rattle.uss_desk.specs.Unsummed.{IsRefusedBy, IsWarned, MayTell, ShowsRows, path_of, rows_line}
 
 -- files were refused over which a line was to be carried out, or from which plans were to be moved
 abbrev pub AreFilesRefused : {M D V U W : Type 0} → Opened M (Result D U) (Result V W) → Type 0
@@ -94,54 +90,11 @@ module _ {D : Type 0} {g : disk.Ghosts D} (image : Image) where
     pub printed : IsTextPrinted (checked_line file) end out now
 
   -- what they hold is told, or a failure is
-  abbrev pub IsWholeChecked :
+  abbrev pub IsChecked :
       Database → Ending → Result (Held (FileStore D g)) (Unopened (FileStore D g)) → Option (List ℕ)
       → Option (List ℕ) → Type 0
-  IsWholeChecked database end (Ok left) out now = IsTold end left out now
-  IsWholeChecked database end (Err it) out now = IsUntold database end it out now
-
-  -- a connection to files that held this read rows of a desk in them
-  pub record AreRowsOf (left : Held (FileStore D g)) : Type 0 where
-    pub is_old : Bool
-    pub w : World
-    pub looks : LooksIn image left is_old w
-
-  -- why no rows were read by a twin: as `FailsToLook` has it of the twin, or it can't be made
-  abbrev pub FailsByTwin :
-      Database → Option (List Step) → Option (List Step) → Unopened (FileStore D g) → Type 0
-  FailsByTwin database old new it =
-      FailsToLook database it ⊎ (HasFailed old new × IsUnreadFor it opening.Store)
-
-  -- what a look by a twin came to: rows of a desk were read, or why not
-  abbrev pub IsReadByTwin :
-      Database → Option (List Step) → Option (List Step)
-      → Result (Held (FileStore D g)) (Unopened (FileStore D g)) → Type 0
-  IsReadByTwin database old new (Ok left) = AreRowsOf left
-  IsReadByTwin database old new (Err it) = FailsByTwin database old new it
-
-  -- of a database so many of whose pages lack their sums it is told whether its rows are a desk's, as far as
-  -- a look by a twin showed it; then the failure with which it is refused
-  pub record AreRowsChecked (count : ℕ) (database : Database) (old new : Option (List Step)) (end : Ending)
-      (looked : Result (Held (FileStore D g)) (Unopened (FileStore D g))) : Type 0 where
-    pub read : IsReadByTwin database old new looked
-    pub first : Option (List ℕ)
-    pub before : Tells end.before first
-    pub rows : Rows
-    pub shown : ShowsRows looked rows
-    pub between : Option (List ℕ)
-    pub line : MayTell (rows_line (path_of database) count rows) first between
-    pub failure : Failure
-    pub refused : IsRefusedBy looked failure
-    pub fails : FailsWith failure (record end { before = between })
-
-  -- what is told of a database, by the way in which it is read
-  abbrev pub IsChecked :
-      Way → Database → Option (List Step) → Option (List Step) → Ending
-      → Result (Held (FileStore D g)) (Unopened (FileStore D g)) → Option (List ℕ) → Option (List ℕ) → Type 0
-  IsChecked way.Itself database old new end looked out now = IsWholeChecked database end looked out now
-  IsChecked way.Damaged database old new end looked out now = IsWholeChecked database end looked out now
-  IsChecked (way.Unsummed count) database old new end looked out now =
-      AreRowsChecked count database old new end looked × (now ≡ out)
+  IsChecked database end (Ok left) out now = IsTold end left out now
+  IsChecked database end (Err it) out now = IsUntold database end it out now
 
 -- ---- a copy
 
@@ -180,14 +133,11 @@ module _ {D E : Type 0} {g : disk.Ghosts D} {k : disk.Ghosts E} (image other : I
   abbrev pub FailsAtFiles : CopyEnd g k → Type 0
   FailsAtFiles it = FailsRefused it ⊎ FailsUnclosed it
 
-  -- a step of its folders failed; or the files refuse it
-  abbrev pub FailsAtSteps : Option (List Step) → Option (List Step) → CopyEnd g k → Type 0
-  FailsAtSteps old new it = (HasFailed old new × FailsUntried failure.Store it) ⊎ FailsAtFiles it
-
-  -- a database in memory is not copied; memory ran out; or so
+  -- a database in memory is not copied; memory ran out; a step of its folders failed; or the files refuse it
   abbrev pub FailsToCopy : Database → Option (List Step) → Option (List Step) → CopyEnd g k → Type 0
   FailsToCopy database old new it = (IsInMemory database × FailsUntried failure.Store it)
-      ⊎ (FailsUntried failure.Memory it ⊎ FailsAtSteps old new it)
+      ⊎ (FailsUntried failure.Memory it
+      ⊎ ((HasFailed old new × FailsUntried failure.Store it) ⊎ FailsAtFiles it))
 
   -- a failure is told, and nothing is printed
   pub record IsUncopied (database : Database) (old new : Option (List Step)) (end : Ending)
@@ -195,13 +145,6 @@ module _ {D E : Type 0} {g : disk.Ghosts D} {k : disk.Ghosts E} (image other : I
     pub why : FailsToCopy database old new it
     pub told : FailsTelling it.failure end
     pub unprinted : now ≡ out
-
--- what was not tested is told, and then a line is printed
-pub record IsCopyTold (way : Way) (path line : List ℕ) (end : Ending) (out now : Option (List ℕ))
-    : Type 0 where
-  pub between : Option (List ℕ)
-  pub warned : IsWarned way path end.before between
-  pub printed : IsTextPrinted line (record end { before = between }) out now
 
 module _ {D E : Type 0} {g : disk.Ghosts D} (k : disk.Ghosts E) (image other : Image) where
   -- a connection to files that held this leaves them, and new files, whose log is empty, have their content:
@@ -215,18 +158,18 @@ module _ {D E : Type 0} {g : disk.Ghosts D} (k : disk.Ghosts E) (image other : I
     pub settled : IsSettledAt over_files held w
     pub closed : AreClean k copies.1.0.log copies.1.0.db → IsClosedInto held copies.1.0
 
-  -- how much was copied is told, and before it what was not tested; or a failure is
+  -- how much was copied is told; or a failure is
   abbrev pub IsCopied :
-      Way → Database → Option (List Step) → Option (List Step) → Ending
+      Database → Option (List Step) → Option (List Step) → Ending
       → Result (Held (FileStore D g) × (Files E × Holdings)) (CopyEnd g k) → Option (List ℕ) → Option (List ℕ)
       → Type 0
-  IsCopied way database old new end (Ok copies) out now = IsCopyMade copies
-      × IsCopyTold way (path_of database) (copied_line copies.1.1.operators copies.1.1.plans) end out now
-  IsCopied way database old new end (Err it) out now = IsUncopied image other database old new end it out now
+  IsCopied database old new end (Ok copies) out now =
+      IsCopyMade copies × IsTextPrinted (copied_line copies.1.1.operators copies.1.1.plans) end out now
+  IsCopied database old new end (Err it) out now = IsUncopied image other database old new end it out now
 
--- what is copied has got its name after these steps; or no file got a name, or the file got its own, whole,
--- and its folder can't be synced
+-- what is copied has got its name, and there was nothing at its names; or no file got a name, or the file got
+-- its own, whole, and its folder can't be synced
 abbrev pub IsNamedIf :
-    {A B : Type 0} → Result A B → List Step → List ℕ → Option (List Step) → Option (List Step) → Type 0
-IsNamedIf (Ok copies) first to old new = IsNamed first to old new
-IsNamedIf (Err it) first to old new = IsUnnamed first to old new
+    {A B : Type 0} → Result A B → List ℕ → Option (List Step) → Option (List Step) → Type 0
+IsNamedIf (Ok copies) to old new = IsNamed to old new
+IsNamedIf (Err it) to old new = IsUnnamed (free_steps to) to old new

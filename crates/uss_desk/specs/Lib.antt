@@ -1,5 +1,4 @@
--- Read first: Running, Opening, Guarding, Closing; then Naming, Twins, Unsummed, Keeping; Damage and Sums
--- stand alone.
+-- Read first: Running, Opening, Guarding, Closing, Keeping; Damage stands alone.
 pub mod Opening
 pub mod Operators
 pub mod Guarding
@@ -7,8 +6,5 @@ pub mod Running
 pub mod Watching
 pub mod Closing
 pub mod Naming
-pub mod Twins
-pub mod Sums
-pub mod Unsummed
 pub mod Keeping
 pub mod Damage

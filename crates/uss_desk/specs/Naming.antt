@@ -3,14 +3,12 @@ use Rattle.std.specs.Prelude.{◌≡◌, ◌⊎◌, ⊤, ℕ, Bool, true, false,
 use Rattle.uss_desk.specs.declared.naming.Names.{Names}
 
 -- a step: a path is looked at, and there is nothing; what a copy that was cut off left at two paths, a file
--- and its log, is gone; a file is made there for a trial, and is gone again; a file and its log are copied to
--- two paths, a twin, with sums made right or byte for byte; a file is removed; one gets another name; the
--- folder of a path is synced; or what was asked is not so, or can't be done
+-- and its log, is gone; a file is made there for a trial, and is gone again; a file is removed; one gets
+-- another name; the folder of a path is synced; or what was asked is not so, or can't be done
 pub data Step : Type 0 where
   Free : List ℕ → Step
   Cleared : List ℕ → List ℕ → Step
   Tried : List ℕ → Step
-  Twinned : List ℕ → Bool → List ℕ → List ℕ → Step
   Removed : List ℕ → Step
   Renamed : List ℕ → List ℕ → Step
   Synced : List ℕ → Step
@@ -66,7 +64,6 @@ abbrev pub GivesNoName : Step → Type 0
 GivesNoName (Free path) = ⊤
 GivesNoName (Cleared part log) = ⊤
 GivesNoName (Tried path) = ⊤
-GivesNoName (Twinned source summed file log) = ⊤
 GivesNoName (Removed path) = ⊤
 GivesNoName (Renamed from to) = ⊥
 GivesNoName (Synced path) = ⊤
@@ -83,7 +80,6 @@ abbrev pub ClearsOwn : List ℕ → Step → Type 0
 ClearsOwn to (Free path) = ⊤
 ClearsOwn to (Cleared part log) = (part ≡ part_of to) × (log ≡ log_of (part_of to))
 ClearsOwn to (Tried path) = ⊥
-ClearsOwn to (Twinned source summed file log) = ⊥
 ClearsOwn to (Removed path) = ⊥
 ClearsOwn to (Renamed from into) = ⊥
 ClearsOwn to (Synced path) = ⊤
@@ -94,30 +90,10 @@ abbrev pub ChangesOwn : List ℕ → Step → Type 0
 ChangesOwn to (Free path) = ⊤
 ChangesOwn to (Cleared part log) = ⊥
 ChangesOwn to (Tried path) = ⊥
-ChangesOwn to (Twinned source summed file log) = ⊥
 ChangesOwn to (Removed path) = (path ≡ part_of to) ⊎ (path ≡ log_of (part_of to))
 ChangesOwn to (Renamed from into) = (from ≡ part_of to) × (into ≡ to)
 ChangesOwn to (Synced path) = ⊤
 ChangesOwn to Failed = ⊤
-
--- the name of a twin
-abbrev pub twin_of : List ℕ → List ℕ
-twin_of path = path ++ codes ".twin"
-
--- a step that changes nothing but a twin of its own
-abbrev pub ChangesTwin : List ℕ → Step → Type 0
-ChangesTwin to (Free path) = ⊥
-ChangesTwin to (Cleared part log) = (part ≡ twin_of to) × (log ≡ log_of (twin_of to))
-ChangesTwin to (Tried path) = ⊥
-ChangesTwin to (Twinned source summed file log) = (file ≡ twin_of to) × (log ≡ log_of (twin_of to))
-ChangesTwin to (Removed path) = (path ≡ twin_of to) ⊎ (path ≡ log_of (twin_of to))
-ChangesTwin to (Renamed from into) = ⊥
-ChangesTwin to (Synced path) = ⊥
-ChangesTwin to Failed = ⊤
-
--- a step that changes nothing but the new file under the names that it has first, its log, and a twin
-abbrev pub ChangesBoth : List ℕ → Step → Type 0
-ChangesBoth to step = ChangesOwn to step ⊎ ChangesTwin to step
 
 -- steps of which each is so
 pub record TakesAll (Is : Step → Type 0) (old new : Option (List Step)) : Type 0 where
@@ -125,11 +101,11 @@ pub record TakesAll (Is : Step → Type 0) (old new : Option (List Step)) : Type
   pub made : Follows old new steps
   pub each : All Is steps
 
--- once nothing was found at the names of a new file, it alone is changed, and a twin
+-- once nothing was found at the names of a new file, it alone is changed
 pub record ChangesFound (to : List ℕ) (old new : Option (List Step)) : Type 0 where
   pub rest : List Step
   pub made : Follows old new (free_steps to ++ rest)
-  pub own : All (ChangesBoth to) rest
+  pub own : All (ChangesOwn to) rest
 
 -- no file is changed at whose name something was found, but what a copy left: that alone is gone, or the new
 -- file is changed too, once nothing was found at its names
@@ -156,6 +132,6 @@ pub record IsNotFree (to : List ℕ) (old new : Option (List Step)) : Type 0 whe
 abbrev pub IsUnnamed : List Step → List ℕ → Option (List Step) → Option (List Step) → Type 0
 IsUnnamed first to old new = LeavesNames old new ⊎ Follows old new (first ++ named_steps to Failed)
 
--- after these steps the file gets its own name, and its folder is synced
-abbrev pub IsNamed : List Step → List ℕ → Option (List Step) → Option (List Step) → Type 0
-IsNamed first to old new = Follows old new (first ++ named_steps to (Synced to))
+-- there was nothing at any of the names, and the file gets its own, and its folder is synced
+abbrev pub IsNamed : List ℕ → Option (List Step) → Option (List Step) → Type 0
+IsNamed to old new = Follows old new (free_steps to ++ named_steps to (Synced to))

@@ -110,10 +110,10 @@ pub fn tell_malformed<E: Write>(alloc: Global, words: &[String], errors: &mut E)
     }
 }
 
-// Tells why the file at a path can't be opened: `uss_desk: PATH: CAUSE`. A fault of the writer is passed
-// over.
+/// Tells why the file at a path can't be opened: `uss_desk: PATH: CAUSE`. A fault of the writer is passed
+/// over.
 #[tactic(auto, using(crate::proofs::KeepLemmas::tells_nothing))]
-fn tell<E: Write>(rt: &HostRuntime, path: &str, failure: Failure, errors: &mut E)
+pub fn tell<E: Write>(rt: &HostRuntime, path: &str, failure: Failure, errors: &mut E)
     ensures { Tells (E.contents errors.old) (E.contents errors.new) }
 {
     let cause = match failure {
@@ -123,24 +123,6 @@ fn tell<E: Write>(rt: &HostRuntime, path: &str, failure: Failure, errors: &mut E
         _ => return,
     };
     tell_of(rt.alloc(), path, cause, errors);
-}
-
-/// Tells why the file at a path can't be opened, or what was read at `source` in its place, which is the file
-/// itself or its twin: `uss_desk: PATH: CAUSE`. A fault of the writer is passed over.
-#[tactic(auto, using(crate::proofs::KeepLemmas::tells_nothing))]
-pub fn tell_as<E: Write>(
-    rt: &HostRuntime,
-    path: &str,
-    source: &str,
-    failure: Failure,
-    errors: &mut E,
-)
-    ensures { Tells (E.contents errors.old) (E.contents errors.new) }
-{
-    match failure {
-        Failure::NotADesk => tell_of(rt.alloc(), path, desk_cause(rt, source), errors),
-        _ => tell(rt, path, failure, errors),
-    }
 }
 
 // Tells why SQLite refuses the file at a path: of one that is damaged, how many pages, if their sums tell.

@@ -31,8 +31,6 @@ const LOG_ALONE: &str = "its log is there without it: was it moved or removed wh
 pub struct Look {
     /// Whether its file may be opened, or copied.
     pub is_admitted: bool,
-    /// Whether it is damaged.
-    pub is_damaged: bool,
     /// Where the line that tells its damage was broken off, if it was.
     pub cut: Option<WriteFault>,
 }
@@ -58,36 +56,32 @@ impl From<AllocError> for Unlooked {
 }
 
 /// Refuses a task at a file whose log is damaged, or is there without it, and tells why. A copy is made of
-/// what can be read, and the loss is told: then it answers that the log is damaged. A file that another
-/// program has open is not looked at: to open it tells that.
+/// what can be read, and the loss is told. A file that another program has open is not looked at: to open it
+/// tells that.
 ///
 /// # Errors
 ///
 /// `DamagedLog`; `Memory` if memory runs out; `Store` if the log can't be read, or is there without its file.
-pub fn look_before<E: Write>(
-    rt: &HostRuntime,
-    task: &Task,
-    errors: &mut E,
-) -> Result<bool, Failure> {
+pub fn look_before<E: Write>(rt: &HostRuntime, task: &Task, errors: &mut E) -> Result<(), Failure> {
     let Some(path) = file_of(task) else {
-        return Ok(false);
+        return Ok(());
     };
     if is_log_alone(rt, path)? {
         tell_of(rt.alloc(), path, LOG_ALONE, errors);
         return Err(Failure::Store);
     }
     let Some(mut log) = log_of(rt, path)? else {
-        return Ok(false);
+        return Ok(());
     };
     admission_of(look_at_log(rt.alloc(), path, is_copy(task), &mut log, errors))
 }
 
-// Whether a task is begun at a file, and then whether its log is damaged, by what came of the look at that.
-fn admission_of(look: Result<Look, Unlooked>) -> Result<bool, Failure>
+// Whether a task is begun at a file, by what came of the look at its log.
+fn admission_of(look: Result<Look, Unlooked>) -> Result<(), Failure>
     ensures { result ≡ spec.admission_of look }
 {
     match look {
-        Ok(look) if look.is_admitted => Ok(look.is_damaged),
+        Ok(look) if look.is_admitted => Ok(()),
         Ok(_) => Err(Failure::DamagedLog),
         Err(Unlooked::OutOfMemory) => Err(Failure::Memory),
         Err(Unlooked::Unread(_)) => Err(Failure::Store),
@@ -114,14 +108,12 @@ pub fn look_at_log<R: Read, E: Write>(
     match judge_log(log) {
         Ok(Verdict::Sound) => Ok(Look {
             is_admitted: true,
-            is_damaged: false,
             cut: None,
         }),
         Ok(Verdict::Damaged { frame, commits }) => {
             let cut = tell_damage(alloc, path, frame, commits, errors)?;
             Ok(Look {
                 is_admitted: is_copied,
-                is_damaged: true,
                 cut,
             })
         }
@@ -267,8 +259,8 @@ fn may_be_damaged(size: u64) -> bool
     size >= LEAST_DAMAGED
 }
 
-/// Whether another program has a file open.
-pub fn is_in_use(rt: &HostRuntime, path: &str) -> bool {
+// Whether another program has a file open.
+fn is_in_use(rt: &HostRuntime, path: &str) -> bool {
     matches!(
         sqlite_std_file::open(rt, path, Unknown),
         Err(OpenError::Busy)

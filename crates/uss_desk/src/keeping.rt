@@ -1,7 +1,6 @@
 //! What a keeper does to a file: a look at what it holds, and a copy of it.
 
-ghost use Rattle.std.specs.Prelude.{◌≡◌, ℕ, List, not, false, true, IfErr, IfOk, OnOk, option_map};
-ghost use Rattle.std.specs.Prelude.{string_bytes};
+ghost use Rattle.std.specs.Prelude.{◌≡◌, ℕ, List, MatchOption, not, false, true, IfErr, IfOk, OnOk, string_bytes};
 ghost use Rattle.sqlite_wal.specs.Files.{image_at};
 ghost use Rattle.sqlite_wal.specs.Recovery.{Image};
 ghost use Rattle.sqlite.specs.Files.{over_files};
@@ -11,24 +10,16 @@ ghost use Rattle.desk_program.specs.Looking.{IsTextPrinted, copied_line};
 ghost use Rattle.desk_tables.specs.Copying.{AreCounted, IsMadeIn, LooksIn};
 ghost use Rattle.desk_tables.specs.Leaving.{IsSettledAt};
 ghost use Rattle.uss_desk.specs.Keeping as spec;
-ghost use Rattle.uss_desk.specs.Keeping.{FailsAtFiles, FailsAtSteps, FailsBy, FailsTelling, FailsToCopy};
-ghost use Rattle.uss_desk.specs.Keeping.{FailsToLook, FailsUntried, IsChecked, IsCopied, IsCopyMade};
-ghost use Rattle.uss_desk.specs.Keeping.{IsNamedIf, IsReadAs, IsWholeChecked, Tells, TellsHoldings};
-ghost use Rattle.uss_desk.specs.Naming.{AreNames, Follows, Free, GivesUp, IsNotFree, LeavesOthers, Takes};
-ghost use Rattle.uss_desk.specs.Naming.{Tried, free_steps};
-ghost use Rattle.uss_desk.specs.Twins.{AreTwins, ChangesBeside, LeavesNoTwin, PassesTwin, beside};
-ghost use Rattle.uss_desk.specs.Twins.{first_steps, is_summed, passing};
-ghost use Rattle.uss_desk.specs.Unsummed.{IsWarned, Warns, path_of};
+ghost use Rattle.uss_desk.specs.Keeping.{FailsAtFiles, FailsBy, FailsTelling, FailsToCopy, FailsToLook};
+ghost use Rattle.uss_desk.specs.Keeping.{FailsUntried, IsChecked, IsCopied, IsCopyMade, IsNamedIf, IsReadAs};
+ghost use Rattle.uss_desk.specs.Keeping.{Tells, TellsHoldings};
+ghost use Rattle.uss_desk.specs.Naming.{AreNames, Cleared, Follows, Free, GivesUp, IsNotFree, LeavesOthers, Takes, Tried};
+ghost use Rattle.uss_desk.specs.Naming.{free_steps};
 
-use crate::causes::{new_cause, tell_as, tell_database, tell_of};
+use crate::causes::{new_cause, tell, tell_database, tell_of};
 use crate::naming::{Folder, Names, name_with, names_of, put_in_place};
 use crate::opening::{Unopened, Unread, open_failure};
-use crate::rows::{alone_line, check_rows, tell_line};
 use crate::sums::has_sums;
-use crate::twins::{
-    TwinNames, is_told, is_uncleared, is_untwinned, remove_twins, source_of, twins_of,
-};
-use crate::ways::{Way, has_twin, is_summed};
 use desk_line::{Copying, Database, Exit, Failure, conclude};
 use desk_program::{CheckedFile, print_checked, print_copied};
 use desk_tables::{
@@ -126,37 +117,15 @@ struct Bulk {
 
 /// Prints what a database holds, and answers how that ended and the connection with which it was read, or why
 /// it was not. It is left as it is. Why it can't be read, and the word of the failure, go to `errors`; a
-/// fault there is passed over. Of one some of whose pages lack their sums it is told whether its rows are a
-/// desk's, and it is refused all the same.
-pub fn check_file<F: Start, P: Folder, W: Write, E: Write>(
-    rt: &HostRuntime,
-    folder: &mut P,
-    database: &Database,
-    way: Way,
-    start: F,
-    output: &mut W,
-    errors: &mut E,
-) -> (Exit, Result<Look<F>, Unread<F>>)
-    ensures checked { IsChecked (image_at F.Start) way database.now (P.steps folder.old) (P.steps folder.new)
-        (ending result.0 (E.contents errors.old) (E.contents errors.new)) result.1
-        (W.contents output.old) (W.contents output.new) }
-    ensures passed { PassesTwin (path_of database.now) (P.steps folder.old) (P.steps folder.new) }
-{
-    match way {
-        Way::Unsummed(count) => check_rows(rt, folder, database, count, start, errors),
-        Way::Itself | Way::Damaged => check_whole(rt, database, start, output, errors),
-    }
-}
-
-// Prints what a database holds, as it is.
-fn check_whole<F: Start, W: Write, E: Write>(
+/// fault there is passed over.
+pub fn check_file<F: Start, W: Write, E: Write>(
     rt: &HostRuntime,
     database: &Database,
     start: F,
     output: &mut W,
     errors: &mut E,
 ) -> (Exit, Result<Look<F>, Unread<F>>)
-    ensures { IsWholeChecked (image_at F.Start) database.now
+    ensures { IsChecked (image_at F.Start) database.now
         (ending result.0 (E.contents errors.old) (E.contents errors.new)) result.1
         (W.contents output.old) (W.contents output.new) }
 {
@@ -255,15 +224,13 @@ fn size_of(rt: &HostRuntime, path: &str) -> u64 {
 }
 
 /// Copies what a database holds to a new file, prints how much it is, and answers how that ended and the
-/// connection to the first with the new files, or why nothing is copied. The first is left as it is; if its
-/// log is damaged, or pages lack their sums, it isn't opened, and a twin is. That the rows alone were tested,
-/// why nothing is copied, and the word of the failure go to `errors`; a fault there is passed over.
+/// connection to the first with the new files, or why nothing is copied. The first is left as it is. Why, and
+/// the word of the failure, go to `errors`; a fault there is passed over.
 #[tactic(auto, using(crate::proofs::KeepLemmas::uncopied))]
 pub fn copy_file<F: Start, N: Start, P: Folder, W: Write, E: Write>(
     rt: &HostRuntime,
     folder: &mut P,
     words: &Copying,
-    way: Way,
     start: F,
     other: N,
     output: &mut W,
@@ -272,17 +239,14 @@ pub fn copy_file<F: Start, N: Start, P: Folder, W: Write, E: Write>(
     Exit,
     Result<Copies<FileFrom<F>, FileFrom<N>>, CopyEnd<FileFrom<F>, FileFrom<N>>>,
 )
-    ensures copied { IsCopied ⟦<FileFrom<N> as Disk>⟧ (image_at F.Start) (image_at N.Start) way
+    ensures copied { IsCopied ⟦<FileFrom<N> as Disk>⟧ (image_at F.Start) (image_at N.Start)
         words.now.database (P.steps folder.old) (P.steps folder.new)
         (ending result.0 (E.contents errors.old) (E.contents errors.new)) result.1
         (W.contents output.old) (W.contents output.new) }
-    ensures named { IsNamedIf result.1
-        (first_steps way (path_of words.now.database) (string_bytes words.now.to))
-        (string_bytes words.now.to) (P.steps folder.old) (P.steps folder.new) }
+    ensures named { IsNamedIf result.1 (string_bytes words.now.to) (P.steps folder.old) (P.steps folder.new) }
     ensures own { LeavesOthers (string_bytes words.now.to) (P.steps folder.old) (P.steps folder.new) }
-    ensures gone { LeavesNoTwin (string_bytes words.now.to) (P.steps folder.old) (P.steps folder.new) }
 {
-    match copy_for(rt, folder, words, way, start, other, errors) {
+    match copy_for(rt, folder, words, start, other, errors) {
         Ok(copies) => {
             let exit = print_holdings(rt.alloc(), &copies.1.1, output, errors);
             (exit, Ok(copies))
@@ -317,12 +281,11 @@ fn print_holdings<W: Write, E: Write>(
 
 // Copies what a database holds to a new file. It is written under another name, which it loses once all is on
 // the disk: a copy that is cut off leaves nothing of the new name.
-#[tactic(auto, using(crate::proofs::Idle::names, crate::proofs::Idle::others, crate::proofs::Idle::twin))]
+#[tactic(auto, using(crate::proofs::NameLemmas::leaves_none, crate::proofs::NameLemmas::leaves_all))]
 fn copy_for<F: Start, N: Start, P: Folder, E: Write>(
     rt: &HostRuntime,
     folder: &mut P,
     words: &Copying,
-    way: Way,
     start: F,
     other: N,
     errors: &mut E,
@@ -331,154 +294,36 @@ fn copy_for<F: Start, N: Start, P: Folder, E: Write>(
         (IsCopyMade ⟦<FileFrom<N> as Disk>⟧ (image_at F.Start) (image_at N.Start)) }
     ensures fault { IfErr result (FailsToCopy (image_at F.Start) (image_at N.Start) words.now.database
         (P.steps folder.old) (P.steps folder.new)) }
-    ensures warned { OnOk result (IsWarned way (path_of words.now.database)
-        (E.contents errors.old) (E.contents errors.new)) }
+    ensures quiet { OnOk result (E.contents errors.new ≡ E.contents errors.old) }
     ensures told { Tells (E.contents errors.old) (E.contents errors.new) }
-    ensures named { IsNamedIf result
-        (first_steps way (path_of words.now.database) (string_bytes words.now.to))
-        (string_bytes words.now.to) (P.steps folder.old) (P.steps folder.new) }
+    ensures named { IsNamedIf result (string_bytes words.now.to) (P.steps folder.old) (P.steps folder.new) }
     ensures own { LeavesOthers (string_bytes words.now.to) (P.steps folder.old) (P.steps folder.new) }
-    ensures gone { LeavesNoTwin (string_bytes words.now.to) (P.steps folder.old) (P.steps folder.new) }
 {
     let Database::File(path) = &words.database else {
         return Err(Uncopied::untried(Failure::Store));
     };
     let names = names_of(rt.alloc(), &words.to)?;
-    let twins = twins_of(rt.alloc(), &words.to)?;
-    let warning = warning_of(rt.alloc(), path, way)?;
     if is_refused(rt.alloc(), folder, path, &names, errors) {
         return Err(Uncopied::untried(Failure::Store));
     }
-    let copies = copy_by(rt, folder, path, way, start, &names, &twins, other, errors)?;
+    let copies = copy_to(rt, folder, path, start, &names, other, errors)?;
     if !put_in_place(folder, &names) {
         let cause = "it can't be given its name, or its folder can't be synced";
         tell_of(rt.alloc(), &names.to, cause, errors);
         return Err(Uncopied::untried(Failure::Store));
     }
-    tell_warning(&warning, errors);
     Ok(copies)
 }
 
-// The line that tells that the rows alone are tested, if that is so.
-fn warning_of(alloc: Global, path: &str, way: Way) -> Result<Option<String>, AllocError>
-    ensures { IfOk result (λ warning. Warns way path.now (option_map string_bytes warning)) }
-{
-    match way {
-        Way::Unsummed(count) => Ok(Some(alone_line(alloc, path, count)?)),
-        Way::Itself | Way::Damaged => Ok(None),
-    }
-}
-
-// Tells a line, if there is one.
-fn tell_warning<E: Write>(warning: &Option<String>, errors: &mut E)
-    ensures warned { (way : Way) (path : List ℕ) → Warns way path (option_map string_bytes warning.now)
-        → IsWarned way path (E.contents errors.old) (E.contents errors.new) }
-    ensures told { Tells (E.contents errors.old) (E.contents errors.new) }
-{
-    if let Some(line) = warning {
-        tell_line(line, errors);
-    }
-}
-
-// Copies what the file at a path holds, itself or by a twin, to new files under the names that they have
-// first, or tells why not, and removes what was made.
-fn copy_by<F: Start, N: Start, P: Folder, E: Write>(
-    rt: &HostRuntime,
-    folder: &mut P,
-    path: &str,
-    way: Way,
-    start: F,
-    names: &Names,
-    twins: &TwinNames,
-    other: N,
-    errors: &mut E,
-) -> Result<Copies<FileFrom<F>, FileFrom<N>>, CopyEnd<FileFrom<F>, FileFrom<N>>>
-    ensures made { IfOk result
-        (IsCopyMade ⟦<FileFrom<N> as Disk>⟧ (image_at F.Start) (image_at N.Start)) }
-    ensures fault { IfErr result (λ e. (to : List ℕ) → AreNames to names.now → AreTwins to twins.now
-        → FailsAtSteps (image_at F.Start) (image_at N.Start) (P.steps folder.old) (P.steps folder.new) e) }
-    ensures quiet { OnOk result (E.contents errors.new ≡ E.contents errors.old) }
-    ensures told { Tells (E.contents errors.old) (E.contents errors.new) }
-    ensures beside { OnOk result ((to : List ℕ) → AreTwins to twins.now
-        → Follows (P.steps folder.old) (P.steps folder.new) (beside way path.now to)) }
-    ensures own { (to : List ℕ) → AreNames to names.now → AreTwins to twins.now
-        → ChangesBeside to (P.steps folder.old) (P.steps folder.new) }
-{
-    if has_twin(way) {
-        copy_twin(rt, folder, path, way, start, names, twins, other, errors)
-    } else {
-        copy_to(rt, folder, path, way, start, names, twins, other, errors)
-    }
-}
-
-// Copies what the file at a path holds by a twin, which is removed.
-fn copy_twin<F: Start, N: Start, P: Folder, E: Write>(
-    rt: &HostRuntime,
-    folder: &mut P,
-    path: &str,
-    way: Way,
-    start: F,
-    names: &Names,
-    twins: &TwinNames,
-    other: N,
-    errors: &mut E,
-) -> Result<Copies<FileFrom<F>, FileFrom<N>>, CopyEnd<FileFrom<F>, FileFrom<N>>>
-    ensures made { IfOk result
-        (IsCopyMade ⟦<FileFrom<N> as Disk>⟧ (image_at F.Start) (image_at N.Start)) }
-    ensures fault { IfErr result (λ e. (to : List ℕ) → AreNames to names.now → AreTwins to twins.now
-        → FailsAtSteps (image_at F.Start) (image_at N.Start) (P.steps folder.old) (P.steps folder.new) e) }
-    ensures quiet { OnOk result (E.contents errors.new ≡ E.contents errors.old) }
-    ensures told { Tells (E.contents errors.old) (E.contents errors.new) }
-    ensures passed { OnOk result ((to : List ℕ) → AreTwins to twins.now
-        → Follows (P.steps folder.old) (P.steps folder.new) (passing path.now (is_summed way) to)) }
-    ensures own { (to : List ℕ) → AreNames to names.now → AreTwins to twins.now
-        → ChangesBeside to (P.steps folder.old) (P.steps folder.new) }
-{
-    if is_untwinned(rt.alloc(), folder, path, is_summed(way), twins, errors) {
-        return Err(Uncopied::untried(Failure::Store));
-    }
-    match copy_to(rt, folder, path, way, start, names, twins, other, errors) {
-        Ok(copies) => {
-            if !remove_twins(folder, twins) {
-                give_up_twin(rt.alloc(), folder, names, twins, errors);
-                return Err(Uncopied::untried(Failure::Store));
-            }
-            Ok(copies)
-        }
-        Err(uncopied) => {
-            remove_twins(folder, twins);
-            Err(uncopied)
-        }
-    }
-}
-
-// Tells that a twin can't be removed, and removes what was made.
-fn give_up_twin<P: Folder, E: Write>(
-    alloc: Global,
-    folder: &mut P,
-    names: &Names,
-    twins: &TwinNames,
-    errors: &mut E,
-)
-    ensures told { Tells (E.contents errors.old) (E.contents errors.new) }
-    ensures gone { (to : List ℕ) → AreNames to names.now
-        → GivesUp to (P.steps folder.old) (P.steps folder.new) }
-{
-    tell_of(alloc, &twins.file, "it can't be removed", errors);
-    remove_part(folder, names);
-}
-
-// Copies what the file at a path holds, or its twin in its place, to new files under the names that they have
-// first, or tells why not, and removes what was made.
+// Copies what the file at a path holds to new files under the names that they have first, or tells why not,
+// and removes what was made.
 #[tactic(auto, using(crate::proofs::NameLemmas::takes_none))]
 fn copy_to<F: Start, N: Start, P: Folder, E: Write>(
     rt: &HostRuntime,
     folder: &mut P,
     path: &str,
-    way: Way,
     start: F,
     names: &Names,
-    twins: &TwinNames,
     other: N,
     errors: &mut E,
 ) -> Result<Copies<FileFrom<F>, FileFrom<N>>, CopyEnd<FileFrom<F>, FileFrom<N>>>
@@ -491,11 +336,10 @@ fn copy_to<F: Start, N: Start, P: Folder, E: Write>(
     ensures gone { (to : List ℕ) → AreNames to names.now
         → GivesUp to (P.steps folder.old) (P.steps folder.new) }
 {
-    let source = source_of(way, path, twins);
-    match copy_closed(rt, source, start, &names.part, other) {
+    match copy_closed(rt, path, start, &names.part, other) {
         Ok(copies) => Ok(copies),
         Err(uncopied) => {
-            give_up(rt, folder, path, source, names, uncopied.failure, errors);
+            give_up(rt, folder, path, names, uncopied.failure, errors);
             Err(uncopied)
         }
     }
@@ -587,6 +431,24 @@ fn is_taken<P: Folder, E: Write>(alloc: Global, folder: &mut P, path: &str, erro
     is_told(alloc, path, new_cause(folder, path), errors)
 }
 
+// Whether what a copy left at two paths can't be removed, which is told.
+#[tactic(auto, using(crate::proofs::NameLemmas::takes_told))]
+fn is_uncleared<P: Folder, E: Write>(
+    alloc: Global,
+    folder: &mut P,
+    source: &str,
+    part: &str,
+    log: &str,
+    errors: &mut E,
+) -> bool
+    ensures quiet { result ≡ false → E.contents errors.new ≡ E.contents errors.old }
+    ensures told { Tells (E.contents errors.old) (E.contents errors.new) }
+    ensures cleared { Takes (P.steps folder.old) (P.steps folder.new) (not result)
+        (Cleared part.now log.now) }
+{
+    is_told(alloc, part, folder.clear(source, part, log), errors)
+}
+
 // Whether a new file can't be made at a path, which is told; it is tried, and gone again.
 #[tactic(auto, using(crate::proofs::NameLemmas::takes_told))]
 fn is_unmade<P: Folder, E: Write>(alloc: Global, folder: &mut P, path: &str, errors: &mut E) -> bool
@@ -597,13 +459,28 @@ fn is_unmade<P: Folder, E: Write>(alloc: Global, folder: &mut P, path: &str, err
     is_told(alloc, path, folder.try_file(path), errors)
 }
 
-// Tells why nothing is copied of a path, of which `source` was read, and removes what was made.
+// Tells a cause, if there is one, and whether there is.
+#[tactic(auto, using(crate::proofs::KeepLemmas::tells_nothing))]
+fn is_told<E: Write>(alloc: Global, path: &str, cause: Option<&'static str>, errors: &mut E) -> bool
+    ensures quiet { result ≡ false → E.contents errors.new ≡ E.contents errors.old }
+    ensures told { Tells (E.contents errors.old) (E.contents errors.new) }
+    ensures same { MatchOption cause.entry (result ≡ false) (λ _. result ≡ true) }
+{
+    match cause {
+        Some(cause) => {
+            tell_of(alloc, path, cause, errors);
+            true
+        }
+        None => false,
+    }
+}
+
+// Tells why nothing is copied, and removes what was made.
 #[tactic(auto, using(crate::proofs::KeepLemmas::tells_nothing))]
 fn give_up<P: Folder, E: Write>(
     rt: &HostRuntime,
     folder: &mut P,
     path: &str,
-    source: &str,
     names: &Names,
     failure: Failure,
     errors: &mut E,
@@ -613,21 +490,13 @@ fn give_up<P: Folder, E: Write>(
         → GivesUp to (P.steps folder.old) (P.steps folder.new) }
 {
     if folder.is_free(&names.part) {
-        tell_as(rt, path, source, failure, errors);
+        tell(rt, path, failure, errors);
         return;
     }
     if let Failure::Store = failure {
         let cause = "it can't be written: a full disk, or one that fails";
         tell_of(rt.alloc(), &names.to, cause, errors);
     }
-    remove_part(folder, names);
-}
-
-// Removes a new file and its log under the names that they have first.
-fn remove_part<P: Folder>(folder: &mut P, names: &Names)
-    ensures { (to : List ℕ) → AreNames to names.now
-        → GivesUp to (P.steps folder.old) (P.steps folder.new) }
-{
     folder.remove(&names.part);
     folder.remove(&names.part_log);
 }

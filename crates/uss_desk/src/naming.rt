@@ -2,10 +2,9 @@
 
 ghost use Rattle.std.specs.Prelude.{◌≡◌, ℕ, ◌++◌, [], List, Option, None, false, true, IfOk, string_bytes};
 ghost use Rattle.uss_desk.specs.Naming.{AreNames, ChangesOwn, Cleared, Follows, Free, HasFailed, IsUnnamed, Removed};
-ghost use Rattle.uss_desk.specs.Naming.{Renamed, Step, Synced, Takes, TakesAll, TakesIfNone, Tried, Twinned};
+ghost use Rattle.uss_desk.specs.Naming.{Renamed, Step, Synced, Takes, TakesAll, TakesIfNone, Tried};
 ghost use Rattle.uss_desk.specs.Naming.{named_steps};
 
-use crate::pairs::write_pair;
 use sqlite::Unknown;
 use sqlite_std_file::OpenError;
 use std::alloc::{AllocError, Global};
@@ -42,12 +41,6 @@ pub trait Folder {
     /// Makes a file at a path, removes it, and answers why that could not be done, if so.
     fn try_file(&mut self, path: &str) -> Option<&'static str>
         ensures { TakesIfNone (steps self.old) (steps self.new) result (Tried path.now) };
-
-    /// Copies the file at `source`, and its log, to two paths at which there is nothing, a twin; if
-    /// `is_summed`, with the sums of its pages made right; and answers why that could not be done, if so.
-    fn twin(&mut self, source: &str, is_summed: bool, file: &str, log: &str) -> Option<&'static str>
-        ensures { TakesIfNone (steps self.old) (steps self.new) result
-            (Twinned source.now is_summed file.now log.now) };
 
     /// Removes a file, and answers whether that was done.
     fn remove(&mut self, path: &str) -> bool
@@ -110,16 +103,6 @@ impl<'s> Folder for LocalFolder<'s> {
         }
     }
 
-    fn twin(
-        &mut self,
-        source: &str,
-        is_summed: bool,
-        file: &str,
-        log: &str,
-    ) -> Option<&'static str> {
-        write_pair(self.rt, source, is_summed, file, log)
-    }
-
     fn remove(&mut self, path: &str) -> bool {
         fs::remove_file(self.rt, path).is_ok()
     }
@@ -177,21 +160,12 @@ fn clear_left(rt: &HostRuntime, part: &str, log: &str) -> Option<&'static str> {
 /// since whoever opens the file meets it too.
 pub fn make_private(rt: &HostRuntime, path: &str) {
     if !is_no_path(path) {
-        let _ = open_private(rt, path);
+        let _ = OpenOptions::new()
+            .write(true)
+            .create_new(true)
+            .mode(OWNER_ALONE)
+            .open(rt, path);
     }
-}
-
-/// Makes a file at a path that is its owner's alone, and opens it for writing.
-///
-/// # Errors
-///
-/// `AlreadyExists` if there is something at the path; else that of the operating system.
-pub fn open_private(rt: &HostRuntime, path: &str) -> io::Result<File> {
-    OpenOptions::new()
-        .write(true)
-        .create_new(true)
-        .mode(OWNER_ALONE)
-        .open(rt, path)
 }
 
 // Syncs the folder of a path.

@@ -1,10 +1,8 @@
-use Rattle.std.proofs.Common.{◌≡◌, false, inl, inr, rules, string_bytes, true}
+use Rattle.std.proofs.Common.{◌≡◌, false, inl, inr, rules, string_bytes, sym, subst, true}
 use Rattle.sqlite_wal.specs.Files.{image_at}
 use Rattle.uss_desk.proofs.KeepLemmas.{copy_fails, named_if, tells_both}
-use Rattle.uss_desk.proofs.NameLemmas.{failed_after, follows_both, not_free_failed, not_free_names, not_free_others}
-use Rattle.uss_desk.proofs.TwinLemmas.{beside_names, beside_own, beside_twin, not_free_twin, placed_own, placed_twin, unnamed_after}
-use Rattle.uss_desk.specs.Naming.{AreNames, Synced, free_steps, named_steps}
-use Rattle.uss_desk.specs.Twins.{AreTwins}
+use Rattle.uss_desk.proofs.NameLemmas.{failed_after, follows_both, found_own, gone_names, gone_own, not_free_failed, not_free_names, not_free_others, unnamed_after}
+use Rattle.uss_desk.specs.Naming.{AreNames, Follows, Synced, free_steps, named_steps}
 use Rattle.uss_desk.proofs.keeping.copy_for.Goals as goal
 
 pub returns-then-is_refused-clause-fault : goal.returns-then-is_refused-clause-fault
@@ -30,135 +28,85 @@ returns-then-is_refused-clause-own g c =
     let refused : c.is_refused.result ≡ true = search rules in
     not_free_others (c.is_refused.ensures.refused to are refused)
 
-pub returns-then-is_refused-clause-gone : goal.returns-then-is_refused-clause-gone
-returns-then-is_refused-clause-gone g c =
-    let to = string_bytes c.args.words.now.to in
-    let are : AreNames to c.in_ok-names.names = search rules in
-    let refused : c.is_refused.result ≡ true = search rules in
-    not_free_twin (c.is_refused.ensures.refused to are refused)
-
 pub returns-in_err-copies-clause-fault : goal.returns-in_err-copies-clause-fault
 returns-in_err-copies-clause-fault g c =
-    let to = string_bytes c.args.words.now.to in
-    let are : AreNames to c.in_ok-names.names = search rules in
-    let twins : AreTwins to c.in_ok-twins.twins = search rules in
-    let free : c.is_refused.result ≡ false = search rules in
-    copy_fails (image_at g.F.Start) (image_at g.N.Start) c.args.words.now.database _ _ _ (free_steps to)
-    c.from_residual-in_err-copies.result _ (c.is_refused.ensures.free to are free)
-    c.from_residual-in_err-copies.ensures.1 (c.in_err-copies.ensures.fault to are twins)
+    copy_fails (image_at g.F.Start) (image_at g.N.Start) c.args.words.now.database _ _
+    c.from_residual-in_err-copies.result _ c.from_residual-in_err-copies.ensures.1
+    c.in_err-copies.ensures.fault
 
 pub returns-in_err-copies-clause-named : goal.returns-in_err-copies-clause-named
 returns-in_err-copies-clause-named g c =
     let to = string_bytes c.args.words.now.to in
     let are : AreNames to c.in_ok-names.names = search rules in
-    let twins : AreTwins to c.in_ok-twins.twins = search rules in
     let free : c.is_refused.result ≡ false = search rules in
-    named_if _ _ _ _ _ c.from_residual-in_err-copies.result c.from_residual-in_err-copies.ensures.1
-    (inl (beside_names _ _ _ to (c.is_refused.ensures.free to are free) (c.copy_by.ensures.own to are twins)))
+    named_if _ _ _ _ c.from_residual-in_err-copies.result c.from_residual-in_err-copies.ensures.1
+    (inl (gone_names _ _ _ to (c.is_refused.ensures.free to are free) (c.copy_to.ensures.gone to are)))
 
 pub returns-in_err-copies-clause-own : goal.returns-in_err-copies-clause-own
 returns-in_err-copies-clause-own g c =
     let to = string_bytes c.args.words.now.to in
     let are : AreNames to c.in_ok-names.names = search rules in
-    let twins : AreTwins to c.in_ok-twins.twins = search rules in
     let free : c.is_refused.result ≡ false = search rules in
-    beside_own _ _ _ to (c.is_refused.ensures.free to are free) (c.copy_by.ensures.own to are twins)
-
-pub returns-in_err-copies-clause-gone : goal.returns-in_err-copies-clause-gone
-returns-in_err-copies-clause-gone g c =
-    let to = string_bytes c.args.words.now.to in
-    let are : AreNames to c.in_ok-names.names = search rules in
-    let twins : AreTwins to c.in_ok-twins.twins = search rules in
-    let free : c.is_refused.result ≡ false = search rules in
-    beside_twin _ _ _ to (c.is_refused.ensures.free to are free) (c.copy_by.ensures.own to are twins)
-
-pub returns-in_err-copies-clause-told : goal.returns-in_err-copies-clause-told
-returns-in_err-copies-clause-told g c =
-    tells_both c.is_refused.ensures.told c.copy_by.ensures.told
+    gone_own _ _ _ to (c.is_refused.ensures.free to are free) (c.copy_to.ensures.gone to are)
 
 pub returns-then-not-put_in_place-clause-told : goal.returns-then-not-put_in_place-clause-told
 returns-then-not-put_in_place-clause-told g c =
-    tells_both c.is_refused.ensures.told (tells_both c.copy_by.ensures.told c.tell_of.ensures)
+    tells_both c.is_refused.ensures.told (tells_both c.copy_to.ensures.told c.tell_of.ensures)
 
 pub returns-then-not-put_in_place-clause-fault : goal.returns-then-not-put_in_place-clause-fault
 returns-then-not-put_in_place-clause-fault g c =
     let to = string_bytes c.args.words.now.to in
+    let steps = g.P.Folder.steps in
     let are : AreNames to c.in_ok-names.names = search rules in
-    let twins : AreTwins to c.in_ok-twins.twins = search rules in
     let free : c.is_refused.result ≡ false = search rules in
     let failed : c.put_in_place.result ≡ false = search rules in
-    let found = c.is_refused.ensures.free to are free in
+    let found = subst (λ s. Follows (steps c.args.folder.now) s (free_steps to))
+    (sym c.in_ok-copies.ensures.kept) (c.is_refused.ensures.free to are free) in
     inr (inr (inl (
-      failed_after _ _ _ (free_steps to) found
-          (failed_after _ _ _ _ (c.in_ok-copies.ensures.beside to twins)
-          (c.put_in_place.ensures.failed failed)),
+      failed_after _ _ _ (free_steps to) found (c.put_in_place.ensures.failed failed),
       c.untried-then-not-put_in_place.ensures,
     )))
 
 pub returns-then-not-put_in_place-clause-named : goal.returns-then-not-put_in_place-clause-named
 returns-then-not-put_in_place-clause-named g c =
     let to = string_bytes c.args.words.now.to in
+    let steps = g.P.Folder.steps in
     let are : AreNames to c.in_ok-names.names = search rules in
-    let twins : AreTwins to c.in_ok-twins.twins = search rules in
     let free : c.is_refused.result ≡ false = search rules in
     let failed : c.put_in_place.result ≡ false = search rules in
-    let found = c.is_refused.ensures.free to are free in
-    let own = c.copy_by.ensures.own to are twins in
-    unnamed_after _ _ _ to found _ _ (c.in_ok-copies.ensures.beside to twins) own
-    (c.put_in_place.ensures.unnamed to are failed)
+    let found = subst (λ s. Follows (steps c.args.folder.now) s (free_steps to))
+    (sym c.in_ok-copies.ensures.kept) (c.is_refused.ensures.free to are free) in
+    unnamed_after _ _ _ to found (c.put_in_place.ensures.unnamed to are failed)
 
 pub returns-then-not-put_in_place-clause-own : goal.returns-then-not-put_in_place-clause-own
 returns-then-not-put_in_place-clause-own g c =
     let to = string_bytes c.args.words.now.to in
+    let steps = g.P.Folder.steps in
     let are : AreNames to c.in_ok-names.names = search rules in
-    let twins : AreTwins to c.in_ok-twins.twins = search rules in
     let free : c.is_refused.result ≡ false = search rules in
-    let found = c.is_refused.ensures.free to are free in
-    let own = c.copy_by.ensures.own to are twins in
-    placed_own _ _ _ to found own (c.put_in_place.ensures.own to are)
-
-pub returns-then-not-put_in_place-clause-gone : goal.returns-then-not-put_in_place-clause-gone
-returns-then-not-put_in_place-clause-gone g c =
-    let to = string_bytes c.args.words.now.to in
-    let are : AreNames to c.in_ok-names.names = search rules in
-    let twins : AreTwins to c.in_ok-twins.twins = search rules in
-    let free : c.is_refused.result ≡ false = search rules in
-    let found = c.is_refused.ensures.free to are free in
-    let own = c.copy_by.ensures.own to are twins in
-    placed_twin _ _ _ to found own (c.put_in_place.ensures.own to are)
-
-pub returns-clause-told : goal.returns-clause-told
-returns-clause-told g c =
-    tells_both c.is_refused.ensures.told (tells_both c.copy_by.ensures.told c.tell_warning.ensures.told)
+    let found = subst (λ s. Follows (steps c.args.folder.now) s (free_steps to))
+    (sym c.in_ok-copies.ensures.kept) (c.is_refused.ensures.free to are free) in
+    found_own _ _ _ to found (c.put_in_place.ensures.own to are)
 
 pub returns-clause-named : goal.returns-clause-named
 returns-clause-named g c =
     let to = string_bytes c.args.words.now.to in
+    let steps = g.P.Folder.steps in
     let are : AreNames to c.in_ok-names.names = search rules in
-    let twins : AreTwins to c.in_ok-twins.twins = search rules in
     let free : c.is_refused.result ≡ false = search rules in
     let named : c.put_in_place.result ≡ true = search rules in
-    let found = c.is_refused.ensures.free to are free in
-    follows_both _ _ _ _ (named_steps to (Synced to))
-    (follows_both _ _ _ (free_steps to) _ found (c.in_ok-copies.ensures.beside to twins))
-    (c.put_in_place.ensures.named to are named)
+    let found = subst (λ s. Follows (steps c.args.folder.now) s (free_steps to))
+    (sym c.in_ok-copies.ensures.kept) (c.is_refused.ensures.free to are free) in
+    follows_both (steps c.args.folder.now) (steps c.copy_to.new.folder)
+    (steps c.put_in_place.new.folder) (free_steps to) (named_steps to (Synced to))
+    found (c.put_in_place.ensures.named to are named)
 
 pub returns-clause-own : goal.returns-clause-own
 returns-clause-own g c =
     let to = string_bytes c.args.words.now.to in
+    let steps = g.P.Folder.steps in
     let are : AreNames to c.in_ok-names.names = search rules in
-    let twins : AreTwins to c.in_ok-twins.twins = search rules in
     let free : c.is_refused.result ≡ false = search rules in
-    let found = c.is_refused.ensures.free to are free in
-    let own = c.copy_by.ensures.own to are twins in
-    placed_own _ _ _ to found own (c.put_in_place.ensures.own to are)
-
-pub returns-clause-gone : goal.returns-clause-gone
-returns-clause-gone g c =
-    let to = string_bytes c.args.words.now.to in
-    let are : AreNames to c.in_ok-names.names = search rules in
-    let twins : AreTwins to c.in_ok-twins.twins = search rules in
-    let free : c.is_refused.result ≡ false = search rules in
-    let found = c.is_refused.ensures.free to are free in
-    let own = c.copy_by.ensures.own to are twins in
-    placed_twin _ _ _ to found own (c.put_in_place.ensures.own to are)
+    let found = subst (λ s. Follows (steps c.args.folder.now) s (free_steps to))
+    (sym c.in_ok-copies.ensures.kept) (c.is_refused.ensures.free to are free) in
+    found_own _ _ _ to found (c.put_in_place.ensures.own to are)

@@ -1,3 +1,4 @@
+use Rattle.std.proofs.Common.{◌≡◌, ◌∙◌, inl, inr, rules, string_bytes}
 use Rattle.uss_desk.specs.Naming.{ChangesOwn, GivesNoName}
 use Rattle.uss_desk.proofs.NameLemmas.{takes_both, takes_one}
 use Rattle.uss_desk.proofs.keeping.give_up.Goals as goal
@@ -9,6 +10,11 @@ returns-then-is_free-clause-gone g c to are =
 
 pub returns-clause-gone : goal.returns-clause-gone
 returns-clause-gone g c to are =
+    let part : c.deref-2.result.now ≡ string_bytes c.args.names.now.part = search rules in
+    let log : c.deref-3.result.now ≡ string_bytes c.args.names.now.part_log = search rules in
     takes_both (takes_one (λ step. ChangesOwn to step × GivesNoName step) _ _ c.is_free.result _
     c.is_free.ensures (tt, tt) (tt, tt))
-    (c.remove_part.ensures to are)
+    (takes_both (takes_one (λ step. ChangesOwn to step × GivesNoName step) _ _ c.remove.result _
+    c.remove.ensures (inl (part ∙ are.part_is), tt) (tt, tt))
+    (takes_one (λ step. ChangesOwn to step × GivesNoName step) _ _ c.remove-2.result _
+    c.remove-2.ensures (inr (log ∙ are.part_log_is), tt) (tt, tt)))
