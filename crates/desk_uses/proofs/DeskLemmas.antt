@@ -1,7 +1,7 @@
 -- What a desk tells one operator, by its side of the desk's world.
 use Rattle.std.proofs.Common.{◌≡◌, ◌≢◌, ℕ, ℤ, List, [], ◌∷◌, map, Option, Some, None, Result, Ok, Err, refl, sym, ap, subst, ◌∙◌}
 use Rattle.std.proofs.Common.{Less, Equal, Greater}
-use Rattle.std.specs.Prelude.{IsSome, OnOk, OnErr, cond, is_some}
+use Rattle.std.specs.Prelude.{IfSome, IsSome, OnOk, cond, is_some}
 use Rattle.std.specs.Option.{unwrap_or}
 use Rattle.std.specs.declared.cmp.Ordering.{Ordering}
 use Rattle.std.specs.Ordering.{is_eq, match_ordering}
@@ -31,6 +31,8 @@ use Rattle.desk_rules.specs.Replies as said
 use Rattle.desk_rules.specs.Replies.{ReplyParts}
 use Rattle.desk_store.specs.Changes.{put_row}
 use Rattle.desk_store.specs.World.{Own, ceiling_of, has_id, own, stored_of, text_cmp}
+use Rattle.desk_run.specs.declared.fault.DeskFault.{DeskFault}
+use Rattle.desk_run.specs.DeskFrames.{fault_in}
 use Rattle.desk_run.specs.DeskWorld.{DeskWorld, held_in, side}
 use Rattle.desk_run.specs.Sides.{HoldAlike, OwnAlike}
 use Rattle.desk_run.specs.Verdicts.{Told, enrolled_ruling, plans_left, put_outcome, replied, row_asked, ruling_under}
@@ -87,10 +89,10 @@ nothing_changed w o moment asked is =
 
 -- a call that leaves the world as it was if it succeeds, as it does if it fails
 pub unchanged :
-    {A E : Type 0} (r : Result A E) {new old after : DeskWorld} → OnOk r (new ≡ after)
-    → OnErr r (new ≡ old) → after ≡ old → new ≡ old
-unchanged (Ok x) ok err same = ok ∙ same
-unchanged (Err e) ok err same = err
+    {A : Type 0} (r : Result A DeskFault) {new old after : DeskWorld} → OnOk r (new ≡ after)
+    → IfSome (fault_in r) (λ _. new ≡ old) → after ≡ old → new ≡ old
+unchanged (Ok x) ok failed same = ok ∙ same
+unchanged (Err e) ok failed same = failed
 
 -- ---- a plan, and a list
 
