@@ -1,11 +1,11 @@
 //! Requests as bytes, and the answers to them.
 
-ghost use Rattle.std.specs.Prelude.{◌≡◌, All, IfOk, Ok, map};
+ghost use Rattle.std.specs.Prelude.{◌≡◌, All, IfOk, Ok};
 ghost use Rattle.desk_reading.specs.Readings.{GivesIfRoom, or_met};
 ghost use Rattle.desk_reading.specs.Requests.{asked};
 ghost use Rattle.desk_run.specs.DeskWorld.{enrolled};
 ghost use Rattle.desk_ends.specs.Moments.{IsMoment};
-ghost use Rattle.desk_wire.specs.AllAnswers.{answers_to};
+ghost use Rattle.desk_wire.specs.AllAnswers.{answers_to, sent_in, texts_in};
 ghost use Rattle.desk_uses.specs.Desks.{new_world};
 
 use crate::desks::desk_for;
@@ -40,11 +40,9 @@ pub fn answers_at_new_desk(
     requests: &[(i64, Vec<u8>)],
 ) -> Result<Answers, DeskFault>
     requires { All (λ request. IsMoment request.0) requests.now }
-    ensures { IfOk result (λ given. given.ended ≡ AnswersEnd.All →
-        map (λ answer. answer.items) given.answers.items
-        ≡ answers_to (enrolled new_world operator.now ceiling)
-        (map (λ request. (request.0, request.1.items)) requests.now)) }
+    ensures { IfOk result (λ given. given.ended ≡ AnswersEnd.All → texts_in given
+        ≡ answers_to (enrolled new_world operator.now ceiling) (sent_in requests.now)) }
 {
     let mut desk = desk_for(alloc, operator, ceiling)?;
-    answer_all(alloc, &mut desk, requests).map_err(|_| DeskFault::OutOfMemory)
+    Ok(answer_all(alloc, &mut desk, requests)?)
 }
