@@ -31,8 +31,8 @@ pub fn open_desk(rt: &HostRuntime, path: &str) -> Result<FileDesk<FileFrom<Unkno
     }
 }
 
-/// Closes the store of a desk over files, as `into_store` gives it: if the disk returned what was written, the
-/// database file alone is the desk then.
+/// Closes the store of a desk over files, as `into_store` gives it: if the disk returned what was written,
+/// the database file alone is the desk then.
 ///
 /// # Errors
 ///
