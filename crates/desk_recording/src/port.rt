@@ -1,12 +1,15 @@
 //! A port whose connections are recorded.
 
-ghost use Rattle.std.specs.Prelude.{◌≡◌, ◌<◌, length, Some, IfErr, IfOk, OnErr};
+ghost use Rattle.std.specs.Prelude.{◌≡◌, ◌<◌, false, true, length, Err, Some, IfErr, IfOk, OnErr};
 ghost use Rattle.std.specs.Io.Cursor.{cursor_inner, cursor_remaining};
 ghost use Rattle.desk_ends.specs.Moments.{IsMoment};
 ghost use Rattle.desk_wire.specs.Refusals.{server_error_text};
 ghost use Rattle.desk_wire.specs.Serving.{IsTaken};
 ghost use Rattle.desk_wire.specs.declared.response.ServerError.TheVariants.{Store};
-ghost use Rattle.desk_program.specs.Serving.{Closes, IsDenied, IsUnsent, Takes, arrived, parted};
+ghost use Rattle.desk_line.specs.Lines.{AreEnrolments};
+ghost use Rattle.desk_program.specs.Serving.{BringsNews};
+ghost use Rattle.desk_program.specs.Serving.{Closes, IsDenied, IsUnsent, Listens, Takes, arrived, parted};
+ghost use Rattle.desk_recording.specs.Recording.{Adds, Answered};
 ghost use Rattle.desk_recording.specs.Recording.{IsClosedBy, IsTakenFrom, Sends, SendsKept, parting_of};
 ghost use Rattle.desk_recording.specs.Recording.{traffic_of};
 
@@ -49,12 +52,27 @@ impl<P: Port + Drop, R: Record + Drop> Port for RecordedPort<P, R> {
 
     ghost traffic = { λ s. traffic_of (R.steps s.keeper) };
 
-    fn listen(&mut self, number: u16) -> Result<(), Failure> {
+    fn listen(&mut self, number: u16) -> Result<(), Failure>
+        ensures listens { Listens (traffic_of (R.steps self.old.keeper))
+            (traffic_of (R.steps self.new.keeper)) number }
+        ensures asked { Listens (P.traffic self.old.port) (P.traffic self.new.port) number }
+        ensures fault { IfErr result IsDenied }
+    {
         self.port.listen(number)
     }
 
     #[tactic(auto, using(crate::proofs::StepLemmas::brings_news))]
-    fn news(&mut self, alloc: Global) -> Result<Vec<Enrolment>, Failure> {
+    fn news(&mut self, alloc: Global) -> Result<Vec<Enrolment>, Failure>
+        ensures small { IfOk result (λ news. AreEnrolments news.items) }
+        ensures brings { IfOk result (λ news. BringsNews (traffic_of (R.steps self.old.keeper))
+            (traffic_of (R.steps self.new.keeper)) news.items) }
+        ensures same { OnErr result (traffic_of (R.steps self.new.keeper)
+            ≡ traffic_of (R.steps self.old.keeper)) }
+        ensures fault { IfErr result IsDenied }
+        ensures asked { IfOk result (λ news.
+            BringsNews (P.traffic self.old.port) (P.traffic self.new.port) news.items) }
+        ensures broken { self.old.is_broken ≡ true → result ≡ Err Failure.Write }
+    {
         if self.is_broken {
             return Err(Failure::Write);
         }
@@ -85,6 +103,7 @@ impl<P: Port + Drop, R: Record + Drop> Port for RecordedPort<P, R> {
             (P.Input.remaining c.input.client) (P.traffic self.old.port) (P.traffic self.new.port)) }
         ensures waits { IfOk result (λ c.
             IsUnsent (P.traffic self.old.port) (P.Output.contents c.output.to)) }
+        ensures broken { self.old.is_broken ≡ true → result ≡ Err Failure.Write }
     {
         if self.is_broken {
             return Err(Failure::Write);
@@ -122,6 +141,10 @@ impl<P: Port + Drop, R: Record + Drop> Port for RecordedPort<P, R> {
             (parted (cursor_remaining (λ v. Some v.items) input.request) (Some output.answer.items)
             is_whole) output.answer.items (P.Output.contents output.to) (P.Input.remaining input.client)
             (P.traffic self.old.port) (P.traffic self.new.port) }
+        ensures broken { self.new.is_broken ≡ false → (self.old.is_broken ≡ false)
+            × Adds (R.steps self.old.keeper) (R.steps self.new.keeper) (Answered
+            (parted (cursor_remaining (λ v. Some v.items) input.request) (Some output.answer.items)
+            is_whole)) }
     {
         let Given { request, client } = input;
         let Held { answer, mut to } = output;
@@ -145,8 +168,10 @@ fn send_kept<R: Record, W: Write>(
     connection: Parted<'_>,
     client: &mut W,
 ) -> bool
-    ensures { SendsKept (R.steps keeper.old) (R.steps keeper.new) (parting_of connection.entry)
+    ensures sends { SendsKept (R.steps keeper.old) (R.steps keeper.new) (parting_of connection.entry)
         connection.entry.sent.now (W.contents client.old) (W.contents client.new) }
+    ensures kept { result ≡ true →
+        Adds (R.steps keeper.old) (R.steps keeper.new) (Answered (parting_of connection.entry)) }
 {
     let is_kept = is_answered && keeper.keep_answer(connection);
     if is_kept {
