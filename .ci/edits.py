@@ -12,7 +12,7 @@ import pathlib
 import re
 from dataclasses import dataclass
 
-from items import CLAUSE, TOP, Index, Item, end_of_block
+from items import CLAUSE, TOP, Index, Item, end_of_block, without_texts
 
 FOLDERS = ("must-fail", "more-edits")
 SAID = re.compile(r"# clause: (\S+) \(([^()]+)\)$", re.MULTILINE)
@@ -125,6 +125,24 @@ def functions_at(crate: str, place: str, index: Index) -> list[Item]:
 def named(edit: Edit, index: Index) -> list[Item]:
     """The functions that the edit's clause names."""
     return functions_at(edit.crate, edit.function, index)
+
+
+def is_at(edit: Edit, labels: set[str], index: Index) -> bool:
+    """Whether the clause that an edit's line names is among what is open; a goal may be all clauses in one."""
+    clauses = {label for item in named(edit, index) for label in labels_of(item)}
+    return edit.label in labels or "ensures" in labels and edit.label in clauses
+
+
+def is_in_body(edit: Edit, item: Item) -> bool:
+    """Whether all that an edit changes is in a function's body, which ends as it did, and which no caller sees."""
+    source = item.source
+    if item.shows_body or {f"crates/{edit.crate}/{pair.path}" for pair in edit.pairs} != {source.path}:
+        return False
+    body = item.start + item.split
+    (text,) = edit.texts(TOP / "crates" / edit.crate).values()
+    before, behind = source.text[:body], source.text[body + end_of_block(item.bare[item.split :], 0) :]
+    ends = body + end_of_block(without_texts(text[body:]), 0)
+    return text[:body] == before and text[ends:] == behind
 
 
 def lemmas_at(crate: str, place: str) -> pathlib.Path:

@@ -41,6 +41,11 @@ def blank(found: re.Match[str]) -> str:
     return re.sub(r"[^\n]", " ", found[0])
 
 
+def without_texts(text: str) -> str:
+    """A text of Rust without comments and literals, in as many columns."""
+    return COMMENT_OR_TEXT.sub(blank, text)
+
+
 def without_layout(text: str) -> str:
     """A text without lines of comments and what the layout alone decides."""
     text = re.sub(r"^ *(//|-- ).*$", "", text, flags=re.MULTILINE)
@@ -296,7 +301,7 @@ class Index:
         """Reads a file of src/ or specs/."""
         text = (TOP / path).read_text()
         is_rust = path.endswith(".rt")
-        bare = COMMENT_OR_TEXT.sub(blank, text) if is_rust else ANTT_COMMENT.sub(blank, text)
+        bare = without_texts(text) if is_rust else ANTT_COMMENT.sub(blank, text)
         source = self.sources[path] = Source(crate, path, text, bare)
         add_imports(source)
         for item in rust_items(source) if is_rust else antt_items(source):

@@ -1,9 +1,9 @@
 """Tries edits in a scratch clone: which clauses of which functions refuse them.
 
-Several edits of different functions are tried in one check, since a function is proved over the clauses of what it
-calls: what is open in a function is its own edit's doing. One that came to nothing in such a round is tried again
-beside fewer, and at last alone. A check proves the functions alone that the edits' clauses name. If an edit that is
-alone comes to nothing there, the whole crate is checked with it.
+Several edits that each change the body of one function are tried in one check, since a function is proved over the
+clauses of what it calls: what is open in a function is its own edit's doing. One that its own clause doesn't refuse in
+such a round is tried alone, and so is one that changes anything else. A check proves the functions alone that the
+edits' clauses name. If an edit that is alone comes to nothing there, the whole crate is checked with it.
 """
 
 from __future__ import annotations
@@ -14,15 +14,16 @@ import re
 import shutil
 import subprocess
 import tempfile
-from collections import defaultdict
+from collections import Counter, defaultdict
 from collections.abc import Iterable, Iterator
 from dataclasses import dataclass, field
 
-from edits import Edit, named, touched
+from edits import Edit, is_at, is_in_body, named, touched
 from items import TOP, Index, Item
 
 PROOF = re.compile(r"(?:note: )?(?:\./)?proofs/(\S+?)\.antt:\d+:\d+: error: (.*)")
 SOURCE = re.compile(r"(?:note: )?(?:\./)?(src/\S+?\.rt):(\d+):\d+: .*\(`([^`]+)`\)")
+FAULT = re.compile(r"(?:\./)?(src/\S+?\.rt):(\d+):\d+: error")
 BEHIND = re.compile(r"declarations? that depends? on `([^`]+)`.*: (.*)$")
 LOST_NAME = re.compile(r"has no field|is not in scope|has no `|was not admitted")
 VERDICT = re.compile(r"^(?:logic=not-proved|only=\d+ proved=\d+)", re.MULTILINE)
@@ -48,9 +49,11 @@ def label_of(goal: str) -> str:
 
 @dataclass
 class Told:
-    """What a check tells: the labels of what is open by function, whether all is proved, and whether it was one."""
+    """What a check tells: the labels of what is open by function, the functions in which errors of Rust are, whether
+    all is proved, and whether it came to a verdict."""
 
     open: defaultdict[str, set[str]] = field(default_factory=lambda: defaultdict(set))
+    faulty: set[str] = field(default_factory=set)
     is_proved: bool = False
     is_verdict: bool = False
     words: str = ""
@@ -106,8 +109,10 @@ class Room:
         return told
 
     def hear(self, line: str, told: Told) -> None:
-        """Notes what a line tells of an open goal."""
-        source = SOURCE.match(line)
+        """Notes what a line tells of an open goal, or of an error."""
+        fault, source = FAULT.match(line), SOURCE.match(line)
+        if fault:
+            told.faulty.add(self.function_at(fault[1], int(fault[2])))
         if source:
             told.open[self.function_at(source[1], int(source[2]))].add(label_of(source[3]))
             return
@@ -197,9 +202,16 @@ def link_tree(folder: pathlib.Path, to: pathlib.Path) -> None:
 
 
 def only_names(edit: Edit, index: Index) -> list[str]:
-    """What `rt check --only` takes for the functions that the edit's clause names: for a trait's functions, whose names
-    are the kit's own, their module; nothing if there are none, and all has to be checked."""
-    return [item.source.module or item.name if item.trait else item.place for item in named(edit, index)]
+    """What `rt check --only` takes for the functions that the edit's clause names: their paths, in which a trait's name
+    stands behind the type's, and behind that the trait's own type; nothing if there are none, and all is checked."""
+    return [path_in_kit(item) for item in named(edit, index)]
+
+
+def path_in_kit(item: Item) -> str:
+    """A function's path as the kit has it, as `serving::ServeFaultFromAllocError::from`."""
+    of = re.search(rf"\b{item.trait}<(?:\w+::)*(\w+)", item.header) if item.trait else None
+    owner = f"{item.owner}{item.trait}{of[1] if of else ''}"
+    return "::".join(part for part in (item.source.module, owner, item.name) if part)
 
 
 def functions_of(edit: Edit, index: Index) -> list[Item]:
@@ -208,44 +220,53 @@ def functions_of(edit: Edit, index: Index) -> list[Item]:
 
 
 def is_single(edit: Edit, index: Index) -> bool:
-    """Whether an edit changes what only its own function sees, so that others may stand beside it."""
+    """Whether an edit changes the body of its own function alone, so that others may stand beside it."""
     changed = touched(edit, index)
-    names_own = [item for item in named(edit, index) if item in changed]
-    return len(changed) == 1 and bool(names_own) and not changed[0].shows_body
+    return len(changed) == 1 and changed[0] in named(edit, index) and is_in_body(edit, changed[0])
 
 
 def next_round(left: list[Edit], index: Index) -> list[Edit]:
-    """Edits of different functions, or one that has to be alone."""
+    """Edits of different functions, of those first that have the most edits left, so that the rounds are few."""
+    count = Counter(edit.function for edit in left)
     chosen: list[Edit] = []
     taken: set[Item] = set()
-    for edit in left:
+    for edit in sorted(left, key=lambda edit: -count[edit.function]):
         own = set(functions_of(edit, index))
-        if len(chosen) < MOST and is_single(edit, index) and not own & taken:
+        if len(chosen) < MOST and not own & taken:
             chosen.append(edit)
             taken |= own
-    return chosen or left[:1]
+    return chosen
 
 
 def settle(room: Room, trial: list[Edit]) -> dict[Edit, dict[str, set[str]]]:
-    """What edits that stand side by side are refused by; those of which nothing is told yet are left out."""
+    """What edits that stand side by side are refused by: of several, those that their own clauses refuse.
+
+    If they can't be read side by side, those in whose functions the errors are stand aside, or else each half is tried.
+    """
     told = room.attempt(trial)
     if len(trial) == 1:
         print(*told.unread(), sep="\n", end="\n" if told.unread() else "", flush=True)
         return {trial[0]: dict(told.open) if told.is_verdict and not told.is_proved else {}}
-    well = [edit for edit in trial if told.open.get(edit.function)]
-    if told.is_verdict and well:
-        return {edit: {edit.function: told.open[edit.function]} for edit in well}
-    parts = 2 if not told.is_verdict else len(trial)
-    found: dict[Edit, dict[str, set[str]]] = {}
-    for part in range(parts):
-        found.update(settle(room, trial[part::parts]))
-    return found
+    if told.is_verdict:
+        refused = {edit: told.open.get(edit.function, set()) for edit in trial}
+        return {edit: {edit.function: labels} for edit, labels in refused.items() if is_at(edit, labels, room.index)}
+    well = [edit for edit in trial if edit.function not in told.faulty]
+    parts = [well] if 0 < len(well) < len(trial) else [trial[0::2], trial[1::2]]
+    return {edit: labels for part in parts for edit, labels in settle(room, part).items()}
 
 
 def rounds(room: Room, edits: list[Edit]) -> Iterator[dict[Edit, dict[str, set[str]]]]:
-    """What each edit is refused by, the labels by function, a round at a time; nothing where it is not refused."""
-    left = list(edits)
+    """What each edit is refused by, the labels by function, a round at a time; nothing where it is not refused.
+
+    What a round of several doesn't settle is tried alone at the end, as is what may not stand beside others.
+    """
+    left = [edit for edit in edits if is_single(edit, room.index)]
+    alone = [edit for edit in edits if edit not in left]
     while left:
-        found = settle(room, next_round(left, room.index))
-        left = [edit for edit in left if edit not in found]
+        trial = next_round(left, room.index)
+        found = settle(room, trial)
+        left = [edit for edit in left if edit not in trial]
+        alone += [edit for edit in trial if edit not in found]
         yield found
+    for edit in alone:
+        yield settle(room, [edit])

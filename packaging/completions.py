@@ -9,7 +9,7 @@ Option = tuple[str, Optional[str]]
 """Its name, and that of its value."""
 
 # Values that are paths; of others nothing is offered.
-PATHS = ("FILE", "NEW")
+PATHS = ("FILE", "FOLDER", "NEW")
 
 
 def options_of(words: list[str]) -> list[Option]:

@@ -14,7 +14,8 @@ invocation is one line, of which the first word says what is done. /usr/share/do
 """
 STATUSES = """
 0 if all was done. A failure is one line "uss_desk: WORD" on standard error, and 2 if the words of the line are wrong, 3
-for the input of play, the file of --operators, or what token or cover was given, 4 for what the machine denied.
+for the input of play or replay, the file of --operators, or what token or cover was given, 4 for what the machine
+denied.
 """
 FILES = (
     ("/var/lib/uss_desk/desk.db", "operators and plans of the desk that uss_desk.service runs, with desk.db-wal"),

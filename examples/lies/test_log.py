@@ -148,17 +148,22 @@ def pair_of(path: pathlib.Path) -> list[bytes]:
     return [it.read_bytes() if it.exists() else b"" for it in (path, log_of(path))]
 
 
+def stamp_of(path: pathlib.Path) -> list[tuple[bytes, int]]:
+    """The bytes of a file and of its log, and when they were written."""
+    return [(it.read_bytes(), it.stat().st_mtime_ns) for it in (path, log_of(path))]
+
+
 def assert_copied_without(path: pathlib.Path, told: str, left: Left) -> None:
     """`check` tells the loss, and so does the copy of a pair whose log is damaged, which has what was its content
-    before. Afterwards the pair is that too: to read it ends its log there."""
+    before. Both leave the pair as it is, and nothing beside."""
+    before, beside = stamp_of(path), sorted(path.parent.iterdir())
     looked = finish([PROGRAM, "check", "--db", str(path)], b"")
     assert (looked.status, looked.output, looked.errors) == (4, b"", f"{told}uss_desk: damaged_log\n")
     copy = path.with_name(f"{path.name}.copy")
     copied = finish([PROGRAM, "copy", "--db", str(path), "--to", str(copy)], b"")
     assert (copied.status, copied.errors) == (0, told)
-    found = opened(copy, left.world)
-    assert found.content in left.readings[:-1]
-    assert opened(path, left.world) == found
+    assert (stamp_of(path), sorted(path.parent.iterdir())) == (before, sorted([*beside, copy]))
+    assert opened(copy, left.world).content in left.readings[:-1]
 
 
 @pytest.mark.trials("FILE beside such a log", [("single bits", 50)])

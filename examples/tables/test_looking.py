@@ -24,6 +24,7 @@ from tables.judging import (
     copied,
     enrolled,
     looked,
+    moved,
     told,
 )
 from tables.statements import CLOSED, PLAN, many, shared
@@ -121,8 +122,8 @@ def damaged(one_plan: str, room: pathlib.Path) -> str:
 
 
 def test_damaged(damaged: str) -> None:
-    """The page of that bit is told."""
-    assert_refused_by_all(damaged, unsummed(1), "store")
+    """The page of that bit is told. (What `check` and `copy` make of its rows, keeping_check has.)"""
+    assert moved(damaged) == (REFUSED, b"", told(damaged, unsummed(1), "store"))
 
 
 @pytest.mark.parametrize("words", named(OPENING))

@@ -7,6 +7,7 @@ use Rattle.desk_line.specs.declared.line.Enrol.{Enrol as EnrolWords}
 use Rattle.desk_line.specs.declared.line.Line.{Line}
 use Rattle.desk_line.specs.declared.line.Line.TheVariants as line
 use Rattle.desk_line.specs.declared.line.Play.{Play as PlayWords}
+use Rattle.desk_line.specs.declared.line.Replaying.{Replaying as ReplayWords}
 use Rattle.desk_line.specs.declared.line.Serve.{Serve as ServeWords}
 use Rattle.desk_line.specs.declared.line.Task.{Task}
 use Rattle.desk_line.specs.declared.line.Task.TheVariants as task
@@ -27,6 +28,7 @@ pub record SameServe (a b : ServeWords) : Type 0 where
   pub terms : b.terms ≡ a.terms
   pub enrolments : b.enrolments.items ≡ a.enrolments.items
   pub operators : option_map string_bytes b.operators ≡ option_map string_bytes a.operators
+  pub folder : option_map string_bytes b.folder ≡ option_map string_bytes a.folder
 
 pub record SameEnrol (a b : EnrolWords) : Type 0 where
   pub database : SameDatabase a.database b.database
@@ -35,6 +37,10 @@ pub record SameEnrol (a b : EnrolWords) : Type 0 where
 pub record SameCopying (a b : CopyWords) : Type 0 where
   pub database : SameDatabase a.database b.database
   pub to : string_bytes b.to ≡ string_bytes a.to
+
+pub record SameReplay (a b : ReplayWords) : Type 0 where
+  pub database : SameDatabase a.database b.database
+  pub until : b.until ≡ a.until
 
 abbrev pub SameLine : Line → Line → Type 0
 SameLine (line.Play a) (line.Play b) = SamePlay a b
@@ -49,4 +55,5 @@ abbrev pub SameTask : Task → Task → Type 0
 SameTask (task.Run a) (task.Run b) = SameLine a b
 SameTask (task.Check a) (task.Check b) = SameDatabase a b
 SameTask (task.Copy a) (task.Copy b) = SameCopying a b
+SameTask (task.Replay a) (task.Replay b) = SameReplay a b
 SameTask _ _ = ⊥

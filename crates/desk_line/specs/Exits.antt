@@ -40,6 +40,8 @@ failure_status failure.Clock = 4
 failure_status failure.NotADesk = 4
 failure_status failure.OldSchema = 4
 failure_status failure.DamagedLog = 4
+failure_status failure.NoRecord = 3
+failure_status failure.Differs = 3
 
 abbrev pub token_word : TokenFault → List ℕ
 token_word token.Empty = codes "empty"
@@ -71,6 +73,8 @@ failure_word failure.Clock = codes "clock"
 failure_word failure.NotADesk = codes "not_a_desk"
 failure_word failure.OldSchema = codes "old_schema"
 failure_word failure.DamagedLog = codes "damaged_log"
+failure_word failure.NoRecord = codes "no_record"
+failure_word failure.Differs = codes "differs"
 
 -- the line that tells a failure
 abbrev pub failure_line : Failure → List ℕ

@@ -4,7 +4,7 @@ use Rattle.clap.specs.Simple.{Shape}
 use Rattle.clap.specs.Walk.{Rule}
 use Rattle.desk_line.specs.Grammar.{connections, coordinate, database, enrolments, equal, line_shape, moment}
 use Rattle.desk_line.specs.Grammar.{needed, new_file, operators}
-use Rattle.desk_line.specs.Grammar.{picture, port, small, spans, value, token}
+use Rattle.desk_line.specs.Grammar.{picture, port, record_folder, small, spans, until, value, token}
 use Rattle.desk_line.specs.declared.command.Form.{Form}
 use Rattle.desk_line.specs.declared.command.Word.{Word}
 use Rattle.desk_line.specs.declared.command.Word.TheVariants as word
@@ -19,6 +19,8 @@ rule_of_word word.Connections = connections
 rule_of_word word.Equal = equal
 rule_of_word word.Spans = spans
 rule_of_word word.Operators = operators
+rule_of_word word.Record = record_folder
+rule_of_word word.Until = until
 rule_of_word word.Enrolments = enrolments
 rule_of_word word.Token = token
 rule_of_word (word.Text name help) = needed (value name.now)

@@ -21,7 +21,7 @@ use Rattle.desk_rules.specs.Name.{is_operator_name}
 use Rattle.desk_rules.specs.declared.terms.Terms.{Terms}
 use Rattle.volume4d.specs.Limits.{max_second}
 use Rattle.desk_line.specs.Equal.{ArePermittedBy, priority_in}
-use Rattle.desk_line.specs.Lines.{IsLine, IsPlay, IsServe, IsTask}
+use Rattle.desk_line.specs.Lines.{IsLine, IsPlay, IsReplay, IsServe, IsTask}
 use Rattle.desk_line.specs.Lines.{file_of, max_connections, max_port}
 use Rattle.desk_line.specs.Lines.{min_connections, min_port, min_spans, named_file}
 use Rattle.desk_line.specs.declared.line.Copying.{Copying as CopyWords}
@@ -32,6 +32,7 @@ use Rattle.desk_line.specs.declared.line.Line.{Line}
 use Rattle.desk_line.specs.declared.line.Line.TheVariants as line
 use Rattle.desk_line.specs.declared.line.Migrate.{Migrate as MigrateWords}
 use Rattle.desk_line.specs.declared.line.Play.{Play as PlayWords}
+use Rattle.desk_line.specs.declared.line.Replaying.{Replaying as ReplayWords}
 use Rattle.desk_line.specs.declared.line.Serve.{Serve as ServeWords}
 use Rattle.desk_line.specs.declared.line.Task.{Task}
 use Rattle.desk_line.specs.declared.line.Task.TheVariants as task
@@ -91,6 +92,14 @@ spans = number min_spans (pos max_spans) (option (codes "spans") (codes "spans")
 abbrev pub operators : Rule
 operators = option (codes "operators") (codes "operators")
 
+-- the folder of records
+abbrev pub record_folder : Rule
+record_folder = option (codes "record") (codes "record")
+
+-- the last second that is played
+abbrev pub until : Rule
+until = number 0 max_second (option (codes "until") (codes "until"))
+
 abbrev pub enrolments : Rule
 enrolments = values (codes "enrolments")
 
@@ -114,7 +123,8 @@ abbrev pub words_of_token : List Rule
 words_of_token = token ∷ []
 
 abbrev pub words_of_serve : List Rule
-words_of_serve = database ∷ port ∷ connections ∷ equal ∷ spans ∷ operators ∷ enrolments ∷ []
+words_of_serve =
+    database ∷ port ∷ connections ∷ equal ∷ spans ∷ operators ∷ record_folder ∷ enrolments ∷ []
 
 abbrev pub words_of_cover : List Rule
 words_of_cover =
@@ -139,6 +149,9 @@ words_of_check = needed database ∷ []
 abbrev pub words_of_copy : List Rule
 words_of_copy = needed database ∷ new_file ∷ []
 
+abbrev pub words_of_replay : List Rule
+words_of_replay = needed database ∷ until ∷ []
+
 -- a line: its first word, and its further words
 abbrev pub line_shape : Text → List Rule → Shape
 line_shape name rules = record (new_shape name) { rules = rules }
@@ -154,6 +167,7 @@ line_shapes =
     ∷ line_shape (codes "migrate") words_of_migrate
     ∷ line_shape (codes "check") words_of_check
     ∷ line_shape (codes "copy") words_of_copy
+    ∷ line_shape (codes "replay") words_of_replay
     ∷ []
 
 -- a program that takes no line: `--version` and `--help` are answered
@@ -249,6 +263,7 @@ pub record IsServeGiven (rows : List Row) (serve : ServeWords) : Type 0 where
   pub terms : AreTermsOf rows serve.terms
   pub enrolments : AreEnrolmentsGiven serve.enrolments.items rows
   pub operators : option_map string_bytes serve.operators ≡ first_of (codes "operators") rows
+  pub folder : option_map string_bytes serve.folder ≡ first_of (codes "record") rows
 
 pub record IsCoverGiven (rows : List Row) (cover : CoverWords) : Type 0 where
   pub face : IsNumberGiven (codes "FACE") rows cover.face
@@ -273,6 +288,10 @@ pub record IsCopyGiven (rows : List Row) (copy : CopyWords) : Type 0 where
   pub database : file_of copy.database ≡ file_given rows
   pub to : first_of (codes "to") rows ≡ Some (string_bytes copy.to)
 
+pub record IsReplayGiven (rows : List Row) (replay : ReplayWords) : Type 0 where
+  pub database : file_of replay.database ≡ file_given rows
+  pub until : IsNumberOrNone (codes "until") rows replay.until
+
 -- the first word of a line
 abbrev pub name_of : Line → Text
 name_of (line.Play play) = codes "play"
@@ -296,11 +315,13 @@ abbrev pub word_of : Task → Text
 word_of (task.Run it) = name_of it
 word_of (task.Check place) = codes "check"
 word_of (task.Copy copy) = codes "copy"
+word_of (task.Replay replay) = codes "replay"
 
 abbrev pub HasTaskGiven : List Row → Task → Type 0
 HasTaskGiven rows (task.Run it) = HasGiven rows it
 HasTaskGiven rows (task.Check place) = file_of place ≡ file_given rows
 HasTaskGiven rows (task.Copy copy) = IsCopyGiven rows copy
+HasTaskGiven rows (task.Replay replay) = IsReplayGiven rows replay
 
 -- one with its numbers in range
 abbrev pub IsPlayOf : List Row → PlayWords → Type 0
@@ -308,6 +329,9 @@ IsPlayOf rows play = IsPlay play × IsPlayGiven rows play
 
 abbrev pub IsServeOf : List Row → ServeWords → Type 0
 IsServeOf rows serve = IsServe serve × IsServeGiven rows serve
+
+abbrev pub IsReplayOf : List Row → ReplayWords → Type 0
+IsReplayOf rows replay = IsReplay replay × IsReplayGiven rows replay
 
 -- the line or the task of a name
 abbrev pub IsLineOf : Text → List Row → Line → Type 0

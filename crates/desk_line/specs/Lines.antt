@@ -1,5 +1,5 @@
 -- Lines: what holds of a command line that was read.
-use Rattle.std.specs.Prelude.{ℕ, List, All, ⊤, ◌≤◌, Option, Some, None, if◌then◌else◌, bytes_eq, codes}
+use Rattle.std.specs.Prelude.{ℕ, pos, List, All, ⊤, ◌≤◌, Option, Some, None, IfSome, if◌then◌else◌, bytes_eq, codes}
 use Rattle.std.specs.Prelude.{string_bytes}
 use Rattle.std.specs.Int.{IsInRange}
 use Rattle.desk_rules.specs.Limits.{max_priority}
@@ -12,9 +12,10 @@ use Rattle.desk_line.specs.declared.line.Enrolment.{Enrolment}
 use Rattle.desk_line.specs.declared.line.Line.{Line}
 use Rattle.desk_line.specs.declared.line.Line.TheVariants.{Play, Token, Serve, Cover, Enrol, Migrate}
 use Rattle.desk_line.specs.declared.line.Play.{Play as PlayWords}
+use Rattle.desk_line.specs.declared.line.Replaying.{Replaying as ReplayWords}
 use Rattle.desk_line.specs.declared.line.Serve.{Serve as ServeWords}
 use Rattle.desk_line.specs.declared.line.Task.{Task}
-use Rattle.desk_line.specs.declared.line.Task.TheVariants.{Run, Check, Copy}
+use Rattle.desk_line.specs.declared.line.Task.TheVariants.{Run, Check, Copy, Replay}
 
 abbrev pub min_port : ℕ
 min_port = 1
@@ -77,6 +78,14 @@ pub record IsCover (cover : CoverWords) : Type 0 where
   pub j_max : cover.j_max ≤ max_coordinate
   pub level : cover.level ≤ max_small
 
+-- the last second that is played
+abbrev pub IsLast : Option ℕ → Type 0
+IsLast until = IfSome until (λ n. IsMoment (pos n))
+
+-- the words of `replay`
+abbrev pub IsReplay : ReplayWords → Type 0
+IsReplay replay = IsLast replay.until
+
 -- each number of a line is in its range
 abbrev pub IsLine : Line → Type 0
 IsLine (Play play) = IsPlay play
@@ -90,6 +99,7 @@ abbrev pub IsTask : Task → Type 0
 IsTask (Run line) = IsLine line
 IsTask (Check database) = ⊤
 IsTask (Copy copy) = ⊤
+IsTask (Replay replay) = IsReplay replay
 
 -- a line that is carried out at a desk, by reading and writing alone
 abbrev pub HasDesk : Line → Type 0

@@ -41,6 +41,10 @@ enum Word {
     Spans,
     // The file of enrolments that the keeper changes.
     Operators,
+    // The folder of records.
+    Record,
+    // The last second that is played.
+    Until,
     // Operators and their ceilings.
     Enrolments,
     Token,
@@ -50,7 +54,7 @@ enum Word {
     Picture,
 }
 
-static FORMS: [Form; 8] = [
+static FORMS: [Form; 9] = [
     Form {
         name: "play",
         about: "Answers the requests of the standard input",
@@ -77,6 +81,7 @@ static FORMS: [Form; 8] = [
             Word::Equal,
             Word::Spans,
             Word::Operators,
+            Word::Record,
             Word::Enrolments,
         ],
     },
@@ -116,6 +121,11 @@ static FORMS: [Form; 8] = [
         name: "copy",
         about: "Makes a new file of what a database holds, in schema 2",
         words: &[Word::GivenDatabase, Word::NewFile],
+    },
+    Form {
+        name: "replay",
+        about: "Plays the record of the standard input, and compares each answer with its own",
+        words: &[Word::GivenDatabase, Word::Until],
     },
 ];
 
@@ -184,6 +194,8 @@ fn arg_of<'a>(alloc: Global, word: &Word) -> Arg<'a>
         Word::Equal => equal_arg(alloc),
         Word::Spans => spans_arg(alloc),
         Word::Operators => operators_arg(alloc),
+        Word::Record => record_arg(alloc),
+        Word::Until => until_arg(alloc),
         Word::Enrolments => enrolments_arg(alloc),
         Word::Token => token_arg(alloc),
         Word::Text(name, help) => text_arg(alloc, name, help),
@@ -273,6 +285,25 @@ fn operators_arg<'a>(alloc: Global) -> Arg<'a>
         .long("operators")
         .value_name("FILE")
         .help("A file of lines NAME CEILING, read again when it has changed")
+}
+
+fn record_arg<'a>(alloc: Global) -> Arg<'a>
+    ensures { rule_of result ≡ spec.record_folder }
+{
+    Arg::new(alloc, "record")
+        .long("record")
+        .value_name("FOLDER")
+        .help("A folder in which each request and its answer are recorded")
+}
+
+fn until_arg<'a>(alloc: Global) -> Arg<'a>
+    ensures { rule_of result ≡ spec.until }
+{
+    Arg::new(alloc, "until")
+        .long("until")
+        .value_name("SECOND")
+        .help("The last Unix second whose requests are played")
+        .value_parser(value_parser!(i64).range(0..=MAX_SECOND))
 }
 
 fn enrolments_arg<'a>(alloc: Global) -> Arg<'a>

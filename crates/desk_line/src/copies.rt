@@ -1,10 +1,12 @@
 //! Copies of lines and of their parts.
 
 ghost use Rattle.std.specs.Prelude.{◌≡◌, IfOk, option_map, string_bytes};
-ghost use Rattle.desk_line.specs.Copies.{SameCopying, SameDatabase, SameEnrol, SameLine, SamePlay, SameServe};
-ghost use Rattle.desk_line.specs.Copies.{SameTask};
+ghost use Rattle.desk_line.specs.Copies.{SameCopying, SameDatabase, SameEnrol, SameLine, SamePlay, SameReplay};
+ghost use Rattle.desk_line.specs.Copies.{SameServe, SameTask};
 
-use crate::line::{Copying, Database, Enrol, Enrolment, Line, Migrate, Play, Serve, Task};
+use crate::line::{
+    Copying, Database, Enrol, Enrolment, Line, Migrate, Play, Replaying, Serve, Task,
+};
 use std::alloc::AllocError;
 
 impl Database {
@@ -57,6 +59,7 @@ impl Serve {
             terms: self.terms,
             enrolments: copies(&self.enrolments)?,
             operators: copy_text(&self.operators)?,
+            folder: copy_text(&self.folder)?,
         })
     }
 }
@@ -108,6 +111,22 @@ impl Copying {
     }
 }
 
+impl Replaying {
+    /// The same words.
+    ///
+    /// # Errors
+    ///
+    /// `AllocError` if memory runs out.
+    pub fn copy(&self) -> Result<Replaying, AllocError>
+        ensures { IfOk result (SameReplay self.now) }
+    {
+        Ok(Replaying {
+            database: self.database.copy()?,
+            until: self.until,
+        })
+    }
+}
+
 impl Line {
     /// The same line.
     ///
@@ -141,6 +160,7 @@ impl Task {
             Task::Run(line) => Ok(Task::Run(line.copy()?)),
             Task::Check(database) => Ok(Task::Check(database.copy()?)),
             Task::Copy(words) => Ok(Task::Copy(words.copy()?)),
+            Task::Replay(words) => Ok(Task::Replay(words.copy()?)),
         }
     }
 }

@@ -50,6 +50,10 @@ pub enum Failure {
     OldSchema,
     /// The log of a database is damaged.
     DamagedLog,
+    /// What a record has at its place, none has: it is damaged, or a record is missing before it.
+    NoRecord,
+    /// The desk gives another answer than the recorded one.
+    Differs,
 }
 
 impl Failure {
@@ -62,6 +66,7 @@ impl Failure {
             Failure::Value => 2,
             Failure::Unframed | Failure::CutShort | Failure::Read | Failure::Limit => 3,
             Failure::Token(_) | Failure::Rect(_) | Failure::TooManyCells => 3,
+            Failure::NoRecord | Failure::Differs => 3,
             Failure::Broken | Failure::Memory | Failure::Store | Failure::Write => 4,
             Failure::Network | Failure::Clock | Failure::NotADesk | Failure::OldSchema => 4,
             Failure::DamagedLog => 4,
@@ -90,6 +95,8 @@ impl Failure {
             Failure::NotADesk => "not_a_desk",
             Failure::OldSchema => "old_schema",
             Failure::DamagedLog => "damaged_log",
+            Failure::NoRecord => "no_record",
+            Failure::Differs => "differs",
         }
     }
 }

@@ -1,6 +1,6 @@
 //! The command line of the program.
 
-ghost use Rattle.std.specs.Prelude.{◌≡◌, ◌≤◌, ◌<◌, ◌^◌, ◌↔◌, ℕ, IsTrue, Option, ℤ, List, IfErr, IfOk, IfSome, None, Some, map, option_map};
+ghost use Rattle.std.specs.Prelude.{◌≡◌, ◌≤◌, ◌<◌, ◌^◌, ◌↔◌, ℕ, IsTrue, Option, ℤ, pos, List, IfErr, IfOk, IfSome, None, Some, map, option_map};
 ghost use Rattle.std.specs.Prelude.{codes, string_bytes};
 ghost use Rattle.std.specs.Int.{IsInRange};
 ghost use mir.Syntax.{w64};
@@ -16,10 +16,12 @@ ghost use Rattle.desk_line.specs.Grammar.{AreTermsOf, IsMostOf, IsNumberOrNone};
 ghost use Rattle.desk_line.specs.Grammar.{AreEnrolmentsGiven, HasGiven, HasTaskGiven, IsCopyGiven};
 ghost use Rattle.desk_line.specs.Grammar.{IsCoverGiven, IsEnrolGiven, IsGiven, IsLineOf, IsMigrateGiven};
 ghost use Rattle.desk_line.specs.Grammar.{IsNumberGiven, IsPlayGiven, IsPlayOf, IsRefused, IsSecondGiven};
+ghost use Rattle.desk_line.specs.Grammar.{IsReplayGiven, IsReplayOf};
 ghost use Rattle.desk_line.specs.Grammar.{IsServeGiven, IsServeOf, IsTaskOf, IsTextGiven, IsUntaken, Lacks};
 ghost use Rattle.desk_line.specs.Grammar.{enrolment_given, enrolment_in, file_given, name_of};
 ghost use Rattle.desk_line.specs.Grammar.{program, word_of};
-ghost use Rattle.desk_line.specs.Lines.{AreEnrolments, IsCover, IsEnrol, IsLine, IsPlay, IsServe, IsTask};
+ghost use Rattle.desk_line.specs.Lines.{AreEnrolments, IsCover, IsEnrol, IsLast, IsLine, IsPlay, IsReplay};
+ghost use Rattle.desk_line.specs.Lines.{IsServe, IsTask};
 ghost use Rattle.desk_line.specs.Lines.{file_of, max_connections, max_port, min_connections, min_port, min_spans};
 ghost use Rattle.desk_line.specs.Lines.{named_file};
 ghost use Rattle.desk_line.specs.declared.line.Cover.{Cover as CoverWords};
@@ -67,6 +69,8 @@ pub enum Task {
     Check(Database),
     /// `copy`: makes a new file of what a database holds.
     Copy(Copying),
+    /// `replay`: plays the record of the standard input, and compares each answer with the recorded one.
+    Replay(Replaying),
 }
 
 /// Where operators and plans are kept.
@@ -108,6 +112,8 @@ pub struct Serve {
     pub enrolments: Vec<Enrolment>,
     /// The path of the file of enrolments that the keeper changes while the desk serves, if there is one.
     pub operators: Option<String>,
+    /// The path of the folder in which each request and its answer are recorded, if there is one.
+    pub folder: Option<String>,
 }
 
 /// The words of `cover`: the parts of a rectangle of leaves, of which nothing is known yet.
@@ -152,6 +158,15 @@ pub struct Copying {
     pub database: Database,
     /// The path of the new file.
     pub to: String,
+}
+
+/// The words of `replay`.
+#[derive(Debug, Drop)]
+pub struct Replaying {
+    /// Where operators and plans are kept.
+    pub database: Database,
+    /// The last Unix second whose requests are played, 0 to 253,370,764,800, if not all are.
+    pub until: Option<u64>,
 }
 
 /// An operator to be enrolled, `NAME=CEILING`.
@@ -259,6 +274,7 @@ fn read_task(alloc: Global, name: &str, given: &ArgMatches<'_>) -> Result<Task, 
     match name {
         "check" => Ok(Task::Check(read_database(alloc, given)?)),
         "copy" => Ok(Task::Copy(read_copy(alloc, given)?)),
+        "replay" => Ok(Task::Replay(read_replay(alloc, given)?)),
         _ => Ok(Task::Run(read_line(alloc, name, given)?)),
     }
 }
@@ -357,6 +373,7 @@ fn read_serve(alloc: Global, given: &ArgMatches<'_>) -> Result<Serve, WordsFault
         terms: read_terms(alloc, given)?,
         enrolments: read_enrolments(alloc, given)?,
         operators: read_operators(alloc, given)?,
+        folder: read_folder(alloc, given)?,
     })
 }
 
@@ -397,6 +414,14 @@ fn read_operators(alloc: Global, given: &ArgMatches<'_>) -> Result<Option<String
         ≡ first_of (codes "operators") (rows_of (found_of given.now))) }
 {
     owned_text(alloc, text_of(given, "operators"))
+}
+
+// The path of the folder of records, if one is named.
+fn read_folder(alloc: Global, given: &ArgMatches<'_>) -> Result<Option<String>, AllocError>
+    ensures { IfOk result (λ folder. option_map string_bytes folder
+        ≡ first_of (codes "record") (rows_of (found_of given.now))) }
+{
+    owned_text(alloc, text_of(given, "record"))
 }
 
 // A text of its own, if there is a text.
@@ -498,6 +523,51 @@ fn read_copy(alloc: Global, given: &ArgMatches<'_>) -> Result<Copying, WordsFaul
         database: read_database(alloc, given)?,
         to: String::from_str(alloc, to)?,
     })
+}
+
+// The words of `replay`.
+fn read_replay(alloc: Global, given: &ArgMatches<'_>) -> Result<Replaying, WordsFault>
+    ensures valid { IfOk result IsReplay }
+    ensures given { IfOk result (IsReplayGiven (rows_of (found_of given.now))) }
+    ensures lacks { Lacks (IsReplayOf (rows_of (found_of given.now))) result }
+{
+    let Some(until) = read_until(given) else {
+        return Err(WordsFault::Value);
+    };
+    Ok(Replaying {
+        database: read_database(alloc, given)?,
+        until,
+    })
+}
+
+// The last second that is played, or that there is none; none if there is something else.
+fn read_until(given: &ArgMatches<'_>) -> Option<Option<u64>>
+    ensures valid { IfSome result IsLast }
+    ensures given { IfSome result (IsNumberOrNone (codes "until") (rows_of (found_of given.now))) }
+    ensures none { result ≡ None → (found : Option ℕ) → IsLast found
+        → IsNumberOrNone (codes "until") (rows_of (found_of given.now)) found → ⊥ }
+{
+    let until = read_long_if_given(given, "until")?;
+    if !until.is_none_or(is_moment) {
+        return None;
+    }
+    Some(until)
+}
+
+// Whether a number is a moment.
+fn is_moment(second: u64) -> bool
+    ensures { IsTrue result ↔ IsMoment (pos second) }
+{
+    second <= MAX_SECOND as u64
+}
+
+// A number of 64 bits, or that there is none; none if there is something else.
+fn read_long_if_given(given: &ArgMatches<'_>, id: &str) -> Option<Option<u64>>
+    ensures given { IfSome result (IsNumberOrNone id.now (rows_of (found_of given.now))) }
+    ensures none { result ≡ None → (found : Option ℕ) → IfSome found (λ n. n < 2 ^ 64)
+        → IsNumberOrNone id.now (rows_of (found_of given.now)) found → ⊥ }
+{
+    given.try_get_one(id).ok()
 }
 
 // The operator and its ceiling.

@@ -4,3 +4,4 @@ pub mod ChunkLemmas
 pub mod RollLemmas
 pub mod RegionLemmas
 pub mod NearLemmas
+pub mod ListedLemmas

@@ -49,6 +49,15 @@ plans_or_none (Some a) = a.plans.items
 abbrev pub plans_in : List ℕ → Accounts → List PlanState
 plans_in name accounts = plans_or_none (account_in name accounts)
 
+-- the operators that have a ceiling, in the order of the accounts
+abbrev pub with_ceiling : List ℕ → Option ℕ → List Listed → List Listed
+with_ceiling name None more = more
+with_ceiling name (Some n) more = record { name = name; ceiling = n } ∷ more
+
+unfoldable pub listed_in : Accounts → List Listed
+listed_in [] = []
+listed_in (a ∷ accounts) = with_ceiling a.0 a.1.ceiling (listed_in accounts)
+
 -- they are those of these operators and plans
 pub record AreAccountsOf (operators : List Listed) (plans : List Filed) (accounts : Accounts) : Type 0 where
   pub ceilings : (name : List ℕ) → ceiling_in name accounts

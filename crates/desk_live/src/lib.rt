@@ -6,6 +6,7 @@ mod account;
 mod changing;
 mod chunk;
 mod fence;
+mod listed;
 mod live;
 mod near;
 mod order;
@@ -13,6 +14,7 @@ mod regions;
 mod roll;
 mod volume;
 
+pub use listed::ListedOperator;
 pub use live::{Gathering, LiveVolumes};
 pub use near::PlanKey;
 pub use regions::{push_clipped, whole_of};

@@ -1,15 +1,17 @@
 //! The roll of operators.
 
 ghost use Rattle.std.specs.Prelude.{◌≡◌, ◌++◌, ◌∷◌, ◌<◌, ◌^◌, [], List, length, IsSome, IfOk, OnOk};
+ghost use Rattle.std.specs.List.Sorted.{IsStrictlySortedBy};
 ghost use Rattle.std.specs.Option.{is_some};
 ghost use Rattle.desk_rules.specs.States.{states_of};
-ghost use Rattle.desk_store.specs.World.{Filed, Listed, World, ceiling_of, plans_of, spans_beside, stored_of};
+ghost use Rattle.desk_store.specs.World.{Filed, Listed, World, ceiling_of, listed_cmp, plans_of, spans_beside, stored_of};
 ghost use Rattle.desk_store.specs.Changes.{filed_by};
 ghost use Rattle.desk_store.specs.StoreChange.{changed_by};
 ghost use Rattle.desk_live.specs.Roll as spec;
-ghost use Rattle.desk_live.specs.Roll.{AreAccountsOf, HasRoomIn, IsReadyFor, IsRollOf, account_in, accounts_of};
+ghost use Rattle.desk_live.specs.Roll.{AreAccountsOf, HasRoomIn, IsReadyFor, IsRollOf, account_in, accounts_of, with_ceiling};
 
 use crate::account::Account;
+use crate::listed::ListedOperator;
 use desk_rules::operator::Operator;
 use desk_rules::plan::{PlanRow, States};
 use desk_rules::plan_id::PlanId;
@@ -39,6 +41,22 @@ impl Roll {
     {
         let account = self.accounts.get(operator)?;
         account.ceiling
+    }
+
+    /// The operators that are listed, ascending by name, each once, with their ceilings.
+    ///
+    /// # Errors
+    ///
+    /// `AllocError` if memory runs out.
+    pub fn listed(&self, alloc: Global) -> Result<Vec<ListedOperator>, AllocError>
+        ensures { IfOk result (λ listed. (w : World) → IsRollOf w self.now
+            → IsStrictlySortedBy listed_cmp w.operators → listed.items ≡ w.operators) }
+    {
+        let mut listed = Vec::new(alloc);
+        for (operator, account) in &self.accounts {
+            push_listed(&mut listed, operator, account.ceiling)?;
+        }
+        Ok(listed)
     }
 
     /// The states of the operator's plan of the id.
@@ -147,6 +165,23 @@ impl Roll {
 }
 
 type Accounts = BTreeMap<Operator, Account>;
+
+// Adds an operator that has a ceiling.
+fn push_listed(
+    listed: &mut Vec<ListedOperator>,
+    operator: &Operator,
+    ceiling: Option<u32>,
+) -> Result<(), AllocError>
+    ensures { OnOk result (listed.new.items ≡ listed.old.items ++ with_ceiling operator.now ceiling []) }
+{
+    if let Some(ceiling) = ceiling {
+        listed.push(ListedOperator {
+            operator: *operator,
+            ceiling,
+        })?;
+    }
+    Ok(())
+}
 
 // Gives an operator an account, if it has none.
 fn open(alloc: Global, accounts: &mut Accounts, operator: &Operator) -> Result<(), AllocError>

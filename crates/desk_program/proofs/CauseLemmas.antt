@@ -78,7 +78,8 @@ denied_no_store : IsDenied Store → ⊥
 denied_no_store (inl e) = cc
 denied_no_store (inr (inl e)) = cc
 denied_no_store (inr (inr (inl e))) = cc
-denied_no_store (inr (inr (inr e))) = cc
+denied_no_store (inr (inr (inr (inl e)))) = cc
+denied_no_store (inr (inr (inr (inr e)))) = cc
 
 same_failure : {A : Type 0} (f : Failure) → ◌≡◌ {A = Result A Failure} (Err f) (Err Store) → f ≡ Store
 same_failure f e = cc

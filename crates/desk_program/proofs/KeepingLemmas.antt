@@ -21,8 +21,8 @@ use Rattle.desk_line.specs.Exits.{Ending, EndsWith, failure_after, failure_at}
 use Rattle.desk_program.specs.Enrolling.{AreEnrolled, HasListed, on_terms, with_operators}
 use Rattle.desk_program.specs.Keeping.{AreKept, AreKeptSoFar, FindsListed, FindsNews, IsFoundServed, IsLeftByOne, IsPlayKept, IsPortKept}
 use Rattle.desk_program.specs.Playing.{done_unless}
-use Rattle.desk_program.specs.Serving.{AreServed, BringsNews, EndsAfter, EndsAtNews, Exchange, Grows, IsDenied, IsLast, IsUnsent, Listens, Traffic, failing, is_whole, news_of, passage_of}
-use Rattle.desk_program.proofs.ServedLemmas.{all_then, all_unsent, both_more, both_news, both_served, none_last, none_more, one_ends, served_then, stops}
+use Rattle.desk_program.specs.Serving.{AreNoted, AreServed, BringsNews, Denies, EndsAfter, EndsAtNews, Exchange, Grows, IsDenied, IsLast, IsUnsent, Listens, Traffic, failing, news_of, outcome_of, passage_of}
+use Rattle.desk_program.proofs.ServedLemmas.{all_then, all_unsent, both_more, both_news, both_noted, both_served, none, none_last, none_more, one_ends, served_then, stays, stops}
 
 -- ---- enrolments
 
@@ -167,10 +167,12 @@ module _ {A B C : Type 0} where
               h.taken.closed t.taken.closed);
           fresh = All-append (λ x. IsUnsent a x.out) xs ys h.taken.fresh
               (all_unsent a b (map (λ x. x.parting) xs) h.taken.closed ys t.taken.fresh);
-          told = All-append (λ x. x.parting.is_whole ≡ is_whole x.served) xs ys h.taken.told t.taken.told;
+          told = All-append (λ x. x.parting.outcome ≡ outcome_of x.served) xs ys h.taken.told t.taken.told;
           news = subst (λ z. Grows a.news c.news z) (both_news xs ys t.taken.last)
               (both_more a.news b.news c.news (news_of xs None) (news_of ys t.taken.last)
               (subst (λ l. Grows a.news b.news (news_of xs l)) goes.0 h.taken.news) t.taken.news);
+          recorded = both_noted xs ys t.taken.last a.recorded b.recorded c.recorded h.taken.ends.1
+              (subst (λ l. AreNoted a.recorded xs l b.recorded) goes.0 h.taken.recorded) t.taken.recorded;
           served = both_served K xs ys u v t.taken.between
               (all_then H K by xs u v (subst (λ z. AreServed H xs u z) (sym goes.1) h.taken.served))
               t.taken.served;
@@ -185,25 +187,11 @@ module _ {A B C : Type 0} where
 -- nothing is taken
 pub none_kept : {A : Type 0} (H : Type 0) (done : Result A Failure) (count : ℕ)
     (old new : Traffic) (w after : DeskWorld) (before now : Option World → Type 0)
-    → new ≡ old → after ≡ w → EndsAfter done count [] None
+    → Denies old new → after ≡ w → EndsAfter done count [] None
     → ((found : Option World) → now found → before found) → AreKept H done count old new w after before now
-none_kept H done count old new w after before now same left ends stays = record {
-  taken = record {
-    exchanges = [];
-    last = None;
-    between = w;
-    few = omega arith;
-    listened = ap (λ v. v.listened) same;
-    taken = none_more old.taken new.taken (ap (λ v. v.taken) same);
-    closed = none_more old.closed new.closed (ap (λ v. v.closed) same);
-    fresh = All-nil (λ x. IsUnsent old x.out);
-    told = All-nil (λ x. x.parting.is_whole ≡ is_whole x.served);
-    news = none_more old.news new.news (ap (λ v. v.news) same);
-    served = refl;
-    untaken = left;
-    ends = ends;
-  };
-  finds = λ p found may. inr (left, stays found may);
+none_kept H done count old new w after before now denies left ends no_more = record {
+  taken = none H done count old new w after denies left ends;
+  finds = λ p found may. inr (left, no_more found may);
 }
 
 -- news are brought, and no connection is taken then
@@ -219,23 +207,24 @@ ends_news (Ok d) f news is = absurd is
 ends_news (Err e) f news is = tt
 
 pub news_kept : {A : Type 0} (H : Type 0) (done : Result A Failure) (f : Failure) (news : List Enrolment)
-    (old new : Traffic) (w after : DeskWorld) (before now : Option World → Type 0)
-    → IsErrAnd done (λ e. e ≡ f) → BringsNews old new news → EndsAtNews H f news w after
+    (old mid new : Traffic) (w after : DeskWorld) (before now : Option World → Type 0)
+    → IsErrAnd done (λ e. e ≡ f) → BringsNews old mid news → Denies mid new → EndsAtNews H f news w after
     → (H → (found : Option World) → now found
     → IsFoundServed [] (Some news) after found ⊎ ((after ≡ w) × before found))
     → AreKept H done 1 old new w after before now
-news_kept H done f news old new w after before now is brings ends finds = record {
+news_kept H done f news old mid new w after before now is brings denies ends finds = record {
   taken = record {
     exchanges = [];
     last = Some news;
     between = w;
     few = omega arith;
-    listened = brings.3;
-    taken = none_more old.taken new.taken brings.1;
-    closed = none_more old.closed new.closed brings.2;
+    listened = denies.0 ∙ brings.3;
+    taken = none_more old.taken new.taken (denies.1 ∙ brings.1);
+    closed = none_more old.closed new.closed (denies.2 ∙ brings.2);
     fresh = All-nil (λ x. IsUnsent old x.out);
-    told = All-nil (λ x. x.parting.is_whole ≡ is_whole x.served);
-    news = brings.0;
+    told = All-nil (λ x. x.parting.outcome ≡ outcome_of x.served);
+    news = subst (λ v. Grows old.news v (news ∷ [])) (sym denies.3) brings.0;
+    recorded = (mid.recorded, brings.4, denies.4);
     served = refl;
     untaken = last_news H done f news w after is ends;
     ends = ends_news done f news is;
@@ -308,8 +297,8 @@ pub one_kept : {A : Type 0} (H : Type 0) (done : Result A Failure) (x : Exchange
     (old new : Traffic) (w listed after : DeskWorld) (before mid now : Option World → Type 0)
     → new.listened ≡ old.listened → Grows old.taken new.taken (x.arrival ∷ [])
     → Grows old.closed new.closed (x.parting ∷ []) → IsUnsent old x.out
-    → x.parting.is_whole ≡ is_whole x.served → Grows old.news new.news (x.news ∷ [])
-    → AreEnrolled H x.news w listed
+    → x.parting.outcome ≡ outcome_of x.served → Grows old.news new.news (x.news ∷ [])
+    → AreNoted old.recorded (x ∷ []) None new.recorded → AreEnrolled H x.news w listed
     → HasServed H x.served (passage_of x) listed x.arrival.moment after
     → failing done ≡ failure_at x.served
     → (H → (found : Option World) → mid found
@@ -317,8 +306,8 @@ pub one_kept : {A : Type 0} (H : Type 0) (done : Result A Failure) (x : Exchange
     → (H → (found : Option World) → now found → IsFoundNow x.served mid
     (IsTaken x.arrival.bytes x.parting.unread) listed x.arrival.moment after found)
     → AreKept H done 1 old new w after before now
-one_kept H done x old new w listed after before mid now listened takes closes fresh told news lists served is
-    first finds = record {
+one_kept H done x old new w listed after before mid now listened takes closes fresh told news noted lists
+    served is first finds = record {
       taken = record {
         exchanges = x ∷ [];
         last = None;
@@ -328,9 +317,10 @@ one_kept H done x old new w listed after before mid now listened takes closes fr
         taken = takes;
         closed = closes;
         fresh = All-cons (λ z. IsUnsent old z.out) x [] fresh (All-nil (λ z. IsUnsent old z.out));
-        told = All-cons (λ z. z.parting.is_whole ≡ is_whole z.served) x [] told
-            (All-nil (λ z. z.parting.is_whole ≡ is_whole z.served));
+        told = All-cons (λ z. z.parting.outcome ≡ outcome_of z.served) x [] told
+            (All-nil (λ z. z.parting.outcome ≡ outcome_of z.served));
         news = news;
+        recorded = noted;
         served = (listed, after, lists, served, refl);
         untaken = refl;
         ends = one_ends done x is;
@@ -368,9 +358,9 @@ module _ {A : Type 0} (H : Type 0) (done : Result A Failure) (serve : ServeWords
       → IsDenied f → Listens old new serve.port → after ≡ begun
       → ((found : Option World) → now found → before found)
       → (found : Option World) → now found → IsPortKept H done serve (course old new) w after found
-  unserved_kept f old new is denied listens left stays = port_kept old new new listens
-      (none_kept H done serve.connections new new begun after before now refl left
-      (stops done f is serve.connections [] None denied) stays)
+  unserved_kept f old new is denied listens left no_more = port_kept old new new listens
+      (none_kept H done serve.connections new new begun after before now (stays new) left
+      (stops done f is serve.connections [] None denied) no_more)
 
 -- ---- a run over the input
 

@@ -1,5 +1,5 @@
 -- What connections leave, one after the other.
-use Rattle.std.proofs.Common.{◌≡◌, ◌+◌, ℕ, ℤ, List, [], ◌∷◌, ◌++◌, ◌∙◌, Option, None, Some, Result, Ok, Err, All, IfSome, length, inl, inr, refl, ap, sym, subst, arith}
+use Rattle.std.proofs.Common.{◌≡◌, ◌≢◌, ◌+◌, ℕ, ℤ, List, [], ◌∷◌, ◌++◌, ◌∙◌, Option, None, Some, Result, Ok, Err, All, IfSome, length, inl, inr, refl, ap, sym, subst, arith}
 use Rattle.std.specs.Result.{IsErrAnd}
 use Rattle.std.proofs.lemmas.List.{length-append, append_assoc, append-nil}
 use Rattle.std.proofs.lemmas.List.Elements.{All-append, All-cons, All-head, All-nil, All-tail}
@@ -16,7 +16,8 @@ use Rattle.desk_line.specs.Exits.{failure_at}
 use Rattle.desk_line.specs.declared.line.Serve.{Serve as ServeWords}
 use Rattle.desk_line.specs.declared.line.Enrolment.{Enrolment}
 use Rattle.desk_program.specs.Enrolling.{AreEnrolled, on_terms, with_operators}
-use Rattle.desk_program.specs.Serving.{AreServed, AreTaken, EndsAfter, EndsAtNews, EndsBy, Exchange, Grows, IsAtPort, IsDenied, IsLast, IsUnsent, Listens, Parting, Traffic, failing, is_whole, news_of, passage_of}
+use Rattle.desk_program.specs.Recorded.{IsCutOff, Noted, Recorded, Ended, Open, RecordsNone, with_news, with_request}
+use Rattle.desk_program.specs.Serving.{AreNoted, AreServed, AreTaken, Denies, EndsAfter, EndsAtNews, EndsBy, Exchange, Grows, IsAtPort, IsDenied, IsLast, IsUnsent, Listens, Parting, Traffic, failing, news_of, outcome_of, passage_of}
 
 -- ---- the connections that are taken
 
@@ -46,6 +47,73 @@ all_unsent old mid more grown (x ∷ xs) h = All-cons (λ z. IsUnsent old z.out)
     (unsent_before old.closed mid.closed more grown (x.out ≡ Some [])
     (All-head (λ z. IsUnsent mid z.out) x xs h))
     (all_unsent old mid more grown xs (All-tail (λ z. IsUnsent mid z.out) x xs h))
+
+-- ---- what is recorded
+
+pub stays_noted : (r : Option Recorded) → RecordsNone r r
+stays_noted None = tt
+stays_noted (Some (Ended text)) = refl
+stays_noted (Some (Open n)) = inl refl
+
+pub same_noted : (r : Option Recorded) (Fails : Type 0) → IfSome r (λ recorded. Fails → r ≡ r)
+same_noted None Fails = tt
+same_noted (Some recorded) Fails = λ fails. refl
+
+-- all is as it was
+pub stays : (port : Traffic) → Denies port port
+stays port = (refl, refl, refl, refl, stays_noted port.recorded)
+
+-- where it isn't known what was recorded, nothing is told
+none_noted : (xs : List Exchange) (last : Option (List Enrolment)) (new : Option Recorded)
+    → AreNoted None xs last new
+none_noted [] None new = tt
+none_noted [] (Some news) new = (None, tt, tt)
+none_noted (x ∷ xs) last new = (
+  None,
+  None,
+  None,
+  record { news = tt; unsent = tt; request = tt; answer = tt },
+  tt,
+  none_noted xs last new,
+)
+
+-- nothing is brought or taken once a record has ended
+ended_noted : (n : Noted) (text : List ℕ) (xs : List Exchange) (last : Option (List Enrolment))
+    (new : Option Recorded) → IsCutOff n (Some (Ended text)) → AreNoted (Some (Ended text)) xs last new
+    → AreNoted (Some (Open n)) xs last new
+ended_noted n text [] None new cut same = inr (subst (IsCutOff n) (sym same) cut)
+ended_noted n text [] (Some news) new cut h = absurd h.1
+ended_noted n text (x ∷ xs) last new cut h = absurd h.3.news
+
+-- nothing is brought or taken, and then others are
+then_noted : (old mid new : Option Recorded) (xs : List Exchange) (last : Option (List Enrolment))
+    → RecordsNone old mid → AreNoted mid xs last new → AreNoted old xs last new
+then_noted None mid new xs last first then = none_noted xs last new
+then_noted (Some (Ended text)) mid new xs last first then =
+    subst (λ r. AreNoted r xs last new) first then
+then_noted (Some (Open n)) mid new xs last (inl same) then = subst (λ r. AreNoted r xs last new) same then
+then_noted (Some (Open n)) mid new xs last (inr cut) then =
+    ended_noted n (with_request (with_news n cut.news) cut.moment cut.request).text xs last new
+    (subst (IsCutOff n) cut.ended cut) (subst (λ r. AreNoted r xs last new) cut.ended then)
+
+not_failed : (r mid new : Option Recorded) (Fails : Type 0) → ¬ Fails
+    → IfSome r (λ recorded. Fails → mid ≡ r) → IfSome r (λ recorded. Fails → new ≡ r)
+not_failed None mid new Fails never h = tt
+not_failed (Some recorded) mid new Fails never h = λ fails. absurd (never fails)
+
+pub both_noted : (xs ys : List Exchange) (last : Option (List Enrolment)) (old mid new : Option Recorded)
+    → All (λ x. failure_at x.served ≡ None) xs → AreNoted old xs None mid → AreNoted mid ys last new
+    → AreNoted old (xs ++ ys) last new
+both_noted [] ys last old mid new on first then = then_noted old mid new ys last first then
+both_noted (x ∷ xs) ys last old mid new on first then = (
+  first.0,
+  first.1,
+  first.2,
+  first.3,
+  not_failed first.2 mid new (failure_at x.served ≢ None)
+      (λ fails. fails (All-head (λ z. failure_at z.served ≡ None) x xs on)) first.4,
+  both_noted xs ys last first.2 mid new (All-tail (λ z. failure_at z.served ≡ None) x xs on) first.5 then,
+)
 
 -- ---- what they leave
 
@@ -123,19 +191,20 @@ none_last H (Some news) d w after h = absurd h
 -- nothing is taken
 pub none : {A : Type 0} (H : Type 0) (done : Result A Failure) (count : ℕ)
     (old new : Traffic)
-    (w after : DeskWorld) → new ≡ old → after ≡ w → EndsAfter done count [] None
+    (w after : DeskWorld) → Denies old new → after ≡ w → EndsAfter done count [] None
     → AreTaken H done count old new w after
-none H done count old new w after same left ends = record {
+none H done count old new w after denies left ends = record {
   exchanges = [];
   last = None;
   between = w;
   few = omega arith;
-  listened = ap (λ v. v.listened) same;
-  taken = none_more old.taken new.taken (ap (λ v. v.taken) same);
-  closed = none_more old.closed new.closed (ap (λ v. v.closed) same);
+  listened = denies.0;
+  taken = none_more old.taken new.taken denies.1;
+  closed = none_more old.closed new.closed denies.2;
   fresh = All-nil (λ x. IsUnsent old x.out);
-  told = All-nil (λ x. x.parting.is_whole ≡ is_whole x.served);
-  news = none_more old.news new.news (ap (λ v. v.news) same);
+  told = All-nil (λ x. x.parting.outcome ≡ outcome_of x.served);
+  news = none_more old.news new.news denies.3;
+  recorded = denies.4;
   served = refl;
   untaken = left;
   ends = ends;
@@ -218,6 +287,6 @@ unserved H done f serve old new w after is denied listens listed = inl (record {
   listed = listed;
   port = new;
   listens = listens;
-  taken = none H done serve.connections new new after after refl refl (stops done f is
+  taken = none H done serve.connections new new after after (stays new) refl (stops done f is
       serve.connections [] None denied);
 })

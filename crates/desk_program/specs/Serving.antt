@@ -1,5 +1,5 @@
 -- Serving: what a desk at a port prints, and what its connections leave.
-use Rattle.std.specs.Prelude.{◌≡◌, ◌≤◌, ◌⊎◌, ⊤, ℕ, ℤ, Bool, true, List, [], ◌∷◌, ◌++◌, All, map, length, codes, decimal, Option, Some, None, IfSome, option_to_list, Result, Ok, Err}
+use Rattle.std.specs.Prelude.{◌≡◌, ◌≢◌, ◌≤◌, ◌⊎◌, ⊤, ℕ, ℤ, Bool, true, false, List, [], ◌∷◌, ◌++◌, All, map, length, codes, decimal, Option, Some, None, IfSome, option_to_list, Result, Ok, Err}
 use Rattle.std.specs.Result.{IsErrAnd}
 use Rattle.desk_run.specs.DeskWorld.{DeskWorld}
 use Rattle.desk_ends.specs.declared.serving.Served.{Served}
@@ -12,7 +12,9 @@ use Rattle.desk_line.specs.declared.line.Serve.{Serve as ServeWords}
 use Rattle.desk_line.specs.declared.failure.Failure.TheVariants as failure
 use Rattle.desk_line.specs.Exits.{Ending, EndsWith, IsAnnounced, IsBreakdown, failure_at}
 use Rattle.desk_line.specs.declared.line.Enrolment.{Enrolment}
+use Rattle.desk_program.specs.declared.port.Outcome.{Outcome}
 use Rattle.desk_program.specs.Enrolling.{AreEnrolled, AreListedSoFar, on_terms, with_operators}
+use Rattle.desk_program.specs.Recorded.{Recorded, RecordsAnswer, RecordsNews, RecordsNone, RecordsRequest}
 
 -- what is printed when the port is listened at
 abbrev pub listening_line : ℕ → List ℕ
@@ -33,25 +35,27 @@ abbrev pub arrived : ℤ → Option (List ℕ) → Arrival
 arrived moment bytes = record { moment = moment; bytes = bytes }
 
 -- a connection as it is closed: the bytes of its client that are left unread and those that it was sent, if
--- they are known, and whether its request is said to have been read whole
+-- they are known, and what is said to have come of its request
 pub record Parting : Type 0 where
   pub unread : Option (List ℕ)
   pub sent : Option (List ℕ)
-  pub is_whole : Bool
+  pub outcome : Outcome
 
-abbrev pub parted : Option (List ℕ) → Option (List ℕ) → Bool → Parting
-parted unread sent is_whole = record { unread = unread; sent = sent; is_whole = is_whole }
+abbrev pub parted : Option (List ℕ) → Option (List ℕ) → Outcome → Parting
+parted unread sent outcome = record { unread = unread; sent = sent; outcome = outcome }
 
 -- what a port tells: the numbers at which it was asked to listen, the connections that were taken, those that
--- were closed, and the enrolments of each news that it was asked for, in their order, if they are known
+-- were closed, and the enrolments of each news that it was asked for, in their order, and what it has
+-- recorded of them, if they are known
 pub record Traffic : Type 0 where
   pub listened : Option (List ℕ)
   pub taken : Option (List Arrival)
   pub closed : Option (List Parting)
   pub news : Option (List (List Enrolment))
+  pub recorded : Option Recorded
 
 abbrev pub untold : Traffic
-untold = record { listened = None; taken = None; closed = None; news = None }
+untold = record { listened = None; taken = None; closed = None; news = None; recorded = None }
 
 -- what is known is followed by these
 abbrev pub Grows : {A : Type 0} → Option (List A) → Option (List A) → List A → Type 0
@@ -59,26 +63,37 @@ Grows None new more = ⊤
 Grows (Some old) None more = ⊥
 Grows (Some old) (Some new) more = new ≡ old ++ more
 
--- it is asked to listen at a number; a connection is taken; one is closed; and news are brought
+-- it is asked to listen at a number; a connection is taken; one is closed; news are brought; and none of
+-- these could be had
 abbrev pub Listens : Traffic → Traffic → ℕ → Type 0
 Listens old new number = Grows old.listened new.listened (number ∷ []) × (new.taken ≡ old.taken)
-    × (new.closed ≡ old.closed) × (new.news ≡ old.news)
+    × (new.closed ≡ old.closed) × (new.news ≡ old.news) × (new.recorded ≡ old.recorded)
 
 abbrev pub Takes : Traffic → Traffic → Arrival → Type 0
 Takes old new arrival = Grows old.taken new.taken (arrival ∷ []) × (new.closed ≡ old.closed)
     × (new.listened ≡ old.listened) × (new.news ≡ old.news)
+    × RecordsRequest old.recorded new.recorded arrival.moment arrival.bytes
 
 abbrev pub Closes : Traffic → Traffic → Parting → Type 0
 Closes old new parting = Grows old.closed new.closed (parting ∷ []) × (new.taken ≡ old.taken)
     × (new.listened ≡ old.listened) × (new.news ≡ old.news)
+    × RecordsAnswer old.recorded new.recorded parting.sent parting.outcome.is_answered
 
 abbrev pub BringsNews : Traffic → Traffic → List Enrolment → Type 0
 BringsNews old new enrolments = Grows old.news new.news (enrolments ∷ []) × (new.taken ≡ old.taken)
     × (new.closed ≡ old.closed) × (new.listened ≡ old.listened)
+    × RecordsNews old.recorded new.recorded enrolments
 
--- at a port that tells what it closes, nothing was sent yet
+abbrev pub Denies : Traffic → Traffic → Type 0
+Denies old new = (new.listened ≡ old.listened) × (new.taken ≡ old.taken) × (new.closed ≡ old.closed)
+    × (new.news ≡ old.news) × RecordsNone old.recorded new.recorded
+
+-- at a port that tells what it closes, or what it has recorded, nothing was sent yet
 abbrev pub IsUnsent : Traffic → Option (List ℕ) → Type 0
 IsUnsent port out = IfSome port.closed (λ partings. out ≡ Some [])
+
+abbrev pub IsFresh : Traffic → Option (List ℕ) → Type 0
+IsFresh port out = IsUnsent port out × IfSome port.recorded (λ recorded. out ≡ Some [])
 
 -- the news that were brought before a connection was taken, the connection, what its client was sent before,
 -- if that is known, what came of its request, and the connection as it is closed then
@@ -99,6 +114,35 @@ is_whole (Ok (Answered status framed)) = framed
 is_whole (Ok End) = true
 is_whole (Err fault) = true
 
+-- the answer is written whole, or no request came
+abbrev pub is_answered : Result Served ServeFault → Bool
+is_answered (Ok served) = true
+is_answered (Err fault) = false
+
+abbrev pub outcome_of : Result Served ServeFault → Outcome
+outcome_of served = record { is_whole = is_whole served; is_answered = is_answered served }
+
+-- the news, the request and the answer of a connection are recorded
+pub record IsNoted (x : Exchange) (old listed asked new : Option Recorded) : Type 0 where
+  pub news : RecordsNews old listed x.news
+  pub unsent : IfSome listed (λ recorded. x.out ≡ Some [])
+  pub request : RecordsRequest listed asked x.arrival.moment x.arrival.bytes
+  pub answer : RecordsAnswer asked new x.parting.sent x.parting.outcome.is_answered
+
+-- connections are recorded, one after the other, up to one that ended the desk, and then the news after which
+-- none was taken
+abbrev pub AreNoted : Option Recorded → List Exchange → Option (List Enrolment) → Option Recorded → Type 0
+AreNoted old [] None new = RecordsNone old new
+AreNoted old [] (Some news) new =
+    (listed : Option Recorded) × RecordsNews old listed news × RecordsNone listed new
+AreNoted old (x ∷ xs) last new =
+    (listed : Option Recorded)
+    × (asked : Option Recorded)
+    × (answered : Option Recorded)
+    × IsNoted x old listed asked answered
+    × IfSome answered (λ recorded. failure_at x.served ≢ None → new ≡ answered)
+    × AreNoted answered xs last new
+
 -- the requests of connections are served one after the other, each at the moment of its connection, once the
 -- operators of its news are listed
 abbrev pub AreServed : Type 0 → List Exchange → DeskWorld → DeskWorld → Type 0
@@ -115,9 +159,12 @@ abbrev pub failing : {A : Type 0} → Result A Failure → Option Failure
 failing (Ok done) = None
 failing (Err failure) = Some failure
 
--- the machine denied memory, a write, a connection or the moment
+-- the machine denied memory, a write, a connection or the moment; or a request can't be recorded: the client
+-- was told that the desk failed
 abbrev pub IsDenied : Failure → Type 0
-IsDenied f = (f ≡ failure.Memory) ⊎ (f ≡ failure.Write) ⊎ (f ≡ failure.Network) ⊎ (f ≡ failure.Clock)
+IsDenied f =
+    (f ≡ failure.Memory) ⊎ (f ≡ failure.Write) ⊎ (f ≡ failure.Network) ⊎ (f ≡ failure.Clock)
+    ⊎ (f ≡ failure.Broken)
 
 -- the news after which no connection was taken: an operator could not be listed, and those before it are;
 -- or all are listed, and the machine denied something
@@ -162,8 +209,9 @@ pub record AreTaken {A : Type 0} (H : Type 0) (done : Result A Failure) (count :
   pub taken : Grows old.taken new.taken (map (λ x. x.arrival) exchanges)
   pub closed : Grows old.closed new.closed (map (λ x. x.parting) exchanges)
   pub fresh : All (λ x. IsUnsent old x.out) exchanges
-  pub told : All (λ x. x.parting.is_whole ≡ is_whole x.served) exchanges
+  pub told : All (λ x. x.parting.outcome ≡ outcome_of x.served) exchanges
   pub news : Grows old.news new.news (news_of exchanges last)
+  pub recorded : AreNoted old.recorded exchanges last new.recorded
   pub served : AreServed H exchanges w between
   pub untaken : IsLast H last done between after
   pub ends : EndsAfter done count exchanges last

@@ -8,7 +8,7 @@ ghost use Rattle.desk_program.specs.Serving as spec;
 ghost use Rattle.desk_program.specs.Serving.{IsDenied};
 ghost use Rattle.desk_program.specs.Waiting.{moment_at};
 
-use crate::port::{Connection, Port, Register};
+use crate::port::{Connection, Outcome, Port, Register};
 use crate::timed::{Timed, discard_extra, discard_rest};
 use desk_ends::write_whole;
 use desk_line::{Enrolment, Failure};
@@ -106,9 +106,9 @@ impl<'s, N: Net, C: Clock, G: Register + Drop, E: Write> Port for LocalPort<'s, 
         &mut self,
         mut input: BufReader<Timed<'s, N::Stream, C>>,
         output: Timed<'s, N::Stream, C>,
-        is_whole: bool,
+        outcome: Outcome,
     ) {
-        let _ = if is_whole {
+        let _ = if outcome.is_whole {
             discard_extra(input.get_mut(), &output)
         } else {
             discard_rest(input.get_mut(), &output)

@@ -1,9 +1,9 @@
 //! Where a desk gets its connections from.
 
-ghost use Rattle.std.specs.Prelude.{◌≡◌, IfOk, IfErr, OnErr};
+ghost use Rattle.std.specs.Prelude.{IfOk, IfErr, OnErr};
 ghost use Rattle.desk_ends.specs.Moments.{IsMoment};
 ghost use Rattle.desk_line.specs.Lines.{AreEnrolments};
-ghost use Rattle.desk_program.specs.Serving.{BringsNews, Closes, IsDenied, IsUnsent, Listens};
+ghost use Rattle.desk_program.specs.Serving.{BringsNews, Closes, Denies, IsDenied, IsFresh, Listens};
 ghost use Rattle.desk_program.specs.Serving.{Takes, Traffic};
 ghost use Rattle.desk_program.specs.Serving.{arrived, parted, untold};
 
@@ -20,6 +20,15 @@ pub struct Connection<I, O> {
     pub input: I,
     /// What goes to the client.
     pub output: O,
+}
+
+/// What came of the request of a connection.
+#[derive(Clone, Copy)]
+pub struct Outcome {
+    /// Whether no byte of the request is left unread, as far as is known.
+    pub is_whole: bool,
+    /// Whether the answer was written whole, or no request came.
+    pub is_answered: bool,
 }
 
 /// What the keeper has enrolled while a desk serves.
@@ -41,7 +50,7 @@ pub trait Port {
     type Output: Write + Drop;
 
     /// The numbers at which it was asked to listen, the connections that were taken, those that were closed,
-    /// and the news that it brought, in their order, if they are known.
+    /// the news that it brought, in their order, and what it has recorded of them, if they are known.
     ghost traffic: { Self → Traffic } = { λ _. untold };
 
     /// Listens at the port of this number.
@@ -58,29 +67,30 @@ pub trait Port {
     ///
     /// # Errors
     ///
-    /// `Network` if no connection can be had, `Memory`.
+    /// `Network` if no connection can be had, `Memory`; `Broken` if what comes can't be recorded.
     fn news(&mut self, alloc: Global) -> Result<Vec<Enrolment>, Failure>
         ensures small { IfOk result (λ news. AreEnrolments news.items) }
         ensures brings { IfOk result (λ news. BringsNews (traffic self.old) (traffic self.new) news.items) }
-        ensures same { OnErr result (traffic self.new ≡ traffic self.old) }
+        ensures same { OnErr result (Denies (traffic self.old) (traffic self.new)) }
         ensures fault { IfErr result IsDenied };
 
     /// Takes the next connection.
     ///
     /// # Errors
     ///
-    /// `Network` if none can be taken, `Clock` if the clock gives no moment in range, `Memory`.
+    /// `Network` if none can be taken, `Clock` if the clock gives no moment in range, `Memory`; `Broken` if
+    /// the request can't be recorded: the client was told that the desk failed.
     fn take(&mut self, alloc: Global) -> Result<Connection<Self::Input, Self::Output>, Failure>
         ensures moment { IfOk result (λ c. IsMoment c.moment) }
         ensures taken { IfOk result (λ c. Takes (traffic self.old) (traffic self.new)
             (arrived c.moment (Self.Input.remaining c.input))) }
-        ensures unsent { IfOk result (λ c. IsUnsent (traffic self.old) (Self.Output.contents c.output)) }
-        ensures same { OnErr result (traffic self.new ≡ traffic self.old) }
+        ensures unsent { IfOk result (λ c. IsFresh (traffic self.old) (Self.Output.contents c.output)) }
+        ensures same { OnErr result (Denies (traffic self.old) (traffic self.new)) }
         ensures fault { IfErr result IsDenied };
 
     /// Ends a connection. If its request was read whole, what has come behind it is dropped first; else the
     /// rest of it is read for a while.
-    fn close(&mut self, input: Self::Input, output: Self::Output, is_whole: bool)
+    fn close(&mut self, input: Self::Input, output: Self::Output, outcome: Outcome)
         ensures { Closes (traffic self.old) (traffic self.new)
-            (parted (Self.Input.remaining input) (Self.Output.contents output) is_whole) };
+            (parted (Self.Input.remaining input) (Self.Output.contents output) outcome) };
 }

@@ -16,7 +16,7 @@ ghost use Rattle.desk_program.specs.Outside.{ended, written};
 ghost use Rattle.desk_program.specs.Serving as spec;
 ghost use Rattle.desk_program.specs.Serving.{AreTaken, IsAtPort, IsDenied, IsLineServed, Listens, failing, listening_line};
 
-use crate::port::{Connection, Port};
+use crate::port::{Connection, Outcome, Port};
 use crate::program::{enrol_news, set_up};
 use desk_ends::{ServeFault, Served, write_whole};
 use desk_line::{Exit, Failure, Serve, conclude};
@@ -159,15 +159,18 @@ fn serve_connection<S: PlanStore, P: Port>(
         &mut client.input,
         &mut client.output,
     );
-    port.close(client.input, client.output, is_whole(&served));
+    port.close(client.input, client.output, outcome_of(&served));
     done_after(served)
 }
 
-// Whether no byte of the request is left unread, as far as is known.
-fn is_whole(served: &Result<Served, ServeFault>) -> bool
-    ensures { result ≡ spec.is_whole served.now }
+// What a port is told that came of a request.
+fn outcome_of(served: &Result<Served, ServeFault>) -> Outcome
+    ensures { result ≡ spec.outcome_of served.now }
 {
-    !matches!(served, Ok(Served::Answered { framed: false, .. }))
+    Outcome {
+        is_whole: !matches!(served, Ok(Served::Answered { framed: false, .. })),
+        is_answered: served.is_ok(),
+    }
 }
 
 // Whether the desk goes on after what came of a request.

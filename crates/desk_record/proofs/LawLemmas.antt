@@ -62,11 +62,16 @@ no_short e rest fits h =
           omega (arith, long, w.lacks, size))
     ]
 
+pub length_of : (e : EntryParts) → length (entry e) ≡ 86 + length e.bytes + 1
+length_of e =
+    let long =
+    subst (λ x. length x ≡ 86 + length e.bytes + 1 + 0) (append-nil (entry e)) (entry_length e []) in
+    omega (arith, long)
+
 pub short_beginning : (e : EntryParts) (n : ℕ) → Fits e → 0 < n → n < length (entry e)
     → IsShort (take n (entry e))
 short_beginning e n fits some low =
-    let whole =
-    subst (λ x. length x ≡ 86 + length e.bytes + 1 + 0) (append-nil (entry e)) (entry_length e []) in
+    let whole = length_of e in
     let part = length-take-le n (entry e) (omega arith) in
     record {
       some = omega (arith, part);

@@ -1,6 +1,6 @@
 //! Laws of the definitions. Each is the contract of a function that does nothing.
 
-ghost use Rattle.std.specs.Prelude.{◌≡◌, ◌<◌, ◌++◌, ℕ, List, length, take};
+ghost use Rattle.std.specs.Prelude.{◌≡◌, ◌<◌, ◌+◌, ◌++◌, ℕ, List, length, take};
 ghost use Rattle.std.specs.List.{AllByRecursion};
 ghost use Rattle.desk_record.specs.Reading.{IsShort};
 ghost use Rattle.desk_record.specs.Record.{EntryParts, Fits, entries, entry};
@@ -30,4 +30,9 @@ pub fn beginnings_are_short()
 /// damaged.
 pub fn an_entry_is_not_short()
     ensures { (e : EntryParts) (rest : List ℕ) → Fits e → IsShort (entry e ++ rest) → ⊥ }
+{}
+
+/// How many bytes an entry has: those of its line, its own, and a line feed.
+pub fn lengths()
+    ensures { (e : EntryParts) → length (entry e) ≡ 86 + length e.bytes + 1 }
 {}

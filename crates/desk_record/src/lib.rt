@@ -11,5 +11,5 @@ mod sums;
 
 pub use entry::{Entry, write_entry};
 pub use kind::Kind;
-pub use laws::{an_entry_is_not_short, beginnings_are_short, one_entry, one_record};
+pub use laws::{an_entry_is_not_short, beginnings_are_short, lengths, one_entry, one_record};
 pub use reading::{ReadFault, read_entry};

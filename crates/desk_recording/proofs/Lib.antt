@@ -1,1 +1,9 @@
+pub mod BeginningLemmas
+pub mod EndLemmas
+pub mod ExchangeLemmas
+pub mod PlayedLemmas
+pub mod RecordLemmas
+pub mod RecoveringLemmas
 pub mod StepLemmas
+pub mod TailLemmas
+pub mod WritingLemmas

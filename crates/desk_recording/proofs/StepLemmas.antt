@@ -1,8 +1,15 @@
 -- What one step more changes of what a port tells.
-use Rattle.std.proofs.Common.{◌≡◌, ℕ, ℤ, List, [], ◌∷◌, ◌++◌, Option, None, Some, append-nil, ap, inl, inr, refl, subst, sym, ◌∙◌}
+use Rattle.std.proofs.Common.{◌≡◌, ◌<◌, ◌⊎◌, ℕ, ℤ, pos, nat_abs, Bool, true, false, List, [], ◌∷◌, ◌++◌, Option, None, Some, IfSome, length, append-nil, ap, inl, inr, refl, subst, sym, ◌∙◌}
+use Rattle.std.specs.Prelude.{not, option_map}
+use Rattle.desk_ends.specs.Moments.{IsMoment}
+use Rattle.desk_record.specs.Record.{entry}
+use Rattle.desk_wire.specs.Streams.{IsRequest}
+use Rattle.desk_line.specs.Lines.{AreEnrolments}
 use Rattle.desk_line.specs.declared.line.Enrolment.{Enrolment}
-use Rattle.desk_program.specs.Serving.{BringsNews, Closes, Parting, Takes, arrived}
-use Rattle.desk_recording.specs.Recording.{Adds, Answered, Asked, Enrolled, Lost, SendsKept, Step, arrivals_in, news_in, partings_in, traffic_of}
+use Rattle.desk_program.specs.Recorded.{AreNamed, Ended, Noted, Open, Recorded, RecordsAnswer, RecordsNews, RecordsNone, RecordsRequest, request_entry, with_answer, with_news, with_request}
+use Rattle.desk_program.specs.Serving.{BringsNews, Closes, Denies, Parting, Takes, arrived}
+use Rattle.desk_recording.specs.Recording.{Adds, Answered, Asked, Enrolled, HasText, Lost, Notes, NotesOnDisk, SendsKept, Step, arrivals_in, news_in, partings_in, traffic_of}
+use Rattle.desk_recording.specs.Telling.{recorded_by}
 
 news_and : (steps : List Step) (step : Step)
     → news_in (steps ++ step ∷ []) ≡ news_in steps ++ news_in (step ∷ [])
@@ -29,63 +36,199 @@ partings_and (Asked moment bytes ∷ steps) step = partings_and steps step
 partings_and (Answered parting ∷ steps) step = ap (λ rest. parting ∷ rest) (partings_and steps step)
 partings_and (Lost parting ∷ steps) step = ap (λ rest. parting ∷ rest) (partings_and steps step)
 
+-- ---- what is recorded
+
+-- the record ends with this text
+ends_with : (now : Option Noted) (text : List ℕ) → HasText now text → recorded_by true now ≡ Some (Ended text)
+ends_with None text is = cc
+ends_with (Some n) text is = ap (λ t. option_map Ended t) is
+
+-- news are noted, or aren't
+records_news : (noted now : Option Noted) (news : List Enrolment)
+    → NotesOnDisk noted now true (λ n. with_news n news) → AreEnrolments news
+    → IfSome noted (λ n. true ≡ true → AreNamed news)
+    → RecordsNews (recorded_by false noted) (recorded_by false now) news
+records_news None now news is small named = tt
+records_news (Some n) now news is small named = (small, named refl, ap (λ v. recorded_by false v) is)
+
+cut_news : (noted now : Option Noted) (news : List Enrolment)
+    → NotesOnDisk noted now false (λ n. with_news n news)
+    → RecordsNone (recorded_by false noted) (recorded_by true now)
+cut_news None now news is = tt
+cut_news (Some n) now news (inl is) = inr (record {
+  news = [];
+  moment = pos 0;
+  request = [];
+  ended = ends_with now n.text is ∙ ap (λ t. Some (Ended t)) (sym (append-nil n.text));
+})
+cut_news (Some n) now news (inr is) = inr (record {
+  news = news;
+  moment = pos 0;
+  request = [];
+  ended = ends_with now (with_news n news).text is;
+})
+
+-- a request is noted, or isn't
+records_request : (noted now : Option Noted) (moment : ℤ) (request : List ℕ)
+    → NotesOnDisk noted now true (λ n. with_request n moment request) → IsMoment moment
+    → (0 < length request → IsRequest request)
+    → RecordsRequest (recorded_by false noted) (recorded_by false now) moment (Some request)
+records_request None now moment request is range whole = tt
+records_request (Some n) now moment request is range whole = record {
+  request = request;
+  known = refl;
+  whole = whole;
+  range = range;
+  added = ap (λ v. recorded_by false v) is;
+}
+
+with_none : (n : Noted) (moment : ℤ) (request : List ℕ)
+    → (with_request (with_news n []) moment request).text ≡ (with_request n moment request).text
+with_none n moment [] = append-nil n.text
+with_none n moment (b ∷ request) =
+    ap (λ t. t ++ entry (request_entry (nat_abs moment) (b ∷ request))) (append-nil n.text)
+
+cut_request : (noted now : Option Noted) (moment : ℤ) (request : List ℕ)
+    → NotesOnDisk noted now false (λ n. with_request n moment request)
+    → RecordsNone (recorded_by false noted) (recorded_by true now)
+cut_request None now moment request is = tt
+cut_request (Some n) now moment request (inl is) = inr (record {
+  news = [];
+  moment = moment;
+  request = [];
+  ended = ends_with now n.text is ∙ ap (λ t. Some (Ended t)) (sym (append-nil n.text));
+})
+cut_request (Some n) now moment request (inr is) = inr (record {
+  news = [];
+  moment = moment;
+  request = request;
+  ended = ends_with now (with_request n moment request).text is
+      ∙ ap (λ t. Some (Ended t)) (sym (with_none n moment request));
+})
+
+-- an answer is noted, or isn't
+records_answer : (noted now : Option Noted) (is_broken is_kept is_answered : Bool) (answer : List ℕ)
+    → Notes noted now is_kept (λ n. with_answer n answer)
+    → (is_kept ≡ true → (is_broken ≡ false) × (is_answered ≡ true))
+    → RecordsAnswer (recorded_by is_broken noted) (recorded_by (not is_kept) now) (Some answer)
+    is_answered
+records_answer None now is_broken is_kept is_answered answer is may = tt
+records_answer (Some n) now false true is_answered answer is may = inl (record {
+  whole = (may refl).1;
+  answer = answer;
+  known = refl;
+  added = ap (λ v. recorded_by false v) is;
+})
+records_answer (Some n) now false false is_answered answer is may = inr (ends_with now n.text is)
+records_answer (Some n) now true true is_answered answer is may =
+    let none = (may refl).0 in cc
+records_answer (Some n) now true false is_answered answer is may = ends_with now n.text is
+
+-- ---- what a port tells
+
 -- enrolments are brought
-pub brings_news : (old new : Option (List Step)) (news : List Enrolment) → Adds old new (Enrolled news)
-    → BringsNews (traffic_of old) (traffic_of new) news
-brings_news None new news is =
-    subst (λ s. BringsNews (traffic_of None) (traffic_of s) news) (sym is) (tt, refl, refl, refl)
-brings_news (Some steps) new news is =
-    subst (λ s. BringsNews (traffic_of (Some steps)) (traffic_of s) news) (sym is) (
+pub brings_news : (old new : Option (List Step)) (noted now : Option Noted) (news : List Enrolment)
+    → Adds old new (Enrolled news) → NotesOnDisk noted now true (λ n. with_news n news) → AreEnrolments news
+    → IfSome noted (λ n. true ≡ true → AreNamed news)
+    → BringsNews (traffic_of old (recorded_by false noted)) (traffic_of new (recorded_by false now)) news
+brings_news None new noted now news is noting small named =
+    subst (λ s. BringsNews (traffic_of None (recorded_by false noted)) (traffic_of s (recorded_by false now))
+    news) (sym is) (tt, refl, refl, refl, records_news noted now news noting small named)
+brings_news (Some steps) new noted now news is noting small named =
+    subst (λ s. BringsNews (traffic_of (Some steps) (recorded_by false noted))
+    (traffic_of s (recorded_by false now)) news) (sym is) (
       news_and steps (Enrolled news),
       ap Some (arrivals_and steps (Enrolled news) ∙ append-nil (arrivals_in steps)),
       ap Some (partings_and steps (Enrolled news) ∙ append-nil (partings_in steps)),
       refl,
+      records_news noted now news noting small named,
     )
 
+-- nothing is brought or taken
+denies : (old new : Option (List Step)) (recorded after : Option Recorded) → new ≡ old
+    → RecordsNone recorded after → Denies (traffic_of old recorded) (traffic_of new after)
+denies None new recorded after same none =
+    subst (λ s. Denies (traffic_of None recorded) (traffic_of s after)) (sym same)
+    (refl, refl, refl, refl, none)
+denies (Some steps) new recorded after same none =
+    subst (λ s. Denies (traffic_of (Some steps) recorded) (traffic_of s after)) (sym same)
+    (refl, refl, refl, refl, none)
+
+pub no_news : (old new : Option (List Step)) (noted now : Option Noted) (news : List Enrolment) → new ≡ old
+    → NotesOnDisk noted now false (λ n. with_news n news)
+    → Denies (traffic_of old (recorded_by false noted)) (traffic_of new (recorded_by true now))
+no_news old new noted now news same noting = denies old new _ _ same (cut_news noted now news noting)
+
+pub none_taken : (old new : Option (List Step)) (noted now : Option Noted) (moment : ℤ) (request : List ℕ)
+    → new ≡ old → NotesOnDisk noted now false (λ n. with_request n moment request)
+    → Denies (traffic_of old (recorded_by false noted)) (traffic_of new (recorded_by true now))
+none_taken old new noted now moment request same noting =
+    denies old new _ _ same (cut_request noted now moment request noting)
+
 -- a connection is taken
-pub takes_one : (old new : Option (List Step)) (moment : ℤ) (bytes : List ℕ)
-    → Adds old new (Asked moment bytes)
-    → Takes (traffic_of old) (traffic_of new) (arrived moment (Some bytes))
-takes_one None new moment bytes is =
-    subst (λ s. Takes (traffic_of None) (traffic_of s) (arrived moment (Some bytes))) (sym is)
-    (tt, refl, refl, refl)
-takes_one (Some steps) new moment bytes is =
-    subst (λ s. Takes (traffic_of (Some steps)) (traffic_of s) (arrived moment (Some bytes))) (sym is) (
+pub takes_one : (old new : Option (List Step)) (noted now : Option Noted) (moment : ℤ) (bytes : List ℕ)
+    → Adds old new (Asked moment bytes) → NotesOnDisk noted now true (λ n. with_request n moment bytes)
+    → IsMoment moment → (0 < length bytes → IsRequest bytes)
+    → Takes (traffic_of old (recorded_by false noted)) (traffic_of new (recorded_by false now))
+    (arrived moment (Some bytes))
+takes_one None new noted now moment bytes is noting range whole =
+    subst (λ s. Takes (traffic_of None (recorded_by false noted)) (traffic_of s (recorded_by false now))
+    (arrived moment (Some bytes))) (sym is)
+    (tt, refl, refl, refl, records_request noted now moment bytes noting range whole)
+takes_one (Some steps) new noted now moment bytes is noting range whole =
+    subst (λ s. Takes (traffic_of (Some steps) (recorded_by false noted))
+    (traffic_of s (recorded_by false now)) (arrived moment (Some bytes))) (sym is) (
       arrivals_and steps (Asked moment bytes),
       ap Some (partings_and steps (Asked moment bytes) ∙ append-nil (partings_in steps)),
       refl,
       ap Some (news_and steps (Asked moment bytes) ∙ append-nil (news_in steps)),
+      records_request noted now moment bytes noting range whole,
     )
 
--- one is closed, and its answer is kept
-pub closes_kept : (old new : Option (List Step)) (parting : Parting) → Adds old new (Answered parting)
-    → Closes (traffic_of old) (traffic_of new) parting
-closes_kept None new parting is =
-    subst (λ s. Closes (traffic_of None) (traffic_of s) parting) (sym is) (tt, refl, refl, refl)
-closes_kept (Some steps) new parting is =
-    subst (λ s. Closes (traffic_of (Some steps)) (traffic_of s) parting) (sym is) (
+-- one is closed, and its answer is kept, or lost
+closes : (old new : Option (List Step)) (recorded after : Option Recorded) (parting : Parting)
+    → Adds old new (Answered parting) ⊎ Adds old new (Lost parting)
+    → RecordsAnswer recorded after parting.sent parting.outcome.is_answered
+    → Closes (traffic_of old recorded) (traffic_of new after) parting
+closes None new recorded after parting (inl is) answer =
+    subst (λ s. Closes (traffic_of None recorded) (traffic_of s after) parting) (sym is)
+    (tt, refl, refl, refl, answer)
+closes None new recorded after parting (inr is) answer =
+    subst (λ s. Closes (traffic_of None recorded) (traffic_of s after) parting) (sym is)
+    (tt, refl, refl, refl, answer)
+closes (Some steps) new recorded after parting (inl is) answer =
+    subst (λ s. Closes (traffic_of (Some steps) recorded) (traffic_of s after) parting) (sym is) (
       partings_and steps (Answered parting),
       ap Some (arrivals_and steps (Answered parting) ∙ append-nil (arrivals_in steps)),
       refl,
       ap Some (news_and steps (Answered parting) ∙ append-nil (news_in steps)),
+      answer,
     )
-
--- one is closed, and its answer is lost
-pub closes_lost : (old new : Option (List Step)) (parting : Parting) → Adds old new (Lost parting)
-    → Closes (traffic_of old) (traffic_of new) parting
-closes_lost None new parting is =
-    subst (λ s. Closes (traffic_of None) (traffic_of s) parting) (sym is) (tt, refl, refl, refl)
-closes_lost (Some steps) new parting is =
-    subst (λ s. Closes (traffic_of (Some steps)) (traffic_of s) parting) (sym is) (
+closes (Some steps) new recorded after parting (inr is) answer =
+    subst (λ s. Closes (traffic_of (Some steps) recorded) (traffic_of s after) parting) (sym is) (
       partings_and steps (Lost parting),
       ap Some (arrivals_and steps (Lost parting) ∙ append-nil (arrivals_in steps)),
       refl,
       ap Some (news_and steps (Lost parting) ∙ append-nil (news_in steps)),
+      answer,
     )
 
--- one is closed, whatever came of its answer
-pub closes_so : (old new : Option (List Step)) (parting : Parting) (answer : List ℕ)
+kept_or_lost : (old new : Option (List Step)) (parting : Parting) (answer : List ℕ)
     (out now : Option (List ℕ)) → SendsKept old new parting answer out now
-    → Closes (traffic_of old) (traffic_of new) parting
-closes_so old new parting answer out now (inl kept) = closes_kept old new parting kept.0
-closes_so old new parting answer out now (inr lost) = closes_lost old new parting lost.0
+    → Adds old new (Answered parting) ⊎ Adds old new (Lost parting)
+kept_or_lost old new parting answer out now (inl kept) = inl kept.0
+kept_or_lost old new parting answer out now (inr lost) = inr lost.0
+
+module _ (old new : Option (List Step)) (noted now : Option Noted) (is_broken is_kept : Bool)
+    (parting : Parting) (answer : List ℕ) (out sent : Option (List ℕ)) where
+  pub closes_so : SendsKept old new parting answer out sent → parting.sent ≡ Some answer
+      → Notes noted now is_kept (λ n. with_answer n answer)
+      → (is_kept ≡ true → (is_broken ≡ false) × (parting.outcome.is_answered ≡ true))
+      → Closes (traffic_of old (recorded_by is_broken noted))
+      (traffic_of new (recorded_by (not is_kept) now)) parting
+  closes_so sends said noting may =
+      closes old new (recorded_by is_broken noted) (recorded_by (not is_kept) now) parting
+      (kept_or_lost old new parting answer out sent sends)
+      (subst (λ s. RecordsAnswer (recorded_by is_broken noted) (recorded_by (not is_kept) now) s
+      parting.outcome.is_answered) (sym said)
+      (records_answer noted now is_broken is_kept parting.outcome.is_answered answer noting may))

@@ -1,2 +1,7 @@
+pub mod Beginning
+pub mod Played
 pub mod Recording
+pub mod Recovering
+pub mod Tail
+pub mod Telling
 pub mod Writing

@@ -1,11 +1,12 @@
 -- Recording: what a record is asked to keep, in its order, and what a port tells whose connections are kept.
-use Rattle.std.specs.Prelude.{◌≡◌, ◌<◌, ◌⊎◌, ℕ, ℤ, length, Bool, true, false, List, [], ◌∷◌, ◌++◌, Option, None, Some, option_map}
+use Rattle.std.specs.Prelude.{◌≡◌, ◌<◌, ◌⊎◌, ⊤, ℕ, ℤ, length, Bool, true, false, List, [], ◌∷◌, ◌++◌, Option, None, Some, option_map}
 use Rattle.desk_line.specs.declared.line.Enrolment.{Enrolment}
 use Rattle.desk_ends.specs.Writing.{BreaksOff}
 use Rattle.desk_ends.specs.declared.writing.WriteFault.{WriteFault}
 use Rattle.desk_wire.specs.Refusals.{server_error_text}
 use Rattle.desk_wire.specs.Serving.{IsTaken}
 use Rattle.desk_wire.specs.declared.response.ServerError.TheVariants.{Store}
+use Rattle.desk_program.specs.Recorded.{Noted, Recorded}
 use Rattle.desk_program.specs.Serving.{Arrival, Closes, Parting, Takes, Traffic, arrived, parted, untold}
 use Rattle.desk_recording.specs.declared.record.Parted.{Parted}
 use Rattle.std.specs.Io.KnownBytes.{Appends}
@@ -49,19 +50,36 @@ partings_in (Asked moment bytes ∷ steps) = partings_in steps
 partings_in (Answered parting ∷ steps) = parting ∷ partings_in steps
 partings_in (Lost parting ∷ steps) = parting ∷ partings_in steps
 
--- what a port tells whose record has made these steps
-abbrev pub traffic_of : Option (List Step) → Traffic
-traffic_of None = untold
-traffic_of (Some steps) = record {
+-- what a port tells whose record has made these steps, and what it has recorded
+abbrev pub traffic_of : Option (List Step) → Option Recorded → Traffic
+traffic_of None recorded = record untold { recorded = recorded }
+traffic_of (Some steps) recorded = record {
   listened = None;
   taken = Some (arrivals_in steps);
   closed = Some (partings_in steps);
   news = Some (news_in steps);
+  recorded = recorded;
 }
+
+-- the text is this
+abbrev pub HasText : Option Noted → List ℕ → Type 0
+HasText now text = option_map (λ n. n.text) now ≡ Some text
+
+-- something is noted, or the text stays as it is
+abbrev pub Notes : Option Noted → Option Noted → Bool → (Noted → Noted) → Type 0
+Notes None now done next = ⊤
+Notes (Some n) now true next = now ≡ Some (next n)
+Notes (Some n) now false next = HasText now n.text
+
+-- the same; but what isn't told as noted may stand in the text all the same
+abbrev pub NotesOnDisk : Option Noted → Option Noted → Bool → (Noted → Noted) → Type 0
+NotesOnDisk None now done next = ⊤
+NotesOnDisk (Some n) now true next = now ≡ Some (next n)
+NotesOnDisk (Some n) now false next = HasText now n.text ⊎ HasText now (next n).text
 
 -- a connection as it is closed
 abbrev pub parting_of : Parted → Parting
-parting_of connection = parted (Some connection.unread.now) (Some connection.sent.now) connection.is_whole
+parting_of connection = parted (Some connection.unread.now) (Some connection.sent.now) connection.outcome
 
 -- the bytes are sent, or as many of them as the client takes
 abbrev pub Sends : List ℕ → Option (List ℕ) → Option (List ℕ) → Type 0
@@ -78,7 +96,7 @@ pub record IsClosedBy (old new : Option (List Step)) (parting : Parting) (answer
     (out left : Option (List ℕ)) (before after : Traffic) : Type 0 where
   pub now : Option (List ℕ)
   pub sends : SendsKept old new parting answer out now
-  pub closes : Closes before after (parted left now parting.is_whole)
+  pub closes : Closes before after (parted left now parting.outcome)
 
 -- the bytes that are kept as a request are those of one that a client sent
 pub record IsTakenFrom (moment : ℤ) (request : List ℕ) (left : Option (List ℕ)) (before after : Traffic) :

@@ -1,8 +1,8 @@
 -- Writing: what is done to the file of a record, so that something is kept.
-use Rattle.std.specs.Prelude.{◌≡◌, ℕ, Bool, true, false, List, [], ◌∷◌, ◌++◌, map, Option, option_map}
+use Rattle.std.specs.Prelude.{◌≡◌, ⊤, ℕ, Bool, true, false, List, [], ◌∷◌, ◌++◌, map, Option, None, Some, option_map}
 use Rattle.desk_line.specs.declared.line.Enrolment.{Enrolment}
 use Rattle.desk_record.specs.Record.{EntryParts, entries, entry}
-use Rattle.desk_record.specs.declared.kind.Kind.TheVariants as kind
+use Rattle.desk_program.specs.Recorded.{Noted, answer_entry, operator_entry, request_entry}
 
 -- bytes are appended; all that was appended is on the disk; or what was asked is not done
 pub data Write : Type 0 where
@@ -18,16 +18,6 @@ Follows old new more = new ≡ option_map (λ writes. writes ++ more) old
 abbrev pub Makes : Option (List Write) → Option (List Write) → Bool → Write → Type 0
 Makes old new true write = Follows old new (write ∷ [])
 Makes old new false write = Follows old new (Failed ∷ [])
-
--- the entries of a request, of an answer, and of an enrolment
-abbrev pub request_entry : ℕ → List ℕ → EntryParts
-request_entry second bytes = record { kind = kind.Request; number = second; bytes = bytes }
-
-abbrev pub answer_entry : ℕ → List ℕ → EntryParts
-answer_entry second bytes = record { kind = kind.Answer; number = second; bytes = bytes }
-
-abbrev pub operator_entry : Enrolment → EntryParts
-operator_entry e = record { kind = kind.Operator; number = e.ceiling; bytes = e.operator }
 
 -- an entry is appended, and all is on the disk; an entry is appended
 abbrev pub kept_writes : EntryParts → List Write
@@ -50,3 +40,23 @@ answer_writes second (b ∷ bytes) = appended_writes (answer_entry second (b ∷
 abbrev pub news_writes : List Enrolment → List Write
 news_writes [] = []
 news_writes (e ∷ es) = Appended (entries (map operator_entry (e ∷ es))) ∷ Synced ∷ []
+
+-- the bytes that were appended
+abbrev pub appended_in : List Write → List ℕ
+appended_in [] = []
+appended_in (Appended bytes ∷ writes) = bytes ++ appended_in writes
+appended_in (Synced ∷ writes) = appended_in writes
+appended_in (Failed ∷ writes) = appended_in writes
+
+abbrev pub text_in : Option (List Write) → Option (List ℕ)
+text_in writes = option_map appended_in writes
+
+-- bytes are appended to a text that is known, or none are
+abbrev pub Extends : Option (List Write) → Option (List Write) → Bool → List ℕ → Type 0
+Extends None now done bytes = ⊤
+Extends (Some writes) now true bytes = text_in now ≡ Some (appended_in writes ++ bytes)
+Extends (Some writes) now false bytes = text_in now ≡ Some (appended_in writes)
+
+-- what is noted by these writes, the last request at a second
+abbrev pub noted_in : ℕ → Option (List Write) → Option Noted
+noted_in second writes = option_map (λ text. record { text = text; second = second }) (text_in writes)

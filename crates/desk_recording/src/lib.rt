@@ -1,14 +1,22 @@
-//! A port whose requests are recorded before they are served, and whose answers before they are sent.
+//! A port whose requests are recorded before they are served, and whose answers before they are sent; and
+//! what is done of a record before the next one begins.
 #![tactic(auto)]
 
+mod header;
 mod journal;
+pub mod laws;
 mod port;
 mod record;
+mod recovering;
 mod streams;
+mod tail;
 mod written;
 
+pub use header::begin_record;
 pub use journal::Journal;
 pub use port::RecordedPort;
 pub use record::{Parted, Record};
+pub use recovering::{missing_of, recover};
 pub use streams::{Given, Held};
+pub use tail::{Tail, TailEnd, TailFault, Unanswered, read_tail};
 pub use written::WrittenRecord;

@@ -7,20 +7,27 @@ ghost use Rattle.desk_wire.specs.Refusals.{server_error_text};
 ghost use Rattle.desk_wire.specs.Serving.{IsTaken};
 ghost use Rattle.desk_wire.specs.declared.response.ServerError.TheVariants.{Store};
 ghost use Rattle.desk_line.specs.Lines.{AreEnrolments};
-ghost use Rattle.desk_program.specs.Serving.{BringsNews};
-ghost use Rattle.desk_program.specs.Serving.{Closes, IsDenied, IsUnsent, Listens, Takes, arrived, parted};
-ghost use Rattle.desk_recording.specs.Recording.{Adds, Answered};
-ghost use Rattle.desk_recording.specs.Recording.{IsClosedBy, IsTakenFrom, Sends, SendsKept, parting_of};
-ghost use Rattle.desk_recording.specs.Recording.{traffic_of};
+ghost use Rattle.desk_program.specs.Recorded.{with_answer};
+ghost use Rattle.desk_program.specs.Serving.{BringsNews, Closes, Denies, IsDenied, IsFresh, Listens};
+ghost use Rattle.desk_program.specs.Serving.{Takes, arrived, parted};
+ghost use Rattle.desk_recording.specs.Recording.{Adds, Answered, IsClosedBy, IsTakenFrom, Notes, Sends};
+ghost use Rattle.desk_recording.specs.Recording.{SendsKept, parting_of};
+ghost use Rattle.desk_recording.specs.Telling.{told_by};
 
 use crate::record::{Parted, Record};
 use crate::streams::{Given, Held};
 use desk_ends::{ServeFault, write_whole};
 use desk_line::{Enrolment, Failure};
-use desk_program::{Connection, Port};
+use desk_program::{Connection, Outcome, Port};
 use desk_wire::{ServerError, receive_request};
 use std::alloc::Global;
 use std::io::{Cursor, Read, Write};
+
+// What comes of a request that was read and isn't answered.
+const UNANSWERED: Outcome = Outcome {
+    is_whole: true,
+    is_answered: false,
+};
 
 /// A port whose requests are kept on the disk before they are served, and whose answers are kept before they
 /// are sent. Once something can't be kept, no connection is taken any more.
@@ -50,11 +57,11 @@ impl<P: Port + Drop, R: Record + Drop> Port for RecordedPort<P, R> {
 
     type Output = Held<P::Output>;
 
-    ghost traffic = { λ s. traffic_of (R.steps s.keeper) };
+    ghost traffic = { λ s. told_by R.Record s.keeper s.is_broken };
 
     fn listen(&mut self, number: u16) -> Result<(), Failure>
-        ensures listens { Listens (traffic_of (R.steps self.old.keeper))
-            (traffic_of (R.steps self.new.keeper)) number }
+        ensures listens { Listens (told_by R.Record self.old.keeper self.old.is_broken)
+            (told_by R.Record self.new.keeper self.new.is_broken) number }
         ensures asked { Listens (P.traffic self.old.port) (P.traffic self.new.port) number }
         ensures fault { IfErr result IsDenied }
     {
@@ -64,24 +71,24 @@ impl<P: Port + Drop, R: Record + Drop> Port for RecordedPort<P, R> {
     #[tactic(auto, using(crate::proofs::StepLemmas::brings_news))]
     fn news(&mut self, alloc: Global) -> Result<Vec<Enrolment>, Failure>
         ensures small { IfOk result (λ news. AreEnrolments news.items) }
-        ensures brings { IfOk result (λ news. BringsNews (traffic_of (R.steps self.old.keeper))
-            (traffic_of (R.steps self.new.keeper)) news.items) }
-        ensures same { OnErr result (traffic_of (R.steps self.new.keeper)
-            ≡ traffic_of (R.steps self.old.keeper)) }
+        ensures brings { IfOk result (λ news. BringsNews (told_by R.Record self.old.keeper self.old.is_broken)
+            (told_by R.Record self.new.keeper self.new.is_broken) news.items) }
+        ensures same { OnErr result (Denies (told_by R.Record self.old.keeper self.old.is_broken)
+            (told_by R.Record self.new.keeper self.new.is_broken)) }
         ensures fault { IfErr result IsDenied }
         ensures asked { IfOk result (λ news.
             BringsNews (P.traffic self.old.port) (P.traffic self.new.port) news.items) }
-        ensures broken { self.old.is_broken ≡ true → result ≡ Err Failure.Write }
+        ensures broken { self.old.is_broken ≡ true → result ≡ Err Failure.Broken }
     {
         if self.is_broken {
-            return Err(Failure::Write);
+            return Err(Failure::Broken);
         }
         let news = self.port.news(alloc)?;
         if self.keeper.keep_news(&news) {
             Ok(news)
         } else {
             self.is_broken = true;
-            Err(Failure::Write)
+            Err(Failure::Broken)
         }
     }
 
@@ -91,26 +98,26 @@ impl<P: Port + Drop, R: Record + Drop> Port for RecordedPort<P, R> {
         alloc: Global,
     ) -> Result<Connection<Given<P::Input>, Held<P::Output>>, Failure>
         ensures moment { IfOk result (λ c. IsMoment c.moment) }
-        ensures taken { IfOk result (λ c. Takes (traffic_of (R.steps self.old.keeper))
-            (traffic_of (R.steps self.new.keeper))
+        ensures taken { IfOk result (λ c. Takes (told_by R.Record self.old.keeper self.old.is_broken)
+            (told_by R.Record self.new.keeper self.new.is_broken)
             (arrived c.moment (cursor_remaining (λ v. Some v.items) c.input.request))) }
         ensures unsent { IfOk result (λ c.
-            IsUnsent (traffic_of (R.steps self.old.keeper)) (Some c.output.answer.items)) }
-        ensures same { OnErr result (traffic_of (R.steps self.new.keeper)
-            ≡ traffic_of (R.steps self.old.keeper)) }
+            IsFresh (told_by R.Record self.old.keeper self.old.is_broken) (Some c.output.answer.items)) }
+        ensures same { OnErr result (Denies (told_by R.Record self.old.keeper self.old.is_broken)
+            (told_by R.Record self.new.keeper self.new.is_broken)) }
         ensures fault { IfErr result IsDenied }
         ensures client { IfOk result (λ c. IsTakenFrom c.moment (cursor_inner c.input.request).items
             (P.Input.remaining c.input.client) (P.traffic self.old.port) (P.traffic self.new.port)) }
         ensures waits { IfOk result (λ c.
-            IsUnsent (P.traffic self.old.port) (P.Output.contents c.output.to)) }
-        ensures broken { self.old.is_broken ≡ true → result ≡ Err Failure.Write }
+            IsFresh (P.traffic self.old.port) (P.Output.contents c.output.to)) }
+        ensures broken { self.old.is_broken ≡ true → result ≡ Err Failure.Broken }
     {
         if self.is_broken {
-            return Err(Failure::Write);
+            return Err(Failure::Broken);
         }
         let mut taken = self.port.take(alloc)?;
         let Ok(request) = request_of(alloc, &mut taken.input) else {
-            self.port.close(taken.input, taken.output, true);
+            self.port.close(taken.input, taken.output, UNANSWERED);
             return Err(Failure::Memory);
         };
         if self.keeper.keep_request(taken.moment, &request) {
@@ -128,43 +135,43 @@ impl<P: Port + Drop, R: Record + Drop> Port for RecordedPort<P, R> {
         }
         self.is_broken = true;
         refuse(&mut taken.output);
-        self.port.close(taken.input, taken.output, true);
-        Err(Failure::Write)
+        self.port.close(taken.input, taken.output, UNANSWERED);
+        Err(Failure::Broken)
     }
 
     #[tactic(auto, using(crate::proofs::StepLemmas::closes_so))]
-    fn close(&mut self, input: Given<P::Input>, output: Held<P::Output>, is_whole: bool)
-        ensures closed { Closes (traffic_of (R.steps self.old.keeper)) (traffic_of (R.steps self.new.keeper))
+    fn close(&mut self, input: Given<P::Input>, output: Held<P::Output>, outcome: Outcome)
+        ensures closed { Closes (told_by R.Record self.old.keeper self.old.is_broken)
+            (told_by R.Record self.new.keeper self.new.is_broken)
             (parted (cursor_remaining (λ v. Some v.items) input.request) (Some output.answer.items)
-            is_whole) }
+            outcome) }
         ensures kept { IsClosedBy (R.steps self.old.keeper) (R.steps self.new.keeper)
             (parted (cursor_remaining (λ v. Some v.items) input.request) (Some output.answer.items)
-            is_whole) output.answer.items (P.Output.contents output.to) (P.Input.remaining input.client)
+            outcome) output.answer.items (P.Output.contents output.to) (P.Input.remaining input.client)
             (P.traffic self.old.port) (P.traffic self.new.port) }
         ensures broken { self.new.is_broken ≡ false → (self.old.is_broken ≡ false)
             × Adds (R.steps self.old.keeper) (R.steps self.new.keeper) (Answered
             (parted (cursor_remaining (λ v. Some v.items) input.request) (Some output.answer.items)
-            is_whole)) }
+            outcome)) }
     {
         let Given { request, client } = input;
         let Held { answer, mut to } = output;
-        let is_answered = !answer.is_empty() || request.get_ref().is_empty();
         let connection = Parted {
             unread: unread_of(&request),
             sent: &answer,
-            is_whole,
+            outcome,
         };
-        let is_kept = send_kept(&mut self.keeper, is_answered, connection, &mut to);
-        self.is_broken = self.is_broken || !is_kept;
-        self.port.close(client, to, is_whole);
+        let is_kept = send_kept(&mut self.keeper, self.is_broken, connection, &mut to);
+        self.is_broken = !is_kept;
+        self.port.close(client, to, outcome);
     }
 }
 
-// Keeps the answer of a connection, if there is one, and then sends it; or else tells the client that the
-// desk failed. Whether it is kept.
+// Keeps the answer of a connection, if it is whole and nothing was lost before, and then sends it; or else
+// tells the client that the desk failed. Whether it is kept.
 fn send_kept<R: Record, W: Write>(
     keeper: &mut R,
-    is_answered: bool,
+    is_broken: bool,
     connection: Parted<'_>,
     client: &mut W,
 ) -> bool
@@ -172,7 +179,11 @@ fn send_kept<R: Record, W: Write>(
         connection.entry.sent.now (W.contents client.old) (W.contents client.new) }
     ensures kept { result ≡ true →
         Adds (R.steps keeper.old) (R.steps keeper.new) (Answered (parting_of connection.entry)) }
+    ensures noted { Notes (R.noted keeper.old) (R.noted keeper.new) result
+        (λ n. with_answer n connection.entry.sent.now) }
+    ensures whole { result ≡ true → (is_broken ≡ false) × (connection.entry.outcome.is_answered ≡ true) }
 {
+    let is_answered = !is_broken && connection.outcome.is_answered;
     let is_kept = is_answered && keeper.keep_answer(connection);
     if is_kept {
         send(client, connection.sent);

@@ -1,10 +1,13 @@
 //! A record that is written to a journal.
 
-ghost use Rattle.std.specs.Prelude.{◌≡◌, true, map, nat_abs, [], ◌∷◌, None, IfOk};
-ghost use Rattle.desk_record.specs.Record.{entries};
-ghost use Rattle.desk_recording.specs.Recording.{AddsIf, Answered, Asked, Enrolled, parting_of};
-ghost use Rattle.desk_recording.specs.Writing.{Appended, Follows, answer_writes, appended_writes};
-ghost use Rattle.desk_recording.specs.Writing.{news_writes, operator_entry, request_writes};
+ghost use Rattle.std.specs.Prelude.{◌≡◌, true, map, nat_abs, [], ◌∷◌, None, IfOk, IfSome};
+ghost use Rattle.desk_record.specs.Record.{entries, entry};
+ghost use Rattle.desk_program.specs.Recorded.{AreNamed, operator_entry, with_answer, with_news, with_request};
+ghost use Rattle.desk_recording.specs.Recording.{AddsIf, Answered, Asked, Enrolled, Notes, NotesOnDisk};
+ghost use Rattle.desk_recording.specs.Recording.{parting_of};
+ghost use Rattle.desk_recording.specs.Writing.{Appended, Extends, Follows, Makes, Synced, answer_writes};
+ghost use Rattle.desk_recording.specs.Writing.{appended_writes};
+ghost use Rattle.desk_recording.specs.Writing.{news_writes, noted_in, request_writes};
 
 use crate::journal::Journal;
 use crate::record::{Parted, Record};
@@ -33,31 +36,57 @@ impl<J: Journal + Drop> WrittenRecord<J> {
         }
     }
 
+    /// Has all that was kept on the disk, and answers whether that was done.
+    pub fn sync(&mut self) -> bool
+        ensures { Makes (J.writes self.old.journal) (J.writes self.new.journal) result Synced }
+    {
+        self.journal.sync()
+    }
+
     // Appends an entry, and answers whether that was done.
+    #[tactic(auto, using(crate::proofs::WritingLemmas::extends_none))]
     fn append(&mut self, kind: Kind, number: u64, bytes: &[u8]) -> bool
         ensures done { result ≡ true → Follows (J.writes self.old.journal) (J.writes self.new.journal)
             (appended_writes (record { kind = kind; number = number; bytes = bytes.now })) }
+        ensures text { Extends (J.writes self.old.journal) (J.writes self.new.journal) result
+            (entry (record { kind = kind; number = number; bytes = bytes.now })) }
         ensures second { self.new.second ≡ self.old.second }
     {
         let mut text = Vec::new(self.alloc);
-        write_entry(&mut text, kind, number, bytes).is_ok() && self.journal.append(&text)
+        write_entry(&mut text, kind, number, bytes).is_ok() && append_text(&mut self.journal, &text)
     }
 
     // Appends the entries of operators that are enrolled, and answers whether that was done.
+    #[tactic(auto, using(crate::proofs::WritingLemmas::extends_none))]
     fn append_news(&mut self, news: &[Enrolment]) -> bool
-        ensures { result ≡ true → Follows (J.writes self.old.journal) (J.writes self.new.journal)
+        ensures done { result ≡ true → Follows (J.writes self.old.journal) (J.writes self.new.journal)
             (Appended (entries (map operator_entry news.now)) ∷ []) }
+        ensures text { Extends (J.writes self.old.journal) (J.writes self.new.journal) result
+            (entries (map operator_entry news.now)) }
+        ensures named { result ≡ true → AreNamed news.now }
+        ensures second { self.new.second ≡ self.old.second }
     {
         match news_text(self.alloc, news) {
-            Ok(text) => self.journal.append(&text),
+            Ok(text) => append_text(&mut self.journal, &text),
             Err(_) => false,
         }
     }
 }
 
+// Appends a text, and answers whether that was done.
+#[tactic(auto, using(crate::proofs::WritingLemmas::extends_by))]
+fn append_text<J: Journal>(journal: &mut J, text: &[u8]) -> bool
+    ensures done { result ≡ true →
+        Follows (J.writes journal.old) (J.writes journal.new) (Appended text.now ∷ []) }
+    ensures text { Extends (J.writes journal.old) (J.writes journal.new) result text.now }
+{
+    journal.append(text)
+}
+
 // The entries of operators that are enrolled.
 fn news_text(alloc: Global, news: &[Enrolment]) -> Result<Vec<u8>, AllocError>
-    ensures { IfOk result (λ text. text.items ≡ entries (map operator_entry news.now)) }
+    ensures text { IfOk result (λ text. text.items ≡ entries (map operator_entry news.now)) }
+    ensures named { IfOk result (λ _. AreNamed news.now) }
 {
     let mut text = Vec::new(alloc);
     for enrolment in news {
@@ -72,8 +101,14 @@ fn news_text(alloc: Global, news: &[Enrolment]) -> Result<Vec<u8>, AllocError>
 }
 
 impl<J: Journal + Drop> Record for WrittenRecord<J> {
+    ghost noted = { λ s. noted_in s.second (J.writes s.journal) };
+
     fn keep_news(&mut self, news: &[Enrolment]) -> bool
         ensures steps { AddsIf None None result (Enrolled news.now) }
+        ensures noted { NotesOnDisk (noted_in self.old.second (J.writes self.old.journal))
+            (noted_in self.new.second (J.writes self.new.journal)) result (λ n. with_news n news.now) }
+        ensures named { IfSome (noted_in self.old.second (J.writes self.old.journal))
+            (λ _. result ≡ true → AreNamed news.now) }
         ensures writes { result ≡ true → Follows (J.writes self.old.journal) (J.writes self.new.journal)
             (news_writes news.now) }
     {
@@ -82,6 +117,9 @@ impl<J: Journal + Drop> Record for WrittenRecord<J> {
 
     fn keep_request(&mut self, moment: i64, bytes: &[u8]) -> bool
         ensures steps { AddsIf None None result (Asked moment bytes.now) }
+        ensures noted { NotesOnDisk (noted_in self.old.second (J.writes self.old.journal))
+            (noted_in self.new.second (J.writes self.new.journal)) result
+            (λ n. with_request n moment bytes.now) }
         ensures writes { result ≡ true → Follows (J.writes self.old.journal) (J.writes self.new.journal)
             (request_writes (nat_abs moment) bytes.now) }
     {
@@ -94,6 +132,9 @@ impl<J: Journal + Drop> Record for WrittenRecord<J> {
 
     fn keep_answer(&mut self, connection: Parted<'_>) -> bool
         ensures steps { AddsIf None None result (Answered (parting_of connection.entry)) }
+        ensures noted { Notes (noted_in self.old.second (J.writes self.old.journal))
+            (noted_in self.new.second (J.writes self.new.journal)) result
+            (λ n. with_answer n connection.entry.sent.now) }
         ensures writes { result ≡ true → Follows (J.writes self.old.journal) (J.writes self.new.journal)
             (answer_writes self.old.second connection.entry.sent.now) }
     {

@@ -1,2 +1,3 @@
 pub mod LawLemmas
 pub mod RunLemmas
+pub mod TellingLemmas

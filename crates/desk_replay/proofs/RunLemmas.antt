@@ -1,12 +1,12 @@
 -- Runs of a replay: one entry more.
-use Rattle.std.proofs.Common.{◌≡◌, ◌⊎◌, ℕ, List, [], ◌∷◌, ◌++◌, map, Option, Some, None, Result, Ok, Err, refl, sym, ap, subst, ◌∙◌, append_assoc, append-nil}
+use Rattle.std.proofs.Common.{◌≡◌, ◌⊎◌, ℕ, ◌+◌, ◌^◌, ◌-◌, min, arith, length, length-append, List, [], ◌∷◌, ◌++◌, map, Option, Some, None, Result, Ok, Err, refl, sym, ap, subst, ◌∙◌, append_assoc, append-nil}
 use Rattle.std.specs.List.{AllByRecursion, concat}
 use Rattle.std.specs.Io.KnownBytes.{Consumes}
 use Rattle.std.proofs.KnownBytes.{Consumes-nil, Consumes-trans}
 use Rattle.desk_record.specs.Record.{EntryParts, Fits, entries, entry}
 use Rattle.desk_run.specs.DeskWorld.{DeskWorld}
 use Rattle.desk_replay.specs.Replaying.{IsOwn, Outcome, State, played, state_of, taken, then_taken}
-use Rattle.desk_replay.specs.Running.{ArePlayed, Ends, HasReplayed, IsPlayed, start}
+use Rattle.desk_replay.specs.Running.{ArePlayed, Ends, HasReplayed, IsPlayed, size_of, start}
 use Rattle.desk_replay.specs.declared.stream.ReplayEnd.{ReplayEnd}
 use Rattle.desk_replay.specs.declared.stream.ReplayEnd.TheVariants.{End, Until, Unread, Unplayed}
 
@@ -37,17 +37,33 @@ fit_more : (es : List EntryParts) (e : EntryParts) → AllByRecursion Fits es �
 fit_more [] e fit one = (one, tt)
 fit_more (x ∷ es) e fit one = (fit.0, fit_more es e fit.1 one)
 
+-- the sizes of two texts, one after the other
+sized_more : (place size now a b : ℕ) → place ≡ min a (2 ^ 64 - 1) → size ≡ min b (2 ^ 64 - 1)
+    → now ≡ min (place + size) (2 ^ 64 - 1) → now ≡ min (a + b) (2 ^ 64 - 1)
+sized_more place size now a b first next is = omega (arith, first, next, is)
+
+sized_both : (place size now : ℕ) (es : List EntryParts) (e : EntryParts) → place ≡ size_of (entries es)
+    → size ≡ size_of (entry e) → now ≡ min (place + size) (2 ^ 64 - 1)
+    → now ≡ size_of (entries (es ++ (e ∷ [])))
+sized_both place size now es e first next is =
+    sized_more place size now (length (entries es)) (length (entry e)) first next is
+    ∙ ap (λ n. min n (2 ^ 64 - 1)) (sym (length-append (entries es) (entry e))
+    ∙ ap length (sym (entries_more es e)))
+
 -- nothing is played yet
-pub none_played : (H : Type 0) (old : Option (List ℕ)) (w : DeskWorld) → ArePlayed H old old w (start w)
+pub none_played : (H : Type 0) (old : Option (List ℕ)) (w : DeskWorld) → ArePlayed H 0 old old w (start w)
 unfolding played
-none_played H old w = record { all = []; fit = tt; read = Consumes-nil old; gives = λ h. refl }
+none_played H old w =
+    record { all = []; fit = tt; sized = omega arith; read = Consumes-nil old; gives = λ h. refl }
 
 -- one entry more
-pub one_more : {H G : Type 0} (old mid new : Option (List ℕ)) (w : DeskWorld) (s t : State) → (G → H)
-    → ArePlayed H old mid w s → IsPlayed G mid new s t → ArePlayed G old new w t
-one_more old mid new w s t down first next = record {
+pub one_more : {H G : Type 0} (place size now : ℕ) (old mid new : Option (List ℕ)) (w : DeskWorld)
+    (s t : State) → (G → H) → now ≡ min (place + size) (2 ^ 64 - 1) → ArePlayed H place old mid w s
+    → IsPlayed G size mid new s t → ArePlayed G now old new w t
+one_more place size now old mid new w s t down is first next = record {
   all = first.all ++ (next.one ∷ []);
   fit = fit_more first.all next.one first.fit next.fits;
+  sized = sized_both place size now first.all next.one first.sized next.sized is;
   read = subst (Consumes old new) (sym (entries_more first.all next.one))
       (Consumes-trans old mid new (entries first.all) (entry next.one) first.read next.read);
   gives = λ h. played_more (start w) s t first.all next.one (first.gives (down h)) (next.gives h);
@@ -67,14 +83,15 @@ ends_at until (Unplayed fault) mid new s t h same = record {
 }
 
 -- no entry more
-pub no_more : {H G : Type 0} (until : Option ℕ) (end : ReplayEnd) (old mid new : Option (List ℕ))
-    (w : DeskWorld) (s t : State) → (G → H) → ArePlayed H old mid w s
-    → Ends G until end mid new s × (G → t ≡ s) → HasReplayed G until end old new w t
-no_more until end old mid new w s t down first ends = record {
+pub no_more : {H G : Type 0} (until : Option ℕ) (end : ReplayEnd) (place : ℕ)
+    (old mid new : Option (List ℕ)) (w : DeskWorld) (s t : State) → (G → H) → ArePlayed H place old mid w s
+    → Ends G until end mid new s × (G → t ≡ s) → HasReplayed G until end place old new w t
+no_more until end place old mid new w s t down first ends = record {
   mid = mid;
   first = record {
     all = first.all;
     fit = first.fit;
+    sized = first.sized;
     read = first.read;
     gives = λ h. first.gives (down h) ∙ ap Ok (sym (ends.1 h));
   };

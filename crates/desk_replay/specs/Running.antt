@@ -1,5 +1,5 @@
 -- Running: what comes of a replay of a stream of entries.
-use Rattle.std.specs.Prelude.{◌≡◌, ◌⊎◌, ⊤, ℕ, List, [], nat_lt, Bool, false, IsTrue, Option, Some, None, Result, Ok, Err}
+use Rattle.std.specs.Prelude.{◌≡◌, ◌⊎◌, ℕ, ◌^◌, ◌-◌, min, length, List, [], nat_lt, Bool, false, IsTrue, Option, Some, None, Result, Ok, Err}
 use Rattle.std.specs.List.{AllByRecursion}
 use Rattle.std.specs.Io.KnownBytes.{Consumes, IsAtEnd}
 use Rattle.desk_rules.specs.Terms.{no_terms}
@@ -33,10 +33,15 @@ is_later (Some last) kind.Operator n = false
 is_later (Some last) kind.Request n = nat_lt last n
 is_later (Some last) kind.Answer n = false
 
--- an entry is read, and, if the store is honest, this comes of it
-pub record IsPlayed (H : Type 0) (old new : Option (List ℕ)) (s t : State) : Type 0 where
+-- how many bytes a text has; as many as 64 bits hold at most
+abbrev pub size_of : List ℕ → ℕ
+size_of text = min (length text) (2 ^ 64 - 1)
+
+-- an entry of this size is read, and, if the store is honest, this comes of it
+pub record IsPlayed (H : Type 0) (size : ℕ) (old new : Option (List ℕ)) (s t : State) : Type 0 where
   pub one : EntryParts
   pub fits : Fits one
+  pub sized : size ≡ size_of (entry one)
   pub read : Consumes old new (entry one)
   pub gives : H → taken s one ≡ Ok t
 
@@ -63,20 +68,22 @@ Ends H until (Unplayed fault) old new s = IsRefused H fault old new s
 
 -- what comes of one step of a replay
 abbrev pub Steps :
-    Type 0 → Option ℕ → Result ⊤ ReplayEnd → Option (List ℕ) → Option (List ℕ) → State → State → Type 0
-Steps H until (Ok done) old new s t = IsPlayed H old new s t
+    Type 0 → Option ℕ → Result ℕ ReplayEnd → Option (List ℕ) → Option (List ℕ) → State → State → Type 0
+Steps H until (Ok size) old new s t = IsPlayed H size old new s t
 Steps H until (Err end) old new s t = Ends H until end old new s × (H → t ≡ s)
 
--- the first entries of a stream are played
-pub record ArePlayed (H : Type 0) (old new : Option (List ℕ)) (w : DeskWorld) (s : State) : Type 0 where
-  pub all : List EntryParts
-  pub fit : AllByRecursion Fits all
-  pub read : Consumes old new (entries all)
-  pub gives : H → played (start w) all ≡ Ok s
+-- the first entries of a stream are played, as many as have so many bytes
+pub record ArePlayed (H : Type 0) (place : ℕ) (old new : Option (List ℕ)) (w : DeskWorld) (s : State) : Type 0
+  where
+    pub all : List EntryParts
+    pub fit : AllByRecursion Fits all
+    pub sized : place ≡ size_of (entries all)
+    pub read : Consumes old new (entries all)
+    pub gives : H → played (start w) all ≡ Ok s
 
--- and no more
-pub record HasReplayed (H : Type 0) (until : Option ℕ) (ended : ReplayEnd) (old new : Option (List ℕ))
-    (w : DeskWorld) (t : State) : Type 0 where
+-- and no more; `place` is how many bytes are before what ended it
+pub record HasReplayed (H : Type 0) (until : Option ℕ) (ended : ReplayEnd) (place : ℕ)
+    (old new : Option (List ℕ)) (w : DeskWorld) (t : State) : Type 0 where
   pub mid : Option (List ℕ)
-  pub first : ArePlayed H old mid w t
+  pub first : ArePlayed H place old mid w t
   pub ends : Ends H until ended mid new t

@@ -3,6 +3,7 @@
 
 mod fault;
 mod laws;
+mod line;
 mod play;
 mod progress;
 mod stream;
@@ -10,5 +11,7 @@ mod terms;
 
 pub use fault::ReplayFault;
 pub use laws::replayed;
+pub use line::replay_opened;
+pub use play::{answer_one, says_failure};
 pub use progress::{Asking, Progress};
 pub use stream::{ReplayEnd, Replayed, replay};

@@ -144,8 +144,12 @@ fn turn(
     Ok(Some(Vec::from_slice(alloc, first)?))
 }
 
-// The answer to one request.
-fn answer_one<S: PlanStore>(
+/// The answer to one request, the bytes of a whole one with its moment.
+///
+/// # Errors
+///
+/// `OutOfMemory` or `Store` by the desk, which changed nothing then.
+pub fn answer_one<S: PlanStore>(
     alloc: Global,
     desk: &mut Desk<S>,
     sent: &(i64, Vec<u8>),
@@ -194,8 +198,8 @@ fn compare(progress: &mut Progress, second: u64, answer: &[u8]) -> Result<(), Re
     }
 }
 
-// Whether an answer says that the desk failed.
-fn says_failure(answer: &[u8]) -> bool
+/// Whether an answer says that the desk failed.
+pub fn says_failure(answer: &[u8]) -> bool
     ensures { result ≡ is_failure answer.now }
 {
     answer == out_of_memory_answer() || answer == store_answer()

@@ -3,6 +3,8 @@
 ghost use Rattle.std.specs.Prelude.{◌≡◌};
 ghost use Rattle.desk_store.specs.StoreFaults.{IsHonest};
 ghost use Rattle.desk_store.specs.StoreFrames.{Remembers};
+ghost use Rattle.desk_record.specs.Reading.{entry_shown};
+ghost use Rattle.desk_record.specs.Record.{entry};
 ghost use Rattle.desk_run.specs.DeskWorld.{world_of};
 ghost use Rattle.desk_replay.specs.Replaying.{state_of};
 ghost use Rattle.desk_replay.specs.Running.{HasReplayed, Steps};
@@ -11,11 +13,14 @@ ghost use Rattle.desk_replay.specs.Running as spec;
 use crate::fault::ReplayFault;
 use crate::play::take_entry;
 use crate::progress::Progress;
-use desk_record::{Entry, Kind, ReadFault, read_entry};
+use desk_record::{Entry, Kind, ReadFault, lengths, read_entry};
 use desk_run::Desk;
 use desk_store::PlanStore;
 use std::alloc::Global;
 use std::io::Read;
+
+/// How many bytes an entry has beside its own: those of its line, and the line feed.
+const LINE_AND_END: u64 = 87;
 
 /// Why a replay ended.
 #[derive(Clone, Copy, Debug, PartialEq, Eq)]
@@ -34,6 +39,9 @@ pub enum ReplayEnd {
 #[derive(Debug, Drop)]
 pub struct Replayed {
     pub progress: Progress,
+    /// How many bytes the entries have that were played, as many as 64 bits hold at most: so many are before
+    /// the one at which it ended.
+    pub place: u64,
     pub ended: ReplayEnd,
 }
 
@@ -46,30 +54,40 @@ pub fn replay<S: PlanStore, R: Read>(
     input: &mut R,
 ) -> Replayed
     ensures played { HasReplayed (IsHonest (S.doubt desk.new.store)) until result.ended
-        (R.remaining input.old) (R.remaining input.new) (world_of S.content desk.old)
+        result.place (R.remaining input.old) (R.remaining input.new) (world_of S.content desk.old)
         (state_of (world_of S.content desk.new) result.progress) }
     ensures remembered { Remembers S.doubt S.faults S.is_shielded desk.old.store desk.new.store }
 {
     let mut progress = Progress::none(alloc);
+    let mut place: u64 = 0;
     for _ in 0..u64::MAX {
-        if let Err(ended) = replay_one(alloc, desk, &mut progress, until, input) {
-            return Replayed { progress, ended };
+        match replay_one(alloc, desk, &mut progress, until, input) {
+            Ok(size) => place = place.saturating_add(size),
+            Err(ended) => {
+                return Replayed {
+                    progress,
+                    place,
+                    ended,
+                };
+            }
         }
     }
     Replayed {
         progress,
+        place,
         ended: ReplayEnd::Unread(ReadFault::Read),
     }
 }
 
-// Reads the next entry and plays it. The error says why there is no more to play.
+// Reads the next entry and plays it, and answers how many bytes it has. The error says why there is no more
+// to play.
 fn replay_one<S: PlanStore, R: Read>(
     alloc: Global,
     desk: &mut Desk<S>,
     progress: &mut Progress,
     until: Option<u64>,
     input: &mut R,
-) -> Result<(), ReplayEnd>
+) -> Result<u64, ReplayEnd>
     ensures steps { Steps (IsHonest (S.doubt desk.new.store)) until result
         (R.remaining input.old) (R.remaining input.new)
         (state_of (world_of S.content desk.old) progress.old)
@@ -84,10 +102,19 @@ fn replay_one<S: PlanStore, R: Read>(
     if is_later(until, &entry) {
         return Err(ReplayEnd::Until);
     }
+    let size = size_of(&entry);
     match take_entry(alloc, desk, progress, entry) {
-        Ok(()) => Ok(()),
+        Ok(()) => Ok(size),
         Err(fault) => Err(ReplayEnd::Unplayed(fault)),
     }
+}
+
+// How many bytes an entry has.
+fn size_of(one: &Entry) -> u64
+    ensures { result ≡ spec.size_of (entry (entry_shown one.now)) }
+{
+    lengths();
+    (one.bytes.len() as u64).saturating_add(LINE_AND_END)
 }
 
 // Whether this is a request that is asked later.

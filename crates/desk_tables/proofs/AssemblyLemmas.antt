@@ -135,11 +135,6 @@ module _ (one_shape : (one other : Shape) → HasValidParts one → HasValidPart
   plans_of = subst (λ rs. ArePlanRows ps rs t.volumes) (two ∙ ap (λ x. x.plans) view)
       (subst (ArePlanRows ps head_rows) (three ∙ ap (λ x. x.volumes) view) filed)
 
-  pub content_if : AreAgreed ks qs spans → IsContent (world_of ls ps) × AreRows t (world_of ls ps)
-  content_if are = assembled one_shape t ls ps operators_of plans_of
-      (subst (λ xs. AreAgreed xs ps t.spans) five (subst (λ xs. AreAgreed ks xs t.spans) six
-      (subst (AreAgreed ks qs) (four ∙ ap (λ x. x.spans) view) are)))
-
   pub none_if : (AreAgreed ks qs spans → ⊥) → (w : World) → IsContent w → AreRows t w → ⊥
   none_if none w h are =
       none (subst (λ xs. AreAgreed xs qs spans) (sym five)

@@ -1,24 +1,15 @@
 -- Rows are a plan's if and only if each is the row that stands at its place.
-use Rattle.std.proofs.Common.{◌≡◌, ◌↔◌, ℕ, pos, zero, suc, ◌+◌, ◌<◌, ◌≤◌, Bool, true, false, List, [], ◌∷◌, ◌++◌, length, take, drop, get_or, map, refl, sym, ap, subst, ◌∙◌, arith, IsTrue, true≢false}
+use Rattle.std.proofs.Common.{◌≡◌, ◌↔◌, ℕ, pos, zero, suc, ◌+◌, ◌<◌, Bool, List, [], ◌∷◌, length, drop, get_or, map, refl, sym, ap, subst, ◌∙◌, arith, IsTrue}
 use Rattle.std.specs.List.{AllZip, AllByRecursion}
-use Rattle.std.specs.Prelude.{MatchBool, nat_eq}
-use Rattle.std.proofs.lemmas.List.{append_cancel_left, drop_all}
-use Rattle.std.proofs.lemmas.Bool.Decides.{nat_tests}
-use Rattle.std.proofs.lemmas.List.Elements.{recursion_from_All}
 use Rattle.sqlite_value.specs.declared.value.Value.{Value}
 use Rattle.sqlite_value.specs.declared.value.Value.TheVariants.{Int, Text}
 use Rattle.sqlite_value.specs.Order.{Row, column}
 use Rattle.volume4d.specs.declared.slab.Slab.{Slab}
 use Rattle.volume4d.specs.Slab.{span_of, slab_window}
-use Rattle.volume4d.specs.Slabs.{AreVolumeSlabs}
-use Rattle.s2_cover.specs.declared.spans.Span.{Span}
-use Rattle.s2_cover.specs.Ranges.{IsRanges}
-use Rattle.desk_rules.specs.Plan.{is_live}
-use Rattle.desk_rules.specs.declared.words.Usage.{Usage}
 use Rattle.desk_rules.specs.declared.words.Usage.TheVariants as usage
 use Rattle.volume4d.specs.Volume.{Block}
 use Rattle.desk_store.specs.World.{Filed}
-use Rattle.desk_tables.specs.Tables.{id_text, plan_row, volume_row, volume_rows_from, area_rows, span_row, AreSpanRowsFrom, ArePlanSpanRows}
+use Rattle.desk_tables.specs.Tables.{id_text, plan_row, volume_row, volume_rows_from, area_rows, span_row}
 use Rattle.desk_store.specs.Content.{IsId, IsBlock}
 use Rattle.volume4d.specs.Volume.{is_area}
 use Rattle.desk_tables.specs.Reading.{IsVolumeAt, IsHead}
@@ -103,9 +94,6 @@ pub cut_in : {A : Type 0} (xs ys : List A) (i : ℕ) (x : A) → xs ≡ ys → i
     → drop i ys ≡ x ∷ drop (i + 1) ys
 cut_in xs ys i x same w e = subst (λ zs. drop i zs ≡ x ∷ drop (i + 1) zs) same (cut_at xs i x x w e)
 
-pub none_after : {A : Type 0} (xs ys : List A) (i : ℕ) → xs ≡ ys → length xs ≤ i → drop i ys ≡ []
-none_after xs ys i same w = subst (λ zs. drop i zs ≡ []) same (drop_all i xs w)
-
 -- volumes from a place on
 pub record Placing (p : Filed) (rows : List Row) (area : List Block) (i : ℕ) : Type 0 where
   pub same : (rows ≡ volume_rows_from p 0 area) ↔ (drop i rows ≡ volume_rows_from p i (drop i area))
@@ -171,17 +159,6 @@ placing_stops p rows area i row w e is before h =
       first : {r s : Row} {xs ys : List Row} → r ∷ xs ≡ s ∷ ys → r ≡ s
       first h = cc
 
--- rows after those of slabs
-pub record AreAfter (f : Slab → Row) (slabs : List Slab) (rows : List Row) (i : ℕ)
-    (rest : List Row) : Type 0
-  where
-    pub same : (x : List Row) → (rows ≡ map f slabs ++ x) ↔ (rest ≡ map f (drop i slabs) ++ x)
-
--- spans of the volumes from a place on
-pub record Spanning (p : Filed) (area : List Block) (rows : List Row) (i : ℕ) (rest : List Row) : Type 0
-  where
-    pub same : AreSpanRowsFrom p 0 area rows ↔ AreSpanRowsFrom p i (drop i area) rest
-
 pub slabs_as_spans : (p : Filed) (place : ℕ) (v : Block) (slabs : List Slab)
     → AllByRecursion (λ s. slab_window s ≡ v.window) slabs
     → map (span_row p place v) (map span_of slabs) ≡ map (slab_row p place) slabs
@@ -190,87 +167,6 @@ slabs_as_spans p place v (s ∷ slabs) h =
     λ i. ap (λ w. span_row p place (record { footprint = v.footprint; window = w }) (span_of s))
     (sym h.0) i
     ∷ slabs_as_spans p place v slabs h.1 i
-
-module _ (one_list : (set : ℕ → Bool) (one other : List Span) → IsRanges set one → IsRanges set other
-    → one
-    ≡ other) (p : Filed) where
-  step : (place : ℕ) (v : Block) (vs : List Block) (slabs : List Slab) (rows rest : List Row)
-      → AreVolumeSlabs v slabs → rows ≡ map (slab_row p place) slabs ++ rest
-      → AreSpanRowsFrom p place (v ∷ vs) rows ↔ AreSpanRowsFrom p (place + 1) vs rest
-  step place v vs slabs rows rest h e =
-      let same = slabs_as_spans p place v slabs
-      (recursion_from_All (λ s. slab_window s ≡ v.window) slabs
-      h.windows) in (
-        (λ t.
-            let spans = one_list _ t.0 (map span_of slabs) t.2 h.ranges in
-            let both : map (slab_row p place) slabs ++ rest ≡ map (slab_row p place) slabs ++ t.1 =
-            sym e ∙ t.3 ∙ ap (λ s. map (span_row p place v) s ++ t.1) spans ∙ ap (λ r. r ++ t.1) same in
-            subst (AreSpanRowsFrom p (place + 1) vs)
-            (sym (append_cancel_left (map (slab_row p place) slabs) rest t.1 both)) t.4),
-        λ t. (map span_of slabs, rest, h.ranges, e ∙ ap (λ r. r ++ rest) (sym same), t),
-      )
-
-  pub spanning_on : (area : List Block) (rows : List Row) (i : ℕ) (rest more : List Row) (v : Block)
-      (slabs : List Slab) → drop i area ≡ v ∷ drop (i + 1) area
-      → AreVolumeSlabs v slabs → rest ≡ map (slab_row p i) slabs ++ more → Spanning p area rows i rest
-      → Spanning p area rows (i + 1) more
-  spanning_on area rows i rest more v slabs k h e before =
-      let one = step i v (drop (i + 1) area) slabs rest more h e in
-      record {
-        same = (
-          (λ t. one.0 (subst (λ vs. AreSpanRowsFrom p i vs rest) k (before.same.0 t))),
-          λ t. before.same.1 (subst (λ vs. AreSpanRowsFrom p i vs rest) (sym k) (one.1 t)),
-        );
-      }
-
-  pub spanning_stops : (area : List Block) (rows : List Row) (i : ℕ) (rest : List Row) (v : Block)
-      (slabs : List Slab) → drop i area ≡ v ∷ drop (i + 1) area
-      → AreVolumeSlabs v slabs → ((x : List Row) → rest ≡ map (slab_row p i) slabs ++ x → ⊥)
-      → Spanning p area rows i rest → AreSpanRowsFrom p 0 area rows → ⊥
-  spanning_stops area rows i rest v slabs k h off before all =
-      let t = subst (λ vs. AreSpanRowsFrom p i vs rest) k (before.same.0 all) in
-      let same = slabs_as_spans p i v slabs (recursion_from_All (λ s. slab_window s ≡ v.window) slabs
-      h.windows) in
-      let spans = one_list _ t.0 (map span_of slabs) t.2 h.ranges in
-      off t.1 (t.3 ∙ ap (λ s. map (span_row p i v) s ++ t.1) spans ∙ ap (λ r. r ++ t.1) same)
-
-pub spanning_ends : (p : Filed) (area : List Block) (rows : List Row) (i : ℕ) (rest : List Row)
-    → drop i area
-    ≡ [] → Spanning p area rows i rest → AreSpanRowsFrom p 0 area rows ↔ (rest ≡ [])
-spanning_ends p area rows i rest k h = (
-  (λ t. subst (λ vs. AreSpanRowsFrom p i vs rest) k (h.same.0 t)),
-  λ e. h.same.1
-      (subst (λ vs. AreSpanRowsFrom p i vs rest) (sym k) e),
-)
-
--- closed plans and live ones
-live : (u : Usage) → (u ≡ usage.Closed → ⊥) → is_live u ≡ true
-live usage.Planned h = refl
-live usage.InUse h = refl
-live usage.Closed h = absurd (h refl)
-
-pub live_spans : (p : Filed) (rows : List Row) → (p.row.usage ≡ usage.Closed → ⊥)
-    → ArePlanSpanRows p rows
-    ↔ AreSpanRowsFrom p 0 p.row.area rows
-live_spans p rows h =
-    let same = ap (λ b. MatchBool b (AreSpanRowsFrom p 0 p.row.area rows) (rows ≡ []))
-    (live p.row.usage h) in
-    ((λ t. subst (λ T. T) same t), λ t. subst (λ T. T) (sym same) t)
-
-pub empty_if : (rows : List Row) (t : Bool) → t ≡ nat_eq (length rows) 0 → IsTrue t ↔ (rows ≡ [])
-empty_if [] t e = ((λ y. refl), λ h. e)
-empty_if (r ∷ rows) t e = ((λ y. absurd (some (length rows) (sym e ∙ y))), λ h. cc) where
-  some : (n : ℕ) → nat_eq (suc n) 0 ≡ true → ⊥
-  some n h = grind (arith, nat_tests, h)
-
-pub spans_told : (p : Filed) (rows : List Row) (i : ℕ) (rest : List Row) (t : Bool)
-    → (p.row.usage ≡ usage.Closed → ⊥) → drop i p.row.area ≡ [] → Spanning p p.row.area rows i rest
-    → t ≡ nat_eq (length rest) 0 → IsTrue t ↔ ArePlanSpanRows p rows
-spans_told p rows i rest t lives end h e =
-    let empty = empty_if rest t e in
-    let left = spanning_ends p p.row.area rows i rest end h in
-    let are = live_spans p rows lives in
-    ((λ y. are.1 (left.1 (empty.0 y))), λ a. empty.1 (left.0 (are.0 a)))
 
 -- rows of a plan, and what is read from them
 pub store_of : (fault : StoreFault) → row_fault_of fault ≡ NoDesk → fault ≡ Store

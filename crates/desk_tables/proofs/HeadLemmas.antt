@@ -1,5 +1,6 @@
 -- A content from operators and plans that were read, and from rows of spans that were held against the plans.
-use Rattle.std.proofs.Common.{◌≡◌, ◌≢◌, List, [], ◌∷◌, ◌∙◌, sym, subst, arith, IsTrue, Result, Ok, Err, IfOk, IfErr, OnOk}
+use Rattle.std.proofs.Common.{◌≡◌, ◌≢◌, List, [], ◌∷◌, ◌∙◌, sym, ap, subst, arith, IsTrue, Result, Ok, Err, IfOk, IfErr, OnOk}
+use Rattle.std.specs.List.{AllByRecursion}
 use Rattle.sqlite_trees.specs.declared.store.Store.{Ghosts}
 use Rattle.std.specs.Result.{IsErrAnd}
 use Rattle.sqlite.specs.State.{HasCleanDisk}
@@ -17,20 +18,20 @@ use Rattle.desk_store.specs.Content.{IsContent}
 use Rattle.desk_store.specs.World.{Filed, Listed, World}
 use Rattle.desk_tables.specs.declared.opening.open.OpenFault.{OpenFault}
 use Rattle.desk_tables.specs.declared.opening.open.OpenFault.TheVariants.{NotADesk, OldSchema, Store}
-use Rattle.desk_tables.specs.Opening.{AreAllRows, AreHeads, AreNoContent, AreSortedByKey, AreSortedHeads, HasNewRows, IsContentOf}
+use Rattle.desk_tables.specs.Moving.{AreNoOldContent, AreOldParts, AreSortedOld, HasNoNewRows, IsOldArea, IsOldContent, IsOldContentOf}
+use Rattle.desk_tables.specs.Opening.{AreAllRows, AreHeads, AreNoContent, AreParts, AreRows, AreSortedByKey, AreSortedHeads, BlamesReading, HasNewRows, IsContentOf}
 use Rattle.desk_tables.specs.OpeningSteps.{IsRead}
-use Rattle.desk_tables.specs.Tables.{AreSpanRows}
+use Rattle.desk_tables.specs.Tables.{AreSpanRows, cover_rows}
 use Rattle.desk_tables.proofs.AssemblyLemmas.{agreed, assembled, world_of}
-use Rattle.desk_tables.proofs.KeyOrderLemmas.{are_rows, are_tables, heads_are}
+use Rattle.desk_tables.proofs.KeyOrderLemmas.{are_old_rows, are_old_tables, are_rows, are_tables, heads_are, old_heads_are}
 use Rattle.desk_tables.proofs.OpeningLemmas.{no_old_rows}
 
 abbrev pub with_spans : Tables → List Row → Tables
 with_spans t rows = record t { spans = rows }
 
--- they are so of the plans that were handed on
-pub of_plans : (t : Tables) (ls : List Listed) (ps qs rs : List Filed) → AreHeads t ls ps → qs ≡ ps → rs ≡ qs
-    → AreHeads t ls rs
-of_plans t ls ps qs rs are one two = subst (AreHeads t ls) (sym (two ∙ one)) are
+-- what is so of plans is so of those that were handed on
+pub of_plans : (P : List Filed → Type 0) (ps qs rs : List Filed) → P ps → qs ≡ ps → rs ≡ qs → P rs
+of_plans P ps qs rs are one two = subst P (sym (two ∙ one)) are
 
 -- tables whose rows but for spans are no content's, with whatever spans, have none
 pub none_of_heads : (t heads : Tables) → AreSortedHeads t heads
@@ -38,6 +39,13 @@ pub none_of_heads : (t heads : Tables) → AreSortedHeads t heads
     → AreNoContent t
 none_of_heads t heads lists none w h are =
     none w are.spans.0 h (heads_are t heads w h are lists are.spans.0 are.spans.1)
+
+-- the same of schema 1
+pub none_of_old_heads : (t heads : Tables) → AreSortedOld t heads
+    → ((w : World) (rows : List Row) → IsOldContent w → AreRows (with_spans heads rows) w → ⊥)
+    → AreNoOldContent t
+none_of_old_heads t heads lists none w old are = none w are.spans.0 old
+    (old_heads_are t heads w old.content are lists are.spans.0 are.spans.1)
 
 sorted_with : (t heads : Tables) (rows : List Row) → AreSortedHeads t heads
     → Lists (0 ∷ 1 ∷ 2 ∷ 3 ∷ []) t.spans rows → AreSortedByKey t (with_spans heads rows)
@@ -55,71 +63,116 @@ same_world : (w : World) (ls : List Listed) (ps : List Filed) → (w.operators �
 same_world w ls ps are = λ i. world_of (sym are.0 i) (sym are.1 i)
 
 -- what is listed after a reading was there before it
-pub listed_since : {S : Type 0} (g : Ghosts S) (made : TablesPresent) (a m b : Held S)
-    (Checked : List Row → Type 0) → OnlyReads g a m → OnlyReads g m b → IsOpenIfClean g m
+pub listed_since : {S : Type 0} (g : Ghosts S) (made : TablesPresent) (spans_in : Tables → List Row)
+    (a m b : Held S) (Checked : List Row → Type 0) → OnlyReads g a m → OnlyReads g m b → IsOpenIfClean g m
     → (HasCleanDisk (state g b) → (rows : List Row)
-    × Lists (0 ∷ 1 ∷ 2 ∷ 3 ∷ []) (tables_at made (state g m).now.trees).spans rows × Checked rows)
+    × Lists (0 ∷ 1 ∷ 2 ∷ 3 ∷ []) (spans_in (tables_at made (state g m).now.trees)) rows × Checked rows)
     → HasCleanDisk (state g b) → (rows : List Row)
-    × Lists (0 ∷ 1 ∷ 2 ∷ 3 ∷ []) (tables_at made (state g a).now.trees).spans rows × Checked rows
-listed_since g made a m b Checked one two live listed clean =
+    × Lists (0 ∷ 1 ∷ 2 ∷ 3 ∷ []) (spans_in (tables_at made (state g a).now.trees)) rows × Checked rows
+listed_since g made spans_in a m b Checked one two live listed clean =
     let mid : HasCleanDisk (state g m) = omega (arith, two.doubt, clean) in
     let (rows, lists, checked) = listed clean in (
       rows,
-      subst (λ (db : Database). Lists (0 ∷ 1 ∷ 2 ∷ 3 ∷ []) (tables_at made db.trees).spans rows)
+      subst (λ (db : Database). Lists (0 ∷ 1 ∷ 2 ∷ 3 ∷ []) (spans_in (tables_at made db.trees)) rows)
           (one.kept mid (live mid)).now lists,
       checked,
     )
 
--- a refusal of what was read but for spans is told on
-pub heads_refused : {S V : Type 0} (g : Ghosts S) (made : TablesPresent) (a b : Held S) (heads : Tables)
-    {Gives : Tables → V → Type 0} (r : Result V OpenFault) (e : OpenFault) → IsErrAnd r (λ fault. fault ≡ e)
-    → (HasCleanDisk (state g b) → AreSortedHeads (tables_at made (state g a).now.trees) heads)
-    → OnlyReads g a b
-    → (e ≡ NotADesk → (w : World) (rows : List Row) → IsContent w → ¬ AreAllRows (with_spans heads rows) w)
-    → (e ≢ Store) × (e ≢ OldSchema) → IsRead g a b r made Gives AreNoContent
-heads_refused g made a b heads (Ok v) e is sorted reads none other = absurd is
-heads_refused g made a b heads (Err f) e is sorted reads none other = record {
+-- a refusal of what was read is told on
+pub refused_on : {S V : Type 0} (g : Ghosts S) (made : TablesPresent) (a b : Held S)
+    {Gives : Tables → V → Type 0} {Refuses : Tables → Type 0} (r : Result V OpenFault) (e : OpenFault)
+    → IsErrAnd r (λ fault. fault ≡ e) → OnlyReads g a b
+    → (e ≡ NotADesk → HasCleanDisk (state g b) → Refuses (tables_at made (state g a).now.trees))
+    → e ≢ OldSchema → BlamesReading g a b e → IsRead g a b r made Gives Refuses
+refused_on g made a b (Ok v) e is reads none newer cause = absurd is
+refused_on g made a b (Err f) e is reads none newer cause = record {
   value = λ clean. tt;
   was_open = λ clean. tt;
-  none = λ told clean.
-      none_of_heads (tables_at made (state g a).now.trees) heads (sorted clean) (none (sym is ∙ told));
-  newer = λ told. other.1 (sym is ∙ told);
-  cause = λ clean live told. absurd (other.0 (sym is ∙ told));
+  none = λ told. none (sym is ∙ told);
+  newer = λ told. newer (sym is ∙ told);
+  cause = subst (BlamesReading g a b) (sym is) cause;
   reads = reads;
 }
 
+-- a refusal of what is in hand is told on
+pub refused_in_hand : {S V : Type 0} (g : Ghosts S) (made : TablesPresent) (a b : Held S)
+    {Gives : Tables → V → Type 0} {Refuses : Tables → Type 0} (r : Result V OpenFault) (e : OpenFault)
+    → IsErrAnd r (λ fault. fault ≡ e) → OnlyReads g a b
+    → (e ≡ NotADesk → HasCleanDisk (state g b) → Refuses (tables_at made (state g a).now.trees))
+    → (e ≢ Store) × (e ≢ OldSchema) → IsRead g a b r made Gives Refuses
+refused_in_hand g made a b r e is reads none other =
+    refused_on g made a b r e is reads none other.1 (λ clean live told. absurd (other.0 told))
+
+-- tables are read as what spans that were held against the plans make of them, if they agree
+module _ {S V : Type 0} (g : Ghosts S) (made : TablesPresent) (a b : Held S) (world : V → World)
+    (ls : List Listed) (ps : List Filed) (listed : List Row) (Gives : Tables → World → Type 0)
+    (Refuses : Tables → Type 0)
+    (gives : HasCleanDisk (state g b) → (rows : List Row) → Lists (0 ∷ 1 ∷ 2 ∷ 3 ∷ []) listed rows
+    → AreSpanRows ps rows → (w : World) → (w.operators ≡ ls) × (w.plans ≡ ps)
+    → Gives (tables_at made (state g a).now.trees) w)
+    (refuses : HasCleanDisk (state g b) → (rows : List Row) → Lists (0 ∷ 1 ∷ 2 ∷ 3 ∷ []) listed rows
+    → (AreSpanRows ps rows → ⊥) → Refuses (tables_at made (state g a).now.trees))
+    (Checked : List Row → Type 0) where
+  spans_held : (r : Result V OpenFault)
+      → (HasCleanDisk (state g b) → IsTrue (state g a).is_open) → OnlyReads g a b
+      → (HasCleanDisk (state g b) → (rows : List Row) × Lists (0 ∷ 1 ∷ 2 ∷ 3 ∷ []) listed rows × Checked rows)
+      → IfOk r (λ v. ((world v).operators ≡ ls) × ((world v).plans ≡ ps))
+      → ((rows : List Row) → Checked rows → OnOk r (AreSpanRows ps rows))
+      → IfErr r (λ e. e ≡ NotADesk → (rows : List Row) → Checked rows → ¬ AreSpanRows ps rows)
+      → IfErr r (λ e. (e ≢ Store) × (e ≢ OldSchema))
+      → IsRead g a b r made (λ t v. Gives t (world v)) Refuses
+  spans_held (Ok v) opened reads taken is agree none other = record {
+    value = λ clean.
+        let (rows, lists, checked) = taken clean in
+        gives clean rows lists (agree rows checked) (world v) is;
+    was_open = opened;
+    none = tt;
+    newer = tt;
+    cause = tt;
+    reads = reads;
+  }
+  spans_held (Err e) opened reads taken is agree none other = record {
+    value = λ clean. tt;
+    was_open = λ clean. tt;
+    none = λ told clean.
+        let (rows, lists, checked) = taken clean in refuses clean rows lists (none told rows checked);
+    newer = other.1;
+    cause = λ clean live told. absurd (other.0 told);
+    reads = reads;
+  }
+
 module _ (one_shape : (one other : Shape) → HasValidParts one → HasValidParts other
     → footprint_bytes one ≡ footprint_bytes other → one ≡ other)
-    (heads : Tables) (ls : List Listed) (ps : List Filed) (are : AreHeads heads ls ps) where
-  -- spans that are the plans' make a content of them
-  pub content_with : (rows : List Row) → AreSpanRows ps rows → (w : World)
-      → (w.operators ≡ ls) × (w.plans ≡ ps) → IsContent w × AreAllRows (with_spans heads rows) w
-  content_with rows spans w is =
-      let made = assembled one_shape (with_spans heads rows) ls ps are.operators are.plans (record {
-        names = are.order.names;
-        keys = are.order.keys;
-        shared = are.order.shared;
-        spans = spans;
-      }) in
-      subst (λ x. IsContent x × AreAllRows (with_spans heads rows) x) (same_world w ls ps is)
-      (made.0, record { rows = made.1; covers = are.covers })
+    (heads : Tables) (ls : List Listed) (ps : List Filed) where
+  module _ (are : AreParts heads ls ps) where
+    -- spans that are the plans' make a content of them
+    parts_with : (rows : List Row) → AreSpanRows ps rows → (w : World)
+        → (w.operators ≡ ls) × (w.plans ≡ ps) → IsContent w × AreRows (with_spans heads rows) w
+    parts_with rows spans w is =
+        subst (λ x. IsContent x × AreRows (with_spans heads rows) x) (same_world w ls ps is)
+        (assembled one_shape (with_spans heads rows) ls ps are.operators are.plans (record {
+          names = are.order.names;
+          keys = are.order.keys;
+          shared = are.order.shared;
+          spans = spans;
+        }))
 
-  pub content_if : {V : Type 0} (world : V → World) (r : Result V OpenFault) (rows : List Row)
-      → IfOk r (λ v. ((world v).operators ≡ ls) × ((world v).plans ≡ ps)) → OnOk r (AreSpanRows ps rows)
-      → IfOk r (λ v. IsContent (world v))
-  content_if world (Ok v) rows is spans = (content_with rows spans (world v) is).0
-  content_if world (Err e) rows is spans = tt
+    pub content_if : {V : Type 0} (world : V → World) (r : Result V OpenFault) (rows : List Row)
+        → IfOk r (λ v. ((world v).operators ≡ ls) × ((world v).plans ≡ ps)) → OnOk r (AreSpanRows ps rows)
+        → IfOk r (λ v. IsContent (world v))
+    content_if world (Ok v) rows is spans = (parts_with rows spans (world v) is).0
+    content_if world (Err e) rows is spans = tt
 
-  -- and those that aren't are no content's
-  none_with : (t : Tables) (rows : List Row) → AreSortedByKey t (with_spans heads rows)
-      → (AreSpanRows ps rows → ⊥) → AreNoContent t
-  none_with t rows lists off w h there =
-      off (agreed one_shape (with_spans heads rows) ls ps are.operators are.plans w h
-      (are_rows t (with_spans heads rows) w h there lists).rows).spans
+    -- those of a content with these rows are the plans'
+    plans_spans : (rows : List Row) (w : World) → IsContent w → AreRows (with_spans heads rows) w
+        → AreSpanRows ps rows
+    plans_spans rows w h rows_are =
+        (agreed one_shape (with_spans heads rows) ls ps are.operators are.plans w h rows_are).spans
 
-  -- tables are read as the content that spans which were held against the plans make, if they do
-  pub content_held : {S V : Type 0} (g : Ghosts S) (made : TablesPresent) (a b : Held S) (world : V → World)
-      (Checked : List Row → Type 0) (r : Result V OpenFault) → Holds g a (HasNewRows made)
+  -- tables of schema 2 are read so
+  pub content_held : AreHeads heads ls ps → {S V : Type 0} (g : Ghosts S) (made : TablesPresent)
+      (a b : Held S) (world : V → World) (Checked : List Row → Type 0) (r : Result V OpenFault)
+      → Holds g a (HasNewRows made)
       → (HasCleanDisk (state g b) → AreSortedHeads (tables_at made (state g a).now.trees) heads)
       → (HasCleanDisk (state g b) → IsTrue (state g a).is_open) → OnlyReads g a b
       → (HasCleanDisk (state g b) → (rows : List Row)
@@ -129,31 +182,44 @@ module _ (one_shape : (one other : Shape) → HasValidParts one → HasValidPart
       → IfErr r (λ e. e ≡ NotADesk → (rows : List Row) → Checked rows → ¬ AreSpanRows ps rows)
       → IfErr r (λ e. (e ≢ Store) × (e ≢ OldSchema))
       → IsRead g a b r made (λ t v. IsContentOf t (world v)) AreNoContent
-  content_held g made a b world Checked (Ok v) new sorted opened reads taken is agree none other = record {
-    value = λ clean.
-        let t = tables_at made (state g a).now.trees in
-        let (rows, lists, checked) = taken clean in
-        let content = content_with rows (agree rows checked) (world v) is in
-        record {
+  content_held are g made a b world Checked r new sorted opened reads =
+      let t = tables_at made (state g a).now.trees in
+      spans_held g made a b world ls ps t.spans IsContentOf AreNoContent
+      (λ clean rows lists spans w is.
+      let content = parts_with are.parts rows spans w is in
+      let covers : heads.covers ≡ cover_rows w.plans = are.covers ∙ ap cover_rows (sym is.1) in
+      record {
+        content = content.0;
+        tables = are_tables t (with_spans heads rows) w
+            (no_old_rows t (new (omega (arith, reads.doubt, clean)) (opened clean)))
+            (sorted_with t heads rows (sorted clean) lists) (record { rows = content.1; covers = covers });
+      })
+      (λ clean rows lists off w h there. off (plans_spans are.parts rows w h
+      (are_rows t (with_spans heads rows) w h there (sorted_with t heads rows (sorted clean) lists)).rows))
+      Checked r opened reads
+
+  -- and so are those of schema 1
+  pub old_content_held : AreOldParts heads ls ps → {S V : Type 0} (g : Ghosts S) (made : TablesPresent)
+      (a b : Held S) (world : V → World) (Checked : List Row → Type 0) (r : Result V OpenFault)
+      → (HasCleanDisk (state g b) → HasNoNewRows (tables_at made (state g a).now.trees)
+      × AreSortedOld (tables_at made (state g a).now.trees) heads)
+      → (HasCleanDisk (state g b) → IsTrue (state g a).is_open) → OnlyReads g a b
+      → (HasCleanDisk (state g b) → (rows : List Row)
+      × Lists (0 ∷ 1 ∷ 2 ∷ 3 ∷ []) (tables_at made (state g a).now.trees).old_spans rows × Checked rows)
+      → IfOk r (λ v. ((world v).operators ≡ ls) × ((world v).plans ≡ ps))
+      → ((rows : List Row) → Checked rows → OnOk r (AreSpanRows ps rows))
+      → IfErr r (λ e. e ≡ NotADesk → (rows : List Row) → Checked rows → ¬ AreSpanRows ps rows)
+      → IfErr r (λ e. (e ≢ Store) × (e ≢ OldSchema))
+      → IsRead g a b r made (λ t v. IsOldContentOf t (world v)) AreNoOldContent
+  old_content_held are g made a b world Checked r sorted =
+      let t = tables_at made (state g a).now.trees in
+      spans_held g made a b world ls ps t.old_spans IsOldContentOf AreNoOldContent
+      (λ clean rows lists spans w is. let content = parts_with are.parts rows spans w is in record {
+        content = record {
           content = content.0;
-          tables = are_tables t (with_spans heads rows) (world v)
-              (no_old_rows t (new (omega (arith, reads.doubt, clean)) (opened clean)))
-              (sorted_with t heads rows (sorted clean) lists) content.1;
+          areas = subst (AllByRecursion (λ (p : Filed). IsOldArea p.row.area)) (sym is.1) are.areas;
         };
-    was_open = opened;
-    none = tt;
-    newer = tt;
-    cause = tt;
-    reads = reads;
-  }
-  content_held g made a b world Checked (Err e) new sorted opened reads taken is agree none other = record {
-    value = λ clean. tt;
-    was_open = λ clean. tt;
-    none = λ told clean.
-        let t = tables_at made (state g a).now.trees in
-        let (rows, lists, checked) = taken clean in
-        none_with t rows (sorted_with t heads rows (sorted clean) lists) (none told rows checked);
-    newer = other.1;
-    cause = λ clean live told. absurd (other.0 told);
-    reads = reads;
-  }
+        tables = are_old_tables t heads rows w (sorted clean).0 (sorted clean).1 lists content.1;
+      })
+      (λ clean rows lists off w old there. off (plans_spans are.parts rows w old.content
+      (are_old_rows t heads rows w old.content there (sorted clean).1 lists))) Checked r

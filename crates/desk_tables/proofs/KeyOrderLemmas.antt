@@ -316,12 +316,26 @@ heads_are t heads w h are lists rows spans = record {
       (covers_up w.plans h.rows h.world.plans) are.covers lists.cover_part;
 }
 
--- so it is of tables of schema 1
-pub are_old_rows : (t rows : Tables) (w : World) → IsContent w → AreOldTables t w → AreSortedOld t rows
-    → AreRows rows w
-are_old_rows t rows w h are lists =
-    rows_are t.operators t.plans t.old_volumes t.old_spans rows w h are.operators are.plans are.volumes
-    are.spans lists.operator_part lists.plan_part lists.volume_part lists.span_part
+-- so it is of tables of schema 1, with the rows of spans that are read
+pub are_old_rows : (t heads : Tables) (rows : List Row) (w : World) → IsContent w → AreOldTables t w
+    → AreSortedOld t heads → Lists (0 ∷ 1 ∷ 2 ∷ 3 ∷ []) t.old_spans rows
+    → AreRows (record heads { spans = rows }) w
+are_old_rows t heads rows w h are lists spans =
+    rows_are t.operators t.plans t.old_volumes t.old_spans (record heads { spans = rows }) w h are.operators
+    are.plans are.volumes are.spans lists.operator_part lists.plan_part lists.volume_part spans
+
+-- or with any that are the content's
+pub old_heads_are : (t heads : Tables) (w : World) → IsContent w → AreOldTables t w → AreSortedOld t heads
+    → (rows : List Row) → AreSpanRows w.plans rows → AreRows (record heads { spans = rows }) w
+old_heads_are t heads w h are lists rows spans = record {
+  operator_part = in_order (0 ∷ []) (operator_rows w) t.operators heads.operators
+      (operators_up w.operators h.world.operators) are.operators lists.operator_part;
+  plan_part = in_order (0 ∷ 1 ∷ []) (plan_rows w.plans) t.plans heads.plans
+      (plans_up w.plans h.rows h.world.plans) are.plans lists.plan_part;
+  volume_part = in_order (0 ∷ 1 ∷ 2 ∷ []) (volume_rows w.plans) t.old_volumes heads.volumes
+      (volumes_up w.plans h.rows h.world.plans) are.volumes lists.volume_part;
+  span_part = spans;
+}
 
 moved : (cells : List ℕ) (xs wanted rows : List Row) → rows ≡ xs → Lists cells wanted rows
     → IsPermutation xs wanted
@@ -342,14 +356,15 @@ are_tables t rows w old lists all = let are = all.rows in record {
   spans = (rows.spans, are.span_part, IsPermutation-sym t.spans rows.spans lists.span_part.same);
 }
 
-pub are_old_tables : (t rows : Tables) (w : World) → HasNoNewRows t → AreSortedOld t rows → AreRows rows w
-    → AreOldTables t w
-are_old_tables t rows w new lists are = record {
+pub are_old_tables : (t heads : Tables) (rows : List Row) (w : World) → HasNoNewRows t
+    → AreSortedOld t heads → Lists (0 ∷ 1 ∷ 2 ∷ 3 ∷ []) t.old_spans rows
+    → AreRows (record heads { spans = rows }) w → AreOldTables t w
+are_old_tables t heads rows w new lists spans are = record {
   new = new;
-  operators = moved (0 ∷ []) (operator_rows w) t.operators rows.operators are.operator_part
+  operators = moved (0 ∷ []) (operator_rows w) t.operators heads.operators are.operator_part
       lists.operator_part;
-  plans = moved (0 ∷ 1 ∷ []) (plan_rows w.plans) t.plans rows.plans are.plan_part lists.plan_part;
-  volumes = moved (0 ∷ 1 ∷ 2 ∷ []) (volume_rows w.plans) t.old_volumes rows.volumes are.volume_part
+  plans = moved (0 ∷ 1 ∷ []) (plan_rows w.plans) t.plans heads.plans are.plan_part lists.plan_part;
+  volumes = moved (0 ∷ 1 ∷ 2 ∷ []) (volume_rows w.plans) t.old_volumes heads.volumes are.volume_part
       lists.volume_part;
-  spans = (rows.spans, are.span_part, IsPermutation-sym t.old_spans rows.spans lists.span_part.same);
+  spans = (rows, are.span_part, IsPermutation-sym t.old_spans rows spans.same);
 }

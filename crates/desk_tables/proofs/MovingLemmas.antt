@@ -1,5 +1,5 @@
 -- The move of a content from schema 1 to schema 2.
-use Rattle.std.proofs.Common.{◌≡◌, ◌≢◌, ◌≤◌, ◌↔◌, ◌⊎◌, ℕ, length, Bool, true, List, [], ◌∷◌, ◌++◌, Result, Ok, Err, IfOk, IfErr, OnOk, OnErr, IsTrue, refl, sym, ap, subst, ◌∙◌, arith, inl, inr, append_assoc, IsPermutation}
+use Rattle.std.proofs.Common.{◌≡◌, ◌≤◌, ◌↔◌, ◌⊎◌, ℕ, length, Bool, true, List, [], ◌∷◌, ◌++◌, Result, Ok, Err, IsTrue, refl, sym, ap, subst, ◌∙◌, arith, inl, inr, append_assoc, IsPermutation}
 use Rattle.std.specs.List.{flat_map, AllByRecursion}
 use Rattle.std.proofs.lemmas.List.{append-nil}
 use Rattle.std.proofs.lemmas.Grind.{flat_map-append}
@@ -25,12 +25,10 @@ use Rattle.desk_store.specs.World.{Filed, World}
 use Rattle.desk_tables.specs.Tables.{area_rows, area_covers, volume_rows, cover_rows, ArePlanSpanRows, AreSpanRows}
 use Rattle.desk_store.specs.Content.{IsContent}
 use Rattle.desk_tables.specs.declared.opening.open.OpenFault.{OpenFault}
-use Rattle.desk_tables.specs.declared.opening.open.OpenFault.TheVariants.{NotADesk, OldSchema, Store}
 use Rattle.desk_tables.specs.Opening.{AreRows, BeginsWith, HasNoContent, HasRowsOld, ShowsNoDesk}
-use Rattle.desk_tables.specs.OpeningSteps.{BeginsAllMoved, HadNoOld, IsOpened, IsRead, IsSetUp}
-use Rattle.desk_tables.specs.Moving.{AddsPlanRows, AddsPlansRows, AreNoOldContent, AreSortedOld, BeginsMoved, HasNoNewRows, HasNoOldContent, IsOldArea, IsOldContent, IsOldContentOf, IsOldShape, IsWhole, KeepsRows, ShowsNoContent, WasMoved, old_max_cover, told_count}
+use Rattle.desk_tables.specs.OpeningSteps.{BeginsAllMoved, HadNoOld, IsOpened, IsSetUp}
+use Rattle.desk_tables.specs.Moving.{AddsPlanRows, AddsPlansRows, BeginsMoved, HasNoNewRows, HasNoOldContent, IsOldArea, IsOldContent, IsOldContentOf, IsOldShape, IsWhole, KeepsRows, ShowsNoContent, WasMoved, old_max_cover}
 use Rattle.desk_tables.proofs.ContentLemmas.{one_plans}
-use Rattle.desk_tables.proofs.KeyOrderLemmas.{are_old_rows, are_old_tables}
 use Rattle.desk_tables.proofs.OpeningLemmas.{cause_then, desk_made, made_desk}
 
 -- ---- a loop that adds the rows of a plan at each turn
@@ -228,38 +226,6 @@ no_old_areas one_shape t v hv rows off w hw are =
     let plans = one_plans one_shape v.plans w.plans hv.rows hw.content.rows
     (sym rows.plan_part ∙ are.plan_part) (sym rows.volume_part ∙ are.volume_part) in
     off (subst (AllByRecursion (λ (p : Filed). IsOldArea p.row.area)) (sym plans) hw.areas)
-
--- tables are read as the content of schema 1 that their rows are read as, if there is one
-pub old_content_read : {S V : Type 0} (g : Ghosts S) (made : TablesPresent) (a b : Held S) (rows : Tables)
-    (world : V → World) (r : Result V OpenFault)
-    → (HasCleanDisk (state g b) → HasNoNewRows (tables_at made (state g a).now.trees))
-    → (HasCleanDisk (state g b) → AreSortedOld (tables_at made (state g a).now.trees) rows)
-    → (HasCleanDisk (state g b) → IsTrue (state g a).is_open) → OnlyReads g a b
-    → IfOk r (λ v. IsOldContent (world v) × AreRows rows (world v))
-    → IfErr r (λ e. e ≡ NotADesk → (w : World) → IsOldContent w → ¬ AreRows rows w)
-    → IfErr r (λ e. (e ≢ Store) × (e ≢ OldSchema))
-    → IsRead g a b r made (λ t v. IsOldContentOf t (world v)) AreNoOldContent
-old_content_read g made a b rows world (Ok v) none_new sorted opened reads read none other = record {
-  value = λ clean. record {
-    content = read.0;
-    tables = are_old_tables (tables_at made (state g a).now.trees) rows (world v) (none_new clean)
-        (sorted clean) read.1;
-  };
-  was_open = opened;
-  none = tt;
-  newer = tt;
-  cause = tt;
-  reads = reads;
-}
-old_content_read g made a b rows world (Err e) none_new sorted opened reads read none other = record {
-  value = λ clean. tt;
-  was_open = λ clean. tt;
-  none = λ is clean w old are. none is w old
-      (are_old_rows (tables_at made (state g a).now.trees) rows w old.content are (sorted clean));
-  newer = other.1;
-  cause = λ clean live told. absurd (other.0 told);
-  reads = reads;
-}
 
 -- ---- what is left of a connection
 

@@ -336,15 +336,6 @@ module _ {A : Type 0} (Known : SpanBounds → A → Type 0)
 known_more : (a b : SpanBounds) → Keeps a b → (row : Row) → IsKnownRow a row → IsKnownRow b row
 known_more a b more row h = λ first last begins ends. more _ (h first last begins ends)
 
-module _ (all left : List Row) (span_bounds : SpanBounds) (before : AreLeft IsKnownRow all left
-    span_bounds) where
-  pub rows_on : (row : Row) (later : List Row) → left ≡ row ∷ later → (next : SpanBounds)
-      → Keeps span_bounds next → IsKnownRow next row → AreLeft IsKnownRow all later next
-  rows_on = walk_on IsKnownRow known_more all left span_bounds before
-
-  pub rows_end : left ≡ [] → AllByRecursion (IsKnownRow span_bounds) all
-  rows_end = walk_ends IsKnownRow known_more all left span_bounds before
-
 module _ {A : Type 0} (row_of : A → Row) (all left : List A) (span_bounds : SpanBounds)
     (before : AreLeft (λ n x. IsKnownRow n (row_of x)) all left span_bounds) where
   pub records_on : (x : A) (later : List A) → left ≡ x ∷ later → (next : SpanBounds)

@@ -26,12 +26,11 @@ use Rattle.desk_sql.specs.Batches.{AddsSpans, AddsVolumes}
 use Rattle.desk_sql.specs.Changing.{HasKey, LacksKey, has_same_key}
 use Rattle.desk_sql.specs.Putting.{AreNewRows, AreNewSpans, AreNewVolumes, AreShort, HasRoomFor, IsShortValue, TakesRoom}
 use Rattle.desk_sql.specs.Rows.{Tables, tables_of}
-use Rattle.desk_store.specs.World.{Filed, World}
+use Rattle.desk_store.specs.World.{Filed}
 use Rattle.desk_store.specs.laws.Order.{all_append, all_weaker}
 use Rattle.desk_tables.specs.Records.{IsFiled}
-use Rattle.desk_tables.specs.Opening.{AreRows}
 use Rattle.desk_tables.specs.Tables.{area_covers, area_rows, cover_rows, id_text, plan_row, plan_rows, span_row, volume_rows, AreSpanRowsFrom, ArePlanSpanRows, AreSpanRows}
-use Rattle.desk_tables.specs.Writing.{AreAwaited, AreWritable, HaveFewRows}
+use Rattle.desk_tables.specs.Writing.{AreAwaited, AreWritable}
 use Rattle.desk_tables.proofs.CauseLemmas.{name_short}
 use Rattle.desk_tables.proofs.FilterLemmas.{ArePlans}
 use Rattle.desk_tables.proofs.KeyOrderLemmas.{spans_up, volumes_up}
@@ -366,13 +365,3 @@ writable few ps db h =
         planned = planned_there ps t.plans spans h.plans (spans_planned ps spans h.few.are);
       };
     }
-
--- rows of which fewer than 2 ^ 63 were read
-pub few_rows : (t : Tables) (w : World) → AreRows t w → length t.volumes < 2 ^ 63 → length t.spans < 2 ^ 63
-    → HaveFewRows w.plans
-few_rows t w are volumes spans = record {
-  volumes = subst (λ rs. length rs < 2 ^ 63) are.volume_part volumes;
-  spans = t.spans;
-  are = are.span_part;
-  few = spans;
-}

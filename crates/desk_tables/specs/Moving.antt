@@ -13,11 +13,11 @@ use Rattle.desk_sql.specs.declared.opening.finding.TablesPresent.{TablesPresent}
 use Rattle.desk_sql.specs.Rows.{IsDesk, IsMadeTo, Tables, Lists, tables_of, tables_at, has_old_rows}
 use Rattle.desk_sql.specs.Effects.{ShowsAsBefore}
 use Rattle.desk_sql.specs.Finding.{HasOthers}
-use Rattle.desk_store.specs.World.{Filed, World}
+use Rattle.desk_store.specs.World.{Filed, Listed, World}
 use Rattle.desk_tables.specs.Tables.{operator_rows, plan_rows, area_rows, volume_rows, area_covers, cover_rows, ArePlanSpanRows, AreSpanRows}
 use Rattle.desk_store.specs.Content.{IsContent}
 use Rattle.desk_tables.specs.Store.{IsStanding}
-use Rattle.desk_tables.specs.Opening.{BeginsWith, HasNoContent}
+use Rattle.desk_tables.specs.Opening.{AreParts, BeginsWith, HasNoContent}
 
 -- ---- schema 1
 
@@ -63,12 +63,16 @@ pub record IsOldContentOf (t : Tables) (w : World) : Type 0 where
 abbrev pub AreNoOldContent : Tables → Type 0
 AreNoOldContent t = (w : World) → IsOldContent w → ¬ AreOldTables t w
 
--- the tables of schema 1, each put in the order of its key
+-- the tables of schema 1 but for spans, each put in the order of its key
 pub record AreSortedOld (t rows : Tables) : Type 0 where
   pub operator_part : Lists (0 ∷ []) t.operators rows.operators
   pub plan_part : Lists (0 ∷ 1 ∷ []) t.plans rows.plans
   pub volume_part : Lists (0 ∷ 1 ∷ 2 ∷ []) t.old_volumes rows.volumes
-  pub span_part : Lists (0 ∷ 1 ∷ 2 ∷ 3 ∷ []) t.old_spans rows.spans
+
+-- the tables but for spans have the rows of these operators and plans, which are a content's of schema 1
+pub record AreOldParts (t : Tables) (ls : List Listed) (ps : List Filed) : Type 0 where
+  pub parts : AreParts t ls ps
+  pub areas : AllByRecursion (λ p. IsOldArea p.row.area) ps
 
 -- ---- the move
 

@@ -128,11 +128,15 @@ pub record AreInOrder (ls : List Listed) (ps : List Filed) : Type 0 where
   pub keys : IsStrictlySortedBy filed_cmp ps
   pub shared : AreShared ls ps
 
--- the tables but for spans have the rows of these operators and plans, which are a content's
-pub record AreHeads (t : Tables) (ls : List Listed) (ps : List Filed) : Type 0 where
+-- the tables but for spans and covers have the rows of these operators and plans, which are a content's
+pub record AreParts (t : Tables) (ls : List Listed) (ps : List Filed) : Type 0 where
   pub operators : AreOperatorRows ls t.operators
   pub plans : ArePlanRows ps t.plans t.volumes
   pub order : AreInOrder ls ps
+
+-- and their covers
+pub record AreHeads (t : Tables) (ls : List Listed) (ps : List Filed) : Type 0 where
+  pub parts : AreParts t ls ps
   pub covers : t.covers ≡ cover_rows ps
 
 -- ---- what a store begins with

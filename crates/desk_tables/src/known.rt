@@ -9,9 +9,9 @@ ghost use Rattle.desk_live.specs.Roll.{AreAccountsOf, IsReadyFor, accounts_of};
 ghost use Rattle.desk_tables.specs.Known.{Knows};
 ghost use Rattle.desk_tables.specs.SpanBounds.{BringsKnown, Keeps};
 
-use crate::opening::exact::{FiledPlan, ListedOperator};
+use crate::opening::exact::FiledPlan;
 use crate::span_bounds::SpanBounds;
-use desk_live::{Gathering, LiveVolume, LiveVolumes, Roll};
+use desk_live::{Gathering, ListedOperator, LiveVolume, LiveVolumes, Roll};
 use desk_store::Change;
 use std::alloc::{AllocError, Global};
 

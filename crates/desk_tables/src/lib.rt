@@ -13,6 +13,7 @@ mod span_bounds;
 mod store;
 
 pub use closing::Unclosed;
+pub use desk_live::ListedOperator;
 pub use opening::files::{Copied, CopyFault, FilesFault, copy_from, look_at};
 pub use opening::looking::{Holdings, look_into};
 pub use opening::naming::{PartFault, first_fault, part_at};

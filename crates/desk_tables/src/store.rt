@@ -1,6 +1,8 @@
 //! A store of plans over tables in SQLite.
 
-ghost use Rattle.std.specs.Prelude.{◌≡◌, ◌≤◌, Ok, Err, IsErr, IfErr, MatchResult};
+ghost use Rattle.std.specs.Prelude.{◌≡◌, ◌≤◌, Ok, Err, IsErr, IfErr, IfOk, MatchResult};
+ghost use Rattle.sqlite.specs.Held.{state};
+ghost use Rattle.sqlite.specs.State.{HasCleanDisk};
 ghost use Rattle.desk_store.specs.StoreFaults.{HasRisen};
 ghost use Rattle.desk_sql.specs.Effects.{IsOpenIfClean};
 ghost use Rattle.desk_tables.specs.Store.{Stands};
@@ -12,6 +14,7 @@ use crate::kept::GhostWorld;
 use crate::known::Known;
 use crate::laws::one_content;
 use crate::reading::{others, readers};
+use desk_live::ListedOperator;
 use desk_rules::operator::Operator;
 use desk_rules::plan::{PlanRow, States};
 use desk_rules::plan_id::PlanId;
@@ -20,7 +23,7 @@ use desk_store::laws::spans_are_few;
 use desk_store::{Change, PlanStore, StoreFault};
 use sqlite::Connection;
 use sqlite_trees::store::Alter;
-use std::alloc::Global;
+use std::alloc::{AllocError, Global};
 use std::marker::Model;
 use volume4d::{Held, Slab};
 
@@ -99,6 +102,19 @@ impl<S: Alter> SqliteStore<S> {
     /// Whether the store began with an operator, or with plans that were moved. No clause speaks of it.
     pub fn has_begun_enrolled(&self) -> bool {
         self.is_enrolled
+    }
+
+    /// The operators that are listed, ascending by name, each once, with their ceilings; told from what the
+    /// store remembers, with no look into its tables.
+    ///
+    /// # Errors
+    ///
+    /// `AllocError` if memory runs out.
+    pub fn roll(&self) -> Result<Vec<ListedOperator>, AllocError>
+        ensures { HasCleanDisk (state S.Store self.now.held) →
+            IfOk result (λ roll. roll.items ≡ self.now.world.operators) }
+    {
+        self.known.roll.listed(self.alloc)
     }
 
     /// The connection, in which the rows of the four tables are those of the store's content.

@@ -78,6 +78,7 @@ pub fn serve_line(alloc: Global, connections: u32) -> Serve
         terms: Terms::none(),
         enrolments: Vec::new(alloc),
         operators: None,
+        folder: None,
     }
 }
 

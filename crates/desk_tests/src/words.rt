@@ -98,6 +98,36 @@ fn reads_copy(rt: HostRuntime) -> Result<(), Fail> {
     Ok(())
 }
 
+#[test]
+fn reads_replay(rt: HostRuntime) -> Result<(), Fail> {
+    let words = ["replay", "--db", "desk.db", "--until", "1780315000"];
+    let Ok(Task::Replay(replay)) = task_of(rt.alloc(), &words)? else {
+        return Err(Fail::from("no replay"));
+    };
+    assert!(rt; is_file(&replay.database, "desk.db"));
+    assert_eq!(rt; replay.until, Some(1_780_315_000));
+    Ok(())
+}
+
+#[test]
+fn reads_the_folder_of_records(rt: HostRuntime) -> Result<(), Fail> {
+    let words = [
+        "serve",
+        "--port",
+        "1",
+        "--requests",
+        "1",
+        "--record",
+        "days",
+    ];
+    let Some(Line::Serve(serve)) = line_of(rt.alloc(), &words)? else {
+        return Err(Fail::from("no line"));
+    };
+    assert!(rt; matches!(&serve.folder, Some(folder) if folder.as_str() == "days"));
+    assert!(rt; serve.operators.is_none());
+    Ok(())
+}
+
 // Whether a database is in the file of this path.
 fn is_file(database: &Database, wanted: &str) -> bool {
     matches!(database, Database::File(path) if path.as_str() == wanted)

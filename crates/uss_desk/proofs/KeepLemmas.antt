@@ -27,7 +27,7 @@ use Rattle.desk_tables.specs.declared.closing.Unclosed.{Unclosed}
 use Rattle.desk_tables.specs.declared.opening.files.CopyFault.{CopyFault}
 use Rattle.desk_tables.specs.declared.opening.files.FilesFault.{FilesFault}
 use Rattle.uss_desk.specs.declared.opening.Unopened.{Unopened}
-use Rattle.uss_desk.specs.Keeping.{CopyEnd, FailsAtFiles, FailsBy, FailsToCopy, FailsToLook, IsCopyMade, IsNamedIf, IsReadAs, IsUncopied, IsUntold, Tells, TellsHoldings}
+use Rattle.uss_desk.specs.Keeping.{CopyEnd, FailsAtFiles, FailsBy, FailsToCopy, FailsToLook, FailsToRead, IsCopyMade, IsNamedIf, IsReadAs, IsUncopied, IsUntold, Tells, TellsHoldings}
 use Rattle.std.specs.Result.{IsErrAnd}
 use Rattle.uss_desk.specs.Naming.{IsUnnamed, Step, free_steps}
 use Rattle.uss_desk.specs.Opening.{open_failure}
@@ -51,17 +51,24 @@ pub tells_written : {U : Type 0} (line : List ℕ) (old now : Option (List ℕ))
 tells_written line old now (Ok u) whole off = record { text = line; told = whole }
 tells_written line old now (Err stop) whole off = record { text = take stop.sent line; told = off.written }
 
+-- what refused the files refuses them in the program
+pub refused_fails : {D : Type 0} {g : disk.Ghosts D} (image : Image) (it : Unopened (FileStore D g))
+    (refused : FilesFault (FileStore D g)) → it.failure ≡ open_failure refused.fault
+    → IsSomeAnd it.refused (λ s. s.value ≡ refused)
+    → AreNotRead image refused.fault refused.connection → FailsToRead image it
+refused_fails image it refused failure same says =
+    inr (fails_over (λ files. AreNotRead image files.fault files.connection) it refused failure same says)
+
+-- what is not read in a file is not told of a database
+pub look_fails : {D V : Type 0} {g : disk.Ghosts D} (image : Image) (database : Database)
+    (r : Result V (Unopened (FileStore D g))) → IfErr r (FailsToRead image)
+    → IfErr r (FailsToLook image database)
+look_fails image database (Ok v) fails = tt
+look_fails image database (Err it) fails = inr fails
+
 module _ {D : Type 0} {g : disk.Ghosts D} (image : Image) (database : Database)
     (it : Unopened (FileStore D g))
   where
-    -- what refused the files refuses them in the program
-    pub refused_fails : (refused : FilesFault (FileStore D g)) → it.failure ≡ open_failure refused.fault
-        → IsSomeAnd it.refused (λ s. s.value ≡ refused)
-        → AreNotRead image refused.fault refused.connection → FailsToLook image database it
-    refused_fails refused failure same says =
-        inr (inr (fails_over (λ files. AreNotRead image files.fault files.connection) it refused failure same
-        says))
-
     -- a failure is told after its cause, and nothing is printed
     pub untold : (end : Ending) (between out : Option (List ℕ)) → FailsToLook image database it
         → Tells end.before between → FailsWith it.failure (record end { before = between })

@@ -1,5 +1,7 @@
 mod KeepLemmas
 mod NameLemmas
 mod RunLemmas
+mod SumLemmas
+mod TwinLemmas
 mod OperatorLemmas
 mod WatchLemmas

@@ -27,7 +27,9 @@ use Rattle.desk_tables.specs.declared.opening.files.FilesFault.{FilesFault}
 use Rattle.uss_desk.specs.declared.opening.Unopened.{Unopened}
 use Rattle.uss_desk.specs.declared.watching.Closed.{Closed}
 use Rattle.uss_desk.specs.Opening.{FailsOver, FileDesk, IsOpenedFor, IsOpenedIn, open_failure, or_failure}
+use Rattle.uss_desk.specs.Replaying.{IsReplayRun, IsReplayedAt}
 use Rattle.uss_desk.specs.Running.{IsDoneAt, IsRun, StaysGuarded}
+use Rattle.desk_wire.specs.Passage.{Passage}
 
 -- a desk over files is opened for a line that names them, and they held this
 pub for_files : {M : Type 0} (m : disk.Ghosts M) {D : Type 0} {g : disk.Ghosts D} (image : Image) (it : Line)
@@ -77,6 +79,26 @@ stays_guarded account fair clean image it from to old new out now end (Ok desk) 
     λ honest. true_or_collided account fair clean left (done.2 (opens.guarded honest))
 stays_guarded account fair clean image it from to old new out now end (Ok desk) None opens done = done
 stays_guarded account fair clean image it from to old new out now end (Err unread) left opens done = tt
+
+-- so does one at which a record is played
+pub replay_guarded : {D : Type 0} {g : disk.Ghosts D} (account : Account D)
+    → ((d : D) → g.is_fair d ≡ (replay (account.start d) (account.calls d)).is_fair)
+    → ((d : D) → g.is_clean d ≡ (replay (account.start d) (account.calls d)).is_honest)
+    → (image : Image) (until : Option ℕ) (p : Passage) (end : Ending) (opened : FileDesk g)
+    → (left : Option (Parts (Shown (FileStore D g)))) → IsOpenedIn image opened
+    → IfOk (or_failure opened) (IsReplayedAt over_files until p end left)
+    → StaysGuarded account (or_failure opened) left
+replay_guarded account fair clean image until p end (Ok desk) (Some left) opens done =
+    λ honest. true_or_collided account fair clean left (done.2 (opens.guarded honest))
+replay_guarded account fair clean image until p end (Ok desk) None opens done = done
+replay_guarded account fair clean image until p end (Err unread) left opens done = tt
+
+-- what is played at what was opened, by another name
+pub played_at : {S : Type 0} (g : Ghosts S) (one other : Result (Parts (Shown S)) Failure) → one ≡ other
+    → {until : Option ℕ} {p : Passage} {end : Ending} {left : Option (Parts (Shown S))}
+    → IsReplayRun g one until p end left → IsReplayRun g other until p end left
+played_at g one other same {until} {p} {end} {left} run =
+    subst (λ o. IsReplayRun g o until p end left) same run
 
 -- a desk whose store was closed, by what the store is
 pub is_closed : {D : Type 0} {g : disk.Ghosts D} (desk : Parts (Shown (FileStore D g)))

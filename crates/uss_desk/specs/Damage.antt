@@ -46,8 +46,8 @@ IsUndamaged log out now = ((frame commits : ℕ) → ¬ IsDamaged log frame comm
 abbrev pub IsLookedAt :
     Bool → List ℕ → List ℕ → Result Look Unlooked → Option (List ℕ) → Option (List ℕ) → Type 0
 IsLookedAt copied path log (Ok look) out now =
-    ((look.is_admitted ≡ true) × IsUndamaged log out now)
-    ⊎ ((look.is_admitted ≡ copied) × IsLossTold path log look.cut out now)
+    ((look.is_admitted ≡ true) × (look.is_damaged ≡ false) × IsUndamaged log out now)
+    ⊎ ((look.is_admitted ≡ copied) × (look.is_damaged ≡ true) × IsLossTold path log look.cut out now)
 IsLookedAt copied path log (Err it) out now = now ≡ out
 
 -- why nothing is known of a log: memory ran out for the line that tells its damage, or it can't be read
@@ -55,9 +55,9 @@ abbrev pub HasCause : Option (List ℕ) → Unlooked → Type 0
 HasCause log unlooked.OutOfMemory = IfSome log (λ bytes. (frame commits : ℕ) × IsDamaged bytes frame commits)
 HasCause log (unlooked.Unread fault) = IsUnjudged log fault
 
--- whether a task is begun at a file, by what came of the look at its log
-abbrev pub admission_of : Result Look Unlooked → Result ⊤ Failure
-admission_of (Ok look) = if look.is_admitted then Ok tt else Err failure.DamagedLog
+-- whether a task is begun at a file, by what came of the look at its log, and whether that is damaged
+abbrev pub admission_of : Result Look Unlooked → Result Bool Failure
+admission_of (Ok look) = if look.is_admitted then Ok look.is_damaged else Err failure.DamagedLog
 admission_of (Err unlooked.OutOfMemory) = Err failure.Memory
 admission_of (Err (unlooked.Unread fault)) = Err failure.Store
 
@@ -66,6 +66,7 @@ abbrev pub is_copy : Task → Bool
 is_copy (task.Run line) = false
 is_copy (task.Check database) = false
 is_copy (task.Copy words) = true
+is_copy (task.Replay words) = false
 
 -- the database of a line, or of a task, if it has one, and the path of its file, if it is in one
 abbrev pub database_of_line : Line → Option Database
@@ -80,6 +81,7 @@ abbrev pub database_of : Task → Option Database
 database_of (task.Run line) = database_of_line line
 database_of (task.Check database) = Some database
 database_of (task.Copy words) = Some words.database
+database_of (task.Replay words) = Some words.database
 
 abbrev pub path_of_line : Line → Option (List ℕ)
 path_of_line line = option_and_then file_of (database_of_line line)

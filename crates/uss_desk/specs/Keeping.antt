@@ -69,12 +69,15 @@ module _ {D : Type 0} {g : disk.Ghosts D} (image : Image) where
     pub told : TellsHoldings file w
     pub looks : LooksIn image left file.is_old w
 
-  -- why no content is told of a database: it is in memory, or memory ran out; or what the connection showed
-  -- that read its files, or that they were not opened
+  -- why files are not read: memory ran out; or what the connection showed that read them, or that they were
+  -- not opened
+  abbrev pub FailsToRead : Unopened (FileStore D g) → Type 0
+  FailsToRead it = IsUnreadFor it opening.OutOfMemory
+      ⊎ FailsOver (λ files. AreNotRead image files.fault files.connection) it
+
+  -- why no content is told of a database: it is in memory, or its files are not read
   abbrev pub FailsToLook : Database → Unopened (FileStore D g) → Type 0
-  FailsToLook database it = (IsInMemory database × IsUnreadFor it opening.Store)
-      ⊎ (IsUnreadFor it opening.OutOfMemory
-      ⊎ FailsOver (λ files. AreNotRead image files.fault files.connection) it)
+  FailsToLook database it = (IsInMemory database × IsUnreadFor it opening.Store) ⊎ FailsToRead it
 
   -- a failure is told, and nothing is printed
   pub record IsUntold (database : Database) (end : Ending) (it : Unopened (FileStore D g))

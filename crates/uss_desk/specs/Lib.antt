@@ -1,10 +1,14 @@
--- Read first: Running, Opening, Guarding, Closing, Keeping; Damage stands alone.
+-- Read first: Running, Opening, Guarding, Closing, Keeping; Damage and Sums stand alone.
 pub mod Opening
 pub mod Operators
 pub mod Guarding
 pub mod Running
+pub mod Replaying
 pub mod Watching
 pub mod Closing
 pub mod Naming
 pub mod Keeping
 pub mod Damage
+pub mod Sums
+pub mod Ways
+pub mod Twins

@@ -46,6 +46,23 @@ pub fn tell_cause<F: Start, N: Paths + Drop, E: Write>(
     }
 }
 
+/// Tells why the files of a database, which are made where there are none, can't be opened, if they can't.
+#[tactic(auto, using(crate::proofs::KeepLemmas::tells_nothing))]
+pub fn tell_refusal<F: Start, N: Paths + Drop, E: Write>(
+    rt: &HostRuntime,
+    database: &Database,
+    opened: &OpenedDesk<F, N>,
+    errors: &mut E,
+)
+    ensures tells { Tells (E.contents errors.old) (E.contents errors.new) }
+    ensures silent { ¬ (AreFilesRefused opened.now) → E.contents errors.new ≡ E.contents errors.old }
+{
+    match refusal_of(opened) {
+        Some(failure) => tell_made(rt, database, failure, errors),
+        None => {}
+    }
+}
+
 // The failure of files that were refused, if some were.
 fn refusal_of<F: Start, N: Paths + Drop>(opened: &OpenedDesk<F, N>) -> Option<Failure>
     ensures { IfSome result (λ _. AreFilesRefused opened.now) }
@@ -78,7 +95,7 @@ fn tell_made<E: Write>(rt: &HostRuntime, database: &Database, failure: Failure, 
 {
     match (database, failure) {
         (Database::File(path), Failure::Store) => {
-            tell_store(rt, path, made_cause(rt, path), errors);
+            tell_store(rt, path, path, made_cause(rt, path), errors);
         }
         _ => tell_database(rt, database, failure, errors),
     }
@@ -95,7 +112,7 @@ pub fn tell_database<E: Write>(
     ensures { Tells (E.contents errors.old) (E.contents errors.new) }
 {
     match database {
-        Database::File(path) => tell(rt, path, failure, errors),
+        Database::File(path) => tell(rt, path, path, failure, errors),
         Database::InMemory => {}
     }
 }
@@ -110,29 +127,29 @@ pub fn tell_malformed<E: Write>(alloc: Global, words: &[String], errors: &mut E)
     }
 }
 
-/// Tells why the file at a path can't be opened: `uss_desk: PATH: CAUSE`. A fault of the writer is passed
+/// Tells why the file at a path can't be opened: `uss_desk: NAME: CAUSE`. A fault of the writer is passed
 /// over.
 #[tactic(auto, using(crate::proofs::KeepLemmas::tells_nothing))]
-pub fn tell<E: Write>(rt: &HostRuntime, path: &str, failure: Failure, errors: &mut E)
+pub fn tell<E: Write>(rt: &HostRuntime, path: &str, name: &str, failure: Failure, errors: &mut E)
     ensures { Tells (E.contents errors.old) (E.contents errors.new) }
 {
     let cause = match failure {
-        Failure::Store => return tell_store(rt, path, store_cause(rt, path), errors),
+        Failure::Store => return tell_store(rt, path, name, store_cause(rt, path), errors),
         Failure::NotADesk => desk_cause(rt, path),
         Failure::OldSchema => "rows of schema 1: migrate it",
         _ => return,
     };
-    tell_of(rt.alloc(), path, cause, errors);
+    tell_of(rt.alloc(), name, cause, errors);
 }
 
 // Tells why SQLite refuses the file at a path: of one that is damaged, how many pages, if their sums tell.
 #[tactic(auto, using(crate::proofs::KeepLemmas::tells_nothing))]
-fn tell_store<E: Write>(rt: &HostRuntime, path: &str, cause: &str, errors: &mut E)
+fn tell_store<E: Write>(rt: &HostRuntime, path: &str, name: &str, cause: &str, errors: &mut E)
     ensures { Tells (E.contents errors.old) (E.contents errors.new) }
 {
     match pages_of(rt, path, cause) {
-        Some(count) => tell_pages(rt.alloc(), path, count, errors),
-        None => tell_of(rt.alloc(), path, cause, errors),
+        Some(count) => tell_pages(rt.alloc(), name, count, errors),
+        None => tell_of(rt.alloc(), name, cause, errors),
     }
 }
 
@@ -289,8 +306,8 @@ fn file_cause(rt: &HostRuntime, path: &str) -> &'static str {
     }
 }
 
-// Why a file can't be had, whatever it holds.
-fn access_cause(rt: &HostRuntime, path: &str) -> Option<&'static str> {
+/// Why a file can't be had, whatever it holds.
+pub fn access_cause(rt: &HostRuntime, path: &str) -> Option<&'static str> {
     if let Some(cause) = right_cause(rt, path) {
         return Some(cause);
     }

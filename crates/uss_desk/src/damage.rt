@@ -31,6 +31,8 @@ const LOG_ALONE: &str = "its log is there without it: was it moved or removed wh
 pub struct Look {
     /// Whether its file may be opened, or copied.
     pub is_admitted: bool,
+    /// Whether it is damaged.
+    pub is_damaged: bool,
     /// Where the line that tells its damage was broken off, if it was.
     pub cut: Option<WriteFault>,
 }
@@ -56,32 +58,36 @@ impl From<AllocError> for Unlooked {
 }
 
 /// Refuses a task at a file whose log is damaged, or is there without it, and tells why. A copy is made of
-/// what can be read, and the loss is told. A file that another program has open is not looked at: to open it
-/// tells that.
+/// what can be read, and the loss is told: then the log is damaged, which is the answer. A file that another
+/// program has open is not looked at: to open it tells that.
 ///
 /// # Errors
 ///
 /// `DamagedLog`; `Memory` if memory runs out; `Store` if the log can't be read, or is there without its file.
-pub fn look_before<E: Write>(rt: &HostRuntime, task: &Task, errors: &mut E) -> Result<(), Failure> {
+pub fn look_before<E: Write>(
+    rt: &HostRuntime,
+    task: &Task,
+    errors: &mut E,
+) -> Result<bool, Failure> {
     let Some(path) = file_of(task) else {
-        return Ok(());
+        return Ok(false);
     };
     if is_log_alone(rt, path)? {
         tell_of(rt.alloc(), path, LOG_ALONE, errors);
         return Err(Failure::Store);
     }
     let Some(mut log) = log_of(rt, path)? else {
-        return Ok(());
+        return Ok(false);
     };
     admission_of(look_at_log(rt.alloc(), path, is_copy(task), &mut log, errors))
 }
 
-// Whether a task is begun at a file, by what came of the look at its log.
-fn admission_of(look: Result<Look, Unlooked>) -> Result<(), Failure>
+// Whether a task is begun at a file, by what came of the look at its log, and whether that is damaged.
+fn admission_of(look: Result<Look, Unlooked>) -> Result<bool, Failure>
     ensures { result ≡ spec.admission_of look }
 {
     match look {
-        Ok(look) if look.is_admitted => Ok(()),
+        Ok(look) if look.is_admitted => Ok(look.is_damaged),
         Ok(_) => Err(Failure::DamagedLog),
         Err(Unlooked::OutOfMemory) => Err(Failure::Memory),
         Err(Unlooked::Unread(_)) => Err(Failure::Store),
@@ -108,12 +114,14 @@ pub fn look_at_log<R: Read, E: Write>(
     match judge_log(log) {
         Ok(Verdict::Sound) => Ok(Look {
             is_admitted: true,
+            is_damaged: false,
             cut: None,
         }),
         Ok(Verdict::Damaged { frame, commits }) => {
             let cut = tell_damage(alloc, path, frame, commits, errors)?;
             Ok(Look {
                 is_admitted: is_copied,
+                is_damaged: true,
                 cut,
             })
         }
@@ -157,7 +165,7 @@ fn is_copy(task: &Task) -> bool
 {
     match task {
         Task::Copy(_) => true,
-        Task::Run(_) | Task::Check(_) => false,
+        Task::Run(_) | Task::Check(_) | Task::Replay(_) => false,
     }
 }
 
@@ -175,8 +183,8 @@ pub fn file_of_line(line: &Line) -> Option<&str>
     path_of(database_of_line(line)?)
 }
 
-// The path of a database, if it is in a file.
-fn path_of(database: &Database) -> Option<&str>
+/// The path of a database, if it is in a file.
+pub fn path_of(database: &Database) -> Option<&str>
     ensures { option_map (λ path. path.now) result ≡ lines.file_of database.now }
 {
     match database {
@@ -193,6 +201,7 @@ fn database_of(task: &Task) -> Option<&Database>
         Task::Run(line) => database_of_line(line),
         Task::Check(database) => Some(database),
         Task::Copy(words) => Some(&words.database),
+        Task::Replay(words) => Some(&words.database),
     }
 }
 
@@ -214,6 +223,15 @@ fn is_log_alone(rt: &HostRuntime, path: &str) -> Result<bool, Failure> {
     if !matches!(fs::exists(rt, path), Ok(false)) {
         return Ok(false);
     }
+    Ok(has_commit(rt, path)?)
+}
+
+/// Whether a log with a commit may be beside a file, by how many bytes it has.
+///
+/// # Errors
+///
+/// `AllocError` if memory runs out.
+pub fn has_commit(rt: &HostRuntime, path: &str) -> Result<bool, AllocError> {
     let name = format!(in rt.alloc(); "{path}-wal")?;
     Ok(size_of(rt, &name) >= LEAST_WITH_A_COMMIT)
 }

@@ -11,6 +11,7 @@ ghost use Rattle.desk_tables.specs.Copying.{AreCounted, IsMadeIn, LooksIn};
 ghost use Rattle.desk_tables.specs.Leaving.{IsSettledAt};
 ghost use Rattle.uss_desk.specs.Keeping as spec;
 ghost use Rattle.uss_desk.specs.Keeping.{FailsAtFiles, FailsBy, FailsTelling, FailsToCopy, FailsToLook};
+ghost use Rattle.uss_desk.specs.Keeping.{FailsToRead};
 ghost use Rattle.uss_desk.specs.Keeping.{FailsUntried, IsChecked, IsCopied, IsCopyMade, IsNamedIf, IsReadAs};
 ghost use Rattle.uss_desk.specs.Keeping.{Tells, TellsHoldings};
 ghost use Rattle.uss_desk.specs.Naming.{AreNames, Cleared, Follows, Free, GivesUp, IsNotFree, LeavesOthers, Takes, Tried};
@@ -168,7 +169,7 @@ fn tell_unread<E: Write>(
 }
 
 // What a database holds, with the connection with which it was read.
-#[tactic(auto, using(crate::proofs::KeepLemmas::read_as, crate::proofs::KeepLemmas::refused_fails))]
+#[tactic(auto, using(crate::proofs::KeepLemmas::look_fails))]
 fn look_for<F: Start>(
     rt: &HostRuntime,
     database: &Database,
@@ -177,9 +178,26 @@ fn look_for<F: Start>(
     ensures looks { IfOk result (λ found. IsReadAs (image_at F.Start) found.0 found.1) }
     ensures fault { IfErr result (FailsToLook (image_at F.Start) database.now) }
 {
-    let Database::File(path) = database else {
-        return Err(Unopened::unread(OpenFault::Store));
-    };
+    match database {
+        Database::File(path) => look_in(rt, path, start),
+        Database::InMemory => Err(Unopened::unread(OpenFault::Store)),
+    }
+}
+
+/// What the file at a path holds, with the connection with which it was read.
+///
+/// # Errors
+///
+/// What refused it; `Memory` if memory runs out.
+#[tactic(auto, using(crate::proofs::KeepLemmas::read_as, crate::proofs::KeepLemmas::refused_fails))]
+pub fn look_in<F: Start>(
+    rt: &HostRuntime,
+    path: &str,
+    start: F,
+) -> Result<(Look<F>, CheckedFile), Unread<F>>
+    ensures looks { IfOk result (λ found. IsReadAs (image_at F.Start) found.0 found.1) }
+    ensures fault { IfErr result (FailsToRead (image_at F.Start)) }
+{
     let bulk = bulk_of(rt, path)?;
     match look_at(rt, path, start) {
         Ok((connection, holdings)) => Ok((connection, told_of(&holdings, bulk))),
@@ -225,12 +243,14 @@ fn size_of(rt: &HostRuntime, path: &str) -> u64 {
 
 /// Copies what a database holds to a new file, prints how much it is, and answers how that ended and the
 /// connection to the first with the new files, or why nothing is copied. The first is left as it is. Why, and
-/// the word of the failure, go to `errors`; a fault there is passed over.
+/// the word of the failure, go to `errors`; a fault there is passed over. If there is a `twin`, the file is
+/// read at that path, and told of as itself.
 #[tactic(auto, using(crate::proofs::KeepLemmas::uncopied))]
 pub fn copy_file<F: Start, N: Start, P: Folder, W: Write, E: Write>(
     rt: &HostRuntime,
     folder: &mut P,
     words: &Copying,
+    twin: Option<&str>,
     start: F,
     other: N,
     output: &mut W,
@@ -246,7 +266,7 @@ pub fn copy_file<F: Start, N: Start, P: Folder, W: Write, E: Write>(
     ensures named { IsNamedIf result.1 (string_bytes words.now.to) (P.steps folder.old) (P.steps folder.new) }
     ensures own { LeavesOthers (string_bytes words.now.to) (P.steps folder.old) (P.steps folder.new) }
 {
-    match copy_for(rt, folder, words, start, other, errors) {
+    match copy_for(rt, folder, words, twin, start, other, errors) {
         Ok(copies) => {
             let exit = print_holdings(rt.alloc(), &copies.1.1, output, errors);
             (exit, Ok(copies))
@@ -286,6 +306,7 @@ fn copy_for<F: Start, N: Start, P: Folder, E: Write>(
     rt: &HostRuntime,
     folder: &mut P,
     words: &Copying,
+    twin: Option<&str>,
     start: F,
     other: N,
     errors: &mut E,
@@ -306,7 +327,8 @@ fn copy_for<F: Start, N: Start, P: Folder, E: Write>(
     if is_refused(rt.alloc(), folder, path, &names, errors) {
         return Err(Uncopied::untried(Failure::Store));
     }
-    let copies = copy_to(rt, folder, path, start, &names, other, errors)?;
+    let source = Source::of(path, twin);
+    let copies = copy_to(rt, folder, source, start, &names, other, errors)?;
     if !put_in_place(folder, &names) {
         let cause = "it can't be given its name, or its folder can't be synced";
         tell_of(rt.alloc(), &names.to, cause, errors);
@@ -315,13 +337,30 @@ fn copy_for<F: Start, N: Start, P: Folder, E: Write>(
     Ok(copies)
 }
 
-// Copies what the file at a path holds to new files under the names that they have first, or tells why not,
-// and removes what was made.
+// A file that is copied: how it is told of, and where it is read.
+#[derive(Clone, Copy)]
+struct Source<'s> {
+    name: &'s str,
+    path: &'s str,
+}
+
+impl<'s> Source<'s> {
+    // The file at a path, or its twin, if it has one.
+    fn of(path: &'s str, twin: Option<&'s str>) -> Source<'s> {
+        Source {
+            name: path,
+            path: twin.unwrap_or(path),
+        }
+    }
+}
+
+// Copies what a file holds to new files under the names that they have first, or tells why not, and removes
+// what was made.
 #[tactic(auto, using(crate::proofs::NameLemmas::takes_none))]
 fn copy_to<F: Start, N: Start, P: Folder, E: Write>(
     rt: &HostRuntime,
     folder: &mut P,
-    path: &str,
+    source: Source<'_>,
     start: F,
     names: &Names,
     other: N,
@@ -336,10 +375,10 @@ fn copy_to<F: Start, N: Start, P: Folder, E: Write>(
     ensures gone { (to : List ℕ) → AreNames to names.now
         → GivesUp to (P.steps folder.old) (P.steps folder.new) }
 {
-    match copy_closed(rt, path, start, &names.part, other) {
+    match copy_closed(rt, source.path, start, &names.part, other) {
         Ok(copies) => Ok(copies),
         Err(uncopied) => {
-            give_up(rt, folder, path, names, uncopied.failure, errors);
+            give_up(rt, folder, source, names, uncopied.failure, errors);
             Err(uncopied)
         }
     }
@@ -480,7 +519,7 @@ fn is_told<E: Write>(alloc: Global, path: &str, cause: Option<&'static str>, err
 fn give_up<P: Folder, E: Write>(
     rt: &HostRuntime,
     folder: &mut P,
-    path: &str,
+    source: Source<'_>,
     names: &Names,
     failure: Failure,
     errors: &mut E,
@@ -490,7 +529,7 @@ fn give_up<P: Folder, E: Write>(
         → GivesUp to (P.steps folder.old) (P.steps folder.new) }
 {
     if folder.is_free(&names.part) {
-        tell(rt, path, failure, errors);
+        tell(rt, source.path, source.name, failure, errors);
         return;
     }
     if let Failure::Store = failure {

@@ -2,9 +2,10 @@
 
 ghost use Rattle.std.specs.Prelude.{◌≡◌, ℕ, ◌++◌, [], List, Option, None, false, true, IfOk, string_bytes};
 ghost use Rattle.uss_desk.specs.Naming.{AreNames, ChangesOwn, Cleared, Follows, Free, HasFailed, IsUnnamed, Removed};
-ghost use Rattle.uss_desk.specs.Naming.{Renamed, Step, Synced, Takes, TakesAll, TakesIfNone, Tried};
+ghost use Rattle.uss_desk.specs.Naming.{Renamed, Step, Synced, Takes, TakesAll, TakesIfNone, Tried, Twinned};
 ghost use Rattle.uss_desk.specs.Naming.{named_steps};
 
+use crate::pairs::{TwinFault, write_twin};
 use sqlite::Unknown;
 use sqlite_std_file::OpenError;
 use std::alloc::{AllocError, Global};
@@ -21,8 +22,8 @@ pub const IN_USE: &str = "in use by another program";
 /// What is told of a path whose file system takes no writing.
 pub const READ_ONLY: &str = "a read-only file system";
 
-// The mode of a file that its owner alone reads and writes.
-const OWNER_ALONE: u32 = 0o600;
+/// The mode of a file that its owner alone reads and writes.
+pub const OWNER_ALONE: u32 = 0o600;
 
 /// The folders in which a new file gets its name.
 pub trait Folder {
@@ -41,6 +42,12 @@ pub trait Folder {
     /// Makes a file at a path, removes it, and answers why that could not be done, if so.
     fn try_file(&mut self, path: &str) -> Option<&'static str>
         ensures { TakesIfNone (steps self.old) (steps self.new) result (Tried path.now) };
+
+    /// Makes the twin of a file at a path where there is nothing, with the sum of each page (`is_summed`) or,
+    /// beside that of its log, as it is; and answers why that could not be done, if so.
+    fn twin(&mut self, source: &str, twin: &str, is_summed: bool) -> Option<TwinFault>
+        ensures { TakesIfNone (steps self.old) (steps self.new) result
+            (Twinned source.now twin.now is_summed) };
 
     /// Removes a file, and answers whether that was done.
     fn remove(&mut self, path: &str) -> bool
@@ -92,15 +99,12 @@ impl<'s> Folder for LocalFolder<'s> {
             .open(self.rt, path);
         match made.and_then(|_| fs::remove_file(self.rt, path)) {
             Ok(()) => None,
-            Err(error) => Some(match error.kind() {
-                ErrorKind::AlreadyExists => TAKEN,
-                ErrorKind::NotFound | ErrorKind::NotADirectory => "no such folder",
-                ErrorKind::PermissionDenied => "no right to make it",
-                ErrorKind::ReadOnlyFilesystem => READ_ONLY,
-                ErrorKind::StorageFull | ErrorKind::QuotaExceeded => "a full disk",
-                _ => "it can't be made",
-            }),
+            Err(error) => Some(unmade_text(error.kind())),
         }
+    }
+
+    fn twin(&mut self, source: &str, twin: &str, is_summed: bool) -> Option<TwinFault> {
+        write_twin(self.rt, source, twin, is_summed).err()
     }
 
     fn remove(&mut self, path: &str) -> bool {
@@ -115,6 +119,18 @@ impl<'s> Folder for LocalFolder<'s> {
 
     fn sync(&mut self, path: &str) -> bool {
         sync_folder(self.rt, path).is_ok()
+    }
+}
+
+/// Why a file can't be made where there is none, by what the operating system says.
+pub fn unmade_text(kind: ErrorKind) -> &'static str {
+    match kind {
+        ErrorKind::AlreadyExists => TAKEN,
+        ErrorKind::NotFound | ErrorKind::NotADirectory => "no such folder",
+        ErrorKind::PermissionDenied => "no right to make it",
+        ErrorKind::ReadOnlyFilesystem => READ_ONLY,
+        ErrorKind::StorageFull | ErrorKind::QuotaExceeded => "a full disk",
+        _ => "it can't be made",
     }
 }
 

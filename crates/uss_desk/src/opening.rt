@@ -10,6 +10,7 @@ ghost use Rattle.uss_desk.specs.Opening.{IsOpenedIn, IsUnreadFor};
 
 use crate::causes::tell_unenrolled;
 use crate::naming::make_private;
+use crate::rolls::Roll;
 use crate::watching::{NoPaths, Paths, Watched};
 use desk_line::{Database, Failure, Line};
 use desk_run::Desk;
@@ -97,12 +98,14 @@ pub type FoundDesk<F, N> = Result<FileDesk<F, N>, Unread<F>>;
 /// A desk over files and how many plans were moved to it from schema 1, or why there is none.
 pub type MovedDesk<F, N> = Result<(FileDesk<F, N>, u32), Unread<F>>;
 
-/// Opens what a line needs; `start` stands for what the files that it names held, and `paths` are theirs.
+/// Opens what a line needs; `start` stands for what the files that it names held, and `paths` are theirs. The
+/// operators that a desk over files has then are noted in `roll`.
 pub fn open_for<F: Start, N: Paths + Drop>(
     rt: &HostRuntime,
     line: &Line,
     start: F,
     paths: N,
+    roll: &mut Roll,
 ) -> OpenedDesk<F, N>
     ensures { IsOpenedFor (image_at F.Start) line.now result }
 {
@@ -114,25 +117,28 @@ pub fn open_for<F: Start, N: Paths + Drop>(
                 words.enrolments.is_empty(),
                 start,
                 paths,
+                roll,
             )
         }
-        Line::Enrol(words) => open_database(rt, &words.database, false, start, paths),
+        Line::Enrol(words) => open_database(rt, &words.database, false, start, paths, roll),
         Line::Serve(words) => {
             let is_told = words.enrolments.is_empty() && words.operators.is_none();
-            open_database(rt, &words.database, is_told, start, paths)
+            open_database(rt, &words.database, is_told, start, paths, roll)
         }
         Line::Migrate(words) => Opened::Moved(open_old(rt, &words.database, start, paths)),
         Line::Token(_) | Line::Cover(_) => Opened::Nothing,
     }
 }
 
-// Opens the desk over a database. If it is to be told that no operator is enrolled (`is_told`), it is.
-fn open_database<F: Start, N: Paths + Drop>(
+/// Opens the desk over a database; `start` stands for what its files held, and `paths` are theirs. If it is
+/// to be told that no operator is enrolled (`is_told`), it is.
+pub fn open_database<F: Start, N: Paths + Drop>(
     rt: &HostRuntime,
     database: &Database,
     is_told: bool,
     start: F,
     paths: N,
+    roll: &mut Roll,
 ) -> OpenedDesk<F, N>
     ensures { IsOpenedAt (image_at F.Start) database.now result }
 {
@@ -143,7 +149,7 @@ fn open_database<F: Start, N: Paths + Drop>(
             }
             Opened::Memory(open_in_memory(rt.alloc()))
         }
-        Database::File(path) => Opened::Files(open_file(rt, path, is_told, start, paths)),
+        Database::File(path) => { Opened::Files(open_file(rt, path, is_told, start, paths, roll)) },
     }
 }
 
@@ -176,7 +182,7 @@ pub fn open_in_memory(alloc: Global) -> Result<MemoryDesk, Failure>
 
 /// The desk over the database in the files at a path; `start` stands for what the files held, and `paths` are
 /// theirs. A file that is made is its owner's alone. If it is to be told that no operator is enrolled
-/// (`is_told`), it is.
+/// (`is_told`), it is. The operators that the desk has then are noted in `roll`.
 ///
 /// # Errors
 ///
@@ -187,6 +193,7 @@ pub fn open_file<F: Start, N: Paths + Drop>(
     is_told: bool,
     start: F,
     mut paths: N,
+    roll: &mut Roll,
 ) -> FoundDesk<F, N>
     ensures { IsOpenedIn (image_at F.Start) result }
 {
@@ -197,6 +204,7 @@ pub fn open_file<F: Start, N: Paths + Drop>(
             if is_told && !store.has_begun_enrolled() {
                 tell_unenrolled(rt, Some(path));
             }
+            roll.note(&store);
             paths.hold();
             Ok(Desk::new(Watched::over(store, paths)))
         }

@@ -3,9 +3,9 @@
 ghost use Rattle.std.specs.Prelude.{◌≡◌, ◌↔◌, IsTrue};
 
 use crate::causes::tell_of;
-use crate::damage::file_of_line;
+use crate::damage::{file_of_line, path_of};
 use crate::watching::Paths;
-use desk_line::{Failure, Line};
+use desk_line::{Database, Failure, Line};
 use std::alloc::{AllocError, Global};
 use std::fs;
 use std::io::ErrorKind;
@@ -37,7 +37,23 @@ pub struct LocalPaths<'r> {
 ///
 /// `Memory` if memory runs out.
 pub fn paths_of<'r>(rt: &'r HostRuntime, line: &'r Line) -> Result<LocalPaths<'r>, Failure> {
-    let file = file_of_line(line).unwrap_or("");
+    paths_beside(rt, file_of_line(line).unwrap_or(""))
+}
+
+/// The paths of the file of a database; of no file if it is in memory.
+///
+/// # Errors
+///
+/// `Memory` if memory runs out.
+pub fn paths_at<'r>(
+    rt: &'r HostRuntime,
+    database: &'r Database,
+) -> Result<LocalPaths<'r>, Failure> {
+    paths_beside(rt, path_of(database).unwrap_or(""))
+}
+
+// The paths of a file.
+fn paths_beside<'r>(rt: &'r HostRuntime, file: &'r str) -> Result<LocalPaths<'r>, Failure> {
     Ok(LocalPaths {
         rt,
         file,

@@ -1,17 +1,23 @@
 //! The sums on the pages of a database, as SQLite's cksumvfs has them: the last eight bytes of each page. The
 //! desk keeps them, and sqlite3 doesn't.
 
-ghost use Rattle.std.specs.Prelude.{◌≤◌, length};
+ghost use Rattle.std.specs.Prelude.{◌≡◌, ◌≤◌, drop, length, Some, take, IfOk, IfSome, OnOk};
+ghost use Rattle.std.specs.Io.KnownBytes.{Appends, Consumes};
+ghost use Rattle.sqlite_wal.specs.PageSize.{bytes_of};
+ghost use Rattle.uss_desk.specs.Sums as spec;
 
 use sqlite_wal::{PageSize, checksum_of};
 use std::fs::{self, File};
-use std::io::{self, ErrorKind, Read};
+use std::io::{self, ErrorKind, Read, Seek, Write};
 
 // Where the header of a database says how large a page is, and how many bytes at the end of each page are
 // kept for a sum (the SQLite file format, sections 1.3.2 and 1.3.4).
 const SIZE_AT: usize = 16;
 
 const RESERVED_AT: usize = 20;
+
+// How many bytes of a header are read.
+const HEADER: usize = 24;
 
 // How many bytes a sum has.
 const SUM: usize = 8;
@@ -27,15 +33,20 @@ pub fn has_sums(rt: &HostRuntime, path: &str) -> bool {
 /// can't be read.
 pub fn pages_without_sums(rt: &HostRuntime, path: &str) -> Option<u64> {
     let size = summed_size(rt, path)?;
-    let count = fs::metadata(rt, path).ok()?.len() / size.bytes() as u64;
+    let len = fs::metadata(rt, path).ok()?.len();
     let mut file = File::open(rt, path).ok()?;
-    count_unsummed(&mut file, size, count).ok()
+    count_unsummed(&mut file, size, len).ok()
 }
 
 // The size of a page of the database at a path, if its pages have sums.
 fn summed_size(rt: &HostRuntime, path: &str) -> Option<PageSize> {
-    let mut header = [0u8; 24];
+    let mut header = [0u8; HEADER];
     read_header(rt, path, &mut header).ok()?;
+    size_in(&header)
+}
+
+// The size of a page by the header of a database, if its pages have sums.
+fn size_in(header: &[u8; HEADER]) -> Option<PageSize> {
     if usize::from(header[RESERVED_AT]) != SUM {
         return None;
     }
@@ -58,25 +69,161 @@ fn read_header(rt: &HostRuntime, path: &str, header: &mut [u8]) -> io::Result<()
     File::open(rt, path)?.read_exact(header)
 }
 
-// How many of the first pages, so many, have another sum than theirs.
-fn count_unsummed<R: Read>(file: &mut R, size: PageSize, count: u64) -> io::Result<u64> {
+/// Copies the file of a database whose pages have sums, each page with its own. Nothing else is opened, so
+/// that whoever holds the file goes on holding it.
+///
+/// # Errors
+///
+/// What the reading or the writing failed with; `Unsupported` if its pages have no sums.
+pub fn copy_with_sums<W: Write>(file: &mut File, twin: &mut W) -> io::Result<()> {
+    let mut header = [0u8; HEADER];
+    file.read_exact(&mut header)?;
+    let Some(size) = size_in(&header) else {
+        return Err(io::Error::from(ErrorKind::Unsupported));
+    };
+    let len = file.metadata()?.len();
+    file.rewind()?;
+    copy_summed(file, twin, size, len)
+}
+
+/// Copies a file of so many bytes page by page, each with its sum in the place of its last bytes.
+///
+/// # Errors
+///
+/// What the reading or the writing failed with.
+pub fn copy_summed<R: Read, W: Write>(
+    file: &mut R,
+    twin: &mut W,
+    size: PageSize,
+    len: u64,
+) -> io::Result<()>
+    ensures { OnOk result (IfSome (R.remaining file.old) (λ bytes. length bytes ≡ len →
+        Appends (W.contents twin.old) (W.contents twin.new)
+        (spec.summed_file (bytes_of size) bytes))) }
+{
+    copy_pages(file, twin, size, len / size.bytes() as u64)
+}
+
+// Copies so many pages of a file, each with its sum in the place of its last bytes.
+fn copy_pages<R: Read, W: Write>(
+    file: &mut R,
+    twin: &mut W,
+    size: PageSize,
+    count: u64,
+) -> io::Result<()>
+    ensures { OnOk result (IfSome (R.remaining file.old) (λ bytes.
+        Appends (W.contents twin.old) (W.contents twin.new)
+        (spec.summed_pages (bytes_of size) count bytes))) }
+{
     let mut room = [0u8; MAX_PAGE];
     let page = &mut room[..size.bytes()];
-    let mut unsummed: u64 = 0;
     for _ in 0..count {
-        file.read_exact(page)?;
-        if !has_its_sum(page) {
-            unsummed = unsummed.saturating_add(1);
-        }
+        copy_page(file, twin, page)?;
+    }
+    Ok(())
+}
+
+// Copies a page with its sum in the place of its last bytes.
+fn copy_page<R: Read, W: Write>(file: &mut R, twin: &mut W, page: &mut [u8]) -> io::Result<()>
+    requires { 8 ≤ length page.old }
+    ensures length { length page.new ≡ length page.old }
+    ensures left { OnOk result (IfSome (R.remaining file.old) (λ bytes.
+        R.remaining file.new ≡ Some (drop (length page.old) bytes))) }
+    ensures copied { OnOk result (IfSome (R.remaining file.old) (λ bytes.
+        Appends (W.contents twin.old) (W.contents twin.new)
+        (spec.summed (take (length page.old) bytes)))) }
+{
+    file.read_exact(page)?;
+    give_sum(page);
+    twin.write_all(page)
+}
+
+/// How many pages of a file of so many bytes end with another sum than theirs.
+///
+/// # Errors
+///
+/// What the reading failed with.
+pub fn count_unsummed<R: Read>(file: &mut R, size: PageSize, len: u64) -> io::Result<u64>
+    ensures { IfOk result (λ unsummed. IfSome (R.remaining file.old) (λ bytes. length bytes ≡ len →
+        unsummed ≡ spec.unsummed_in (bytes_of size) bytes)) }
+{
+    count_pages(file, size, len / size.bytes() as u64)
+}
+
+// How many of the first pages, so many, end with another sum than theirs.
+fn count_pages<R: Read>(file: &mut R, size: PageSize, count: u64) -> io::Result<u64>
+    ensures { IfOk result (λ unsummed. IfSome (R.remaining file.old) (λ bytes.
+        unsummed ≡ spec.unsummed_pages (bytes_of size) count bytes)) }
+{
+    let mut room = [0u8; MAX_PAGE];
+    let page = &mut room[..size.bytes()];
+    let mut unsummed = 0;
+    for _ in 0..count {
+        unsummed += count_page(file, page)?;
     }
     Ok(unsummed)
 }
 
-// Whether a page ends in the sum of what stands before.
+// 1 if the next page ends with another sum than its own, else 0.
+fn count_page<R: Read>(file: &mut R, page: &mut [u8]) -> io::Result<u64>
+    requires { 8 ≤ length page.old }
+    ensures length { length page.new ≡ length page.old }
+    ensures most { IfOk result (λ unsummed. unsummed ≤ 1) }
+    ensures left { OnOk result (IfSome (R.remaining file.old) (λ bytes.
+        R.remaining file.new ≡ Some (drop (length page.old) bytes))) }
+    ensures counted { IfOk result (λ unsummed. IfSome (R.remaining file.old) (λ bytes.
+        unsummed ≡ spec.unsummed_page (take (length page.old) bytes))) }
+{
+    file.read_exact(page)?;
+    Ok(if has_its_sum(page) { 0 } else { 1 })
+}
+
+// Whether a page ends with the sum of what stands before.
 fn has_its_sum(page: &[u8]) -> bool
     requires { 8 ≤ length page.now }
+    ensures { result ≡ spec.has_sum page.now }
 {
     let (bytes, sum) = page.split_at(page.len() - SUM);
+    sum == &sum_of(bytes)[..]
+}
+
+// Writes the sum of a page in the place of its last bytes.
+fn give_sum(page: &mut [u8])
+    requires { 8 ≤ length page.old }
+    ensures { page.new ≡ spec.summed page.old }
+{
+    let (bytes, sum) = page.split_at_mut(page.len() - SUM);
+    sum.copy_from_slice(&sum_of(bytes));
+}
+
+// The sum of bytes, as it stands in a file.
+#[tactic(auto, unfolding(crate::specs::Sums::sum_of))]
+fn sum_of(bytes: &[u8]) -> [u8; SUM]
+    ensures { result ≡ spec.sum_of bytes.now }
+{
     let (first, second) = checksum_of(false, (0, 0), bytes);
-    sum[..4] == first.to_le_bytes()[..] && sum[4..] == second.to_le_bytes()[..]
+    let mut sum = [0u8; SUM];
+    sum[..4].copy_from_slice(&first.to_le_bytes());
+    sum[4..].copy_from_slice(&second.to_le_bytes());
+    sum
+}
+
+/// Copies the bytes of a file.
+///
+/// # Errors
+///
+/// What the reading or the writing failed with.
+pub fn copy_bytes<R: Read, W: Write>(file: &mut R, twin: &mut W) -> io::Result<()>
+    ensures { OnOk result (IfSome (R.remaining file.old)
+        (Appends (W.contents twin.old) (W.contents twin.new))) }
+{
+    let mut room = [0u8; MAX_PAGE];
+    for _ in 0..u64::MAX {
+        let count = file.read(&mut room)?;
+        if count == 0 {
+            return Ok(());
+        }
+        twin.write_all(&room[..count])?;
+    }
+    Err(io::Error::from(ErrorKind::FileTooLarge))
 }

@@ -1,28 +1,25 @@
 //! The content of a desk, from all rows of its tables.
 
 ghost use Rattle.std.specs.Prelude.{◌≡◌, ◌↔◌, ◌≤◌, List, IsTrue, IfOk, IfErr, length};
-ghost use Rattle.std.specs.List.{AllByRecursion, prefix_len};
+ghost use Rattle.std.specs.List.{prefix_len};
 ghost use Rattle.std.specs.List.Sorted.{IsStrictlySortedBy};
 ghost use Rattle.sqlite_value.specs.Order.{column};
 ghost use Rattle.desk_rules.specs.Limits.{max_plans};
 ghost use Rattle.desk_store.specs.World as world;
 ghost use Rattle.desk_store.specs.World.{World, Listed, Filed, listed_cmp, filed_cmp};
-ghost use Rattle.desk_tables.specs.Tables.{id_text, plan_row, AreSpanRows};
-ghost use Rattle.desk_store.specs.Content.{IsContent};
-ghost use Rattle.desk_tables.specs.Records.{IsFiled};
+ghost use Rattle.desk_tables.specs.Tables.{id_text, plan_row};
 ghost use Rattle.desk_tables.specs.Opening as spec;
-ghost use Rattle.desk_tables.specs.Opening.{AreOperatorRows, ArePlanRows, AreShared, AreAgreed, AreRows};
+ghost use Rattle.desk_tables.specs.Opening.{AreOperatorRows, ArePlanRows, AreShared};
 ghost use Rattle.desk_tables.specs.Opening.{is_below_first};
-ghost use Rattle.desk_tables.specs.Writing.{HaveFewRows};
 
-use crate::opening::exact::{FiledPlan, ListedOperator, RowFault, are_spans, filed_in, listed_in};
+use crate::opening::exact::{FiledPlan, RowFault, filed_in, listed_in};
+use desk_live::ListedOperator;
 use desk_rules::decide::MAX_PLANS;
 use desk_rules::operator::Operator;
 use sqlite::Row;
 use sqlite_value::value::ValueRef;
 use std::alloc::{AllocError, AllocFailed, Global};
 use std::marker::Model;
-use volume4d::laws::one_shape;
 
 /// The rows of the tables, each by the columns of its key; those of `volume2` in two parts.
 #[derive(Drop)]
@@ -93,57 +90,11 @@ impl<T: Drop> From<AllocFailed<T>> for RowFault {
     }
 }
 
-/// The content whose rows these are, but for the covers.
-///
-/// # Errors
-///
-/// `OutOfMemory` if memory runs out. `NoDesk` if they are the rows of no content.
-pub(crate) fn content_in(alloc: Global, rows: &TableRows) -> Result<Content, RowFault>
-    ensures ok { IfOk result (λ content. IsContent content × AreRows rows.now content) }
-    ensures few { IfOk result (λ content. HaveFewRows content.plans) }
-    ensures none { IfErr result (λ e. e ≡ RowFault.NoDesk →
-        (w : World) → IsContent w → ¬ AreRows rows.now w) }
-{
-    one_shape();
-    let operators = operators_in(alloc, &rows.operators)?;
-    let plans = plans_in(alloc, &rows.plans, &rows.volumes)?;
-    if are_content(&operators, &plans, &rows.spans)? {
-        Ok(Content {
-            operators,
-            plans,
-            spans: rows.spans.len(),
-        })
-    } else {
-        Err(RowFault::NoDesk)
-    }
-}
-
-// Whether operators, plans and rows of `span` are those of one content.
-fn are_content(
-    operators: &[ListedOperator],
-    plans: &[FiledPlan],
-    spans: &[Row],
-) -> Result<bool, AllocError>
-    requires { AllByRecursion IsFiled plans.now }
-    ensures { IfOk result (λ are. IsTrue are ↔ AreAgreed operators.now plans.now spans.now) }
-{
-    if !names_ascend(operators) {
-        return Ok(false);
-    }
-    if !keys_ascend(plans) {
-        return Ok(false);
-    }
-    if !are_shared(operators, plans) {
-        return Ok(false);
-    }
-    spans_agree(plans, spans)
-}
-
 /// The operators whose rows these are.
 ///
 /// # Errors
 ///
-/// Those of `content_in`.
+/// `OutOfMemory` if memory runs out. `NoDesk` if they are the rows of no operators.
 pub(crate) fn operators_in(alloc: Global, rows: &[Row]) -> Result<Vec<ListedOperator>, RowFault>
     ensures ok { IfOk result (λ operators. AreOperatorRows operators.items rows.now) }
     ensures none { IfErr result (λ e. e ≡ RowFault.NoDesk →
@@ -162,7 +113,7 @@ pub(crate) fn operators_in(alloc: Global, rows: &[Row]) -> Result<Vec<ListedOper
 ///
 /// # Errors
 ///
-/// Those of `content_in`.
+/// `OutOfMemory` if memory runs out. `NoDesk` if they are the rows of no plans.
 pub(crate) fn plans_in(
     alloc: Global,
     head_rows: &[Row],
@@ -230,36 +181,6 @@ fn is_text(row: &Row, at: usize, text: &[u8]) -> bool
         Ok(ValueRef::Text(found)) => found.cmp(text).is_eq(),
         _ => false,
     }
-}
-
-// Whether rows are those of the plans in `span`.
-fn spans_agree(plans: &[FiledPlan], rows: &[Row]) -> Result<bool, AllocError>
-    requires filed { AllByRecursion IsFiled plans.now }
-    requires sorted { IsStrictlySortedBy filed_cmp plans.now }
-    ensures { IfOk result (λ agree. IsTrue agree ↔ AreSpanRows plans.now rows.now) }
-{
-    let mut others = plans;
-    let mut left = rows;
-    while let Some((plan, later)) = others.split_first() {
-        let (mine, more) = left.split_at(own_spans(plan, left));
-        if !are_spans(plan, mine)? {
-            return Ok(false);
-        }
-        others = later;
-        left = more;
-    }
-    Ok(left.is_empty())
-}
-
-// How many of the first rows are of a plan.
-fn own_spans(plan: &FiledPlan, rows: &[Row]) -> usize
-    ensures value { result ≡
-        prefix_len (spec.is_of plan.now.operator (id_text plan.now.row.id)) rows.now }
-    ensures within { result ≤ length rows.now }
-{
-    let mut buffer = [0u8; 36];
-    let id = plan.row.id.encode(&mut buffer);
-    count_of(rows, plan.operator.as_bytes(), id.as_bytes())
 }
 
 /// Whether the names of operators ascend.

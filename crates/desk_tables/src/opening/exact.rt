@@ -1,30 +1,29 @@
 //! Rows read exactly: what an operator's row and the rows of a plan stand for, or that they are no
 //! desk's.
 
-ghost use Rattle.std.specs.Prelude.{◌≡◌, ◌≢◌, ◌≤◌, ◌↔◌, ◌++◌, ℕ, List, map, pos, IsTrue, IfOk, IfErr};
+ghost use Rattle.std.specs.Prelude.{◌≡◌, ◌≢◌, ◌≤◌, ◌↔◌, ℕ, List, pos, IsTrue, IfOk, IfErr};
 ghost use Rattle.std.specs.Prelude.{MatchOption};
 ghost use Rattle.std.specs.List.{AllZip};
 ghost use Rattle.sqlite_value.specs.declared.value.Value.TheVariants.{Int, Text};
-ghost use Rattle.sqlite_value.specs.Order.{Row as Columns, column};
+ghost use Rattle.sqlite_value.specs.Order.{column};
 ghost use Rattle.volume4d.specs.Slab.{slab_window};
 ghost use Rattle.volume4d.specs.Volume.{Block};
 ghost use Rattle.desk_rules.specs.Name.{is_operator_name};
 ghost use Rattle.desk_store.specs.World.{Filed, Listed};
-ghost use Rattle.desk_tables.specs.Tables.{id_text, operator_row, volume_row, area_rows, ArePlanSpanRows};
+ghost use Rattle.desk_tables.specs.Tables.{id_text, operator_row, volume_row, area_rows};
 ghost use Rattle.desk_tables.specs.Reading.{IsVolumeAt};
 ghost use Rattle.desk_tables.specs.Records.{IsOperator, IsFiled, AreRowsOf, AreNumbersOf, IsKeyed};
 ghost use Rattle.desk_tables.specs.Records.{IsWindowAt, slab_row};
 
 use crate::reading::values::{area_in, count_at, plan_in};
+use desk_live::ListedOperator;
 use desk_rules::decide::MAX_PRIORITY;
 use desk_rules::operator::Operator;
 use desk_rules::plan::PlanRow;
-use desk_rules::words::Usage;
 use desk_store::StoreFault;
-use s2_cover::laws::one_list_of_ranges;
 use sqlite::Row;
 use sqlite_value::value::ValueRef;
-use std::alloc::{AllocError, Global};
+use std::alloc::Global;
 use std::marker::Model;
 use volume4d::Slab;
 
@@ -58,23 +57,6 @@ impl From<StoreFault> for RowFault {
             StoreFault::Store => RowFault::NoDesk,
         }
     }
-}
-
-/// An operator with its ceiling.
-#[derive(Clone, Copy, Debug)]
-pub(crate) struct ListedOperator {
-    pub operator: Operator,
-    pub ceiling: u32,
-}
-
-impl Model for ListedOperator {
-    ghost use Rattle.desk_store.specs.World.{Listed};
-
-    ghost Value = { Listed };
-
-    ghost view = { λ l. record { name = l.operator; ceiling = l.ceiling } };
-
-    ghost inverse = { λ l. record { operator = l.name; ceiling = l.ceiling } };
 }
 
 /// A plan with its operator.
@@ -140,31 +122,6 @@ pub(crate) fn filed_in(alloc: Global, head: &Row, volumes: &[Row]) -> Result<Fil
     Ok(plan)
 }
 
-/// Whether rows, by place and first position, are those of a plan in `span`.
-///
-/// # Errors
-///
-/// `AllocError` if memory runs out.
-pub(crate) fn are_spans(plan: &FiledPlan, rows: &[Row]) -> Result<bool, AllocError>
-    ensures { IfOk result (λ are. IsTrue are ↔ ArePlanSpanRows plan.now rows.now) }
-{
-    if let Usage::Closed = plan.row.usage {
-        return Ok(rows.is_empty());
-    }
-    one_list_of_ranges();
-    let mut buffer = [0u8; 36];
-    let id = plan.row.id.encode(&mut buffer);
-    let mut rest = rows;
-    for (place, volume) in plan.row.area.volumes().iter().enumerate() {
-        let slabs = volume.slabs()?;
-        let Some(more) = after_slabs(plan, id, place, &slabs, rest) else {
-            return Ok(false);
-        };
-        rest = more;
-    }
-    Ok(rest.is_empty())
-}
-
 /// The operator whose name stands in the first column, if it is one's.
 pub(crate) fn operator_in(row: &Row) -> Option<Operator>
     ensures { MatchOption result
@@ -215,32 +172,6 @@ fn is_placed(plan: &FiledPlan, id: &str, place: usize, row: &Row) -> bool
         return false;
     }
     is_count_at(row, 2, place as u64)
-}
-
-// The rows after those of the slabs of the volume at a place, or none if they do not begin so.
-fn after_slabs<'r>(
-    plan: &FiledPlan,
-    id: &str,
-    place: usize,
-    slabs: &[Slab],
-    rows: &'r [Row],
-) -> Option<&'r [Row]>
-    requires id { id.now ≡ id_text plan.now.row.id }
-    ensures { MatchOption result
-        ((rest : List Columns) → rows.now ≢ map (slab_row plan.now place) slabs.now ++ rest)
-        (λ rest. rows.now ≡ map (slab_row plan.now place) slabs.now ++ rest.now) }
-{
-    let mut rest = rows;
-    for slab in slabs {
-        let Some((row, more)) = rest.split_first() else {
-            return None;
-        };
-        if !is_slab_row(plan, id, place, slab, row) {
-            return None;
-        }
-        rest = more;
-    }
-    Some(rest)
 }
 
 /// Whether a row is that of a slab of the volume at a place.

@@ -2,12 +2,11 @@
 
 ghost use Rattle.std.specs.Prelude.{◌≡◌, ◌≢◌, ◌↔◌, ◌<◌, ◌^◌, List, [], length, true, false, IfOk, IfErr, OnOk, IsTrue, None, ◌≤◌};
 ghost use Rattle.sqlite_value.specs.Order.{Row as Values};
-ghost use Rattle.std.specs.List.{AllByRecursion};
 ghost use Rattle.sqlite.specs.State.{HasCleanDisk};
 ghost use Rattle.sqlite.specs.Held.{state};
 ghost use Rattle.desk_sql.specs.Calls.{WasOpen};
 ghost use Rattle.desk_sql.specs.Schema.{has_table};
-ghost use Rattle.desk_sql.specs.Rows.{IsMadeTo, Tables, tables_at};
+ghost use Rattle.desk_sql.specs.Rows.{IsMadeTo, tables_at};
 ghost use Rattle.desk_sql.specs.Effects.{IsKept, IsOpenIfClean};
 ghost use Rattle.desk_sql.specs.Frames.{OnlyReads};
 ghost use Rattle.desk_sql.specs.Finding.{Holds};
@@ -20,7 +19,7 @@ ghost use Rattle.desk_tables.specs.SpanBounds.{IsKnownRow, Keeps};
 ghost use Rattle.desk_tables.specs.Opening.{AreAllRows, IsContentOf, AreNoContent};
 ghost use Rattle.desk_tables.specs.Tables.{AreSpanRows, volume_rows};
 ghost use Rattle.desk_tables.specs.SpansHeld.{AreHeld};
-ghost use Rattle.desk_tables.specs.Opening.{AreHeads, AreInOrder, AreSortedHeads};
+ghost use Rattle.desk_tables.specs.Opening.{AreHeads, AreInOrder, AreParts, AreRows, AreSortedHeads};
 ghost use Rattle.desk_tables.specs.Opening.{BeginsWith, HasRowsOld, HasNewRows};
 ghost use Rattle.desk_tables.specs.Opening.{ShowsNoDesk, ShowsOldRows};
 ghost use Rattle.desk_tables.specs.Opening.{BlamesReading, BlamesDatabase};
@@ -32,11 +31,12 @@ use crate::opening::content::{
     Content, TableRows, are_shared, keys_ascend, names_ascend, operators_in, plans_in,
 };
 use crate::opening::covers::covers_agree;
-use crate::opening::exact::{FiledPlan, ListedOperator};
+use crate::opening::exact::FiledPlan;
 use crate::opening::open::OpenFault;
 use crate::opening::ordering::ordered_in;
 use crate::opening::spans::{SpanCheck, take_spans};
 use crate::span_bounds::SpanBounds;
+use desk_live::ListedOperator;
 use desk_sql::{
     DeskTable, TablesPresent, Whole, all_rows, complete_tables, find_tables, has_old_rows,
 };
@@ -209,8 +209,28 @@ pub(crate) fn content_found<S: Alter>(
     let heads = heads_in(alloc, connection, made)?;
     let (operators, plans) = parts_of(alloc, &heads)?;
     let mut check = SpanCheck::new(alloc, plans);
-    take_spans(connection, made, &mut check)?;
+    take_spans(connection, Whole::Spans, made, &mut check)?;
     content_with(alloc, operators, check)
+}
+
+/// The operators and plans of rows that are those of a content, but for those of spans and of covers.
+pub(crate) fn uncovered_parts(
+    alloc: Global,
+    heads: &TableRows,
+) -> Result<(Vec<ListedOperator>, Vec<FiledPlan>), OpenFault>
+    ensures value { IfOk result (λ found. AreParts heads.now found.0.items found.1.items) }
+    ensures few { IfOk result (λ found. length (volume_rows found.1.items) < 2 ^ 63) }
+    ensures none { IfErr result (λ e. e ≡ OpenFault.NotADesk → (w : World) (spans : List Values)
+        → IsContent w → ¬ AreRows (record heads.now { spans = spans }) w) }
+    ensures fault { IfErr result (λ e. (e ≢ OpenFault.Store) × (e ≢ OpenFault.OldSchema)) }
+{
+    one_shape();
+    let operators = operators_in(alloc, &heads.operators)?;
+    let plans = plans_in(alloc, &heads.plans, &heads.volumes)?;
+    if !are_in_order(&operators, &plans) {
+        return Err(OpenFault::NotADesk);
+    }
+    Ok((operators, plans))
 }
 
 // The operators and plans of rows that are those of a content, but for those of spans.
@@ -225,11 +245,7 @@ fn parts_of(
     ensures fault { IfErr result (λ e. (e ≢ OpenFault.Store) × (e ≢ OpenFault.OldSchema)) }
 {
     one_shape();
-    let operators = operators_in(alloc, &heads.operators)?;
-    let plans = plans_in(alloc, &heads.plans, &heads.volumes)?;
-    if !are_in_order(&operators, &plans) {
-        return Err(OpenFault::NotADesk);
-    }
+    let (operators, plans) = uncovered_parts(alloc, heads)?;
     if !covers_agree(alloc, &plans, &heads.covers)? {
         return Err(OpenFault::NotADesk);
     }
@@ -249,9 +265,9 @@ fn are_in_order(operators: &[ListedOperator], plans: &[FiledPlan]) -> bool
     are_shared(operators, plans)
 }
 
-// The content of these operators, and of plans against which all rows of spans were held; and what is known
-// of it.
-fn content_with(
+/// The content of these operators, and of plans against which all rows of spans were held; and what is known
+/// of it.
+pub(crate) fn content_with(
     alloc: Global,
     operators: Vec<ListedOperator>,
     check: SpanCheck,
@@ -261,7 +277,7 @@ fn content_with(
         × (found.0.plans ≡ check.plans.items)) }
     ensures agree { (rows : List Values) → AreHeld check rows
         → OnOk result (AreSpanRows check.plans.items rows) }
-    ensures bounded { (heads : Tables) → AreHeads heads operators.items check.plans.items
+    ensures bounded { AreInOrder operators.items check.plans.items
         → IfOk result (λ found. Knows found.1 found.0) }
     ensures none { IfErr result (λ e. e ≡ OpenFault.NotADesk → (rows : List Values)
         → AreHeld check rows → ¬ AreSpanRows check.plans.items rows) }
@@ -316,19 +332,6 @@ pub(crate) fn heads_in<S: Alter>(
         covers,
         spans,
     })
-}
-
-// How long the spans of these rows of `span` are.
-pub(crate) fn lengths_in(rows: &[Row]) -> SpanBounds
-    ensures { AllByRecursion (IsKnownRow result) rows.now }
-{
-    let mut span_bounds = SpanBounds::new();
-    let mut left = rows;
-    while let Some((row, later)) = left.split_first() {
-        span_bounds = length_with(&span_bounds, row);
-        left = later;
-    }
-    span_bounds
 }
 
 /// Span bounds, with that of the span of a row.

@@ -1,14 +1,15 @@
 //! How a content of schema 1 is moved to schema 2.
 
-ghost use Rattle.std.specs.Prelude.{◌≡◌, ◌≢◌, ◌↔◌, ◌-◌, ◌^◌, List, [], ◌∷◌, true, false, IfOk, IfErr, OnOk, OnErr, IsTrue, length, None};
+ghost use Rattle.std.specs.Prelude.{◌≡◌, ◌≢◌, ◌↔◌, ◌<◌, ◌-◌, ◌^◌, List, [], ◌∷◌, true, false, IfOk, IfErr, OnOk, OnErr, IsTrue, length, None};
 ghost use Rattle.std.specs.List.{AllByRecursion};
 ghost use Rattle.sqlite.specs.State.{HasCleanDisk, KeepsCommit};
 ghost use Rattle.sqlite.specs.Held.{state};
+ghost use Rattle.sqlite_value.specs.Order.{Row as Values};
 ghost use Rattle.desk_sql.specs.Schema.{has_table};
 ghost use Rattle.desk_sql.specs.Rows.{IsMadeTo, tables_at, tables_of};
 ghost use Rattle.desk_sql.specs.Batches.{IsUnderWay};
 ghost use Rattle.desk_sql.specs.Calls.{WasOpen};
-ghost use Rattle.desk_sql.specs.Effects.{IsReady, IsKept, Makes, Commits, MayMake};
+ghost use Rattle.desk_sql.specs.Effects.{IsReady, IsKept, IsOpenIfClean, Makes, Commits, MayMake};
 ghost use Rattle.desk_sql.specs.Making.{MayComplete};
 ghost use Rattle.desk_sql.specs.Frames.{IsOver, OnlyReads, Remembers};
 ghost use Rattle.desk_sql.specs.Finding.{Holds};
@@ -17,25 +18,28 @@ ghost use Rattle.desk_store.specs.World.{Filed, World};
 ghost use Rattle.desk_store.specs.Content.{IsContent};
 ghost use Rattle.desk_tables.specs.CutShort.{IsMovedAs, IsMovedOn, MayBecome};
 ghost use Rattle.desk_tables.specs.Known.{Knows};
+ghost use Rattle.desk_tables.specs.Tables as tables;
 ghost use Rattle.desk_tables.specs.Opening.{AreRows, BlamesReading, HasRowsOld};
 ghost use Rattle.desk_tables.specs.OpeningSteps.{BeginsAllMoved, HadNoOld, IsAdded, IsOpened, IsRead, IsSetUp};
 ghost use Rattle.desk_tables.specs.OpeningSteps.{MakesWhole};
 ghost use Rattle.desk_tables.specs.Moving.{AddsPlanRows, AddsPlansRows, MovesRows, RemovesOldRows, AreNoOldContent};
 ghost use Rattle.desk_tables.specs.Moving.{BeginsMoved, KeepsRows, IsOldArea, IsOldContent};
 ghost use Rattle.desk_tables.specs.Moving.{HasNoNewRows};
-ghost use Rattle.desk_tables.specs.Moving.{AreSortedOld, IsOldContentOf, IsOldShape};
+ghost use Rattle.desk_tables.specs.Moving.{AreOldParts, AreSortedOld, IsOldContentOf, IsOldShape};
 ghost use Rattle.desk_tables.specs.Moving.{ShowsNoContent};
 ghost use Rattle.desk_tables.specs.Writing.{AreAwaited, AreWritable, HasSpansToIndex, HaveFewRows};
 
 use crate::canon::canons_of;
 use crate::changing::records::{asked_of, span_rows, volume_rows};
 use crate::kept::GhostWorld;
-use crate::known::{Known, live_among, roll_of};
-use crate::opening::content::{Content, TableRows, content_in};
+use crate::known::Known;
+use crate::opening::content::{Content, TableRows};
 use crate::opening::exact::FiledPlan;
-use crate::opening::finding::{lengths_in, tables_found, world_of};
+use crate::opening::finding::{content_with, tables_found, uncovered_parts, world_of};
 use crate::opening::open::OpenFault;
 use crate::opening::ordering::unpack;
+use crate::opening::spans::{SpanCheck, take_spans};
+use desk_live::ListedOperator;
 use desk_sql::laws::settled_and_sound;
 use desk_sql::{
     DeskTable, TablesPresent, Whole, all_rows, complete_tables, empty_old_spans, empty_old_volumes,
@@ -238,11 +242,38 @@ pub(crate) fn load_old_tables<S: Alter>(
     ensures few { IfOk result (λ found. HaveFewRows found.0.plans) }
     ensures bounded { IfOk result (λ found. Knows found.1 found.0) }
 {
+    one_shape();
+    let heads = old_heads_alone(alloc, connection, made)?;
+    let (operators, plans) = old_parts_of(alloc, &heads)?;
+    let mut check = SpanCheck::new(alloc, plans);
+    take_spans(connection, Whole::OldSpans, made, &mut check)?;
+    content_with(alloc, operators, check)
+}
+
+// The rows of schema 1's tables but for spans, where the tables that schema 2 has alone have no row.
+fn old_heads_alone<S: Alter>(
+    alloc: Global,
+    connection: &mut Connection<S>,
+    made: TablesPresent,
+) -> Result<TableRows, OpenFault>
+    requires part { Holds S.Store connection.old (IsMadeTo made) }
+    requires some { has_table made DeskTable.Operator ≡ true }
+    requires settled { connection.old.in_transaction ≡ false }
+    ensures value { HasCleanDisk (state S.Store connection.new) → IfOk result (λ heads.
+        HasNoNewRows (tables_at made (state S.Store connection.old).now.trees)
+        × AreSortedOld (tables_at made (state S.Store connection.old).now.trees) heads) }
+    ensures open { WasOpen S.Store connection.old connection.new result }
+    ensures live { OnOk result (IsOpenIfClean S.Store connection.new) }
+    ensures none { IfErr result (λ e. e ≡ OpenFault.NotADesk → HasCleanDisk (state S.Store connection.new)
+        → ¬ HasNoNewRows (tables_at made (state S.Store connection.old).now.trees)) }
+    ensures newer { IfErr result (λ e. e ≢ OpenFault.OldSchema) }
+    ensures cause { IfErr result (BlamesReading S.Store connection.old connection.new) }
+    ensures reads { OnlyReads S.Store connection.old connection.new }
+{
     if !are_new_empty(alloc, connection, made)? {
         return Err(OpenFault::NotADesk);
     }
-    let rows = old_rows_in(alloc, connection, made)?;
-    old_content_in(alloc, &rows)
+    old_heads_in(alloc, connection, made)
 }
 
 /// Whether the tables that schema 2 has alone have no row.
@@ -273,9 +304,10 @@ fn are_empty(one: &[Row], two: &[Row], three: &[Row]) -> bool
     one.is_empty() && two.is_empty() && three.is_empty()
 }
 
-/// The rows of schema 1's tables, each by the columns of its key; of those that aren't made none. The covers
-/// are none.
-pub(crate) fn old_rows_in<S: Alter>(
+/// The rows of schema 1's tables but for spans, each by the columns of its key; of those that aren't made
+/// none. The covers are none.
+#[tactic(auto, using(crate::proofs::FrameLemmas::reads_then, crate::proofs::OpeningLemmas::part_on))]
+pub(crate) fn old_heads_in<S: Alter>(
     alloc: Global,
     connection: &mut Connection<S>,
     made: TablesPresent,
@@ -286,6 +318,7 @@ pub(crate) fn old_rows_in<S: Alter>(
     ensures value { HasCleanDisk (state S.Store connection.new) → IfOk result
         (AreSortedOld (tables_at made (state S.Store connection.old).now.trees)) }
     ensures open { WasOpen S.Store connection.old connection.new result }
+    ensures live { OnOk result (IsOpenIfClean S.Store connection.new) }
     ensures fault { IfErr result (λ e. (e ≢ OpenFault.NotADesk) × (e ≢ OpenFault.OldSchema)) }
     ensures cause { IfErr result (BlamesReading S.Store connection.old connection.new) }
     ensures reads { OnlyReads S.Store connection.old connection.new }
@@ -293,8 +326,8 @@ pub(crate) fn old_rows_in<S: Alter>(
     let operators = all_rows(alloc, connection, Whole::Operators, made)?;
     let plans = all_rows(alloc, connection, Whole::Plans, made)?;
     let volumes = all_rows(alloc, connection, Whole::OldVolumes, made)?;
-    let spans = all_rows(alloc, connection, Whole::OldSpans, made)?;
     let covers = Vec::new(alloc);
+    let spans = Vec::new(alloc);
     Ok(TableRows {
         operators,
         plans,
@@ -304,28 +337,23 @@ pub(crate) fn old_rows_in<S: Alter>(
     })
 }
 
-// The content of these rows, which has to be within the limits of schema 1, and what is known of its plans.
-fn old_content_in(alloc: Global, rows: &TableRows) -> Result<(Content, Known), OpenFault>
-    ensures value { IfOk result (λ found. IsOldContent found.0 × AreRows rows.now found.0) }
-    ensures few { IfOk result (λ found. HaveFewRows found.0.plans) }
-    ensures bounded { IfOk result (λ found. Knows found.1 found.0) }
-    ensures none { IfErr result (λ e. e ≡ OpenFault.NotADesk →
-        (w : World) → IsOldContent w → ¬ AreRows rows.now w) }
-    ensures fault { IfErr result (λ e. (e ≢ OpenFault.Store)
-        × (e ≢ OpenFault.OldSchema)) }
+// The operators and plans of rows that are those of a content of schema 1, but for those of spans.
+fn old_parts_of(
+    alloc: Global,
+    heads: &TableRows,
+) -> Result<(Vec<ListedOperator>, Vec<FiledPlan>), OpenFault>
+    ensures value { IfOk result (λ found. AreOldParts heads.now found.0.items found.1.items) }
+    ensures few { IfOk result (λ found. length (tables.volume_rows found.1.items) < 2 ^ 63) }
+    ensures none { IfErr result (λ e. e ≡ OpenFault.NotADesk → (w : World) (spans : List Values)
+        → IsOldContent w → ¬ AreRows (record heads.now { spans = spans }) w) }
+    ensures fault { IfErr result (λ e. (e ≢ OpenFault.Store) × (e ≢ OpenFault.OldSchema)) }
 {
     one_shape();
-    one_list_of_ranges();
-    let content = content_in(alloc, rows)?;
-    if !are_old(&content.plans)? {
+    let (operators, plans) = uncovered_parts(alloc, heads)?;
+    if !are_old(&plans)? {
         return Err(OpenFault::NotADesk);
     }
-    let known = Known {
-        span_bounds: lengths_in(&rows.spans),
-        live: live_among(alloc, &content.plans)?,
-        roll: roll_of(alloc, &content.operators, &content.plans)?,
-    };
-    Ok((content, known))
+    Ok((operators, plans))
 }
 
 /// Whether plans are within the limits of schema 1.

@@ -10,18 +10,18 @@ ghost use Rattle.desk_sql.specs.Rows.{IsMadeTo};
 ghost use Rattle.desk_sql.specs.Schema.{has_table};
 
 use crate::opening::content::{
-    TableRows, are_shared, content_in, keys_ascend, names_ascend, operators_in, plans_in,
+    TableRows, are_shared, keys_ascend, names_ascend, operators_in, plans_in,
 };
 use crate::opening::covers::covers_agree;
 use crate::opening::exact::{FiledPlan, PLAN_WIDTH, RowFault, is_keyed, operator_in};
 use crate::opening::finding::{heads_in, tables_found};
-use crate::opening::moving::{are_new_empty, are_old, old_rows_in};
+use crate::opening::moving::{are_new_empty, are_old, old_heads_in};
 use crate::opening::open::OpenFault;
 use crate::opening::path::connect_there;
 use crate::opening::spans::{SpanCheck, take_spans};
 use crate::reading::values::{count_at, head_in, id_in};
 use desk_rules::decide::MAX_PRIORITY;
-use desk_sql::{DeskTable, TablesPresent};
+use desk_sql::{DeskTable, TablesPresent, Whole};
 use sqlite::{Connection, FileStore, Row, Unknown};
 use sqlite_disk::Disk;
 use sqlite_trees::store::Alter;
@@ -117,7 +117,7 @@ fn new_fault<S: Alter>(
         Err(part) => return part,
     };
     let mut check = SpanCheck::new(alloc, plans);
-    match take_spans(connection, made, &mut check) {
+    match take_spans(connection, Whole::Spans, made, &mut check) {
         Ok(()) => fault_of_spans(alloc, check, &heads.covers),
         Err(_) => None,
     }
@@ -140,8 +140,31 @@ fn old_fault<S: Alter>(
         Ok(false) => return Some(PartFault::BothSchemas),
         Err(_) => return None,
     }
-    match old_rows_in(alloc, connection, made) {
-        Ok(rows) => fault_of_old_rows(alloc, &rows),
+    old_part(alloc, connection, made)
+}
+
+// The first part of the rows of schema 1.
+#[tactic(auto, using(crate::proofs::FrameLemmas::reads_then, crate::proofs::OpeningLemmas::part_on))]
+fn old_part<S: Alter>(
+    alloc: Global,
+    connection: &mut Connection<S>,
+    made: TablesPresent,
+) -> Option<PartFault>
+    requires part { Holds S.Store connection.old (IsMadeTo made) }
+    requires some { has_table made DeskTable.Operator ≡ true }
+    requires settled { connection.old.in_transaction ≡ false }
+    ensures { OnlyReads S.Store connection.old connection.new }
+{
+    let Ok(heads) = old_heads_in(alloc, connection, made) else {
+        return None;
+    };
+    let plans = match plans_of(alloc, &heads, PartFault::OldVolume) {
+        Ok(plans) => plans,
+        Err(part) => return part,
+    };
+    let mut check = SpanCheck::new(alloc, plans);
+    match take_spans(connection, Whole::OldSpans, made, &mut check) {
+        Ok(()) => fault_of_old_spans(check),
         Err(_) => None,
     }
 }
@@ -159,18 +182,16 @@ fn fault_of_spans(alloc: Global, mut check: SpanCheck, covers: &[Row]) -> Option
     }
 }
 
-// The first part of the rows of schema 1.
-fn fault_of_old_rows(alloc: Global, rows: &TableRows) -> Option<PartFault> {
-    match content_in(alloc, rows) {
-        Ok(content) => match are_old(&content.plans) {
-            Ok(false) => Some(PartFault::OldPlan),
-            _ => None,
-        },
-        Err(RowFault::NoDesk) => match plans_of(alloc, rows, PartFault::OldVolume) {
-            Ok(_) => Some(PartFault::OldSpan),
-            Err(part) => part,
-        },
-        Err(RowFault::OutOfMemory) => None,
+// The spans of schema 1, which were held against the plans, or the limits of these.
+fn fault_of_old_spans(mut check: SpanCheck) -> Option<PartFault> {
+    match check.agrees() {
+        Ok(true) => {}
+        Ok(false) => return Some(PartFault::OldSpan),
+        Err(_) => return None,
+    }
+    match are_old(&check.plans) {
+        Ok(false) => Some(PartFault::OldPlan),
+        _ => None,
     }
 }
 

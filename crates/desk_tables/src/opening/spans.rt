@@ -1,4 +1,4 @@
-//! The rows of `span2`, taken one at a time in the order of their key and held against the plans.
+//! The rows of a table of spans, taken one at a time in the order of their key and held against the plans.
 
 ghost use Rattle.std.specs.Prelude.{◌≡◌, ◌≢◌, ◌↔◌, ◌<◌, ◌+◌, ◌-◌, ◌^◌, true, false, IsTrue, IfOk, IfErr, OnOk};
 ghost use Rattle.std.specs.Prelude.{List, [], ◌∷◌, ◌++◌, drop};
@@ -8,6 +8,7 @@ ghost use Rattle.desk_store.specs.World.{Filed};
 ghost use Rattle.sqlite.specs.State.{HasCleanDisk};
 ghost use Rattle.sqlite.specs.Held.{state};
 ghost use Rattle.desk_sql.specs.Rows.{IsMadeTo, Lists, tables_at};
+ghost use Rattle.desk_sql.specs.Queries.{key_cells, rows_read, table_read};
 ghost use Rattle.desk_sql.specs.Effects.{StaysOpen};
 ghost use Rattle.desk_sql.specs.Finding.{Holds};
 ghost use Rattle.desk_sql.specs.Frames.{OnlyReads};
@@ -170,7 +171,7 @@ impl Cursor {
     }
 }
 
-/// Rows of `span2`, by their key, held against plans. No row is kept.
+/// Rows of spans, by their key, held against plans. No row is kept.
 #[derive(Drop)]
 pub(crate) struct SpanCheck {
     pub plans: Vec<FiledPlan>,
@@ -250,7 +251,7 @@ impl RowSink for SpanCheck {
     }
 }
 
-/// Takes all rows of `span2`, so far as it is made, one at a time.
+/// Takes all rows of a table, so far as it is made, one at a time by its key.
 ///
 /// # Errors
 ///
@@ -258,6 +259,7 @@ impl RowSink for SpanCheck {
 /// cause.
 pub(crate) fn take_spans<S: Alter>(
     connection: &mut Connection<S>,
+    table: Whole,
     made: TablesPresent,
     check: &mut SpanCheck,
 ) -> Result<(), OpenFault>
@@ -265,7 +267,8 @@ pub(crate) fn take_spans<S: Alter>(
     requires settled { connection.old.in_transaction ≡ false }
     requires fresh { AreHeld check.old [] }
     ensures value { HasCleanDisk (state S.Store connection.new) → OnOk result ((rows : List Columns)
-        × Lists (0 ∷ 1 ∷ 2 ∷ 3 ∷ []) (tables_at made (state S.Store connection.old).now.trees).spans rows
+        × Lists (key_cells (table_read table))
+        (rows_read table (tables_at made (state S.Store connection.old).now.trees)) rows
         × AreHeld check.new rows) }
     ensures taken { OnOk result ((rows : List Columns) × AreHeld check.new rows) }
     ensures plans { OnOk result (check.new.plans.items ≡ check.old.plans.items) }
@@ -274,7 +277,7 @@ pub(crate) fn take_spans<S: Alter>(
     ensures cause { IfErr result (BlamesReading S.Store connection.old connection.new) }
     ensures reads { OnlyReads S.Store connection.old connection.new }
 {
-    match each_row(connection, Whole::Spans, made, check) {
+    match each_row(connection, table, made, check) {
         Ok(()) => Ok(()),
         Err(e) => Err(fault_of(e)),
     }

@@ -1,4 +1,4 @@
-use Rattle.std.proofs.Common.{◌≡◌, ◌∙◌, ◌∷◌, [], IfSome, Some, inl, inr, refl, sym, subst}
+use Rattle.std.proofs.Common.{◌≡◌, ◌≢◌, ◌∙◌, ◌∷◌, [], IfSome, None, Some, inl, inr, refl, sym, subst}
 use Rattle.desk_store.specs.StoreFaults.{IsHonest}
 use Rattle.desk_store.specs.laws.Fault.{was_honest}
 use Rattle.desk_run.specs.DeskWorld.{world_of}
@@ -6,14 +6,14 @@ use Rattle.desk_ends.specs.laws.Moment.{same_moment}
 use Rattle.desk_wire.specs.Crashes.{IsFoundNow}
 use Rattle.desk_wire.specs.Passage.{passed}
 use Rattle.desk_wire.specs.Serving.{HasServed, IsTaken}
-use Rattle.desk_line.specs.Exits.{enrolment_failure}
+use Rattle.desk_line.specs.Exits.{enrolment_failure, failure_at}
 use Rattle.desk_program.specs.Enrolling.{AreEnrolled, AreListedSoFar}
 use Rattle.desk_program.specs.Keeping.{FindsNews}
-use Rattle.desk_program.specs.Serving.{BringsNews, Grows, arrived, parted}
+use Rattle.desk_program.specs.Serving.{Grows, arrived, parted}
 use Rattle.desk_program.proofs.CauseLemmas.{denied_counted, news_counted, served_counted}
 use Rattle.desk_program.proofs.EndLemmas.{told_breakdown}
 use Rattle.desk_program.proofs.KeepingLemmas.{listed_found, news_kept, none_kept, one_kept, unlisted_found, untaken_found}
-use Rattle.desk_program.proofs.ServedLemmas.{enrolled_then, stops}
+use Rattle.desk_program.proofs.ServedLemmas.{enrolled_then, same_noted, stays, stays_noted, stops}
 use Rattle.desk_program.proofs.server.serve_connection.Goals as goal
 
 -- no news are brought
@@ -45,8 +45,10 @@ returns-in_err-enrol_news-clause-kept g c =
     let before = g.S.PlanStore.may_leave c.args.desk.now.store in
     let now = g.S.PlanStore.may_leave c.enrol_news.new.desk.store in
     news_kept honest c.from_residual-in_err-enrol_news.result (enrolment_failure fault) news
-    (g.P.Port.traffic c.args.port.now) (g.P.Port.traffic c.news.new.self) w after before now
+    (g.P.Port.traffic c.args.port.now) (g.P.Port.traffic c.news.new.self)
+    (g.P.Port.traffic c.news.new.self) w after before now
     c.from_residual-in_err-enrol_news.ensures.1 c.in_ok-news.ensures.brings
+    (stays (g.P.Port.traffic c.news.new.self))
     (inl (
       told_breakdown fault (enrolment_failure fault) refl c.in_err-enrol_news.ensures.fault,
       subst (λ es. AreListedSoFar honest es w after) c.deref.ensures.value c.in_err-enrol_news.ensures.listed,
@@ -74,10 +76,9 @@ returns-in_err-client-clause-kept g c =
     let before = g.S.PlanStore.may_leave c.args.desk.now.store in
     let now = g.S.PlanStore.may_leave c.enrol_news.new.desk.store in
     news_kept honest c.from_residual-in_err-client.result f news
-    (g.P.Port.traffic c.args.port.now) (g.P.Port.traffic c.take.new.self) w after before now
-    c.from_residual-in_err-client.ensures.1
-    (subst (λ v. BringsNews (g.P.Port.traffic c.args.port.now) v news) (sym c.in_err-client.ensures.same)
-    c.in_ok-news.ensures.brings)
+    (g.P.Port.traffic c.args.port.now) (g.P.Port.traffic c.news.new.self)
+    (g.P.Port.traffic c.take.new.self) w after before now
+    c.from_residual-in_err-client.ensures.1 c.in_ok-news.ensures.brings c.in_err-client.ensures.same
     (inr (
       c.in_err-client.ensures.fault,
       subst (λ es. AreEnrolled honest es w after) c.deref.ensures.value c.in_ok-enrol_news.ensures.listed,
@@ -112,23 +113,37 @@ returns-clause-kept g c =
     let mid = g.S.PlanStore.may_leave c.enrol_news.new.desk.store in
     let brings = c.in_ok-news.ensures.brings in
     let taken = c.in_ok-client.ensures.taken in
+    let asked = (g.P.Port.traffic c.take.new.self).recorded in
+    let closed = (g.P.Port.traffic c.close.new.self).recorded in
     one_kept honest c.done_after.result (record {
       news = news;
       arrival = arrived client.moment bytes;
       out = out;
       served = c.serve_one-served.result;
-      parting = parted unread now c.is_whole.result;
+      parting = parted unread now c.outcome_of.result;
     }) _ _ w listed after before mid (g.S.PlanStore.may_leave c.serve_one-served.new.desk.store)
     (c.close.ensures.2 ∙ taken.2 ∙ brings.3)
     (subst (λ v. Grows v (g.P.Port.traffic c.close.new.self).taken (arrived client.moment bytes ∷ []))
     brings.1 (subst (λ v. Grows (g.P.Port.traffic c.news.new.self).taken v (arrived client.moment bytes ∷ []))
     (sym c.close.ensures.1) taken.0))
     (subst (λ v. Grows v (g.P.Port.traffic c.close.new.self).closed
-    (parted unread now c.is_whole.result ∷ [])) (taken.1 ∙ brings.2) c.close.ensures.0)
-    (subst (λ v. IfSome v (λ partings. out ≡ Some [])) brings.2 c.in_ok-client.ensures.unsent)
-    c.is_whole.ensures
+    (parted unread now c.outcome_of.result ∷ [])) (taken.1 ∙ brings.2) c.close.ensures.0)
+    (subst (λ v. IfSome v (λ partings. out ≡ Some [])) brings.2 c.in_ok-client.ensures.unsent.0)
+    c.outcome_of.ensures
     (subst (λ v. Grows (g.P.Port.traffic c.args.port.now).news v (news ∷ []))
-    (sym (c.close.ensures.3 ∙ taken.3)) brings.0)
+    (sym (c.close.ensures.3 ∙ taken.3)) brings.0) (
+      (g.P.Port.traffic c.news.new.self).recorded,
+      asked,
+      closed,
+      record {
+        news = brings.4;
+        unsent = c.in_ok-client.ensures.unsent.1;
+        request = taken.4;
+        answer = c.close.ensures.4;
+      },
+      same_noted closed (failure_at c.serve_one-served.result ≢ None),
+      stays_noted closed,
+    )
     (enrolled_then _ honest was news w listed
     (subst (λ es. AreEnrolled (IsHonest (g.S.PlanStore.doubt c.enrol_news.new.desk.store)) es w listed)
     c.deref.ensures.value c.in_ok-enrol_news.ensures.listed))

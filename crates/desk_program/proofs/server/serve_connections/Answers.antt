@@ -7,7 +7,7 @@ use Rattle.desk_line.specs.Exits.{failure_at}
 use Rattle.desk_program.specs.Keeping.{AreKept}
 use Rattle.desk_program.proofs.CauseLemmas.{counted_on}
 use Rattle.desk_program.proofs.KeepingLemmas.{both_kept, none_kept}
-use Rattle.desk_program.proofs.ServedLemmas.{goes_on_by, last_goes_on, last_stops, stops_by}
+use Rattle.desk_program.proofs.ServedLemmas.{goes_on_by, last_goes_on, last_stops, stays, stops_by}
 use Rattle.desk_program.proofs.server.serve_connections.Goals as goal
 
 pub returns-in_err-serve_connection-clause-kept : goal.returns-in_err-serve_connection-clause-kept
@@ -63,7 +63,8 @@ returns-clause-kept g c =
 pub loop-before-init : goal.loop-before-init
 loop-before-init g c = record {
   kept = none_kept {A = Unit {0}} (IsHonest (g.S.PlanStore.doubt c.args.desk.now.store)) (Ok tt) 0 _ _ _ _ _ _
-      refl refl (refl, All-nil (λ x. failure_at x.served ≡ None)) (λ found may. may);
+      (stays (g.P.Port.traffic c.args.port.now)) refl (refl, All-nil (λ x. failure_at x.served ≡ None))
+      (λ found may. may);
   doubt = omega arith;
   counted = omega arith;
   shield = λ s. s;

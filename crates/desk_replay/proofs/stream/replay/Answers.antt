@@ -10,7 +10,7 @@ pub loop-init : goal.loop-init
 loop-init g c =
     let w = world_of g.S.PlanStore.content c.args.desk.now in
     record {
-      played = subst (ArePlayed _ _ _ w) (sym (c.none-progress.ensures w)) (none_played _ _ w);
+      played = subst (ArePlayed _ 0 _ _ w) (sym (c.none-progress.ensures w)) (none_played _ _ w);
       doubt = omega arith;
       counted = omega arith;
       shield = λ s. s;
@@ -18,8 +18,8 @@ loop-init g c =
 
 pub loop-preserved : goal.loop-preserved
 loop-preserved g c = record {
-  played = one_more _ _ _ _ _ _ (was_honest c.replay_one.ensures.remembered.doubt) c.loop.invariant.played
-      c.in_default.ensures.steps;
+  played = one_more _ _ _ _ _ _ _ _ _ (was_honest c.replay_one.ensures.remembered.doubt)
+      c.saturating_add-place.ensures c.loop.invariant.played c.in-Ok.ensures.steps;
   doubt = omega (arith, c.loop.invariant.doubt, c.replay_one.ensures.remembered.doubt);
   counted = omega (arith, c.loop.invariant.counted, c.replay_one.ensures.remembered.counted);
   shield = λ s. c.replay_one.ensures.remembered.shield (c.loop.invariant.shield s);
@@ -27,7 +27,7 @@ loop-preserved g c = record {
 
 pub returns-in-Err-clause-played : goal.returns-in-Err-clause-played
 returns-in-Err-clause-played g c =
-    no_more _ _ _ _ _ _ _ _ (was_honest c.replay_one.ensures.remembered.doubt) c.loop.invariant.played
+    no_more _ _ _ _ _ _ _ _ _ (was_honest c.replay_one.ensures.remembered.doubt) c.loop.invariant.played
     c.in-Err.ensures.steps
 
 pub returns-in-Err-clause-remembered : goal.returns-in-Err-clause-remembered

@@ -9,8 +9,9 @@ use Rattle.desk_replay.proofs.stream.replay.Given as goal
 abbrev pub invariant-loop : goal.invariant-loop
 invariant-loop g l =
     record {
-      played : ArePlayed (IsHonest (g.S.PlanStore.doubt l.desk.store)) (g.R.Read.remaining l.fn.input)
-          (g.R.Read.remaining l.input) (world_of g.S.PlanStore.content l.fn.desk)
+      played : ArePlayed (IsHonest (g.S.PlanStore.doubt l.desk.store)) l.place
+          (g.R.Read.remaining l.fn.input) (g.R.Read.remaining l.input)
+          (world_of g.S.PlanStore.content l.fn.desk)
           (state_of (world_of g.S.PlanStore.content l.desk) l.progress);
       doubt : g.S.PlanStore.doubt l.fn.desk.store ≤ g.S.PlanStore.doubt l.desk.store;
       counted : g.S.PlanStore.faults l.fn.desk.store ≤ g.S.PlanStore.faults l.desk.store;

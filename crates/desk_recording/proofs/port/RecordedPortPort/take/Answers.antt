@@ -1,8 +1,31 @@
-use Rattle.desk_recording.proofs.StepLemmas.{takes_one}
+use Rattle.std.proofs.Common.{Some, of_z, subst, sym, to_z, true, w64}
+use Rattle.desk_ends.specs.Moments.{IsMoment}
+use Rattle.desk_ends.specs.laws.Moment.{same_moment}
+use Rattle.desk_program.specs.Serving.{Denies, Takes, arrived}
+use Rattle.desk_recording.specs.Telling.{told_by}
+use Rattle.desk_recording.proofs.StepLemmas.{none_taken, takes_one}
 use Rattle.desk_recording.proofs.port.RecordedPortPort.take.Goals as goal
 
 pub returns-then-keep_request-clause-taken : goal.returns-then-keep_request-clause-taken
 returns-then-keep_request-clause-taken g c =
+    let old = c.args.self.now.keeper in
+    let new = c.keep_request.new.self in
+    let moment = c.in_ok-taken.taken.moment in
+    let request = c.in-Ok.request.items in
     rw (c.new.ensures.position, c.new.ensures.inner)
-    (takes_one (g.R.Record.steps c.args.self.now.keeper) (g.R.Record.steps c.keep_request.new.self) _
-    c.in-Ok.request.items (rw c.deref.ensures.value at c.if-keep_request.ensures))
+    (subst (λ b. Takes (told_by g.R.Record old b) (told_by g.R.Record new b)
+    (arrived (to_z w64 (of_z w64 moment)) (Some request))) (sym c.if-self.false)
+    (takes_one (g.R.Record.steps old) (g.R.Record.steps new) (g.R.Record.noted old) (g.R.Record.noted new)
+    (to_z w64 (of_z w64 moment)) request (rw c.deref.ensures.value at c.if-keep_request.ensures.steps)
+    (rw c.deref.ensures.value at c.if-keep_request.ensures.noted)
+    (subst IsMoment (sym (same_moment moment c.in_ok-taken.ensures.moment)) c.in_ok-taken.ensures.moment)
+    (λ some. (c.in-Ok.ensures some).whole)))
+
+pub returns-clause-same : goal.returns-clause-same
+returns-clause-same g c =
+    let old = c.args.self.now.keeper in
+    let new = c.keep_request.new.self in
+    subst (λ b. Denies (told_by g.R.Record old b) (told_by g.R.Record new true)) (sym c.if-self.false)
+    (none_taken (g.R.Record.steps old) (g.R.Record.steps new) (g.R.Record.noted old) (g.R.Record.noted new)
+    (to_z w64 (of_z w64 c.in_ok-taken.taken.moment)) c.deref.result.now c.if-keep_request.ensures.steps
+    c.if-keep_request.ensures.noted)

@@ -8,7 +8,7 @@ use Rattle.desk_tables.proofs.SpanBoundLemmas.{bounds_of}
 use Rattle.desk_tables.proofs.opening.finding.content_with.Goals as goal
 
 pub returns-clause-bounded : goal.returns-clause-bounded
-returns-clause-bounded c heads are =
+returns-clause-bounded c order =
     let own = c.args.check in
     let new = c.agrees.new.self in
     let world : World = record { operators = c.args.operators.items; plans = new.plans.items } in
@@ -20,7 +20,7 @@ returns-clause-bounded c heads are =
       span_bounds = subst (λ b. Bounds b world) (sym c.agrees.ensures.span_bounds)
           (bounds_of c.one_list_of_ranges.ensures own.span_bounds world rows agree checked.known);
       live = c.in_ok-live_among.ensures world
-          (subst (IsStrictlySortedBy filed_cmp) (sym c.agrees.ensures.plans) are.order.keys)
+          (subst (IsStrictlySortedBy filed_cmp) (sym c.agrees.ensures.plans) order.keys)
           (sym c.deref.ensures.value);
       roll = subst (λ ls. AreAccountsOf ls world.plans (accounts_of c.in_ok-roll_of.field-0))
           c.deref-2.ensures.value

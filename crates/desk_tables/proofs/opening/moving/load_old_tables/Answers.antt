@@ -1,23 +1,69 @@
-use Rattle.std.proofs.Common.{rules, IsTrue}
+use Rattle.std.proofs.Common.{List, arith}
 use Rattle.sqlite.specs.Held.{state}
-use Rattle.sqlite.specs.State.{HasCleanDisk}
-use Rattle.desk_sql.specs.Frames.{OnlyReads}
+use Rattle.sqlite_value.specs.Order.{Row}
 use Rattle.desk_sql.specs.Rows.{tables_at}
-use Rattle.desk_tables.specs.Moving.{AreSortedOld, HasNoNewRows}
+use Rattle.desk_tables.specs.Moving.{AreOldParts}
+use Rattle.desk_tables.specs.SpanChecks.{HasChecked}
 use Rattle.desk_tables.proofs.FrameLemmas.{reads_then}
-use Rattle.desk_tables.proofs.MovingLemmas.{old_content_read}
+use Rattle.desk_tables.proofs.HeadLemmas.{content_if, listed_since, none_of_old_heads, of_plans, old_content_held, refused_in_hand, refused_on}
 use Rattle.desk_tables.proofs.opening.moving.load_old_tables.Goals as goal
+
+pub returns-in_err-heads-clause-read : goal.returns-in_err-heads-clause-read
+returns-in_err-heads-clause-read g c =
+    let heads = c.in_err-heads.ensures in
+    refused_on g.S.Store c.args.made c.args.connection.now c.old_heads_alone.new.connection
+    c.from_residual.result _ c.from_residual.ensures.1 heads.reads
+    (λ told clean w old are. heads.none told clean are.new) heads.newer heads.cause
+
+pub returns-in_err-operators-clause-read : goal.returns-in_err-operators-clause-read
+returns-in_err-operators-clause-read g c =
+    let heads = c.in_ok-heads.ensures in
+    refused_in_hand g.S.Store c.args.made c.args.connection.now c.old_heads_alone.new.connection
+    c.from_residual-in_err-operators.result _ c.from_residual-in_err-operators.ensures.1 heads.reads
+    (λ told clean. none_of_old_heads (tables_at c.args.made (state g.S.Store c.args.connection.now).now.trees)
+    c.in_ok-heads.heads (heads.value clean).1 (c.in_err-operators.ensures.none told))
+    c.in_err-operators.ensures.fault
 
 pub returns-clause-read : goal.returns-clause-read
 returns-clause-read g c =
     let a = c.args.connection.now in
-    let b = c.old_rows_in.new.connection in
-    let t = tables_at c.args.made (state g.S.Store a).now.trees in
-    let reads : OnlyReads g.S.Store a b = reads_then g.S.Store a c.are_new_empty.new.connection b
-    c.are_new_empty.ensures.reads c.in_ok-rows.ensures.reads in
-    let none : HasCleanDisk (state g.S.Store b) → HasNoNewRows t = search rules in
-    let sorted : HasCleanDisk (state g.S.Store b) → AreSortedOld t c.in_ok-rows.rows = search rules in
-    let opened : HasCleanDisk (state g.S.Store b) → IsTrue (state g.S.Store a).is_open = search rules in
-    old_content_read g.S.Store c.args.made a b c.in_ok-rows.rows (λ found. found.0) c.old_content_in.result
-    none sorted opened reads c.old_content_in.ensures.value c.old_content_in.ensures.none
-    c.old_content_in.ensures.fault
+    let m = c.old_heads_alone.new.connection in
+    let b = c.take_spans.new.connection in
+    let heads = c.in_ok-heads.ensures in
+    let taken = c.in_ok-take_spans.ensures in
+    let check = c.take_spans.new.check in
+    let ls = c.in_ok-operators.operators.items in
+    let Checked : List Row → Type 0 = HasChecked check.plans.items check.cursor check.agree check.count
+    check.span_bounds in
+    let are = of_plans (AreOldParts c.in_ok-heads.heads ls) c.in_ok-operators.plans.items
+    c.new-check.result.plans.items check.plans.items c.in_ok-operators.ensures.value c.new-check.ensures.plans
+    taken.plans in
+    old_content_held c.one_shape.ensures c.in_ok-heads.heads ls check.plans.items are g.S.Store c.args.made
+    a b (λ found. found.0) Checked c.content_with.result
+    (λ clean. heads.value (omega (arith, taken.reads.doubt, clean)))
+    (λ clean. heads.open (omega (arith, taken.reads.doubt, clean)))
+    (reads_then g.S.Store a m b heads.reads taken.reads)
+    (listed_since g.S.Store c.args.made (λ t. t.old_spans) a m b Checked heads.reads taken.reads heads.live
+    taken.value)
+    c.content_with.ensures.value c.content_with.ensures.agree c.content_with.ensures.none
+    c.content_with.ensures.fault
+
+pub returns-clause-content : goal.returns-clause-content
+returns-clause-content g c =
+    let taken = c.in_ok-take_spans.ensures in
+    let check = c.take_spans.new.check in
+    let ls = c.in_ok-operators.operators.items in
+    let are = of_plans (AreOldParts c.in_ok-heads.heads ls) c.in_ok-operators.plans.items
+    c.new-check.result.plans.items check.plans.items c.in_ok-operators.ensures.value c.new-check.ensures.plans
+    taken.plans in
+    content_if c.one_shape.ensures c.in_ok-heads.heads ls check.plans.items are.parts (λ found. found.0)
+    c.content_with.result taken.taken.0 c.content_with.ensures.value
+    (c.content_with.ensures.agree taken.taken.0 taken.taken.1)
+
+pub returns-clause-bounded : goal.returns-clause-bounded
+returns-clause-bounded g c =
+    let ls = c.in_ok-operators.operators.items in
+    let are = of_plans (AreOldParts c.in_ok-heads.heads ls) c.in_ok-operators.plans.items
+    c.new-check.result.plans.items c.take_spans.new.check.plans.items c.in_ok-operators.ensures.value
+    c.new-check.ensures.plans c.in_ok-take_spans.ensures.plans in
+    c.content_with.ensures.bounded are.parts.order

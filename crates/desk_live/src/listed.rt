@@ -1,0 +1,23 @@
+//! What a roll tells of an operator.
+
+use desk_rules::operator::Operator;
+use std::marker::Model;
+
+/// An operator with its ceiling.
+#[derive(Clone, Copy, Debug)]
+pub struct ListedOperator {
+    /// Its name.
+    pub operator: Operator,
+    /// The greatest priority that its plans may have.
+    pub ceiling: u32,
+}
+
+impl Model for ListedOperator {
+    ghost use Rattle.desk_store.specs.World.{Listed};
+
+    ghost Value = { Listed };
+
+    ghost view = { λ l. record { name = l.operator; ceiling = l.ceiling } };
+
+    ghost inverse = { λ l. record { operator = l.name; ceiling = l.ceiling } };
+}

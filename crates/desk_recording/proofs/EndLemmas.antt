@@ -1,0 +1,390 @@
+-- What is written down of connections is played again, however they ended.
+use Rattle.std.proofs.Common.{◌≡◌, ◌≢◌, ◌≤◌, ◌<◌, ◌⊎◌, ◌∙◌, ◌+◌, ℕ, ℤ, pos, nat_abs, List, [], ◌∷◌, ◌++◌, All, map, length, take, drop, Bool, true, Option, Some, None, IfSome, Result, Ok, Err, append-nil, append_assoc, ap, inl, inr, refl, subst, sym, arith}
+use Rattle.std.specs.Prelude.{⊤, IsSome}
+use Rattle.std.proofs.lemmas.List.{take-append-drop}
+use Rattle.std.proofs.lemmas.List.Elements.{All-head, All-tail}
+use Rattle.desk_ends.specs.Moments.{IsMoment}
+use Rattle.desk_record.specs.Record.{EntryParts, entries, entry}
+use Rattle.desk_reading.specs.Requests.{asked}
+use Rattle.desk_run.specs.DeskWorld.{DeskWorld, enrolled}
+use Rattle.desk_wire.specs.Bytes.{world_after}
+use Rattle.desk_wire.specs.Passage.{passed}
+use Rattle.desk_wire.specs.Serving.{HasServed}
+use Rattle.desk_wire.specs.Streams.{IsRequest, request_len}
+use Rattle.desk_line.specs.Exits.{failure_at}
+use Rattle.desk_line.specs.Lines.{AreEnrolments}
+use Rattle.desk_line.specs.declared.failure.Failure.{Failure}
+use Rattle.desk_line.specs.declared.line.Enrolment.{Enrolment}
+use Rattle.desk_program.specs.Enrolling.{AreEnrolled, AreListedSoFar, with_operators}
+use Rattle.desk_program.specs.Recorded.{AreNamed, Ended, IsAnswerRecorded, IsCutOff, IsRecorded, Noted, Open, Recorded, RecordsAnswer, RecordsNone, RecordsRequest, answer_entry, operator_entry, request_entry, with_answer, with_news, with_request}
+use Rattle.desk_program.specs.Serving.{AreNoted, AreServed, AreTaken, EndsAfter, EndsBy, Exchange, IsLast, Traffic, outcome_of, passage_of}
+use Rattle.desk_replay.specs.Replaying.{State, played, taken}
+use Rattle.desk_recording.specs.Played.{AddsPlayed, EndsAs, EndsPlayed, IsPlayedTo, caught_up, entries_of, known, pair_of}
+use Rattle.desk_recording.proofs.ExchangeLemmas.{AreAsked, IsGivenUp, IsLeft, are_asked, is_given_up, is_left, low_second, same_second, some_failure}
+use Rattle.desk_recording.proofs.PlayedLemmas.{asked_of, entries_then, failure_taken, is_asked, news_played, played_one, played_then}
+use Rattle.desk_recording.proofs.RecordLemmas.{all_enrolled, both_played, news_added, pair_added, served_known, told_whole}
+
+-- operators, and then others
+with_both_operators : (w : DeskWorld) (xs ys : List Enrolment)
+    → with_operators w (xs ++ ys) ≡ with_operators (with_operators w xs) ys
+with_both_operators w [] ys = refl
+with_both_operators w (x ∷ xs) ys = with_both_operators (enrolled w x.operator x.ceiling) xs ys
+
+ends_as : (n : Noted) (now : Option Recorded) → RecordsNone (Some (Open n)) now → EndsAs n now
+ends_as n now (inl same) = inl same
+ends_as n now (inr cut) = inr (inr cut)
+
+-- no connection is taken
+none_ends : (n : Noted) (now : Option Recorded) (s : State) (w left : DeskWorld)
+    → RecordsNone (Some (Open n)) now → left ≡ w → IsPlayedTo s w → EndsPlayed n now [] s left
+unfolding played
+none_ends n now s w left none same at = record {
+  whole = [];
+  others = [];
+  split = refl;
+  few = omega arith;
+  rest = [];
+  m = n;
+  text_is = sym (append-nil n.text);
+  ends = ends_as n now none;
+  left = s;
+  plays = refl;
+  news = [];
+  moment = pos 0;
+  request = [];
+  behind = at.world ∙ sym same;
+}
+
+-- news are brought, and no connection is taken then
+news_end : (n : Noted) (now : Option Recorded) (news later : List Enrolment) (s : State) (w left : DeskWorld)
+    → AreEnrolments news → AreNamed news → RecordsNone (Some (Open (with_news n news))) now
+    → with_operators w news ≡ with_operators left later → IsPlayedTo s w → EndsPlayed n now [] s left
+news_end n now news later s w left small named none is at = record {
+  whole = [];
+  others = [];
+  split = refl;
+  few = omega arith;
+  rest = map operator_entry news;
+  m = with_news n news;
+  text_is = refl;
+  ends = ends_as (with_news n news) now none;
+  left = record s { world = with_operators s.world news };
+  plays = news_played s news at.begun small named;
+  news = later;
+  moment = pos 0;
+  request = [];
+  behind = ap (λ v. with_operators v news) at.world ∙ is;
+}
+
+last_news_end : (H : Type 0) (h : H) (done : Result ⊤ Failure) (n : Noted) (now : Option Recorded)
+    (news : List Enrolment) (s : State) (w left : DeskWorld) → IsLast H (Some news) done w left
+    → AreEnrolments news → AreNamed news → RecordsNone (Some (Open (with_news n news))) now → IsPlayedTo s w
+    → EndsPlayed n now [] s left
+last_news_end H h (Ok d) n now news s w left last small named none at = absurd last
+last_news_end H h (Err f) n now news s w left (inl some) small named none at =
+    let listed = some.1 in
+    news_end n now news (drop listed.count news) s w left small named none
+    (ap (with_operators w) (sym (take-append-drop listed.count news))
+    ∙ with_both_operators w (take listed.count news) (drop listed.count news)
+    ∙ ap (λ v. with_operators v (drop listed.count news)) (sym (listed.left h))) at
+last_news_end H h (Err f) n now news s w left (inr all) small named none at =
+    news_end n now news [] s w left small named none (sym (all_enrolled H h news w left all.1)) at
+
+-- one entry more
+entry_last : (text : List ℕ) (xs : List EntryParts) (e : EntryParts)
+    → text ++ entries (xs ++ e ∷ []) ≡ (text ++ entries xs) ++ entry e
+entry_last text xs e =
+    ap (λ v. text ++ v) (entries_then xs (e ∷ []) ∙ ap (λ v. entries xs ++ v) (append-nil (entry e)))
+    ∙ sym (append_assoc text (entries xs) (entry e))
+
+-- the operators of a connection are listed, and its request is asked
+abbrev listed_state : State → List Enrolment → State
+listed_state s news = record s { world = with_operators s.world news }
+
+module _ (H : Type 0) (h : H) (news : List Enrolment) (moment : ℤ) (request : List ℕ) (s : State)
+    (w listed : DeskWorld) (small : AreEnrolments news) (named : AreNamed news)
+    (enrolled : AreEnrolled H news w listed) (range : IsMoment moment) (at : IsPlayedTo s w) where
+  listed_world : (listed_state s news).world ≡ listed
+  listed_world = ap (λ v. with_operators v news) at.world ∙ sym (all_enrolled H h news w listed enrolled)
+
+  asked_world : world_after (listed_state s news).world (pos (nat_abs moment)) (asked request)
+      ≡ world_after listed moment (asked request)
+  asked_world = ap (λ m. world_after (listed_state s news).world m (asked request)) (same_second moment range)
+      ∙ ap (λ v. world_after v moment (asked request)) listed_world
+
+  asked_played : played s (map operator_entry news ++ request_entry (nat_abs moment) request ∷ [])
+      ≡ Ok (asked_of (listed_state s news) (nat_abs moment) request)
+  asked_played = played_then s (listed_state s news) (map operator_entry news)
+      (request_entry (nat_abs moment) request ∷ []) (news_played s news at.begun small named)
+      ∙ played_one (listed_state s news) (asked_of (listed_state s news) (nat_abs moment) request)
+      (request_entry (nat_abs moment) request)
+      (is_asked (listed_state s news) (nat_abs moment) request at.begun at.answered (low_second moment range))
+
+-- the answer of a connection is lost: it is the last
+lost_end : (H : Type 0) (h : H) (x : Exchange) (n : Noted) (now : Option Recorded) (moment : ℤ)
+    (request : List ℕ) (s : State) (w listed left : DeskWorld) → AreEnrolments x.news → AreNamed x.news
+    → AreEnrolled H x.news w listed → IsMoment moment → IsPlayedTo s w
+    → now ≡ Some (Ended (with_request (with_news n x.news) moment request).text)
+    → IsLeft listed moment request left → EndsPlayed n now (x ∷ []) s left
+lost_end H h x n now moment [] s w listed left small named enrolled range at is (inl same) = record {
+  whole = [];
+  others = x ∷ [];
+  split = refl;
+  few = omega arith;
+  rest = map operator_entry x.news;
+  m = with_news n x.news;
+  text_is = refl;
+  ends = inr (inl is);
+  left = listed_state s x.news;
+  plays = news_played s x.news at.begun small named;
+  news = [];
+  moment = pos 0;
+  request = [];
+  behind = listed_world H h x.news moment [] s w listed small named enrolled range at ∙ sym same;
+}
+lost_end H h x n now moment [] s w listed left small named enrolled range at is (inr one) =
+    absurd (omega (arith, one.0))
+lost_end H h x n now moment (b ∷ request) s w listed left small named enrolled range at is
+    (inl same) = record {
+      whole = [];
+      others = x ∷ [];
+      split = refl;
+      few = omega arith;
+      rest = map operator_entry x.news ++ request_entry (nat_abs moment) (b ∷ request) ∷ [];
+      m = with_request (with_news n x.news) moment (b ∷ request);
+      text_is = sym (entry_last n.text (map operator_entry x.news)
+          (request_entry (nat_abs moment) (b ∷ request)));
+      ends = inr (inl is);
+      left = asked_of (listed_state s x.news) (nat_abs moment) (b ∷ request);
+      plays = asked_played H h x.news moment (b ∷ request) s w listed small named enrolled range at;
+      news = [];
+      moment = moment;
+      request = b ∷ request;
+      behind = asked_world H h x.news moment (b ∷ request) s w listed small named enrolled range at
+          ∙ ap (λ v. world_after v moment (asked (b ∷ request))) (sym same);
+    }
+lost_end H h x n now moment (b ∷ request) s w listed left small named enrolled range at is
+    (inr one) = record {
+      whole = [];
+      others = x ∷ [];
+      split = refl;
+      few = omega arith;
+      rest = map operator_entry x.news ++ request_entry (nat_abs moment) (b ∷ request) ∷ [];
+      m = with_request (with_news n x.news) moment (b ∷ request);
+      text_is = sym (entry_last n.text (map operator_entry x.news)
+          (request_entry (nat_abs moment) (b ∷ request)));
+      ends = inr (inl is);
+      left = asked_of (listed_state s x.news) (nat_abs moment) (b ∷ request);
+      plays = asked_played H h x.news moment (b ∷ request) s w listed small named enrolled range at;
+      news = [];
+      moment = pos 0;
+      request = [];
+      behind = asked_world H h x.news moment (b ∷ request) s w listed small named enrolled range at
+          ∙ sym one.1;
+    }
+
+-- its answer says that the desk failed: it is the last
+failed_end : (H : Type 0) (h : H) (x : Exchange) (n : Noted) (now : Option Recorded) (moment : ℤ)
+    (request answer : List ℕ) (s : State) (w listed left : DeskWorld) → AreEnrolments x.news
+    → AreNamed x.news → AreEnrolled H x.news w listed → IsMoment moment → IsPlayedTo s w
+    → now ≡ Some (Open (with_answer (with_request (with_news n x.news) moment request) answer))
+    → IsGivenUp listed request answer left → EndsPlayed n now (x ∷ []) s left
+failed_end H h x n now moment [] answer s w listed left small named enrolled range at is given =
+    absurd (omega (arith, given.some))
+failed_end H h x n now moment (b ∷ request) [] s w listed left small named enrolled range at is given =
+    absurd (omega (arith, subst (λ a. 0 < length a) (sym given.told) (some_failure given.why)))
+failed_end H h x n now moment (b ∷ request)
+    (c ∷ answer) s w listed left small named enrolled range at is given =
+    let request_is = request_entry (nat_abs moment) (b ∷ request) in
+    let answer_is = answer_entry (nat_abs moment) (c ∷ answer) in
+    let asked_state = asked_of (listed_state s x.news) (nat_abs moment) (b ∷ request) in
+    let taken_so = failure_taken (listed_state s x.news) (nat_abs moment) (b ∷ request) given.why at.begun in
+    record {
+      whole = [];
+      others = x ∷ [];
+      split = refl;
+      few = omega arith;
+      rest = (map operator_entry x.news ++ request_is ∷ []) ++ answer_is ∷ [];
+      m = with_answer (with_request (with_news n x.news) moment (b ∷ request)) (c ∷ answer);
+      text_is = sym (entry_last n.text (map operator_entry x.news ++ request_is ∷ []) answer_is
+          ∙ ap (λ v. v ++ entry answer_is) (entry_last n.text (map operator_entry x.news) request_is));
+      ends = inl is;
+      left = taken_so.0;
+      plays = played_then s asked_state (map operator_entry x.news ++ request_is ∷ []) (answer_is ∷ [])
+          (asked_played H h x.news moment (b ∷ request) s w listed small named enrolled range at)
+          ∙ played_one asked_state taken_so.0 answer_is
+          (subst (λ a. taken asked_state (answer_entry (nat_abs moment) a) ≡ Ok taken_so.0) (sym given.told)
+          taken_so.1);
+      news = [];
+      moment = moment;
+      request = b ∷ request;
+      behind = taken_so.2
+          ∙ asked_world H h x.news moment (b ∷ request) s w listed small named enrolled range at
+          ∙ ap (λ v. world_after v moment (asked (b ∷ request))) (sym given.left);
+    }
+
+-- one that is answered, and then others
+parts_then : (a b c d : List EntryParts) → (a ++ (b ++ c)) ++ d ≡ (a ++ b) ++ (c ++ d)
+parts_then a b c d = append_assoc a (b ++ c) d ∙ ap (λ v. a ++ v) (append_assoc b c d)
+    ∙ sym (append_assoc a b (c ++ d))
+
+then_ends : (x : Exchange) (xs : List Exchange) (n k : Noted) (now : Option Recorded) (s : State)
+    (v left : DeskWorld)
+    → AddsPlayed n k.text (map operator_entry x.news
+    ++ pair_of x.arrival.moment (known x.arrival.bytes) (known x.parting.sent)) s v
+    → ((t : State) → IsPlayedTo t v → EndsPlayed k now xs t left) → EndsPlayed n now (x ∷ xs) s left
+then_ends x xs n k now s v left first then =
+    let more = then first.left first.now in
+    let pair = pair_of x.arrival.moment (known x.arrival.bytes) (known x.parting.sent) in
+    let front = map operator_entry x.news ++ pair in
+    let same = parts_then (map operator_entry x.news) pair (entries_of more.whole) more.rest in
+    record {
+      whole = x ∷ more.whole;
+      others = more.others;
+      split = ap (λ ys. x ∷ ys) more.split;
+      few = more.few;
+      rest = more.rest;
+      m = more.m;
+      text_is = more.text_is ∙ ap (λ t. t ++ entries (entries_of more.whole ++ more.rest)) first.text_is
+          ∙ append_assoc n.text (entries front) (entries (entries_of more.whole ++ more.rest))
+          ∙ ap (λ t. n.text ++ t) (sym (entries_then front (entries_of more.whole ++ more.rest)))
+          ∙ ap (λ es. n.text ++ entries es) (sym same);
+      ends = more.ends;
+      left = more.left;
+      plays = ap (played s) same
+          ∙ played_then s first.left front (entries_of more.whole ++ more.rest) first.plays ∙ more.plays;
+      news = more.news;
+      moment = more.moment;
+      request = more.request;
+      behind = more.behind;
+    }
+
+-- ---- all of them
+
+-- the last alone may have ended the desk
+abbrev OnlyLast : List Exchange → Option (List Enrolment) → Type 0
+OnlyLast [] last = ⊤
+OnlyLast (x ∷ xs) last = ((failure_at x.served ≡ None) × OnlyLast xs last)
+    ⊎ ((failure_at x.served ≢ None) × (xs ≡ []) × (last ≡ None))
+
+some_not_none : (e : Failure) (r : Option Failure) → r ≡ Some e → r ≢ None
+some_not_none e r is none = let never : Some e ≡ None = sym is ∙ none in cc
+
+only_last : (done : Result ⊤ Failure) (count : ℕ) (xs : List Exchange) (last : Option (List Enrolment))
+    → EndsAfter done count xs last → OnlyLast xs last
+only_last (Ok d) count xs last ends = on xs ends.1
+  where
+    on : (ys : List Exchange) → All (λ x. failure_at x.served ≡ None) ys → OnlyLast ys last
+    on [] all = tt
+    on (y ∷ ys) all = inl (
+      All-head (λ x. failure_at x.served ≡ None) y ys all,
+      on ys (All-tail (λ x. failure_at x.served ≡ None) y ys all),
+    )
+only_last (Err f) count xs last ends = by xs ends
+  where
+    by : (ys : List Exchange) → EndsBy f ys last → OnlyLast ys last
+    by [] ends = tt
+    by (y ∷ ys) (inl on) = inl (on.0, by ys on.1)
+    by (y ∷ ys) (inr end) = inr (some_not_none f (failure_at y.served) end.0, end.1, end.2)
+
+lost_last : (text : List ℕ) (xs : List Exchange) (last : Option (List Enrolment)) (now : Option Recorded)
+    → AreNoted (Some (Ended text)) xs last now → (xs ≡ []) × (last ≡ None) × (now ≡ Some (Ended text))
+lost_last text [] None now noted = (refl, refl, noted)
+lost_last text [] (Some news) now noted = absurd noted.1
+lost_last text (x ∷ xs) last now noted = absurd noted.3.news
+
+last_left : (H : Type 0) (done : Result ⊤ Failure) (xs : List Exchange) (last : Option (List Enrolment))
+    (v between left : DeskWorld) → xs ≡ [] → last ≡ None → AreServed H xs v between
+    → IsLast H last done between left → left ≡ v
+last_left H done [] None v between left empty without served is = is ∙ served
+last_left H done [] (Some news) v between left empty without served is = cc
+last_left H done (x ∷ xs) last v between left empty without served is = cc
+
+module _ (H : Type 0) (h : H) (Ends : (request rest : List ℕ) → IsRequest request
+    → request_len (request ++ rest) ≡ Some (length request)) where
+  one_ends : (x : Exchange) (xs : List Exchange) (last : Option (List Enrolment)) (done : Result ⊤ Failure)
+      (n : Noted) (answered now : Option Recorded) (s : State) (w listed v between left : DeskWorld)
+      (request : List ℕ) → AreEnrolments x.news → AreNamed x.news → AreEnrolled H x.news w listed
+      → IsMoment x.arrival.moment → (0 < length request → IsRequest request)
+      → x.arrival.bytes ≡ Some request → x.out ≡ Some [] → x.parting.outcome ≡ outcome_of x.served
+      → HasServed H x.served (passage_of x) listed x.arrival.moment v
+      → IsAnswerRecorded (with_request (with_news n x.news) x.arrival.moment request) answered x.parting.sent
+      x.parting.outcome.is_answered
+      ⊎ (answered ≡ Some (Ended (with_request (with_news n x.news) x.arrival.moment request).text))
+      → IfSome answered (λ recorded. failure_at x.served ≢ None → now ≡ answered)
+      → AreNoted answered xs last now → OnlyLast (x ∷ xs) last → AreServed H xs v between
+      → IsLast H last done between left
+      → ((k : Noted) (t : State) → AreNoted (Some (Open k)) xs last now → OnlyLast xs last → IsPlayedTo t v
+      → EndsPlayed k now xs t left)
+      → IsPlayedTo s w → EndsPlayed n now (x ∷ xs) s left
+  one_ends x xs last done n answered now s w listed v between left request small named enrolled range whole
+      bytes out told served (inl a) stays noted (inl on) others is rest at =
+      let first = with_news n x.news in
+      let then = with_answer (with_request first x.arrival.moment request) a.answer in
+      then_ends x xs n then now s v left
+      (subst (λ b. AddsPlayed n then.text (map operator_entry x.news
+      ++ pair_of x.arrival.moment (known b) (known x.parting.sent)) s v) (sym bytes)
+      (subst (λ c. AddsPlayed n then.text (map operator_entry x.news
+      ++ pair_of x.arrival.moment request (known c)) s v) (sym a.known)
+      (both_played n first then (map operator_entry x.news)
+      (pair_of x.arrival.moment request a.answer) s listed v
+      (news_added H h n x.news s w listed small named enrolled at)
+      (λ t here. pair_added first x.arrival.moment request a.answer t listed v range
+      (are_asked H h Ends x.served request a.answer x.parting.unread listed x.arrival.moment v on.0
+      (told_whole x told a.whole) whole
+      (served_known H h Ends x listed v request a.answer bytes out a.known served)) here))))
+      (λ t here. rest then t (subst (λ r. AreNoted r xs last now) a.added noted) on.1 here)
+  one_ends x xs last done n answered now s w listed v between left request small named enrolled range whole
+      bytes out told served (inl a) stays noted (inr end) others is rest at =
+      let same : left ≡ v = last_left H done xs last v between left end.1 end.2 others is in
+      let now_is = subst (λ r. IfSome r (λ recorded. failure_at x.served ≢ None
+      → now ≡ r)) a.added stays end.0 in
+      subst (λ ys. EndsPlayed n now (x ∷ ys) s left) (sym end.1)
+      (failed_end H h x n now x.arrival.moment request a.answer s w listed left small named enrolled range at
+      now_is (subst (IsGivenUp listed request a.answer) (sym same)
+      (is_given_up H Ends x.served request a.answer x.parting.unread listed x.arrival.moment v end.0
+      (told_whole x told a.whole) whole
+      (served_known H h Ends x listed v request a.answer bytes out a.known served))))
+  one_ends x xs last done n answered now s w listed v between left request small named enrolled range whole
+      bytes out told served (inr lost) stays noted only others is rest at =
+      let end = lost_last (with_request (with_news n x.news) x.arrival.moment request).text xs last now
+      (subst (λ r. AreNoted r xs last now) lost noted) in
+      let same : left ≡ v = last_left H done xs last v between left end.0 end.1 others is in
+      subst (λ ys. EndsPlayed n now (x ∷ ys) s left) (sym end.0)
+      (lost_end H h x n now x.arrival.moment request s w listed left small named enrolled range at end.2
+      (subst (IsLeft listed x.arrival.moment request) (sym same)
+      (is_left H h Ends x.served request x.parting.unread x.out x.parting.sent listed x.arrival.moment v whole
+      (subst (λ b. HasServed H x.served (passed b x.parting.unread x.out x.parting.sent) listed
+      x.arrival.moment v) bytes served))))
+
+  pub all_end : (xs : List Exchange) (last : Option (List Enrolment)) (done : Result ⊤ Failure) (n : Noted)
+      (now : Option Recorded) (s : State) (w between left : DeskWorld) → AreNoted (Some (Open n)) xs last now
+      → AreServed H xs w between → IsLast H last done between left → OnlyLast xs last
+      → All (λ x. x.parting.outcome ≡ outcome_of x.served) xs → IsPlayedTo s w → EndsPlayed n now xs s left
+  all_end [] None done n now s w between left noted served is only told at =
+      none_ends n now s w left noted (is ∙ served) at
+  all_end [] (Some news) done n now s w between left noted served is only told at =
+      last_news_end H h done n now news s w left
+      (subst (λ v. IsLast H (Some news) done v left) served is) noted.1.0 noted.1.1
+      (subst (λ r. RecordsNone r now) noted.1.2 noted.2) at
+  all_end (x ∷ xs) last done n now s w between left noted served is only told at =
+      let news = noted.3.news in
+      let request : IsRecorded (with_news n x.news) noted.1 x.arrival.moment x.arrival.bytes =
+      subst (λ r. RecordsRequest r noted.1 x.arrival.moment x.arrival.bytes) news.2 noted.3.request in
+      one_ends x xs last done n noted.2 now s w served.0 served.1 between left request.request news.0 news.1
+      served.2 request.range request.whole request.known
+      (subst (λ r. IfSome r (λ _. x.out ≡ Some [])) news.2 noted.3.unsent)
+      (All-head (λ x. x.parting.outcome ≡ outcome_of x.served) x xs told) served.3
+      (subst (λ r. RecordsAnswer r noted.2 x.parting.sent x.parting.outcome.is_answered) request.added
+      noted.3.answer) noted.4 noted.5 only served.4 is
+      (λ k t rest more here. all_end xs last done k now t served.1 between left rest served.4 is more
+      (All-tail (λ x. x.parting.outcome ≡ outcome_of x.served) x xs told) here) at
+
+  -- connections that were taken, however they ended
+  pub taken_end : (done : Result ⊤ Failure) (count : ℕ) (old new : Traffic) (w left : DeskWorld) (n : Noted)
+      (s : State) → (taken : AreTaken {A = ⊤} H done count old new w left) → old.recorded ≡ Some (Open n)
+      → IsPlayedTo s w → EndsPlayed n new.recorded taken.exchanges s left
+  taken_end done count old new w left n s taken was at =
+      all_end taken.exchanges taken.last done n new.recorded s w taken.between left
+      (subst (λ r. AreNoted r taken.exchanges taken.last new.recorded) was taken.recorded) taken.served
+      taken.untaken (only_last done count taken.exchanges taken.last taken.ends) taken.told at

@@ -1,0 +1,48 @@
+-- A request that is asked again: two steps of its record; and what a recovery comes to.
+use Rattle.std.proofs.Common.{◌≡◌, List, [], ◌∷◌, ◌++◌, Option, None, Some, Result, Ok, Err, inl, inr, refl, ap, subst, sym, ◌∙◌, append_assoc}
+use Rattle.std.specs.Prelude.{⊤, option_map}
+use Rattle.desk_rules.specs.declared.terms.Terms.{Terms}
+use Rattle.desk_run.specs.CallFaults as call
+use Rattle.desk_run.specs.DeskWorld.{DeskWorld}
+use Rattle.desk_run.specs.declared.fault.DeskFault.{DeskFault}
+use Rattle.desk_line.specs.Exits.{IsBreakdown, enrolment_failure}
+use Rattle.desk_line.specs.declared.failure.Failure.{Failure}
+use Rattle.desk_line.specs.declared.line.Enrolment.{Enrolment}
+use Rattle.desk_program.specs.Enrolling.{AreListedSoFar, on_terms, with_operators}
+use Rattle.desk_recording.specs.Recording.{Adds, Step}
+use Rattle.desk_recording.specs.Recovering.{AddsBoth, AsksAgainIfAny, Recovers}
+use Rattle.desk_recording.specs.Tail.{UnansweredParts}
+
+pub both_added : (old mid new : Option (List Step)) (one other : Step) → Adds old mid one → Adds mid new other
+    → AddsBoth old new one other
+both_added None mid new one other first next = next ∙ ap (option_map (λ steps. steps ++ other ∷ [])) first
+both_added (Some steps) mid new one other first next =
+    next ∙ ap (option_map (λ steps. steps ++ other ∷ [])) first
+    ∙ ap Some (append_assoc steps (one ∷ []) (other ∷ []))
+
+-- all are listed, and then the request is asked, if there is one
+pub recovers : {H G : Type 0} (terms : Terms) (missing : List Enrolment) (u : Option UnansweredParts)
+    (w listed after : DeskWorld) (old new : Option (List Step)) (done : Result ⊤ Failure) → (H → G)
+    → (G → listed ≡ with_operators (on_terms w terms) missing)
+    → AsksAgainIfAny H u listed after old new done → Recovers H terms missing u w after old new done
+recovers terms missing u w listed after old new (Ok d) down are asks =
+    record { listed = listed; are = λ h. are (down h); asks = asks }
+recovers terms missing u w listed after old new (Err f) down are asks =
+    inl (record { listed = listed; are = λ h. are (down h); asks = asks })
+
+failed_as : (fault : DeskFault) → call.IsBreakdown fault → IsBreakdown (enrolment_failure fault)
+failed_as fault (inl memory) = inl (ap enrolment_failure memory)
+failed_as fault (inr store) = inr (ap enrolment_failure store)
+
+-- one could not be listed
+pub unlisted : {H : Type 0} (terms : Terms) (missing : List Enrolment) (u : Option UnansweredParts)
+    (w after : DeskWorld) (old : Option (List Step)) (fault : DeskFault) (f : Failure)
+    → f ≡ enrolment_failure fault → call.IsBreakdown fault → AreListedSoFar H missing (on_terms w terms) after
+    → Recovers H terms missing u w after old old (Err f)
+unlisted terms missing u w after old fault f is broken so_far =
+    inr (record {
+      broken = subst IsBreakdown (sym is)
+          (failed_as fault broken);
+      kept = refl;
+      listed = so_far;
+    })

@@ -1,0 +1,23 @@
+use Rattle.std.proofs.Common.{◌≡◌, ◌∙◌, ◌++◌, ap, nat_abs, subst, sym, true, w64}
+use Rattle.std.proofs.lemmas.Int.{to_z-of_z}
+use Rattle.desk_record.specs.Record.{entry}
+use Rattle.desk_program.specs.Recorded.{request_entry, with_request}
+use Rattle.desk_recording.specs.Writing.{Extends}
+use Rattle.desk_recording.proofs.WritingLemmas.{notes_synced, request_noted}
+use Rattle.desk_recording.proofs.written.WrittenRecordRecord.keep_request.Goals as goal
+
+pub returns-then-append-clause-noted : goal.returns-then-append-clause-noted
+returns-then-append-clause-noted g c =
+    let before = g.J.Journal.writes c.args.self.now.journal in
+    let mid = g.J.Journal.writes c.append.new.self.journal in
+    let bytes = c.args.bytes.now in
+    let text = entry (request_entry (nat_abs c.args.moment) bytes) in
+    let second : c.unsigned_abs-self.result ≡ nat_abs c.args.moment =
+    c.unsigned_abs-self.ensures.value ∙ ap nat_abs (to_z-of_z w64 c.args.moment c.ranges.moment) in
+    notes_synced c.args.self.now.second c.append.new.self.second before text
+    (λ n. with_request n c.args.moment bytes)
+    (λ old. request_noted (record { text = old; second = c.args.self.now.second }) c.args.moment bytes
+    c.if-is_empty.ensures ∙ ap (λ s. record { text = old ++ text; second = s })
+    (sym (c.append.ensures.second ∙ second))) mid (g.J.Journal.writes c.sync.new.self) c.sync.result
+    (subst (λ s. Extends before mid true (entry (request_entry s bytes))) second c.if-append.ensures.text)
+    c.sync.ensures

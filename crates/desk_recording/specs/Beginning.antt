@@ -1,0 +1,42 @@
+-- Beginning: the entries with which a record begins (docs/RECORD.md).
+use Rattle.std.specs.Prelude.{ℕ, zero, suc, ◌+◌, List, [], ◌∷◌, ◌++◌, map, option_to_list, if◌then◌else◌}
+use Rattle.desk_rules.specs.Permission.{is_permitted}
+use Rattle.desk_rules.specs.declared.terms.Terms.{Terms}
+use Rattle.desk_line.specs.declared.line.Enrolment.{Enrolment}
+use Rattle.desk_record.specs.Record.{EntryParts, entries}
+use Rattle.desk_record.specs.declared.kind.Kind.TheVariants as kind
+use Rattle.desk_replay.specs.Replaying.{version}
+use Rattle.desk_program.specs.Recorded.{operator_entry}
+use Rattle.desk_recording.specs.Writing.{Appended, Synced, Write}
+
+-- the entries of a record's number, of a priority that is permitted, and of the most spans
+abbrev pub record_entry : ℕ → EntryParts
+record_entry n = record { kind = kind.Record; number = n; bytes = version }
+
+abbrev pub permitted_entry : ℕ → EntryParts
+permitted_entry priority = record { kind = kind.Permitted; number = priority; bytes = [] }
+
+abbrev pub spans_entry : ℕ → EntryParts
+spans_entry most = record { kind = kind.Spans; number = most; bytes = [] }
+
+abbrev pub permitted_if : List ℕ → ℕ → List EntryParts
+permitted_if permitted priority =
+    if is_permitted permitted priority then permitted_entry priority ∷ [] else []
+
+-- an entry for each priority below one that is permitted, in ascending order
+unfoldable pub permitted_below : ℕ → List ℕ → List EntryParts
+permitted_below zero permitted = []
+permitted_below (suc n) permitted = permitted_below n permitted ++ permitted_if permitted n
+
+-- the terms of a desk: the priorities that it permits, and the most spans, if it limits them
+abbrev pub terms_entries : Terms → List EntryParts
+terms_entries terms =
+    permitted_below 1001 terms.permitted ++ map spans_entry (option_to_list terms.spans)
+
+-- a record begins: its number, the terms of its desk, and its operators
+abbrev pub header : ℕ → Terms → List Enrolment → List EntryParts
+header n terms operators = record_entry n ∷ (terms_entries terms ++ map operator_entry operators)
+
+-- it is on the disk
+abbrev pub header_writes : ℕ → Terms → List Enrolment → List Write
+header_writes n terms operators = Appended (entries (header n terms operators)) ∷ Synced ∷ []

@@ -1,0 +1,103 @@
+-- Recovering: what a record left undone is done at its desk.
+use Rattle.std.specs.Prelude.{◌≡◌, ◌<◌, ◌⊎◌, ⊤, ℕ, ℤ, pos, Bool, true, not, ◌&&◌, nat_lt, List, [], ◌∷◌, ◌++◌, filter, Option, None, Some, option_map, Result, Ok, Err}
+use Rattle.std.specs.List.{list_any}
+use Rattle.std.specs.Str.{bytes_eq}
+use Rattle.desk_rules.specs.Limits.{max_priority}
+use Rattle.desk_rules.specs.declared.terms.Terms.{Terms}
+use Rattle.desk_reading.specs.Requests.{asked}
+use Rattle.desk_run.specs.DeskWorld.{DeskWorld}
+use Rattle.desk_wire.specs.Bytes.{text_for, world_after}
+use Rattle.desk_line.specs.declared.failure.Failure.{Failure}
+use Rattle.desk_line.specs.declared.failure.Failure.TheVariants as failure
+use Rattle.desk_line.specs.declared.line.Enrolment.{Enrolment}
+use Rattle.desk_line.specs.Exits.{IsBreakdown}
+use Rattle.desk_program.specs.Enrolling.{AreListedSoFar, on_terms, with_operators}
+use Rattle.desk_program.specs.Serving.{Parting, parted}
+use Rattle.desk_program.specs.declared.port.Outcome.{Outcome}
+use Rattle.desk_replay.specs.Replaying.{last_moment}
+use Rattle.desk_recording.specs.Recording.{Answered, Asked, Lost, Step}
+use Rattle.desk_recording.specs.Tail.{UnansweredParts}
+
+-- those enrolments that have a ceiling, and whose operators are not on a roll
+abbrev pub is_listed : List Enrolment → List ℕ → Bool
+is_listed roll name = list_any (λ e. bytes_eq e.operator name) roll
+
+abbrev pub is_missing : List Enrolment → Enrolment → Bool
+is_missing roll e = not (nat_lt max_priority e.ceiling) && not (is_listed roll e.operator)
+
+abbrev pub missing_of : List Enrolment → List Enrolment → List Enrolment
+missing_of roll enrolments = filter (is_missing roll) enrolments
+
+-- known steps are followed by two more
+abbrev pub AddsBoth : Option (List Step) → Option (List Step) → Step → Step → Type 0
+AddsBoth old new one other = new ≡ option_map (λ steps. steps ++ one ∷ other ∷ []) old
+
+-- the request is read whole, and answered whole
+abbrev pub whole : Outcome
+whole = record { is_whole = true; is_answered = true }
+
+-- an answer that goes to no client
+abbrev pub told_again : List ℕ → Parting
+told_again answer = parted (Some []) (Some answer) whole
+
+-- what is left undone: a request, and its second
+abbrev pub moment_of : UnansweredParts → ℤ
+moment_of u = pos u.second
+
+module _ (H : Type 0) (u : UnansweredParts) (w after : DeskWorld) (old new : Option (List Step)) where
+  -- the request is kept, and then asked at its second; what came of its answer is kept
+  pub record IsAskedAgain (came : Parting → Step) : Type 0 where
+    pub answer : List ℕ
+    pub kept : AddsBoth old new (Asked (moment_of u) u.request) (came (told_again answer))
+    pub told : H → answer ≡ text_for w (moment_of u) (asked u.request)
+    pub left : H → after ≡ world_after w (moment_of u) (asked u.request)
+
+  -- it is kept, and the desk failed and changed nothing
+  pub record IsFailedAgain : Type 0 where
+    pub kept : AddsBoth old new (Asked (moment_of u) u.request) (Lost (told_again []))
+    pub left : H → after ≡ w
+
+  -- it is not kept, or not in time, and so it is not asked
+  pub record IsNotAsked : Type 0 where
+    pub kept : new ≡ old
+    pub left : after ≡ w
+
+  -- it is answered again; or memory or the store was denied; or it, or its answer, can't be kept; or its
+  -- second is no moment
+  abbrev pub AsksAgain : Result ⊤ Failure → Type 0
+  AsksAgain (Ok done) = IsAskedAgain Answered
+  AsksAgain (Err f) =
+      (((f ≡ failure.Memory) ⊎ (f ≡ failure.Store)) × IsFailedAgain)
+      ⊎ (((f ≡ failure.Broken) × (IsNotAsked ⊎ IsAskedAgain Lost))
+      ⊎ ((f ≡ failure.Clock) × (last_moment < u.second) × IsNotAsked))
+
+-- if there is one
+abbrev pub AsksAgainIfAny :
+    Type 0 → Option UnansweredParts → DeskWorld → DeskWorld → Option (List Step) → Option (List Step)
+    → Result ⊤ Failure → Type 0
+AsksAgainIfAny H None w after old new (Ok done) = (after ≡ w) × (new ≡ old)
+AsksAgainIfAny H None w after old new (Err f) = ⊥
+AsksAgainIfAny H (Some u) w after old new done = AsksAgain H u w after old new done
+
+-- the desk plans on the record's terms and the operators are listed; then its last request is asked again
+pub record IsRecovered (H : Type 0) (terms : Terms) (missing : List Enrolment)
+    (u : Option UnansweredParts) (w after : DeskWorld) (old new : Option (List Step))
+    (done : Result ⊤ Failure) : Type 0 where
+  pub listed : DeskWorld
+  pub are : H → listed ≡ with_operators (on_terms w terms) missing
+  pub asks : AsksAgainIfAny H u listed after old new done
+
+-- or an operator could not be listed, and nothing is asked
+pub record IsNotRecovered (H : Type 0) (terms : Terms) (missing : List Enrolment) (w after : DeskWorld)
+    (old new : Option (List Step)) (f : Failure) : Type 0 where
+  pub broken : IsBreakdown f
+  pub kept : new ≡ old
+  pub listed : AreListedSoFar H missing (on_terms w terms) after
+
+abbrev pub Recovers :
+    Type 0 → Terms → List Enrolment → Option UnansweredParts → DeskWorld → DeskWorld
+    → Option (List Step) → Option (List Step) → Result ⊤ Failure → Type 0
+Recovers H terms missing u w after old new (Ok done) = IsRecovered H terms missing u w after old new (Ok done)
+Recovers H terms missing u w after old new (Err f) =
+    IsRecovered H terms missing u w after old new (Err f)
+    ⊎ IsNotRecovered H terms missing w after old new f

@@ -1,0 +1,214 @@
+-- Tail: what the last record of a folder leaves to do (docs/RECORD.md).
+use Rattle.std.specs.Prelude.{◌≡◌, ◌⊎◌, ⊤, ℕ, ◌+◌, ◌-◌, ◌^◌, ◌==◌, ◌&&◌, ◌||◌, min, length, is_none, is_some, nat_le, nat_lt, List, [], ◌∷◌, ◌++◌, Bool, true, false, not, if◌then◌else◌, Option, Some, None, IfSome, option_and_then, Result, Ok, Err}
+use Rattle.std.specs.List.{AllByRecursion}
+use Rattle.std.specs.Str.{bytes_eq}
+use Rattle.std.specs.Io.KnownBytes.{Consumes, IsAtEnd}
+use Rattle.desk_rules.specs.Limits.{max_priority, max_spans}
+use Rattle.desk_rules.specs.Name.{is_operator_name}
+use Rattle.desk_rules.specs.Permission.{permitted_in}
+use Rattle.desk_rules.specs.Terms.{no_terms}
+use Rattle.desk_rules.specs.declared.permission.PermitFault.{PermitFault}
+use Rattle.desk_rules.specs.declared.terms.Terms.{Terms}
+use Rattle.desk_line.specs.declared.line.Enrolment.{Enrolment}
+use Rattle.desk_record.specs.Record.{EntryParts, Fits, entries, entry}
+use Rattle.desk_record.specs.Reading.{IsDamaged, IsShort}
+use Rattle.desk_record.specs.declared.kind.Kind.{Kind}
+use Rattle.desk_record.specs.declared.kind.Kind.TheVariants as kind
+use Rattle.desk_replay.specs.Replaying.{is_failure, last_moment, version}
+use Rattle.desk_recording.specs.declared.tail.Tail.{Tail}
+use Rattle.desk_recording.specs.declared.tail.Unanswered.{Unanswered}
+use Rattle.desk_recording.specs.declared.tail.TailEnd.{TailEnd}
+use Rattle.desk_recording.specs.declared.tail.TailEnd.TheVariants.{End, Short, Damaged}
+use Rattle.desk_recording.specs.declared.tail.TailFault.{TailFault}
+use Rattle.desk_recording.specs.declared.tail.TailFault.TheVariants.{Read, OutOfMemory, NoRecord}
+
+-- a request that has no answer
+pub record UnansweredParts : Type 0 where
+  pub second : ℕ
+  pub request : List ℕ
+
+-- what a record says so far: its number, if it has begun, and its terms; the operators behind its last
+-- request; that request, if it has no answer, or one that says that the desk failed; and how many bytes that
+-- is
+pub record TailParts : Type 0 where
+  pub record_number : Option ℕ
+  pub permitted : List ℕ
+  pub terms : Terms
+  pub operators : List Enrolment
+  pub asked : Option UnansweredParts
+  pub size : ℕ
+
+abbrev pub unanswered_shown : Unanswered → UnansweredParts
+unanswered_shown u = record { second = u.second; request = u.request.items }
+
+abbrev pub unanswered_in : Option Unanswered → Option UnansweredParts
+unanswered_in None = None
+unanswered_in (Some u) = Some (unanswered_shown u)
+
+abbrev pub tail_shown : Tail → TailParts
+tail_shown t = record {
+  record_number = t.record;
+  permitted = t.permitted.items;
+  terms = t.terms;
+  operators = t.operators.items;
+  asked = unanswered_in t.asked;
+  size = t.size;
+}
+
+-- nothing was read
+abbrev pub nothing_said : TailParts
+nothing_said = record {
+  record_number = None;
+  permitted = [];
+  terms = no_terms;
+  operators = [];
+  asked = None;
+  size = 0;
+}
+
+-- what an entry adds to what a record says; none if no desk writes it there
+abbrev pub Said : Type 0
+Said = Option TailParts
+
+abbrev pub none_if : Bool → Said → Said
+none_if test next = if test then None else next
+
+unfoldable pub begun : TailParts → ℕ → List ℕ → Said
+begun t n bytes =
+    none_if (is_some t.record_number || not (bytes_eq bytes version))
+    (Some (record t { record_number = Some n }))
+
+-- a priority is permitted beside the others
+abbrev pub permitted_by : TailParts → List ℕ → Result (List ℕ) PermitFault → Said
+permitted_by t more (Err fault) = None
+permitted_by t more (Ok permitted) =
+    Some (record t { permitted = more; terms = record t.terms { permitted = permitted } })
+
+unfoldable pub permitted : TailParts → ℕ → Said
+permitted t p =
+    none_if (nat_lt max_priority p)
+    (permitted_by t (t.permitted ++ (p ∷ [])) (permitted_in (t.permitted ++ (p ∷ []))))
+
+unfoldable pub spanned : TailParts → ℕ → Said
+spanned t n =
+    none_if (not (nat_le 1 n && nat_le n max_spans))
+    (Some (record t { terms = record t.terms { spans = Some n } }))
+
+unfoldable pub listed : TailParts → ℕ → List ℕ → Said
+listed t ceiling name =
+    none_if (not (is_operator_name name)) (none_if (nat_lt max_priority ceiling)
+    (Some (record t {
+      operators = t.operators ++ (record { operator = name; ceiling = ceiling } ∷ []);
+    })))
+
+-- a request is recorded: the operators before it are listed by then
+unfoldable pub requested : TailParts → ℕ → List ℕ → Said
+requested t second request =
+    none_if (is_some t.asked) (none_if (nat_lt last_moment second)
+    (Some (record t {
+      operators = [];
+      asked = Some (record { second = second; request = request });
+    })))
+
+-- its answer is recorded: a failure is none
+abbrev pub answered_by : TailParts → Option UnansweredParts → ℕ → List ℕ → Said
+answered_by t None second answer = None
+answered_by t (Some u) second answer =
+    none_if (not (u.second == second))
+    (if is_failure answer then Some t else Some (record t { asked = None }))
+
+unfoldable pub answered : TailParts → ℕ → List ℕ → Said
+answered t second answer = answered_by t t.asked second answer
+
+abbrev pub bare : List ℕ → Said → Said
+bare bytes next = none_if (not (length bytes == 0)) next
+
+abbrev pub said_within : Kind → TailParts → ℕ → List ℕ → Said
+said_within kind.Record t n bytes = begun t n bytes
+said_within kind.Permitted t n bytes = bare bytes (permitted t n)
+said_within kind.Spans t n bytes = bare bytes (spanned t n)
+said_within kind.Operator t n bytes = listed t n bytes
+said_within kind.Request t n bytes = requested t n bytes
+said_within kind.Answer t n bytes = answered t n bytes
+
+abbrev pub is_record : Kind → Bool
+is_record kind.Record = true
+is_record kind.Permitted = false
+is_record kind.Spans = false
+is_record kind.Operator = false
+is_record kind.Request = false
+is_record kind.Answer = false
+
+-- how many bytes of a record were read, as many as 64 bits hold at most
+abbrev pub grown : TailParts → ℕ → TailParts
+grown t more = record t { size = min (t.size + more) (2 ^ 64 - 1) }
+
+-- nothing else begins a record
+unfoldable pub said : TailParts → EntryParts → Said
+said t e =
+    none_if (is_none t.record_number && not (is_record e.kind))
+    (said_within e.kind (grown t (length (entry e))) e.number e.bytes)
+
+-- what entries say, one after the other
+unfoldable pub said_by : TailParts → List EntryParts → Said
+said_by t [] = Some t
+said_by t (e ∷ es) = option_and_then (λ u. said_by u es) (said t e)
+
+-- an entry is noted; or memory ran out, or no desk writes it there
+abbrev pub Notes : Result ⊤ TailFault → Said → TailParts → Type 0
+Notes (Ok done) outcome new = outcome ≡ Some new
+Notes (Err fault) outcome new = (fault ≡ OutOfMemory) ⊎ ((fault ≡ NoRecord) × (outcome ≡ None))
+
+-- what stands behind the last whole entry: nothing; the beginning of one, and no more; or what is no entry
+abbrev pub EndsIn : TailEnd → Option (List ℕ) → Type 0
+EndsIn End left = IsAtEnd left
+EndsIn Short left = IfSome left IsShort
+EndsIn Damaged left = IfSome left IsDamaged
+
+-- the first entries that were read say this
+pub record HasSaid (old new : Option (List ℕ)) (t : TailParts) : Type 0 where
+  pub all : List EntryParts
+  pub fit : AllByRecursion Fits all
+  pub read : Consumes old new (entries all)
+  pub are : said_by nothing_said all ≡ Some t
+
+-- one entry is read, and says this; or this is what stands there; or why neither is told
+pub record IsSaid (old new : Option (List ℕ)) (s t : TailParts) : Type 0 where
+  pub one : EntryParts
+  pub fits : Fits one
+  pub read : Consumes old new (entry one)
+  pub is : said s one ≡ Some t
+
+pub record IsUnsaid (old new : Option (List ℕ)) (s : TailParts) : Type 0 where
+  pub one : EntryParts
+  pub fits : Fits one
+  pub read : Consumes old new (entry one)
+  pub none : said s one ≡ None
+
+-- all that is whole was read
+pub record IsTail (old : Option (List ℕ)) (ended : TailEnd) (t : TailParts) : Type 0 where
+  pub mid : Option (List ℕ)
+  pub first : HasSaid old mid t
+  pub ends : EndsIn ended mid
+
+-- an entry is read that no desk writes there
+pub record IsNoRecord (old : Option (List ℕ)) : Type 0 where
+  pub mid : Option (List ℕ)
+  pub new : Option (List ℕ)
+  pub t : TailParts
+  pub first : HasSaid old mid t
+  pub unsaid : IsUnsaid mid new t
+
+-- why no tail is told: a read failed, memory ran out, or this is no record of a desk
+abbrev pub IsUntold : Option (List ℕ) → TailFault → Type 0
+IsUntold old Read = ⊤
+IsUntold old OutOfMemory = ⊤
+IsUntold old NoRecord = IsNoRecord old
+
+abbrev pub Steps :
+    Result (Option TailEnd) TailFault → Option (List ℕ) → Option (List ℕ) → TailParts → TailParts → Type 0
+Steps (Ok None) old new s t = IsSaid old new s t
+Steps (Ok (Some ended)) old new s t = EndsIn ended old × (t ≡ s)
+Steps (Err Read) old new s t = ⊤
+Steps (Err OutOfMemory) old new s t = ⊤
+Steps (Err NoRecord) old new s t = IsUnsaid old new s

@@ -1,0 +1,112 @@
+//! The beginning of a record.
+
+ghost use Rattle.std.specs.Prelude.{◌≡◌, ◌++◌, true, map, option_to_list, IfOk, OnOk};
+ghost use Rattle.desk_record.specs.Record.{entries};
+ghost use Rattle.desk_recording.specs.Beginning.{header, header_writes, permitted_below, permitted_if};
+ghost use Rattle.desk_recording.specs.Beginning.{spans_entry};
+ghost use Rattle.desk_program.specs.Recorded.{operator_entry};
+ghost use Rattle.desk_recording.specs.Writing.{Follows};
+
+use crate::journal::Journal;
+use desk_line::Enrolment;
+use desk_record::{Kind, write_entry};
+use desk_rules::decide::MAX_PRIORITY;
+use desk_rules::permission::Permitted;
+use desk_rules::terms::Terms;
+use std::alloc::{AllocError, Global};
+
+/// The version of the format.
+const VERSION: &[u8] = b"1";
+
+/// Begins a record of this number (in its folder), of a desk on these terms with these operators, and
+/// answers whether all of its beginning is on the disk.
+pub fn begin_record<J: Journal>(
+    alloc: Global,
+    journal: &mut J,
+    number: u64,
+    terms: &Terms,
+    operators: &[Enrolment],
+) -> bool
+    ensures { result ≡ true → Follows (J.writes journal.old) (J.writes journal.new)
+        (header_writes number terms.now operators.now) }
+{
+    match header_text(alloc, number, terms, operators) {
+        Ok(text) => journal.append(&text) && journal.sync(),
+        Err(_) => false,
+    }
+}
+
+// The entries with which a record begins.
+fn header_text(
+    alloc: Global,
+    number: u64,
+    terms: &Terms,
+    operators: &[Enrolment],
+) -> Result<Vec<u8>, AllocError>
+    ensures { IfOk result (λ text. text.items ≡ entries (header number terms.now operators.now)) }
+{
+    let mut text = Vec::new(alloc);
+    write_entry(&mut text, Kind::Record, number, VERSION)?;
+    write_permitted(&mut text, &terms.permitted)?;
+    write_spans(&mut text, terms.spans)?;
+    write_operators(&mut text, operators)?;
+    Ok(text)
+}
+
+// Appends an entry for each priority that is permitted.
+fn write_permitted(text: &mut Vec<u8>, permitted: &Permitted) -> Result<(), AllocError>
+    ensures { OnOk result (text.new.items ≡ text.old.items
+        ++ entries (permitted_below 1001 permitted.now)) }
+{
+    for priority in 0..MAX_PRIORITY + 1 {
+        write_if_permitted(text, permitted, priority)?;
+    }
+    Ok(())
+}
+
+// Appends the entry of a priority, if it is permitted.
+fn write_if_permitted(
+    text: &mut Vec<u8>,
+    permitted: &Permitted,
+    priority: u32,
+) -> Result<(), AllocError>
+    ensures { OnOk result (text.new.items ≡ text.old.items
+        ++ entries (permitted_if permitted.now priority)) }
+{
+    if permitted.has(priority) {
+        write_entry(text, Kind::Permitted, u64::from(priority), b"")
+    } else {
+        Ok(())
+    }
+}
+
+// Appends the entry of the most spans, if there is such a limit.
+fn write_spans(text: &mut Vec<u8>, spans: Option<u32>) -> Result<(), AllocError>
+    ensures { OnOk result (text.new.items ≡ text.old.items
+        ++ entries (map spans_entry (option_to_list spans))) }
+{
+    match spans {
+        Some(most) => write_entry(text, Kind::Spans, u64::from(most), b""),
+        None => Ok(()),
+    }
+}
+
+/// Appends an entry for each operator, in their order.
+///
+/// # Errors
+///
+/// `AllocError` for want of memory.
+pub(crate) fn write_operators(text: &mut Vec<u8>, operators: &[Enrolment]) -> Result<(), AllocError>
+    ensures { OnOk result (text.new.items ≡ text.old.items
+        ++ entries (map operator_entry operators.now)) }
+{
+    for enrolment in operators {
+        write_entry(
+            text,
+            Kind::Operator,
+            u64::from(enrolment.ceiling),
+            enrolment.operator.as_str().as_bytes(),
+        )?;
+    }
+    Ok(())
+}

@@ -1,0 +1,39 @@
+//! Laws of the definitions. Each is the contract of a function that does nothing but call another law.
+
+ghost use Rattle.std.specs.Prelude.{◌≡◌, ⊤, ℕ, Ok, Result, Some};
+ghost use Rattle.desk_store.specs.StoreFaults.{IsHonest};
+ghost use Rattle.desk_run.specs.DeskWorld.{DeskWorld};
+ghost use Rattle.desk_line.specs.declared.failure.Failure.{Failure};
+ghost use Rattle.desk_program.specs.Recorded.{Noted, Open};
+ghost use Rattle.desk_program.specs.Serving.{AreTaken, Traffic};
+ghost use Rattle.desk_replay.specs.Replaying.{State};
+ghost use Rattle.desk_recording.specs.Played.{AddsPlayed, EndsPlayed, IsPlayedTo, entries_of};
+
+use desk_wire::laws::request_ends;
+
+/// Recorded: what a port that records adds to its text while a desk takes connections from it (the clause
+/// `served` of `serve`), as many as it was to take, if its record is open before and after: just the entries
+/// of these connections, with each request and its answer. Played where the desk's world was as it began,
+/// they differ nowhere, and leave what the desk left.
+pub fn recorded()
+    ensures { (doubt count : ℕ) (old new : Traffic) (w after : DeskWorld) (n m : Noted) (s : State) →
+        IsHonest doubt → (taken : AreTaken {A = ⊤} (IsHonest doubt) (Ok tt) count old new w after) →
+        old.recorded ≡ Some (Open n) → new.recorded ≡ Some (Open m) → IsPlayedTo s w →
+        AddsPlayed n m.text (entries_of taken.exchanges) s after }
+{
+    request_ends();
+}
+
+/// Recorded: however such a run ended. All but the last of its connections are in the text, entry by entry,
+/// and of the last, and of news behind it, what the port got to; what could not be kept may stand behind
+/// that. Played as above it differs nowhere, and leaves what the desk left once that has caught up with it:
+/// once the operators are listed and the request carried out that the record has and the desk has not.
+pub fn recorded_to_the_end()
+    ensures { (doubt count : ℕ) (done : Result ⊤ Failure) (old new : Traffic) (w after : DeskWorld)
+        (n : Noted) (s : State) → IsHonest doubt →
+        (taken : AreTaken {A = ⊤} (IsHonest doubt) done count old new w after) →
+        old.recorded ≡ Some (Open n) → IsPlayedTo s w →
+        EndsPlayed n new.recorded taken.exchanges s after }
+{
+    request_ends();
+}

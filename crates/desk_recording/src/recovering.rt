@@ -1,0 +1,184 @@
+//! What a record left undone, done at its desk.
+
+ghost use Rattle.std.specs.Prelude.{◌≡◌, ◌≤◌, ◌⊎◌, IsTrue, IfErr, IfOk, OnOk};
+ghost use Rattle.desk_rules.specs.Limits.{max_priority};
+ghost use Rattle.desk_store.specs.StoreFaults.{IsHonest};
+ghost use Rattle.desk_store.specs.StoreFrames.{Remembers};
+ghost use Rattle.desk_run.specs.DeskWorld.{world_of};
+ghost use Rattle.desk_line.specs.Lines.{AreEnrolments};
+ghost use Rattle.desk_replay.specs.Replaying.{IsOwn};
+ghost use Rattle.desk_recording.specs.Recording.{Adds, Answered, Lost, parting_of};
+ghost use Rattle.desk_recording.specs.Recovering as spec;
+ghost use Rattle.desk_recording.specs.Recovering.{AsksAgain, AsksAgainIfAny, Recovers, told_again};
+ghost use Rattle.desk_recording.specs.Tail.{unanswered_in, unanswered_shown};
+
+use crate::record::{Parted, Record};
+use crate::tail::Unanswered;
+use desk_line::{Enrolment, Failure};
+use desk_program::{Outcome, set_up};
+use desk_replay::{ReplayFault, answer_one};
+use desk_rules::decide::MAX_PRIORITY;
+use desk_rules::operator::Operator;
+use desk_rules::terms::Terms;
+use desk_run::Desk;
+use desk_store::PlanStore;
+use std::alloc::{AllocError, Global};
+use volume4d::MAX_SECOND;
+
+/// Those of the enrolments whose operators are not on a roll, in their order, under ceilings of at most
+/// 1,000.
+///
+/// # Errors
+///
+/// `AllocError` if memory runs out.
+pub fn missing_of(
+    alloc: Global,
+    roll: &[Enrolment],
+    enrolments: &[Enrolment],
+) -> Result<Vec<Enrolment>, AllocError>
+    ensures are { IfOk result (λ missing. missing.items ≡ spec.missing_of roll.now enrolments.now) }
+    ensures small { IfOk result (λ missing. AreEnrolments missing.items) }
+{
+    let mut missing = Vec::new(alloc);
+    for enrolment in enrolments {
+        if is_missing(roll, enrolment) {
+            missing.push(*enrolment)?;
+        }
+    }
+    Ok(missing)
+}
+
+// Whether an enrolment is one of an operator that is not on a roll.
+fn is_missing(roll: &[Enrolment], enrolment: &Enrolment) -> bool
+    ensures value { result ≡ spec.is_missing roll.now enrolment.now }
+    ensures small { IsTrue result → enrolment.now.ceiling ≤ max_priority }
+{
+    if enrolment.ceiling > MAX_PRIORITY {
+        return false;
+    }
+    !is_listed(roll, &enrolment.operator)
+}
+
+// Whether an operator is on a roll.
+fn is_listed(roll: &[Enrolment], operator: &Operator) -> bool
+    ensures { result ≡ spec.is_listed roll.now operator.now }
+{
+    roll.iter().any(|enrolment| enrolment.operator == *operator)
+}
+
+/// Has the desk plan on a record's terms, enrols the operators that are missing, and asks the request again
+/// that the record left unanswered, at its second. The request is kept before it is asked, and its answer
+/// then.
+///
+/// # Errors
+///
+/// `Memory` or `Store` by the desk, `Broken` if the request or its answer can't be kept, `Clock` if its
+/// second is no moment. What is left then is what the clause says: a request that was not answered changed
+/// nothing.
+#[tactic(auto, using(crate::proofs::RecoveringLemmas::recovers, crate::proofs::RecoveringLemmas::unlisted))]
+pub fn recover<S: PlanStore, R: Record>(
+    alloc: Global,
+    desk: &mut Desk<S>,
+    terms: &Terms,
+    missing: &[Enrolment],
+    asked: Option<Unanswered>,
+    keeper: &mut R,
+) -> Result<(), Failure>
+    requires { AreEnrolments missing.now }
+    ensures recovers { Recovers (IsHonest (S.doubt desk.new.store)) terms.now missing.now
+        (unanswered_in asked) (world_of S.content desk.old) (world_of S.content desk.new)
+        (R.steps keeper.old) (R.steps keeper.new) result }
+    ensures remembered { Remembers S.doubt S.faults S.is_shielded desk.old.store desk.new.store }
+{
+    if let Err(fault) = set_up(desk, terms, missing) {
+        return Err(Failure::from(fault));
+    }
+    ask_if_any(alloc, desk, asked, keeper)
+}
+
+// Asks the request again that is unanswered, if there is one.
+fn ask_if_any<S: PlanStore, R: Record>(
+    alloc: Global,
+    desk: &mut Desk<S>,
+    asked: Option<Unanswered>,
+    keeper: &mut R,
+) -> Result<(), Failure>
+    ensures asks { AsksAgainIfAny (IsHonest (S.doubt desk.new.store)) (unanswered_in asked)
+        (world_of S.content desk.old) (world_of S.content desk.new) (R.steps keeper.old)
+        (R.steps keeper.new) result }
+    ensures remembered { Remembers S.doubt S.faults S.is_shielded desk.old.store desk.new.store }
+{
+    match asked {
+        Some(asked) => ask_again(alloc, desk, asked, keeper),
+        None => Ok(()),
+    }
+}
+
+// Asks a request again at its second.
+#[tactic(auto, using(crate::proofs::RecoveringLemmas::both_added))]
+fn ask_again<S: PlanStore, R: Record>(
+    alloc: Global,
+    desk: &mut Desk<S>,
+    asked: Unanswered,
+    keeper: &mut R,
+) -> Result<(), Failure>
+    ensures asks { AsksAgain (IsHonest (S.doubt desk.new.store)) (unanswered_shown asked)
+        (world_of S.content desk.old) (world_of S.content desk.new) (R.steps keeper.old)
+        (R.steps keeper.new) result }
+    ensures remembered { Remembers S.doubt S.faults S.is_shielded desk.old.store desk.new.store }
+{
+    let Unanswered { second, request } = asked;
+    if second > MAX_SECOND as u64 {
+        return Err(Failure::Clock);
+    }
+    let sent = (second as i64, request);
+    if !keeper.keep_request(sent.0, &sent.1) {
+        return Err(Failure::Broken);
+    }
+    match answer_one(alloc, desk, &sent) {
+        Ok(answer) => keep_again(keeper, &answer),
+        Err(fault) => {
+            keeper.lose_answer(told_again(b""));
+            Err(failure_of(fault))
+        }
+    }
+}
+
+// Keeps an answer that goes to no client.
+fn keep_again<R: Record>(keeper: &mut R, answer: &[u8]) -> Result<(), Failure>
+    ensures ok { OnOk result
+        (Adds (R.steps keeper.old) (R.steps keeper.new) (Answered (told_again answer.now))) }
+    ensures err { IfErr result (λ f. (f ≡ Failure.Broken)
+        × Adds (R.steps keeper.old) (R.steps keeper.new) (Lost (told_again answer.now))) }
+{
+    let connection = told_again(answer);
+    if keeper.keep_answer(connection) {
+        return Ok(());
+    }
+    keeper.lose_answer(connection);
+    Err(Failure::Broken)
+}
+
+// An answer that goes to no client.
+fn told_again(answer: &[u8]) -> Parted<'_>
+    ensures { parting_of result ≡ spec.told_again answer.now }
+{
+    Parted {
+        unread: b"",
+        sent: answer,
+        outcome: Outcome {
+            is_whole: true,
+            is_answered: true,
+        },
+    }
+}
+
+// Why the desk failed.
+fn failure_of(fault: ReplayFault) -> Failure
+    ensures { IsOwn fault → (result ≡ Failure.Memory) ⊎ (result ≡ Failure.Store) }
+{
+    match fault {
+        ReplayFault::OutOfMemory => Failure::Memory,
+        _ => Failure::Store,
+    }
+}

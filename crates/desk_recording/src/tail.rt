@@ -1,0 +1,276 @@
+//! The end of a record: what it leaves to do.
+
+ghost use Rattle.std.specs.Prelude.{◌≡◌, IfErr, IfOk};
+ghost use Rattle.std.specs.Io.KnownBytes.{Consumes};
+ghost use Rattle.desk_record.specs.Reading.{entry_shown};
+ghost use Rattle.desk_record.specs.Record.{entry};
+ghost use Rattle.desk_recording.specs.Tail as spec;
+ghost use Rattle.desk_recording.specs.Tail.{IsTail, IsUntold, Notes, Steps, nothing_said, said, tail_shown};
+
+use desk_line::Enrolment;
+use desk_record::{Entry, Kind, ReadFault, lengths, read_entry};
+use desk_replay::says_failure;
+use desk_rules::decide::MAX_PRIORITY;
+use desk_rules::operator::Operator;
+use desk_rules::permission::Permitted;
+use desk_rules::terms::{MAX_SPANS, Terms};
+use std::alloc::{AllocError, Global};
+use std::io::Read;
+use volume4d::MAX_SECOND;
+
+/// The version of the format.
+const VERSION: &[u8] = b"1";
+
+/// How many bytes an entry has beside its own.
+const BESIDE: u64 = 87;
+
+/// A request that is recorded and has no answer, or one that says that the desk failed.
+#[derive(Debug, Drop)]
+pub struct Unanswered {
+    /// The Unix second at which it was asked, at most 253,370,764,800.
+    pub second: u64,
+    pub request: Vec<u8>,
+}
+
+/// What a record says as it ends.
+#[derive(Debug, Drop)]
+pub struct Tail {
+    /// Its number in its folder, if it has begun.
+    pub record: Option<u64>,
+    /// The priorities that it permits.
+    pub permitted: Vec<u32>,
+    /// The terms of its desk.
+    pub terms: Terms,
+    /// The operators behind its last request.
+    pub operators: Vec<Enrolment>,
+    /// Its last request, if that is unanswered.
+    pub asked: Option<Unanswered>,
+    /// How many bytes its whole entries have.
+    pub size: u64,
+}
+
+/// What stands behind the last whole entry of a record.
+#[derive(Clone, Copy, Debug, PartialEq, Eq)]
+pub enum TailEnd {
+    /// Nothing.
+    End,
+    /// The beginning of an entry, which is too short.
+    Short,
+    /// Something else.
+    Damaged,
+}
+
+/// Why it is not told what a record leaves to do.
+#[derive(Clone, Copy, Debug, PartialEq, Eq)]
+pub enum TailFault {
+    /// A read failed.
+    Read,
+    /// Memory ran out.
+    OutOfMemory,
+    /// No desk writes such an entry there.
+    NoRecord,
+}
+
+impl From<AllocError> for TailFault {
+    ghost use Rattle.std.specs.Prelude.{◌≡◌};
+    ghost use Rattle.desk_recording.specs.declared.tail.TailFault.TheVariants as tail_fault;
+
+    ghost from_gives = { λ _ fault. fault ≡ tail_fault.OutOfMemory };
+
+    fn from(_error: AllocError) -> TailFault {
+        TailFault::OutOfMemory
+    }
+}
+
+impl Tail {
+    // Nothing was read.
+    fn none(alloc: Global) -> Tail
+        ensures { tail_shown result ≡ nothing_said }
+    {
+        Tail {
+            record: None,
+            permitted: Vec::new(alloc),
+            terms: Terms::none(),
+            operators: Vec::new(alloc),
+            asked: None,
+            size: 0,
+        }
+    }
+}
+
+/// Reads one record to its end, or to what is no whole entry, and tells what stands there.
+///
+/// # Errors
+///
+/// As `TailFault` says.
+pub fn read_tail<R: Read>(alloc: Global, input: &mut R) -> Result<(Tail, TailEnd), TailFault>
+    ensures ok { IfOk result (λ read. IsTail (R.remaining input.old) read.1 (tail_shown read.0)) }
+    ensures err { IfErr result (IsUntold (R.remaining input.old)) }
+{
+    let mut tail = Tail::none(alloc);
+    for _ in 0..u64::MAX {
+        match read_one(alloc, input, &mut tail) {
+            Ok(None) => {}
+            Ok(Some(ended)) => return Ok((tail, ended)),
+            Err(fault) => return Err(fault),
+        }
+    }
+    Err(TailFault::Read)
+}
+
+// Reads the next entry and notes it, or answers what stands there.
+fn read_one<R: Read>(
+    alloc: Global,
+    input: &mut R,
+    tail: &mut Tail,
+) -> Result<Option<TailEnd>, TailFault>
+    ensures { Steps result (R.remaining input.old) (R.remaining input.new) (tail_shown tail.old)
+        (tail_shown tail.new) }
+{
+    match read_entry(alloc, input) {
+        Ok(Some(entry)) => {
+            note(tail, entry)?;
+            Ok(None)
+        }
+        Ok(None) => Ok(Some(TailEnd::End)),
+        Err(ReadFault::CutShort) => Ok(Some(TailEnd::Short)),
+        Err(ReadFault::NoRecord) => Ok(Some(TailEnd::Damaged)),
+        Err(ReadFault::OutOfMemory) => Err(TailFault::OutOfMemory),
+        Err(ReadFault::Read) => Err(TailFault::Read),
+    }
+}
+
+// Notes what an entry says.
+#[tactic(auto, unfolding(crate::specs::Tail::said))]
+fn note(tail: &mut Tail, entry: Entry) -> Result<(), TailFault>
+    ensures { Notes result (said (tail_shown tail.old) (entry_shown entry)) (tail_shown tail.new) }
+{
+    let Entry {
+        kind,
+        number,
+        bytes,
+    } = entry;
+    if tail.record.is_none() && kind != Kind::Record {
+        return Err(TailFault::NoRecord);
+    }
+    lengths();
+    tail.size = tail.size.saturating_add(BESIDE + bytes.len() as u64);
+    note_within(tail, kind, number, bytes)
+}
+
+// Notes what an entry says, whose bytes are counted.
+fn note_within(tail: &mut Tail, kind: Kind, number: u64, bytes: Vec<u8>) -> Result<(), TailFault>
+    ensures { Notes result (spec.said_within kind (tail_shown tail.old) number bytes.items)
+        (tail_shown tail.new) }
+{
+    match kind {
+        Kind::Record => begin(tail, number, &bytes),
+        Kind::Permitted if !bytes.is_empty() => Err(TailFault::NoRecord),
+        Kind::Permitted => permit(tail, number),
+        Kind::Spans if !bytes.is_empty() => Err(TailFault::NoRecord),
+        Kind::Spans => limit_spans(tail, number),
+        Kind::Operator => list(tail, number, &bytes),
+        Kind::Request => ask(tail, number, bytes),
+        Kind::Answer => answer(tail, number, &bytes),
+    }
+}
+
+// The record begins.
+#[tactic(auto, unfolding(crate::specs::Tail::begun))]
+fn begin(tail: &mut Tail, number: u64, version: &[u8]) -> Result<(), TailFault>
+    ensures { Notes result (spec.begun (tail_shown tail.old) number version.now) (tail_shown tail.new) }
+{
+    if tail.record.is_some() {
+        return Err(TailFault::NoRecord);
+    }
+    if version != VERSION {
+        return Err(TailFault::NoRecord);
+    }
+    tail.record = Some(number);
+    Ok(())
+}
+
+// A priority is permitted beside the others.
+#[tactic(auto, unfolding(crate::specs::Tail::permitted))]
+fn permit(tail: &mut Tail, priority: u64) -> Result<(), TailFault>
+    ensures { Notes result (spec.permitted (tail_shown tail.old) priority) (tail_shown tail.new) }
+{
+    if priority > u64::from(MAX_PRIORITY) {
+        return Err(TailFault::NoRecord);
+    }
+    if tail.permitted.push(priority as u32).is_err() {
+        return Err(TailFault::OutOfMemory);
+    }
+    let Ok(permitted) = Permitted::try_new(&tail.permitted) else {
+        return Err(TailFault::NoRecord);
+    };
+    tail.terms.permitted = permitted;
+    Ok(())
+}
+
+// An operator's live plans may have so many spans.
+#[tactic(auto, unfolding(crate::specs::Tail::spanned))]
+fn limit_spans(tail: &mut Tail, spans: u64) -> Result<(), TailFault>
+    ensures { Notes result (spec.spanned (tail_shown tail.old) spans) (tail_shown tail.new) }
+{
+    if spans < 1 || spans > u64::from(MAX_SPANS) {
+        return Err(TailFault::NoRecord);
+    }
+    tail.terms.spans = Some(spans as u32);
+    Ok(())
+}
+
+// An operator is listed.
+#[tactic(auto, unfolding(crate::specs::Tail::listed))]
+fn list(tail: &mut Tail, ceiling: u64, name: &[u8]) -> Result<(), TailFault>
+    ensures { Notes result (spec.listed (tail_shown tail.old) ceiling name.now) (tail_shown tail.new) }
+{
+    let Some(operator) = Operator::try_new(name) else {
+        return Err(TailFault::NoRecord);
+    };
+    if ceiling > u64::from(MAX_PRIORITY) {
+        return Err(TailFault::NoRecord);
+    }
+    let ceiling = ceiling as u32;
+    if tail
+        .operators
+        .push(Enrolment { operator, ceiling })
+        .is_err()
+    {
+        return Err(TailFault::OutOfMemory);
+    }
+    Ok(())
+}
+
+// A request is asked.
+#[tactic(auto, unfolding(crate::specs::Tail::requested))]
+fn ask(tail: &mut Tail, second: u64, request: Vec<u8>) -> Result<(), TailFault>
+    ensures { Notes result (spec.requested (tail_shown tail.old) second request.items) (tail_shown tail.new) }
+{
+    if tail.asked.is_some() {
+        return Err(TailFault::NoRecord);
+    }
+    if second > MAX_SECOND as u64 {
+        return Err(TailFault::NoRecord);
+    }
+    tail.operators.clear();
+    tail.asked = Some(Unanswered { second, request });
+    Ok(())
+}
+
+// The request is answered.
+#[tactic(auto, unfolding(crate::specs::Tail::answered))]
+fn answer(tail: &mut Tail, second: u64, answer: &[u8]) -> Result<(), TailFault>
+    ensures { Notes result (spec.answered (tail_shown tail.old) second answer.now) (tail_shown tail.new) }
+{
+    let Some(asked) = &tail.asked else {
+        return Err(TailFault::NoRecord);
+    };
+    if asked.second != second {
+        return Err(TailFault::NoRecord);
+    }
+    if !says_failure(answer) {
+        tail.asked = None;
+    }
+    Ok(())
+}

@@ -1,0 +1,96 @@
+-- Telling: what a line tells of a replay, and how it ends.
+use Rattle.std.specs.Prelude.{◌≡◌, ◌⊎◌, ⊤, ℕ, List, [], ◌++◌, codes, decimal, Option, Some, None, Result, Ok, Err}
+use Rattle.std.specs.Io.KnownBytes.{Appends}
+use Rattle.desk_record.specs.declared.reading.ReadFault.TheVariants as unread
+use Rattle.desk_run.specs.DeskWorld.{DeskWorld}
+use Rattle.desk_ends.specs.declared.writing.WriteFault.{WriteFault}
+use Rattle.desk_wire.specs.Passage.{Course, Passage}
+use Rattle.desk_line.specs.Exits.{EndsWith, Ending, FailsWith}
+use Rattle.desk_line.specs.Written.{HasBegun, HasWritten}
+use Rattle.desk_line.specs.declared.failure.Failure.{Failure}
+use Rattle.desk_line.specs.declared.failure.Failure.TheVariants as failure
+use Rattle.desk_replay.specs.declared.fault.ReplayFault.TheVariants as fault
+use Rattle.desk_replay.specs.declared.stream.ReplayEnd.{ReplayEnd}
+use Rattle.desk_replay.specs.declared.stream.ReplayEnd.TheVariants.{End, Until, Unread, Unplayed}
+use Rattle.desk_replay.specs.Replaying.{State}
+use Rattle.desk_replay.specs.Running.{HasReplayed}
+
+-- what the end of a replay means; none if all was played that was to be
+abbrev pub failure_of_end : ReplayEnd → Option Failure
+failure_of_end End = None
+failure_of_end Until = None
+failure_of_end (Unread unread.Read) = Some failure.Read
+failure_of_end (Unread unread.OutOfMemory) = Some failure.Memory
+failure_of_end (Unread unread.CutShort) = Some failure.CutShort
+failure_of_end (Unread unread.NoRecord) = Some failure.NoRecord
+failure_of_end (Unplayed fault.OutOfMemory) = Some failure.Memory
+failure_of_end (Unplayed fault.Store) = Some failure.Store
+failure_of_end (Unplayed fault.NoRecord) = Some failure.NoRecord
+failure_of_end (Unplayed fault.NotNext) = Some failure.NoRecord
+failure_of_end (Unplayed fault.Differs) = Some failure.Differs
+
+-- the same in words
+abbrev pub cause_of_end : ReplayEnd → List ℕ
+cause_of_end End = codes "all is played"
+cause_of_end Until = codes "all is played"
+cause_of_end (Unread unread.Read) = codes "a read failed"
+cause_of_end (Unread unread.OutOfMemory) = codes "memory ran out"
+cause_of_end (Unread unread.CutShort) = codes "an entry that is cut short"
+cause_of_end (Unread unread.NoRecord) = codes "no entry of a record"
+cause_of_end (Unplayed fault.OutOfMemory) = codes "memory ran out"
+cause_of_end (Unplayed fault.Store) = codes "the store failed"
+cause_of_end (Unplayed fault.NoRecord) = codes "an entry that no record has there"
+cause_of_end (Unplayed fault.NotNext) = codes "a record that is not the next one"
+cause_of_end (Unplayed fault.Differs) = codes "another answer than the recorded one"
+
+-- the line that tells why a replay ended, after how many requests, and before which byte of the input
+unfoldable pub place_line : ℕ → ℕ → List ℕ → List ℕ
+place_line requests place cause =
+    codes "uss_desk: request " ++ (decimal requests ++ (codes ", at byte " ++ (decimal place ++ (codes ": "
+    ++ (cause ++ codes "\n")))))
+
+-- the line that tells that all was played
+unfoldable pub replayed_line : ℕ → List ℕ
+replayed_line requests = codes "replayed " ++ (decimal requests ++ codes " requests, all answers alike\n")
+
+-- a line is printed; or a write of it failed, or memory ran out for it
+abbrev pub IsPrinted : Result ⊤ Failure → List ℕ → Option (List ℕ) → Option (List ℕ) → Type 0
+IsPrinted (Ok done) line out now = Appends out now line
+IsPrinted (Err f) line out now =
+    ((f ≡ failure.Write) × HasBegun line out now) ⊎ ((f ≡ failure.Memory) × (now ≡ out))
+
+-- all was played, and the line that tells it is printed
+pub record IsDone (line : List ℕ) (end : Ending) (writes : Course (Option (List ℕ))) : Type 0 where
+  pub done : Result ⊤ Failure
+  pub ends : EndsWith done end
+  pub printed : IsPrinted done line writes.before writes.after
+
+-- nothing is printed, and why is told before the word of the failure, up to a write that fails; or not, if
+-- memory ran out for it
+pub record IsFailed (f : Failure) (line : List ℕ) (end : Ending) (writes : Course (Option (List ℕ))) :
+    Type 0 where
+  pub mid : Option (List ℕ)
+  pub told : ((cut : Option WriteFault) × HasWritten cut line end.before mid) ⊎ (mid ≡ end.before)
+  pub fails : FailsWith f (record end { before = mid })
+  pub unwritten : writes.after ≡ writes.before
+
+-- what is told of a replay, by the failure that its end means
+abbrev pub IsToldBy :
+    Option Failure → List ℕ → List ℕ → Ending → Course (Option (List ℕ)) → Type 0
+IsToldBy None line cause end writes = IsDone line end writes
+IsToldBy (Some f) line cause end writes = IsFailed f cause end writes
+
+abbrev pub IsTold : ReplayEnd → ℕ → ℕ → Ending → Course (Option (List ℕ)) → Type 0
+IsTold ended requests place end writes =
+    IsToldBy (failure_of_end ended) (replayed_line requests)
+    (place_line requests place (cause_of_end ended)) end writes
+
+-- the record of an input is played at a desk, up to where it ends, and what came of it is told
+pub record IsReplayed (H : Type 0) (until : Option ℕ) (p : Passage) (end : Ending) (w after : DeskWorld) :
+    Type 0 where
+  pub ended : ReplayEnd
+  pub place : ℕ
+  pub state : State
+  pub replayed : HasReplayed H until ended place p.reads.before p.reads.after w state
+  pub left : state.world ≡ after
+  pub told : IsTold ended state.requests place end p.writes

@@ -1,0 +1,187 @@
+//! The line of a replay: a record played at the desk that was opened for it, and what is told of it.
+
+ghost use Rattle.std.specs.Prelude.{◌≡◌, ◌≤◌, ◌⊎◌, Option, None, IfErr, IfOk, string_bytes};
+ghost use Rattle.std.specs.Option.{IsSomeAnd};
+ghost use Rattle.desk_store.specs.StoreFaults.{IsHonest};
+ghost use Rattle.desk_store.specs.StoreFrames.{Remembers};
+ghost use Rattle.desk_run.specs.DeskWorld.{world_of};
+ghost use Rattle.desk_ends.specs.declared.writing.WriteFault.{WriteFault as Cut};
+ghost use Rattle.desk_wire.specs.Passage.{course, passage};
+ghost use Rattle.desk_line.specs.Exits.{FailsWith, ending};
+ghost use Rattle.desk_line.specs.Written.{HasWritten};
+ghost use Rattle.desk_replay.specs.Telling as spec;
+ghost use Rattle.desk_replay.specs.Telling.{IsPrinted, IsReplayed, IsTold, place_line, replayed_line};
+
+use crate::fault::ReplayFault;
+use crate::stream::{ReplayEnd, Replayed, replay};
+use desk_ends::{WriteFault, write_whole};
+use desk_line::{Exit, Failure, conclude};
+use desk_record::ReadFault;
+use desk_run::Desk;
+use desk_store::PlanStore;
+use std::alloc::{AllocError, Global};
+use std::io::{Read, Write};
+
+/// Plays the record of the input at the desk that was opened for it, up to the first request that is asked
+/// later than `until` (a Unix second), if that is given. Prints how many requests were played, and answers
+/// how it ended and the desk. If an entry is not played, then where and why goes to `errors`, and the word of
+/// that failure; if no desk was opened, the word alone.
+pub fn replay_opened<S: PlanStore + Drop, R: Read, W: Write, E: Write>(
+    alloc: Global,
+    until: Option<u64>,
+    opened: Result<Desk<S>, Failure>,
+    input: &mut R,
+    output: &mut W,
+    errors: &mut E,
+) -> (Exit, Option<Desk<S>>)
+    ensures opened { IfOk opened (λ desk. IsSomeAnd result.1 (λ left.
+        IsReplayed (IsHonest (S.doubt left.store)) until
+        (passage R.Read W.Write input.old input.new output.old output.new)
+        (ending result.0 (E.contents errors.old) (E.contents errors.new))
+        (world_of S.content desk) (world_of S.content left)
+        × (S.doubt desk.store ≤ S.doubt left.store)
+        × (S.is_shielded desk.store → S.is_shielded left.store))) }
+    ensures unopened { IfErr opened (λ f.
+        FailsWith f (ending result.0 (E.contents errors.old) (E.contents errors.new))
+        × (result.1 ≡ None) × (R.remaining input.new ≡ R.remaining input.old)
+        × (W.contents output.new ≡ W.contents output.old)) }
+{
+    match opened {
+        Ok(mut desk) => {
+            let exit = replay_here(alloc, until, &mut desk, input, output, errors);
+            (exit, Some(desk))
+        }
+        Err(failure) => (conclude(errors, Err(failure)), None),
+    }
+}
+
+// Plays the record of the input at a desk, and tells what came of it.
+fn replay_here<S: PlanStore, R: Read, W: Write, E: Write>(
+    alloc: Global,
+    until: Option<u64>,
+    desk: &mut Desk<S>,
+    input: &mut R,
+    output: &mut W,
+    errors: &mut E,
+) -> Exit
+    ensures replayed { IsReplayed (IsHonest (S.doubt desk.new.store)) until
+        (passage R.Read W.Write input.old input.new output.old output.new)
+        (ending result (E.contents errors.old) (E.contents errors.new))
+        (world_of S.content desk.old) (world_of S.content desk.new) }
+    ensures remembered { Remembers S.doubt S.faults S.is_shielded desk.old.store desk.new.store }
+{
+    let replayed = replay(alloc, desk, until, input);
+    let requests = replayed.progress.requests;
+    tell_end(
+        alloc,
+        replayed.ended,
+        requests,
+        replayed.place,
+        output,
+        errors,
+    )
+}
+
+// Tells what came of a replay, and answers how it ended.
+fn tell_end<W: Write, E: Write>(
+    alloc: Global,
+    ended: ReplayEnd,
+    requests: u64,
+    place: u64,
+    output: &mut W,
+    errors: &mut E,
+) -> Exit
+    ensures { IsTold ended requests place (ending result (E.contents errors.old) (E.contents errors.new))
+        (course (W.contents output.old) (W.contents output.new)) }
+{
+    match failure_of_end(ended) {
+        None => conclude(errors, print_replayed(alloc, requests, output)),
+        Some(failure) => {
+            tell_place(alloc, requests, place, cause_of_end(ended), errors);
+            conclude(errors, Err(failure))
+        }
+    }
+}
+
+// Why a replay did not play all that was to be played, by its end.
+fn failure_of_end(ended: ReplayEnd) -> Option<Failure>
+    ensures { result ≡ spec.failure_of_end ended }
+{
+    match ended {
+        ReplayEnd::End | ReplayEnd::Until => None,
+        ReplayEnd::Unread(ReadFault::Read) => Some(Failure::Read),
+        ReplayEnd::Unread(ReadFault::OutOfMemory) => Some(Failure::Memory),
+        ReplayEnd::Unread(ReadFault::CutShort) => Some(Failure::CutShort),
+        ReplayEnd::Unread(ReadFault::NoRecord) => Some(Failure::NoRecord),
+        ReplayEnd::Unplayed(ReplayFault::OutOfMemory) => Some(Failure::Memory),
+        ReplayEnd::Unplayed(ReplayFault::Store) => Some(Failure::Store),
+        ReplayEnd::Unplayed(ReplayFault::NoRecord) => Some(Failure::NoRecord),
+        ReplayEnd::Unplayed(ReplayFault::NotNext) => Some(Failure::NoRecord),
+        ReplayEnd::Unplayed(ReplayFault::Differs) => Some(Failure::Differs),
+    }
+}
+
+// The same in words.
+fn cause_of_end(ended: ReplayEnd) -> &'static str
+    ensures { result.now ≡ spec.cause_of_end ended }
+{
+    match ended {
+        ReplayEnd::End | ReplayEnd::Until => "all is played",
+        ReplayEnd::Unread(ReadFault::Read) => "a read failed",
+        ReplayEnd::Unread(ReadFault::OutOfMemory) => "memory ran out",
+        ReplayEnd::Unread(ReadFault::CutShort) => "an entry that is cut short",
+        ReplayEnd::Unread(ReadFault::NoRecord) => "no entry of a record",
+        ReplayEnd::Unplayed(ReplayFault::OutOfMemory) => "memory ran out",
+        ReplayEnd::Unplayed(ReplayFault::Store) => "the store failed",
+        ReplayEnd::Unplayed(ReplayFault::NoRecord) => "an entry that no record has there",
+        ReplayEnd::Unplayed(ReplayFault::NotNext) => "a record that is not the next one",
+        ReplayEnd::Unplayed(ReplayFault::Differs) => "another answer than the recorded one",
+    }
+}
+
+// Prints that all was played.
+#[tactic(auto, using(crate::proofs::TellingLemmas::begun_part))]
+fn print_replayed<W: Write>(alloc: Global, requests: u64, output: &mut W) -> Result<(), Failure>
+    ensures { IsPrinted result (replayed_line requests) (W.contents output.old) (W.contents output.new) }
+{
+    let text = replayed_text(alloc, requests)?;
+    write_whole(output, text.as_bytes())?;
+    Ok(())
+}
+
+// The line that tells that all was played.
+#[tactic(auto, unfolding(crate::specs::Telling::replayed_line))]
+fn replayed_text(alloc: Global, requests: u64) -> Result<String, AllocError>
+    ensures { IfOk result (λ text. string_bytes text ≡ replayed_line requests) }
+{
+    format!(in alloc; "replayed {requests} requests, all answers alike\n")
+}
+
+// Tells where and why a replay ended. A fault of the writer is passed over, and so is want of memory.
+fn tell_place<E: Write>(alloc: Global, requests: u64, place: u64, cause: &str, errors: &mut E)
+    ensures { ((cut : Option Cut) × HasWritten cut (place_line requests place cause.now)
+        (E.contents errors.old) (E.contents errors.new)) ⊎ (E.contents errors.new ≡ E.contents errors.old) }
+{
+    if let Ok(text) = place_text(alloc, requests, place, cause) {
+        let _ = write_told(errors, &text);
+    }
+}
+
+// The line that tells where and why a replay ended.
+#[tactic(auto, unfolding(crate::specs::Telling::place_line))]
+fn place_text(alloc: Global, requests: u64, place: u64, cause: &str) -> Result<String, AllocError>
+    ensures { IfOk result (λ text. string_bytes text ≡ place_line requests place cause.now) }
+{
+    format!(in alloc; "uss_desk: request {requests}, at byte {place}: {cause}\n")
+}
+
+// Writes a text, and answers where it was broken off, if it was.
+#[tactic(auto, using(crate::proofs::TellingLemmas::begun_part))]
+fn write_told<E: Write>(errors: &mut E, text: &str) -> Option<WriteFault>
+    ensures { HasWritten result text.now (E.contents errors.old) (E.contents errors.new) }
+{
+    match write_whole(errors, text.as_bytes()) {
+        Ok(()) => None,
+        Err(fault) => Some(fault),
+    }
+}

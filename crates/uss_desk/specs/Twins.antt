@@ -1,0 +1,172 @@
+-- Twins: files that are read by a copy beside them, which is removed afterwards.
+use Rattle.std.specs.Prelude.{◌≡◌, ◌≢◌, ◌⊎◌, ℕ, Bool, true, List, [], ◌∷◌, ◌++◌, codes, decimal, string_bytes}
+use Rattle.std.specs.Prelude.{MatchOption, Option, None, Some, Result, Ok, Err}
+use Rattle.sqlite_disk.specs.declared.Disk as disk
+use Rattle.sqlite_disk.specs.declared.Files.{Files}
+use Rattle.sqlite_wal.specs.Recovery.{Image}
+use Rattle.sqlite_store.specs.declared.store.FileStore.{FileStore}
+use Rattle.sqlite.specs.Held.{Held}
+use Rattle.desk_ends.specs.declared.writing.WriteFault.{WriteFault}
+use Rattle.desk_line.specs.declared.failure.Failure.{Failure}
+use Rattle.desk_line.specs.declared.failure.Failure.TheVariants as failure
+use Rattle.desk_line.specs.declared.line.Database.{Database}
+use Rattle.desk_line.specs.Exits.{Ending, FailsWith, IsBreakdown}
+use Rattle.desk_program.specs.Looking.{IsTextPrinted, checked_line}
+use Rattle.desk_program.specs.declared.looking.CheckedFile.{CheckedFile}
+use Rattle.desk_tables.specs.declared.opening.looking.Holdings.{Holdings}
+use Rattle.uss_desk.specs.declared.opening.Unopened.{Unopened}
+use Rattle.uss_desk.specs.declared.twins.Rows.{Rows}
+use Rattle.uss_desk.specs.declared.twins.Rows.TheVariants as rows
+use Rattle.uss_desk.specs.declared.twins.Twin.{Twin}
+use Rattle.uss_desk.specs.declared.ways.Way.{Way}
+use Rattle.uss_desk.specs.Damage.{IsWritten}
+use Rattle.uss_desk.specs.Keeping.{CopyEnd, FailsTelling, FailsToRead, IsCopied, IsNamedIf, IsReadAs}
+use Rattle.uss_desk.specs.Naming.{Cleared, Failed, Follows, LeavesOthers, Removed, Step, Takes, Twinned, log_of}
+use Rattle.uss_desk.specs.Ways.{is_summed, untested}
+
+-- the name of a twin
+abbrev pub twin_of : List ℕ → List ℕ
+twin_of path = path ++ codes ".twin"
+
+-- the names of the twin beside a path, and of its log
+pub record AreTwins (path : List ℕ) (twin : Twin) : Type 0 where
+  pub path_is : string_bytes twin.path ≡ twin_of path
+  pub log_is : string_bytes twin.log ≡ log_of (twin_of path)
+
+-- ---- the steps of a twin
+
+-- what an earlier twin left is gone, and one is made of the file at a path
+abbrev pub making : List ℕ → List ℕ → Bool → List Step
+making source twin summed = Cleared twin (log_of twin) ∷ Twinned source twin summed ∷ []
+
+-- a step is made, or fails
+pub record IsAsked (step : Step) (old new : Option (List Step)) : Type 0 where
+  pub is_done : Bool
+  pub made : Takes old new is_done step
+
+-- a twin and its log are removed, as far as they can be
+pub record AreRemoved (twin : List ℕ) (old new : Option (List Step)) : Type 0 where
+  pub between : Option (List Step)
+  pub file : IsAsked (Removed twin) old between
+  pub log : IsAsked (Removed (log_of twin)) between new
+
+-- the making of a twin broke off, and what there was of it is removed
+pub record IsBrokenOff (twin : List ℕ) (old new : Option (List Step)) : Type 0 where
+  pub between : Option (List Step)
+  pub made : Follows old between (Cleared twin (log_of twin) ∷ Failed ∷ [])
+  pub removed : AreRemoved twin between new
+
+-- there is no twin: nothing was done; what is at its name can't be removed; or its making broke off
+abbrev pub IsUntwinned : List ℕ → Option (List Step) → Option (List Step) → Type 0
+IsUntwinned twin old new = (new ≡ old) ⊎ (Follows old new (Failed ∷ []) ⊎ IsBrokenOff twin old new)
+
+-- ---- what is told
+
+abbrev pub rows_text : Rows → List ℕ
+rows_text rows.OfADesk = codes "are a desk's"
+rows_text rows.OfNoDesk = codes "are no desk's"
+rows_text rows.TestedAlone = codes "alone were tested"
+
+-- the line that tells of pages without their sums, and what their rows are
+unfoldable pub unsummed_line : List ℕ → ℕ → List ℕ → List ℕ
+unsummed_line path pages text =
+    codes "uss_desk: " ++ (path ++ (codes ": " ++ (decimal pages
+    ++ (codes " pages without their sums, as sqlite3 leaves them; the rows " ++ (text ++ codes "\n")))))
+
+abbrev pub rows_line : List ℕ → ℕ → Rows → List ℕ
+rows_line path pages it = unsummed_line path pages (rows_text it)
+
+-- a line is written, whole or up to the write that broke off; or memory ran out for it
+abbrev pub IsNoted : List ℕ → Option (List ℕ) → Option (List ℕ) → Type 0
+IsNoted line out now = (now ≡ out) ⊎ ((cut : Option WriteFault) × IsWritten line cut out now)
+
+-- there is no twin, which is told, and nothing is printed
+pub record FailsUntwinned (end : Ending) (out now : Option (List ℕ)) : Type 0 where
+  pub failure : Failure
+  pub is : IsBreakdown failure
+  pub told : FailsTelling failure end
+  pub unprinted : now ≡ out
+
+-- the rows of a file are no desk's, which is told
+pub record FailsNoted (path : List ℕ) (pages : ℕ) (end : Ending) : Type 0 where
+  pub between : Option (List ℕ)
+  pub noted : IsNoted (rows_line path pages rows.OfNoDesk) end.before between
+  pub fails : FailsWith failure.Store (record end { before = between })
+
+-- by why they could not be read: want of memory says nothing of them
+abbrev pub IsRefused : List ℕ → ℕ → Failure → Ending → Type 0
+IsRefused path pages f end = ((f ≡ failure.Memory) × FailsWith failure.Memory end)
+    ⊎ ((f ≢ failure.Memory) × FailsNoted path pages end)
+
+-- ---- a look
+
+module _ {D : Type 0} {g : disk.Ghosts D} (image : Image) (path : List ℕ) (pages : ℕ) (end : Ending) where
+  -- the rows of a file are a desk's, and what they are is told
+  pub record IsTakenByRows (left : Held (FileStore D g)) (out now : Option (List ℕ)) : Type 0 where
+    pub between : Option (List ℕ)
+    pub file : CheckedFile
+    pub noted : IsNoted (rows_line path pages rows.OfADesk) end.before between
+    pub read : IsReadAs image left file
+    pub printed : IsTextPrinted (checked_line file) (record end { before = between }) out now
+
+  -- they can't be read as a desk's, and nothing is printed
+  pub record IsRefusedByRows (it : Unopened (FileStore D g)) (out now : Option (List ℕ)) : Type 0 where
+    pub look : FailsToRead image it
+    pub told : IsRefused path pages it.failure end
+    pub unprinted : now ≡ out
+
+  -- the one or the other, by what the twin showed
+  abbrev pub IsJudged :
+      Result (Held (FileStore D g)) (Unopened (FileStore D g)) → Option (List ℕ) → Option (List ℕ) → Type 0
+  IsJudged (Ok left) out now = IsTakenByRows left out now
+  IsJudged (Err it) out now = IsRefusedByRows it out now
+
+  abbrev pub IsJudgedIf :
+      Option (Result (Held (FileStore D g)) (Unopened (FileStore D g))) → Option (List ℕ) → Option (List ℕ)
+      → Type 0
+  IsJudgedIf None out now = FailsUntwinned end out now
+  IsJudgedIf (Some judged) out now = IsJudged judged out now
+
+-- a twin is made of a file, and removed once it was read
+pub record WasTwin (source twin : List ℕ) (summed : Bool) (old new : Option (List Step)) : Type 0 where
+  pub from : Option (List Step)
+  pub made : Follows old from (making source twin summed)
+  pub removed : AreRemoved twin from new
+
+abbrev pub WasTwinIf :
+    {A : Type 0} → Option A → List ℕ → List ℕ → Bool → Option (List Step) → Option (List Step) → Type 0
+WasTwinIf None source twin summed old new = IsUntwinned twin old new
+WasTwinIf (Some it) source twin summed old new = WasTwin source twin summed old new
+
+-- ---- a copy
+
+-- that the sums were not tested is told, if the copy of such a file was made
+abbrev pub IsTestTold : List ℕ → Way → ℕ → Option (List ℕ) → Option (List ℕ) → Type 0
+IsTestTold path way status out now = MatchOption (untested way status) (now ≡ out)
+    (λ pages. IsNoted (rows_line path pages rows.TestedAlone) out now)
+
+module _ {D E : Type 0} {g : disk.Ghosts D} (k : disk.Ghosts E) (image other : Image) where
+  -- a twin is made of a file; it is copied, as a file is; and it is removed
+  pub record IsCopiedByTwin (source to : List ℕ) (way : Way) (database : Database) (end : Ending)
+      (copied : Result (Held (FileStore D g) × (Files E × Holdings)) (CopyEnd g k))
+      (old new : Option (List Step)) (out now : Option (List ℕ)) : Type 0 where
+    pub from : Option (List Step)
+    pub until : Option (List Step)
+    pub told : Option (List ℕ)
+    pub made : Follows old from (making source (twin_of to) (is_summed way))
+    pub copies : IsCopied k image other database from until (record end { now = told }) copied out now
+    pub named : IsNamedIf copied to from until
+    pub own : LeavesOthers to from until
+    pub removed : AreRemoved (twin_of to) until new
+    pub noted : IsTestTold source way end.status told end.now
+
+  -- so; or there is no twin, which is told, and nothing is printed or copied
+  abbrev pub IsCopiedByTwinIf :
+      Option (List ℕ) → List ℕ → Way → Database → Ending
+      → Option (Result (Held (FileStore D g) × (Files E × Holdings)) (CopyEnd g k))
+      → Option (List Step) → Option (List Step) → Option (List ℕ) → Option (List ℕ) → Type 0
+  IsCopiedByTwinIf source to way database end None old new out now =
+      FailsUntwinned end out now × IsUntwinned (twin_of to) old new
+  IsCopiedByTwinIf None to way database end (Some copied) old new out now = ⊥
+  IsCopiedByTwinIf (Some source) to way database end (Some copied) old new out now =
+      IsCopiedByTwin source to way database end copied old new out now

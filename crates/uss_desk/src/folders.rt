@@ -1,0 +1,209 @@
+//! The folder of a desk's records: the files in it, and how a new one gets its name. No clause tells what the
+//! operating system did.
+
+use crate::naming::{READ_ONLY, TAKEN};
+use desk_recording::{Tail, TailEnd, TailFault, read_tail};
+use std::alloc::{AllocError, Global};
+use std::fs::{self, File, OpenOptions};
+use std::io::{self, BufReader, ErrorKind, Read, Seek, SeekFrom, Write};
+use std::os::unix::fs::OpenOptionsExt;
+
+// What the name of a record ends with.
+const ENDING: &str = ".record";
+
+// The fewest digits of a record's number in its name.
+const DIGITS: usize = 10;
+
+// The mode of a file that its owner alone reads and writes.
+const OWNER_ALONE: u32 = 0o600;
+
+/// Why a record can't be read or kept.
+#[derive(Drop)]
+pub enum Unkept {
+    /// Memory ran out.
+    Memory,
+    /// Another cause, as it is told.
+    Cause(&'static str),
+}
+
+impl From<AllocError> for Unkept {
+    fn from(_error: AllocError) -> Unkept {
+        Unkept::Memory
+    }
+}
+
+impl From<TailFault> for Unkept {
+    fn from(fault: TailFault) -> Unkept {
+        match fault {
+            TailFault::OutOfMemory => Unkept::Memory,
+            TailFault::Read => Unkept::Cause("its last record can't be read"),
+            TailFault::NoRecord => Unkept::Cause("its last record is none of a desk"),
+        }
+    }
+}
+
+impl From<io::Error> for Unkept {
+    fn from(error: io::Error) -> Unkept {
+        match error.kind() {
+            ErrorKind::OutOfMemory => Unkept::Memory,
+            ErrorKind::NotFound => Unkept::Cause("no such folder"),
+            ErrorKind::NotADirectory => Unkept::Cause("no folder"),
+            ErrorKind::PermissionDenied => Unkept::Cause("no right to it"),
+            ErrorKind::ReadOnlyFilesystem => Unkept::Cause(READ_ONLY),
+            ErrorKind::StorageFull | ErrorKind::QuotaExceeded => Unkept::Cause("a full disk"),
+            ErrorKind::AlreadyExists => Unkept::Cause(TAKEN),
+            _ => Unkept::Cause("it can't be read or written"),
+        }
+    }
+}
+
+/// A record of a folder.
+#[derive(Drop)]
+pub struct FoundRecord {
+    /// The number in its name.
+    pub number: u64,
+    /// Its path.
+    pub path: String,
+    /// How many bytes it has.
+    pub len: u64,
+}
+
+/// The record of a folder that has the greatest number in its name, if the folder has one.
+///
+/// # Errors
+///
+/// As `Unkept` says.
+pub fn last_record(rt: &HostRuntime, folder: &str) -> Result<Option<FoundRecord>, Unkept> {
+    let mut greatest = None;
+    for entry in fs::read_dir(rt, folder)? {
+        let entry = entry?;
+        greatest = greatest.max(record_number(entry.file_name()));
+    }
+    match greatest {
+        Some(number) => find_record(rt, folder, number),
+        None => Ok(None),
+    }
+}
+
+// The record of this number in a folder.
+fn find_record(rt: &HostRuntime, folder: &str, number: u64) -> Result<Option<FoundRecord>, Unkept> {
+    for entry in fs::read_dir(rt, folder)? {
+        let entry = entry?;
+        if record_number(entry.file_name()) == Some(number) {
+            let path = path_in(rt.alloc(), folder, entry.file_name())?;
+            let len = fs::metadata(rt, &path)?.len();
+            return Ok(Some(FoundRecord { number, path, len }));
+        }
+    }
+    Ok(None)
+}
+
+// The number in the name of a record, if this is one: `NNNNNNNNNN-SECOND.record`.
+fn record_number(name: &str) -> Option<u64> {
+    let (number, second) = name.strip_suffix(ENDING)?.split_once('-')?;
+    if number.len() < DIGITS || !are_digits(number) || !are_digits(second) {
+        return None;
+    }
+    u64::from_str_radix(number, 10).ok()
+}
+
+// Whether a text is digits alone, and has one.
+fn are_digits(text: &str) -> bool {
+    !text.is_empty() && text.as_bytes().iter().all(|byte| byte.is_ascii_digit())
+}
+
+fn path_in(alloc: Global, folder: &str, name: &str) -> Result<String, AllocError> {
+    format!(in alloc; "{folder}/{name}")
+}
+
+/// What a record says as it ends, and what stands behind its last whole entry.
+///
+/// # Errors
+///
+/// As `Unkept` says.
+pub fn tail_of(rt: &HostRuntime, record: &FoundRecord) -> Result<(Tail, TailEnd), Unkept> {
+    let file = File::open(rt, &record.path)?;
+    let mut input = BufReader::new(rt.alloc(), file)?;
+    Ok(read_tail(rt.alloc(), &mut input)?)
+}
+
+/// Moves what stands behind the last whole entry of a record to a file beside it, `NAME.rest`: the record has
+/// so many bytes then.
+///
+/// # Errors
+///
+/// As `Unkept` says. The record is cut only once the file beside it is on the disk.
+pub fn move_rest(
+    rt: &HostRuntime,
+    folder: &str,
+    record: &FoundRecord,
+    size: u64,
+) -> Result<(), Unkept> {
+    let mut file = OpenOptions::new()
+        .read(true)
+        .write(true)
+        .open(rt, &record.path)?;
+    let mut rest = Vec::new(rt.alloc());
+    file.seek(SeekFrom::Start(size))?;
+    file.read_to_end(&mut rest)?;
+    write_rest(rt, &record.path, &rest)?;
+    sync_folder(rt, folder)?;
+    file.set_len(size)?;
+    file.sync_all()?;
+    Ok(())
+}
+
+// Writes the file beside a record.
+fn write_rest(rt: &HostRuntime, path: &str, rest: &[u8]) -> Result<(), Unkept> {
+    let path = format!(in rt.alloc(); "{path}.rest")?;
+    let mut file = OpenOptions::new()
+        .write(true)
+        .create(true)
+        .truncate(true)
+        .mode(OWNER_ALONE)
+        .open(rt, &path)?;
+    file.write_all(rest)?;
+    file.sync_all()?;
+    Ok(())
+}
+
+/// Makes the file of a new record of this number, which is its owner's alone and has no record's name yet.
+///
+/// # Errors
+///
+/// As `Unkept` says.
+pub fn make_part(rt: &HostRuntime, folder: &str, number: u64) -> Result<File, Unkept> {
+    let part = part_of(rt.alloc(), folder, number)?;
+    // what a line left that was cut off
+    let _ = fs::remove_file(rt, &part);
+    let file = OpenOptions::new()
+        .write(true)
+        .create_new(true)
+        .mode(OWNER_ALONE)
+        .open(rt, &part)?;
+    Ok(file)
+}
+
+/// Gives the file of a new record its name, with the moment at which it begins (a Unix second), and syncs the
+/// folder.
+///
+/// # Errors
+///
+/// As `Unkept` says.
+pub fn name_part(rt: &HostRuntime, folder: &str, number: u64, second: u64) -> Result<(), Unkept> {
+    let part = part_of(rt.alloc(), folder, number)?;
+    let name = format!(in rt.alloc(); "{folder}/{number:010}-{second}{ENDING}")?;
+    fs::rename(rt, &part, &name)?;
+    sync_folder(rt, folder)
+}
+
+// The path that a new record has before it gets its name.
+fn part_of(alloc: Global, folder: &str, number: u64) -> Result<String, AllocError> {
+    format!(in alloc; "{folder}/.new-{number:010}")
+}
+
+// Syncs a folder.
+fn sync_folder(rt: &HostRuntime, folder: &str) -> Result<(), Unkept> {
+    File::open(rt, folder)?.sync_all()?;
+    Ok(())
+}

@@ -1,0 +1,294 @@
+//! A look at a file, and a copy of it, by a twin: a copy beside it, or beside the new file, that is read in
+//! its place and is removed afterwards. The file itself is not opened as a desk's, and so is left as it is.
+
+ghost use Rattle.std.specs.Prelude.{◌≡◌, true, IfErr, IfOk, List, OnOk, string_bytes, ℕ};
+ghost use Rattle.sqlite_wal.specs.Files.{image_at};
+ghost use Rattle.sqlite_wal.specs.Recovery.{Image};
+ghost use Rattle.desk_line.specs.Exits.{ending, IsBreakdown};
+ghost use Rattle.desk_line.specs.Lines.{file_of};
+ghost use Rattle.uss_desk.specs.Keeping.{FailsToRead, IsReadAs, Tells};
+ghost use Rattle.uss_desk.specs.Naming.{Follows};
+ghost use Rattle.uss_desk.specs.Twins as spec;
+ghost use Rattle.uss_desk.specs.Twins.{AreRemoved, AreTwins, IsCopiedByTwinIf, IsJudged, IsJudgedIf, IsNoted};
+ghost use Rattle.uss_desk.specs.Twins.{IsRefused, IsTestTold, IsUntwinned, WasTwinIf, making, twin_of};
+
+use crate::causes::tell_of;
+use crate::keeping::{Copies, CopyEnd, Look, copy_file, look_in};
+use crate::naming::{Folder, name_with};
+use crate::opening::{Unopened, Unread};
+use crate::pairs::TwinFault;
+use crate::ways::Way;
+use desk_ends::write_whole;
+use desk_line::{Copying, Database, Exit, Failure, conclude};
+use desk_program::{CheckedFile, print_checked};
+use sqlite::{Connection, FileFrom, FileStore, Start};
+use sqlite_disk::Disk;
+use std::alloc::{AllocError, Global};
+use std::io::Write;
+
+/// What is told of the rows of a file whose pages lack their sums.
+#[derive(Clone, Copy, Debug, PartialEq, Eq)]
+pub enum Rows {
+    /// They are a desk's.
+    OfADesk,
+    /// They are no desk's, or can't be read.
+    OfNoDesk,
+    /// They were copied, and nothing else was tested.
+    TestedAlone,
+}
+
+impl Rows {
+    fn text(self) -> &'static str
+        ensures { result.now ≡ spec.rows_text self }
+    {
+        match self {
+            Rows::OfADesk => "are a desk's",
+            Rows::OfNoDesk => "are no desk's",
+            Rows::TestedAlone => "alone were tested",
+        }
+    }
+}
+
+/// The names of a twin and of its log.
+#[derive(Drop)]
+pub struct Twin {
+    /// That of the twin.
+    pub path: String,
+    /// That of its log.
+    pub log: String,
+}
+
+impl Twin {
+    // The names beside a path.
+    fn beside(alloc: Global, path: &str) -> Result<Twin, AllocError>
+        ensures { IfOk result (AreTwins path.now) }
+    {
+        let twin = name_with(alloc, path, ".twin")?;
+        Ok(Twin {
+            log: name_with(alloc, &twin, "-wal")?,
+            path: twin,
+        })
+    }
+}
+
+/// A connection with which the files of a disk `D` were looked at, or what refused them.
+pub type Judged<D> = Result<Connection<FileStore<D>>, Unopened<FileStore<D>>>;
+
+/// Prints what a file holds so many of whose pages have other sums than theirs, read by a twin beside it, and
+/// answers how that ended and the connection to the twin, or why it can't be read; nothing if there is no
+/// twin. What its rows are, or why there is no twin, and the word of the failure, go to `errors`; a fault
+/// there is passed over.
+pub fn check_by_twin<F: Start, P: Folder, W: Write, E: Write>(
+    rt: &HostRuntime,
+    folder: &mut P,
+    path: &str,
+    pages: u64,
+    start: F,
+    output: &mut W,
+    errors: &mut E,
+) -> (Exit, Option<Result<Look<F>, Unread<F>>>)
+    ensures judged { IsJudgedIf (image_at F.Start) path.now pages
+        (ending result.0 (E.contents errors.old) (E.contents errors.new)) result.1
+        (W.contents output.old) (W.contents output.new) }
+    ensures twin { WasTwinIf result.1 path.now (twin_of path.now) true
+        (P.steps folder.old) (P.steps folder.new) }
+{
+    let twin = match make_twin(rt.alloc(), folder, path, path, true, errors) {
+        Ok(twin) => twin,
+        Err(failure) => return (conclude(errors, Err(failure)), None),
+    };
+    let found = look_in(rt, &twin.path, start);
+    remove_twin(folder, &twin);
+    let (exit, judged) = tell_found(rt.alloc(), path, pages, found, output, errors);
+    (exit, Some(judged))
+}
+
+/// The exit status of a look by a twin. What was looked at, on whatever disk it is, is closed.
+pub fn status_judged<D: Disk + Drop>(judged: (Exit, Option<Judged<D>>)) -> u8
+    ensures { result ≡ judged.0.status }
+{
+    let (exit, _) = judged;
+    exit.status
+}
+
+// Tells whether the rows of a twin are a desk's, and prints what they are.
+fn tell_found<D: Disk + Drop, W: Write, E: Write>(
+    alloc: Global,
+    path: &str,
+    pages: u64,
+    found: Result<(Connection<FileStore<D>>, CheckedFile), Unopened<FileStore<D>>>,
+    output: &mut W,
+    errors: &mut E,
+) -> (Exit, Judged<D>)
+    ensures { (image : Image) → IfOk found (λ it. IsReadAs image it.0 it.1) → IfErr found (FailsToRead image)
+        → IsJudged image path.now pages
+        (ending result.0 (E.contents errors.old) (E.contents errors.new)) result.1
+        (W.contents output.old) (W.contents output.new) }
+{
+    match found {
+        Ok((connection, file)) => {
+            tell_rows(alloc, path, pages, Rows::OfADesk, errors);
+            (print_checked(alloc, &file, output, errors), Ok(connection))
+        }
+        Err(unread) => (
+            refuse(alloc, path, pages, unread.failure, errors),
+            Err(unread),
+        ),
+    }
+}
+
+// Tells that the rows of a twin are no desk's, if it wasn't memory that ran out, and the word of the failure.
+fn refuse<E: Write>(alloc: Global, path: &str, pages: u64, failure: Failure, errors: &mut E) -> Exit
+    ensures { IsRefused path.now pages failure
+        (ending result (E.contents errors.old) (E.contents errors.new)) }
+{
+    match failure {
+        Failure::Memory => conclude(errors, Err(Failure::Memory)),
+        _ => {
+            tell_rows(alloc, path, pages, Rows::OfNoDesk, errors);
+            conclude(errors, Err(Failure::Store))
+        }
+    }
+}
+
+/// Copies what a file holds, read by a twin beside the new file, as `copy_file` does, and answers the same;
+/// nothing if there is no twin. Why there is none, and the word of the failure, go to `errors`; and if its
+/// pages lack their sums and it was copied, that its rows alone were tested.
+pub fn copy_by_twin<F: Start, N: Start, P: Folder, W: Write, E: Write>(
+    rt: &HostRuntime,
+    folder: &mut P,
+    words: &Copying,
+    way: Way,
+    start: F,
+    other: N,
+    output: &mut W,
+    errors: &mut E,
+) -> (
+    Exit,
+    Option<Result<Copies<FileFrom<F>, FileFrom<N>>, CopyEnd<FileFrom<F>, FileFrom<N>>>>,
+)
+    ensures { IsCopiedByTwinIf ⟦<FileFrom<N> as Disk>⟧ (image_at F.Start) (image_at N.Start)
+        (file_of words.now.database) (string_bytes words.now.to) way words.now.database
+        (ending result.0 (E.contents errors.old) (E.contents errors.new)) result.1
+        (P.steps folder.old) (P.steps folder.new) (W.contents output.old) (W.contents output.new) }
+{
+    let Database::File(path) = &words.database else {
+        return (conclude(errors, Err(Failure::Store)), None);
+    };
+    let twin = match make_twin(rt.alloc(), folder, path, &words.to, way.is_summed(), errors) {
+        Ok(twin) => twin,
+        Err(failure) => return (conclude(errors, Err(failure)), None),
+    };
+    let (exit, copied) = copy_file(
+        rt,
+        folder,
+        words,
+        Some(&twin.path),
+        start,
+        other,
+        output,
+        errors,
+    );
+    remove_twin(folder, &twin);
+    tell_tested(rt.alloc(), path, way, exit.status, errors);
+    (exit, Some(copied))
+}
+
+/// The exit status of a copy by a twin. What was copied, on whatever disk it is, is closed.
+pub fn status_twinned<D: Disk + Drop, N: Disk + Drop>(
+    copied: (Exit, Option<Result<Copies<D, N>, CopyEnd<D, N>>>),
+) -> u8
+    ensures { result ≡ copied.0.status }
+{
+    let (exit, _) = copied;
+    exit.status
+}
+
+// Tells that the rows alone were tested of a file that was copied with this status.
+fn tell_tested<E: Write>(alloc: Global, path: &str, way: Way, status: u8, errors: &mut E)
+    ensures { IsTestTold path.now way status (E.contents errors.old) (E.contents errors.new) }
+{
+    if let Some(pages) = way.untested(status) {
+        tell_rows(alloc, path, pages, Rows::TestedAlone, errors);
+    }
+}
+
+// Makes the twin of a file beside a path, where an earlier one may be left, or tells why not.
+fn make_twin<P: Folder, E: Write>(
+    alloc: Global,
+    folder: &mut P,
+    source: &str,
+    beside: &str,
+    is_summed: bool,
+    errors: &mut E,
+) -> Result<Twin, Failure>
+    ensures made { IfOk result (λ twin. AreTwins beside.now twin × Follows (P.steps folder.old)
+        (P.steps folder.new) (making source.now (twin_of beside.now) is_summed)) }
+    ensures unmade { IfErr result (λ _. IsUntwinned (twin_of beside.now)
+        (P.steps folder.old) (P.steps folder.new)) }
+    ensures failure { IfErr result IsBreakdown }
+    ensures quiet { OnOk result (E.contents errors.new ≡ E.contents errors.old) }
+    ensures told { Tells (E.contents errors.old) (E.contents errors.new) }
+{
+    let twin = Twin::beside(alloc, beside)?;
+    if let Some(cause) = folder.clear(source, &twin.path, &twin.log) {
+        tell_of(alloc, &twin.path, cause, errors);
+        return Err(Failure::Store);
+    }
+    match folder.twin(source, &twin.path, is_summed) {
+        None => Ok(twin),
+        Some(fault) => {
+            remove_twin(folder, &twin);
+            Err(tell_fault(alloc, source, &twin.path, fault, errors))
+        }
+    }
+}
+
+// Tells why a file has no twin, and answers the failure.
+fn tell_fault<E: Write>(
+    alloc: Global,
+    source: &str,
+    twin: &str,
+    fault: TwinFault,
+    errors: &mut E,
+) -> Failure
+    ensures failure { IsBreakdown result }
+    ensures told { Tells (E.contents errors.old) (E.contents errors.new) }
+{
+    match fault {
+        TwinFault::OutOfMemory => return Failure::Memory,
+        TwinFault::Source(cause) => tell_of(alloc, source, cause, errors),
+        TwinFault::Twin(cause) => tell_of(alloc, twin, cause, errors),
+    }
+    Failure::Store
+}
+
+// Removes a twin and its log, as far as they are there.
+fn remove_twin<P: Folder>(folder: &mut P, twin: &Twin)
+    ensures { (path : List ℕ) → AreTwins path twin.now
+        → AreRemoved (twin_of path) (P.steps folder.old) (P.steps folder.new) }
+{
+    folder.remove(&twin.path);
+    folder.remove(&twin.log);
+}
+
+// Tells of a file how many of its pages lack their sums, and what its rows are. A fault of the writer is
+// passed over, and so is want of memory.
+fn tell_rows<E: Write>(alloc: Global, path: &str, pages: u64, rows: Rows, errors: &mut E)
+    ensures { IsNoted (spec.rows_line path.now pages rows)
+        (E.contents errors.old) (E.contents errors.new) }
+{
+    if let Ok(line) = unsummed_line(alloc, path, pages, rows.text()) {
+        let _ = write_whole(errors, line.as_bytes());
+    }
+}
+
+// The line that tells of pages without their sums, and what their rows are.
+#[tactic(auto, unfolding(crate::specs::Twins::unsummed_line))]
+fn unsummed_line(alloc: Global, path: &str, pages: u64, text: &str) -> Result<String, AllocError>
+    ensures { IfOk result (λ line. string_bytes line ≡ spec.unsummed_line path.now pages text.now) }
+{
+    format!(in alloc;
+        "uss_desk: {path}: {pages} pages without their sums, as sqlite3 leaves them; the rows {text}\n"
+    )
+}

@@ -1,0 +1,73 @@
+//! The way in which the file of a look or of a copy is read: itself, or by a twin, if another program spoilt
+//! it. It is decided before the file is opened as a desk's.
+
+ghost use Rattle.std.specs.Prelude.{◌≡◌};
+ghost use Rattle.uss_desk.specs.Ways as spec;
+
+use crate::damage::has_commit;
+use crate::naming::is_no_path;
+use crate::sums::pages_without_sums;
+use std::fs;
+
+/// The way in which a file is read.
+#[derive(Clone, Copy, Debug, PartialEq, Eq)]
+pub enum Way {
+    /// As it is.
+    Itself,
+    /// By a twin of it and of its log, which is damaged.
+    Damaged,
+    /// By a twin whose pages have their sums: so many of its own have others.
+    Unsummed(u64),
+}
+
+impl Way {
+    /// Whether the pages of the twin get their sums.
+    pub fn is_summed(self) -> bool
+        ensures { result ≡ spec.is_summed self }
+    {
+        match self {
+            Way::Unsummed(_) => true,
+            Way::Itself | Way::Damaged => false,
+        }
+    }
+
+    /// How many pages are told of after a copy that ended with this status: their sums were not tested.
+    pub fn untested(self, status: u8) -> Option<u64>
+        ensures { result ≡ spec.untested self status }
+    {
+        match self {
+            Way::Unsummed(count) if status == 0 => Some(count),
+            _ => None,
+        }
+    }
+}
+
+/// The way in which the file at a path is read, whose log may be damaged. One whose log may have a commit is
+/// read as it is: its pages may stand in the log anew.
+pub fn way_to(rt: &HostRuntime, path: &str, is_damaged: bool) -> Way {
+    if is_damaged || is_no_path(path) || has_changes(rt, path) {
+        return way_for(is_damaged, None);
+    }
+    way_for(is_damaged, pages_without_sums(rt, path))
+}
+
+// The way, by whether the log is damaged and how many pages end with another sum than theirs.
+fn way_for(is_damaged: bool, unsummed: Option<u64>) -> Way
+    ensures { result ≡ spec.way_for is_damaged unsummed }
+{
+    if is_damaged {
+        return Way::Damaged;
+    }
+    match unsummed {
+        Some(count) if count != 0 => Way::Unsummed(count),
+        _ => Way::Itself,
+    }
+}
+
+// Whether the log of a file may have a commit, or that can't be known.
+fn has_changes(rt: &HostRuntime, path: &str) -> bool {
+    match fs::canonicalize(rt, path) {
+        Ok(real) => has_commit(rt, real.as_str()).unwrap_or(true),
+        Err(_) => true,
+    }
+}

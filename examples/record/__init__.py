@@ -1,0 +1,1 @@
+"""Records that are played again."""
