@@ -11,4 +11,4 @@ pub use interruption::is_interruption;
 pub use playing::PlayEnd;
 pub use serving::{ServeFault, Served};
 pub use writes::{LastWrite, Writes};
-pub use writing::{WriteEnd, WriteFault, write_whole};
+pub use writing::{Cut, WriteEnd, WriteFault, write_whole};

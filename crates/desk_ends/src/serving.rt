@@ -3,7 +3,7 @@
 ghost use Rattle.std.specs.Prelude.{◌≡◌};
 ghost use Rattle.desk_ends.specs.declared.serving.ServeFault.TheVariants as serve_fault;
 
-use crate::writing::WriteFault;
+use crate::writing::{Cut, WriteFault};
 use std::alloc::AllocError;
 use std::error::Error;
 use std::fmt;
@@ -51,11 +51,11 @@ impl fmt::Display for ServeFault {
 
 impl Error for ServeFault {}
 
-impl From<WriteFault> for ServeFault {
-    ghost from_gives = { λ fault e. e ≡ serve_fault.Write fault };
+impl<W> From<Cut<W>> for ServeFault {
+    ghost from_gives = { λ cut e. e ≡ serve_fault.Write cut.fault };
 
-    fn from(fault: WriteFault) -> ServeFault {
-        ServeFault::Write(fault)
+    fn from(cut: Cut<W>) -> ServeFault {
+        ServeFault::Write(cut.fault())
     }
 }
 

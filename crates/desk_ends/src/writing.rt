@@ -7,6 +7,7 @@ ghost use Rattle.desk_ends.specs.declared.writes.Writes.{Writes};
 
 use crate::writes::{LastWrite, Writes, write_counted};
 use std::io::{self, Write};
+use std::marker::PhantomData;
 
 /// How many writes an answer may take beside one for each of its bytes.
 const SPARE_WRITES: usize = 1_000;
@@ -24,8 +25,7 @@ pub enum WriteEnd {
     Limit,
 }
 
-/// The writing of bytes that broke off before the last of them. Only `write_whole` makes one, so what has one
-/// has asked a writer.
+/// The writing of bytes that broke off before the last of them.
 #[derive(Clone, Copy, Debug, PartialEq, Eq)]
 pub struct WriteFault {
     sent: usize,
@@ -56,6 +56,23 @@ impl WriteFault {
     }
 }
 
+/// The writing of bytes by a writer of this type that broke off. Only `write_whole` makes one, so what has
+/// one has asked a writer of this type: if that may be any writer's, the one that it was handed.
+#[derive_where(Clone, Copy, Debug, PartialEq, Eq)]
+pub struct Cut<W> {
+    fault: WriteFault,
+    writer: PhantomData<W>,
+}
+
+impl<W> Cut<W> {
+    /// How many bytes were written, and why no more were.
+    pub fn fault(self) -> WriteFault
+        ensures { result ≡ self.fault }
+    {
+        self.fault
+    }
+}
+
 // How many bytes were written, the first ones, and by which writes.
 #[derive(Clone, Copy)]
 struct Written {
@@ -69,16 +86,20 @@ struct Written {
 ///
 /// How many bytes were written, and why no more were.
 #[tactic(auto, using(crate::proofs::WritingLemmas::written_all))]
-pub fn write_whole<W: Write>(output: &mut W, bytes: &[u8]) -> Result<(), WriteFault>
+pub fn write_whole<W: Write>(output: &mut W, bytes: &[u8]) -> Result<(), Cut<W>>
     ensures ok { OnOk result (Appends (W.contents output.old) (W.contents output.new) bytes.now) }
-    ensures err { IfErr result (BreaksOff bytes.now (W.contents output.old) (W.contents output.new)) }
+    ensures err { IfErr result (λ cut. BreaksOff bytes.now (W.contents output.old)
+        (W.contents output.new) cut.fault) }
 {
     let Written { sent, writes } = write_most(output, bytes);
     if sent == bytes.len() {
         return Ok(());
     }
     let end = end_of(writes.last());
-    Err(WriteFault { sent, end, writes })
+    Err(Cut {
+        fault: WriteFault { sent, end, writes },
+        writer: PhantomData,
+    })
 }
 
 // Writes the first bytes, as many as the output takes in so many writes.

@@ -1,5 +1,5 @@
 -- Exits: the status with which the program ends, and the word that it prints.
-use Rattle.std.specs.Prelude.{◌≡◌, ◌⊎◌, ℕ, ◌==◌, if◌then◌else◌, List, ◌++◌, codes, Option, Some, None, Result, Ok, Err}
+use Rattle.std.specs.Prelude.{◌≡◌, ◌⊎◌, ℕ, ◌==◌, if◌then◌else◌, Bool, false, List, ◌++◌, codes, Option, Some, None, is_some, Result, Ok, Err}
 use Rattle.std.specs.Io.KnownBytes.{Appends}
 use Rattle.desk_run.specs.declared.fault.DeskFault.{DeskFault}
 use Rattle.desk_run.specs.declared.fault.DeskFault.TheVariants as desk
@@ -11,7 +11,6 @@ use Rattle.s2_cover.specs.declared.walk.CoverFault.{CoverFault}
 use Rattle.s2_cover.specs.declared.walk.CoverFault.TheVariants as cover
 use Rattle.desk_ends.specs.declared.playing.PlayEnd.{PlayEnd}
 use Rattle.desk_ends.specs.declared.playing.PlayEnd.TheVariants as play
-use Rattle.desk_ends.specs.declared.writing.WriteFault.{WriteFault}
 use Rattle.desk_ends.specs.declared.serving.ServeFault.{ServeFault}
 use Rattle.desk_ends.specs.declared.serving.ServeFault.TheVariants as serve
 use Rattle.desk_ends.specs.declared.serving.Served.{Served}
@@ -89,17 +88,18 @@ exit_status (Err failure) = failure_status failure
 -- writer held before and holds now
 pub record Ending : Type 0 where
   pub status : ℕ
-  pub cut : Option WriteFault
+  pub cut : Bool
   pub before : Option (List ℕ)
   pub now : Option (List ℕ)
 
-abbrev pub ending : Exit → Option (List ℕ) → Option (List ℕ) → Ending
-ending exit before now = record { status = exit.status; cut = exit.cut; before = before; now = now }
+abbrev pub ending : {E : Type 0} → Exit E → Option (List ℕ) → Option (List ℕ) → Ending
+ending exit before now =
+    record { status = exit.status; cut = is_some exit.cut; before = before; now = now }
 
 -- the line of a failure is written, or a beginning of it if a write broke off; and nothing if nothing failed
 abbrev pub IsConcluded :
-    {A : Type 0} → Result A Failure → Option WriteFault → Option (List ℕ) → Option (List ℕ) → Type 0
-IsConcluded (Ok done) cut out now = (cut ≡ None) × (now ≡ out)
+    {A : Type 0} → Result A Failure → Bool → Option (List ℕ) → Option (List ℕ) → Type 0
+IsConcluded (Ok done) cut out now = (cut ≡ false) × (now ≡ out)
 IsConcluded (Err f) cut out now = HasWritten cut (failure_line f) out now
 
 -- a line ended with what was done: the exit status and the line of the failure are of one failure
@@ -108,7 +108,7 @@ EndsWith done end = (end.status ≡ exit_status done) × IsConcluded done end.cu
 
 -- nothing is told of how a line ended
 abbrev pub IsSilent : Ending → Type 0
-IsSilent end = (end.cut ≡ None) × (end.now ≡ end.before)
+IsSilent end = (end.cut ≡ false) × (end.now ≡ end.before)
 
 -- a line ended well
 abbrev pub EndsWell : Ending → Type 0

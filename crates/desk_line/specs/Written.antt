@@ -1,7 +1,6 @@
 -- Written: what a writer has taken of some bytes.
-use Rattle.std.specs.Prelude.{◌≡◌, ◌≢◌, ℕ, List, [], ◌++◌, Option, None, Some}
+use Rattle.std.specs.Prelude.{◌≡◌, ◌≢◌, ℕ, Bool, true, false, List, [], ◌++◌, Option}
 use Rattle.std.specs.Io.KnownBytes.{Appends}
-use Rattle.desk_ends.specs.declared.writing.WriteFault.{WriteFault}
 
 -- a beginning of the bytes is written, not all of them, and nothing else
 pub record HasBegun (bytes : List ℕ) (out now : Option (List ℕ)) : Type 0 where
@@ -11,7 +10,7 @@ pub record HasBegun (bytes : List ℕ) (out now : Option (List ℕ)) : Type 0 wh
   pub left : rest ≢ []
   pub written : Appends out now begun
 
--- all of the bytes are written; or, if a write broke off, a beginning
-abbrev pub HasWritten : Option WriteFault → List ℕ → Option (List ℕ) → Option (List ℕ) → Type 0
-HasWritten None bytes out now = Appends out now bytes
-HasWritten (Some fault) bytes out now = HasBegun bytes out now
+-- all of the bytes are written; or, if that was cut off by a write, a beginning
+abbrev pub HasWritten : Bool → List ℕ → Option (List ℕ) → Option (List ℕ) → Type 0
+HasWritten false bytes out now = Appends out now bytes
+HasWritten true bytes out now = HasBegun bytes out now

@@ -1,12 +1,12 @@
 //! Why the program did not do all that it was asked: the exit status, and the word that it prints.
 
-ghost use Rattle.std.specs.Prelude.{◌≡◌, IfErr, None, OnOk};
+ghost use Rattle.std.specs.Prelude.{◌≡◌, IfErr, None, OnOk, is_some};
 ghost use Rattle.std.specs.Io.KnownBytes.{Appends};
 ghost use Rattle.desk_line.specs.Exits as spec;
 ghost use Rattle.desk_line.specs.Written.{HasBegun, HasWritten};
 ghost use Rattle.desk_line.specs.declared.failure.Failure.TheVariants as failure;
 
-use desk_ends::{ServeFault, WriteFault, write_whole};
+use desk_ends::{Cut, ServeFault, write_whole};
 use desk_run::DeskFault;
 use s2_cellid::TokenFault;
 use s2_cover::{CoverFault, RectFault};
@@ -151,10 +151,10 @@ impl From<ServeFault> for Failure {
     }
 }
 
-impl From<WriteFault> for Failure {
+impl<W> From<Cut<W>> for Failure {
     ghost from_gives = { λ _ f. f ≡ failure.Write };
 
-    fn from(_fault: WriteFault) -> Failure {
+    fn from(_cut: Cut<W>) -> Failure {
         Failure::Write
     }
 }
@@ -202,18 +202,18 @@ impl<T: Drop> From<AllocFailed<T>> for Failure {
     }
 }
 
-/// How a line ended.
-#[derive(Clone, Copy, Debug, PartialEq, Eq)]
-pub struct Exit {
+/// How a line ended that tells its failure to a writer of this type.
+#[derive_where(Clone, Copy, Debug, PartialEq, Eq)]
+pub struct Exit<E> {
     /// The exit status.
     pub status: u8,
     /// Where the line that tells a failure was broken off, if it was.
-    pub cut: Option<WriteFault>,
+    pub cut: Option<Cut<E>>,
 }
 
-impl Exit {
+impl<E> Exit<E> {
     /// An exit with this status, at which nothing is told.
-    pub fn silent(status: u8) -> Exit
+    pub fn silent(status: u8) -> Exit<E>
         ensures status { result.status ≡ status }
         ensures cut { result.cut ≡ None }
     {
@@ -223,9 +223,10 @@ impl Exit {
 
 /// The end of what was done; the word of a failure is printed as `uss_desk: WORD`, and a fault of the
 /// writer is passed over.
-pub fn conclude<E: Write>(errors: &mut E, done: Result<(), Failure>) -> Exit
+pub fn conclude<E: Write>(errors: &mut E, done: Result<(), Failure>) -> Exit<E>
     ensures status { result.status ≡ spec.exit_status done }
-    ensures told { spec.IsConcluded done result.cut (E.contents errors.old) (E.contents errors.new) }
+    ensures told { spec.IsConcluded done (is_some result.cut) (E.contents errors.old)
+        (E.contents errors.new) }
 {
     match done {
         Ok(()) => Exit::silent(0),
@@ -237,17 +238,18 @@ pub fn conclude<E: Write>(errors: &mut E, done: Result<(), Failure>) -> Exit
 }
 
 // Prints the line of a failure, and answers where it was broken off, if it was.
-fn print_failure<E: Write>(errors: &mut E, failure: Failure) -> Option<WriteFault>
-    ensures { HasWritten result (spec.failure_line failure) (E.contents errors.old) (E.contents errors.new) }
+fn print_failure<E: Write>(errors: &mut E, failure: Failure) -> Option<Cut<E>>
+    ensures { HasWritten (is_some result) (spec.failure_line failure) (E.contents errors.old)
+        (E.contents errors.new) }
 {
     match write_failure(errors, failure) {
         Ok(()) => None,
-        Err(fault) => Some(fault),
+        Err(cut) => Some(cut),
     }
 }
 
 // Writes the line of a failure, up to the first write that fails.
-fn write_failure<E: Write>(errors: &mut E, failure: Failure) -> Result<(), WriteFault>
+fn write_failure<E: Write>(errors: &mut E, failure: Failure) -> Result<(), Cut<E>>
     ensures ok { OnOk result (Appends (E.contents errors.old) (E.contents errors.new)
         (spec.failure_line failure)) }
     ensures err { IfErr result (λ _. HasBegun (spec.failure_line failure)

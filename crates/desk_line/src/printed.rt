@@ -33,7 +33,7 @@ pub fn print_line<W: Write, E: Write>(
     line: &Line,
     output: &mut W,
     errors: &mut E,
-) -> Exit
+) -> Exit<E>
     requires { IsPrintable line.now }
     ensures { IsPrinted line.now (ending result (E.contents errors.old) (E.contents errors.new))
         (W.contents output.old) (W.contents output.new) }

@@ -20,5 +20,5 @@ abbrev pub written : {W : Type 0} → write.Ghosts W → W → W → Course (Opt
 written w before after = course (w.contents before) (w.contents after)
 
 -- how a line ended, by its error writer
-abbrev pub ended : {E : Type 0} → write.Ghosts E → Exit → E → E → Ending
+abbrev pub ended : {E : Type 0} → write.Ghosts E → Exit E → E → E → Ending
 ended e exit before now = ending exit (e.contents before) (e.contents now)

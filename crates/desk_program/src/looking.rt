@@ -43,7 +43,7 @@ pub fn print_checked<W: Write, E: Write>(
     file: &CheckedFile,
     output: &mut W,
     errors: &mut E,
-) -> Exit
+) -> Exit<E>
     ensures { IsTextPrinted (spec.checked_line file.now)
         (ending result (E.contents errors.old) (E.contents errors.new)) (W.contents output.old)
         (W.contents output.new) }
@@ -62,7 +62,7 @@ pub fn print_copied<W: Write, E: Write>(
     plans: usize,
     output: &mut W,
     errors: &mut E,
-) -> Exit
+) -> Exit<E>
     ensures { IsTextPrinted (spec.copied_line operators plans)
         (ending result (E.contents errors.old) (E.contents errors.new)) (W.contents output.old)
         (W.contents output.new) }
@@ -74,7 +74,7 @@ pub fn print_copied<W: Write, E: Write>(
 }
 
 // Prints a text, and answers how it ended.
-fn print_text<W: Write, E: Write>(text: &str, output: &mut W, errors: &mut E) -> Exit
+fn print_text<W: Write, E: Write>(text: &str, output: &mut W, errors: &mut E) -> Exit<E>
     ensures { IsTextPrinted text.now (ending result (E.contents errors.old) (E.contents errors.new))
         (W.contents output.old) (W.contents output.new) }
 {

@@ -17,7 +17,7 @@ pub fn print_migrated<W: Write, E: Write>(
     count: u32,
     output: &mut W,
     errors: &mut E,
-) -> Exit
+) -> Exit<E>
     ensures { IsCountPrinted count (ending result (E.contents errors.old) (E.contents errors.new))
         (W.contents output.old) (W.contents output.new) }
 {

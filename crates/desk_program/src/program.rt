@@ -35,7 +35,7 @@ pub fn with_desk<S: PlanStore, R: Read, W: Write, E: Write>(
     input: &mut R,
     output: &mut W,
     errors: &mut E,
-) -> Exit
+) -> Exit<E>
     requires line { IsLine line.now }
     requires desk { HasDesk line.now }
     ensures played { IsLinePlayed (IsHonest (S.doubt desk.new.store)) line.now
@@ -75,7 +75,7 @@ fn play_line<S: PlanStore, R: Read, W: Write, E: Write>(
     input: &mut R,
     output: &mut W,
     errors: &mut E,
-) -> Exit
+) -> Exit<E>
     requires { IsPlay play.now }
     ensures played { IsPlayDone (IsHonest (S.doubt desk.new.store)) play.now
         (ended E.Write result errors.old errors.new) (passage R.Read W.Write input.old input.new
@@ -100,7 +100,7 @@ fn enrol_line<S: PlanStore, W: Write, E: Write>(
     desk: &mut Desk<S>,
     output: &mut W,
     errors: &mut E,
-) -> Exit
+) -> Exit<E>
     requires { enrolment.now.ceiling ≤ max_priority }
     ensures enrolled { IsEnrolled (IsHonest (S.doubt desk.new.store)) enrolment.now
         (ended E.Write result errors.old errors.new) (written W.Write output.old output.new)

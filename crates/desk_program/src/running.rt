@@ -32,7 +32,7 @@ pub fn run_opened<S: PlanStore + Drop, P: Port, R: Read, W: Write, E: Write>(
     input: &mut R,
     output: &mut W,
     errors: &mut E,
-) -> (Exit, Option<Desk<S>>)
+) -> (Exit<E>, Option<Desk<S>>)
     requires line { IsLine line.now }
     requires desk { HasDatabase line.now }
     ensures opened { IfOk opened (λ desk. IsSomeAnd result.1 (λ left.
@@ -77,7 +77,7 @@ fn carry_out<S: PlanStore, P: Port, R: Read, W: Write, E: Write>(
     input: &mut R,
     output: &mut W,
     errors: &mut E,
-) -> Exit
+) -> Exit<E>
     requires line { IsLine line.now }
     requires desk { HasDatabase line.now }
     ensures { CarriesOut S.PlanStore line.now (outside

@@ -38,7 +38,7 @@ pub fn serve<S: PlanStore, P: Port, W: Write, E: Write>(
     desk: &mut Desk<S>,
     output: &mut W,
     errors: &mut E,
-) -> Exit
+) -> Exit<E>
     requires { IsServe line.now }
     ensures served { IsLineServed (IsHonest (S.doubt desk.new.store)) line.now
         (ended E.Write result errors.old errors.new) (course (P.traffic port.old) (P.traffic port.new))

@@ -1,9 +1,8 @@
 -- Telling: what a line tells of a replay, and how it ends.
-use Rattle.std.specs.Prelude.{◌≡◌, ◌⊎◌, ⊤, ℕ, List, [], ◌++◌, codes, decimal, Option, Some, None, Result, Ok, Err}
+use Rattle.std.specs.Prelude.{◌≡◌, ◌⊎◌, ⊤, ℕ, Bool, List, [], ◌++◌, codes, decimal, Option, Some, None, Result, Ok, Err}
 use Rattle.std.specs.Io.KnownBytes.{Appends}
 use Rattle.desk_record.specs.declared.reading.ReadFault.TheVariants as unread
 use Rattle.desk_run.specs.DeskWorld.{DeskWorld}
-use Rattle.desk_ends.specs.declared.writing.WriteFault.{WriteFault}
 use Rattle.desk_wire.specs.Passage.{Course, Passage}
 use Rattle.desk_line.specs.Exits.{EndsWith, Ending, FailsWith}
 use Rattle.desk_line.specs.Written.{HasBegun, HasWritten}
@@ -70,7 +69,7 @@ pub record IsDone (line : List ℕ) (end : Ending) (writes : Course (Option (Lis
 pub record IsFailed (f : Failure) (line : List ℕ) (end : Ending) (writes : Course (Option (List ℕ))) :
     Type 0 where
   pub mid : Option (List ℕ)
-  pub told : ((cut : Option WriteFault) × HasWritten cut line end.before mid) ⊎ (mid ≡ end.before)
+  pub told : ((is_cut : Bool) × HasWritten is_cut line end.before mid) ⊎ (mid ≡ end.before)
   pub fails : FailsWith f (record end { before = mid })
   pub unwritten : writes.after ≡ writes.before
 

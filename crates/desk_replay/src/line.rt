@@ -1,11 +1,10 @@
 //! The line of a replay: a record played at the desk that was opened for it, and what is told of it.
 
-ghost use Rattle.std.specs.Prelude.{◌≡◌, ◌≤◌, ◌⊎◌, Option, None, IfErr, IfOk, string_bytes};
+ghost use Rattle.std.specs.Prelude.{◌≡◌, ◌≤◌, ◌⊎◌, Bool, None, IfErr, IfOk, is_some, string_bytes};
 ghost use Rattle.std.specs.Option.{IsSomeAnd};
 ghost use Rattle.desk_store.specs.StoreFaults.{IsHonest};
 ghost use Rattle.desk_store.specs.StoreFrames.{Remembers};
 ghost use Rattle.desk_run.specs.DeskWorld.{world_of};
-ghost use Rattle.desk_ends.specs.declared.writing.WriteFault.{WriteFault as Cut};
 ghost use Rattle.desk_wire.specs.Passage.{course, passage};
 ghost use Rattle.desk_line.specs.Exits.{FailsWith, ending};
 ghost use Rattle.desk_line.specs.Written.{HasWritten};
@@ -14,7 +13,7 @@ ghost use Rattle.desk_replay.specs.Telling.{IsPrinted, IsReplayed, IsTold, place
 
 use crate::fault::ReplayFault;
 use crate::stream::{ReplayEnd, Replayed, replay};
-use desk_ends::{WriteFault, write_whole};
+use desk_ends::{Cut, write_whole};
 use desk_line::{Exit, Failure, conclude};
 use desk_record::ReadFault;
 use desk_run::Desk;
@@ -33,7 +32,7 @@ pub fn replay_opened<S: PlanStore + Drop, R: Read, W: Write, E: Write>(
     input: &mut R,
     output: &mut W,
     errors: &mut E,
-) -> (Exit, Option<Desk<S>>)
+) -> (Exit<E>, Option<Desk<S>>)
     ensures opened { IfOk opened (λ desk. IsSomeAnd result.1 (λ left.
         IsReplayed (IsHonest (S.doubt left.store)) until
         (passage R.Read W.Write input.old input.new output.old output.new)
@@ -63,7 +62,7 @@ fn replay_here<S: PlanStore, R: Read, W: Write, E: Write>(
     input: &mut R,
     output: &mut W,
     errors: &mut E,
-) -> Exit
+) -> Exit<E>
     ensures replayed { IsReplayed (IsHonest (S.doubt desk.new.store)) until
         (passage R.Read W.Write input.old input.new output.old output.new)
         (ending result (E.contents errors.old) (E.contents errors.new))
@@ -90,7 +89,7 @@ fn tell_end<W: Write, E: Write>(
     place: u64,
     output: &mut W,
     errors: &mut E,
-) -> Exit
+) -> Exit<E>
     ensures { IsTold ended requests place (ending result (E.contents errors.old) (E.contents errors.new))
         (course (W.contents output.old) (W.contents output.new)) }
 {
@@ -159,7 +158,7 @@ fn replayed_text(alloc: Global, requests: u64) -> Result<String, AllocError>
 
 // Tells where and why a replay ended. A fault of the writer is passed over, and so is want of memory.
 fn tell_place<E: Write>(alloc: Global, requests: u64, place: u64, cause: &str, errors: &mut E)
-    ensures { ((cut : Option Cut) × HasWritten cut (place_line requests place cause.now)
+    ensures { ((is_cut : Bool) × HasWritten is_cut (place_line requests place cause.now)
         (E.contents errors.old) (E.contents errors.new)) ⊎ (E.contents errors.new ≡ E.contents errors.old) }
 {
     if let Ok(text) = place_text(alloc, requests, place, cause) {
@@ -177,11 +176,11 @@ fn place_text(alloc: Global, requests: u64, place: u64, cause: &str) -> Result<S
 
 // Writes a text, and answers where it was broken off, if it was.
 #[tactic(auto, using(crate::proofs::TellingLemmas::begun_part))]
-fn write_told<E: Write>(errors: &mut E, text: &str) -> Option<WriteFault>
-    ensures { HasWritten result text.now (E.contents errors.old) (E.contents errors.new) }
+fn write_told<E: Write>(errors: &mut E, text: &str) -> Option<Cut<E>>
+    ensures { HasWritten (is_some result) text.now (E.contents errors.old) (E.contents errors.new) }
 {
     match write_whole(errors, text.as_bytes()) {
         Ok(()) => None,
-        Err(fault) => Some(fault),
+        Err(cut) => Some(cut),
     }
 }

@@ -13,7 +13,7 @@ use Rattle.sqlite.specs.Files.{over_files}
 use Rattle.sqlite.specs.Held.{Held}
 use Rattle.desk_store.specs.World.{World}
 use Rattle.desk_ends.specs.Writing.{BreaksOff}
-use Rattle.desk_ends.specs.declared.writing.WriteFault.{WriteFault}
+use Rattle.desk_ends.specs.declared.writing.Cut.{Cut}
 use Rattle.desk_line.specs.Exits.{Ending, FailsWith}
 use Rattle.desk_program.specs.declared.looking.CheckedFile.{CheckedFile}
 use Rattle.desk_tables.specs.Copying.{AreCounted, IsMadeIn, LooksIn}
@@ -46,10 +46,12 @@ tells_both {old} {between} {now} first next = record {
 }
 
 -- a line that is written, or broken off
-pub tells_written : {U : Type 0} (line : List ℕ) (old now : Option (List ℕ)) (done : Result U WriteFault)
-    → OnOk done (Appends old now line) → IfErr done (BreaksOff line old now) → Tells old now
+pub tells_written : {U E : Type 0} (line : List ℕ) (old now : Option (List ℕ)) (done : Result U (Cut E))
+    → OnOk done (Appends old now line) → IfErr done (λ cut. BreaksOff line old now cut.fault)
+    → Tells old now
 tells_written line old now (Ok u) whole off = record { text = line; told = whole }
-tells_written line old now (Err stop) whole off = record { text = take stop.sent line; told = off.written }
+tells_written line old now (Err cut) whole off =
+    record { text = take cut.fault.sent line; told = off.written }
 
 -- what refused the files refuses them in the program
 pub refused_fails : {D : Type 0} {g : disk.Ghosts D} (image : Image) (it : Unopened (FileStore D g))

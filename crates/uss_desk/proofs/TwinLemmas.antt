@@ -1,5 +1,5 @@
 -- What the steps of a twin come to.
-use Rattle.std.proofs.Common.{◌≡◌, ℕ, Bool, List, [], Option, None, Some, Result, Ok, Err, OnOk, IfErr, inr, subst, sym}
+use Rattle.std.proofs.Common.{◌≡◌, ℕ, Bool, List, [], Option, Some, Result, Ok, Err, OnOk, IfErr, inl, inr, subst, sym}
 use Rattle.std.specs.Io.KnownBytes.{Appends}
 use Rattle.sqlite_disk.specs.declared.Disk as disk
 use Rattle.sqlite_disk.specs.declared.Files.{Files}
@@ -12,7 +12,7 @@ use Rattle.desk_line.specs.declared.failure.Exit.{Exit}
 use Rattle.desk_tables.specs.declared.opening.looking.Holdings.{Holdings}
 use Rattle.uss_desk.specs.Keeping.{CopyEnd, IsCopied}
 use Rattle.desk_ends.specs.Writing.{BreaksOff}
-use Rattle.desk_ends.specs.declared.writing.WriteFault.{WriteFault}
+use Rattle.desk_ends.specs.declared.writing.Cut.{Cut}
 use Rattle.uss_desk.specs.Naming.{Removed, Step, Takes, log_of}
 use Rattle.uss_desk.specs.Twins.{AreRemoved, IsAsked, IsCopiedByTwin, IsCopiedByTwinIf, IsNoted}
 use Rattle.uss_desk.specs.declared.ways.Way.{Way}
@@ -33,10 +33,11 @@ both_removed twin old mid new one other path log is is_log first next = record {
 }
 
 -- a line is written, or broken off
-pub noted : {U : Type 0} (line : List ℕ) (old now : Option (List ℕ)) (done : Result U WriteFault)
-    → OnOk done (Appends old now line) → IfErr done (BreaksOff line old now) → IsNoted line old now
-noted line old now (Ok u) whole off = inr (None, whole)
-noted line old now (Err stop) whole off = inr (Some stop, off)
+pub noted : {U E : Type 0} (line : List ℕ) (old now : Option (List ℕ)) (done : Result U (Cut E))
+    → OnOk done (Appends old now line) → IfErr done (λ cut. BreaksOff line old now cut.fault)
+    → IsNoted line old now
+noted line old now (Ok u) whole off = inr (inl whole)
+noted line old now (Err cut) whole off = inr (inr (cut.fault, off))
 
 -- of the file that is named, a copy was made by a twin
 pub copied_if : {D E : Type 0} {g : disk.Ghosts D} (k : disk.Ghosts E) (image other : Image)
@@ -50,12 +51,12 @@ copied_if {D} {E} {g} k image other file source to way database end copied old n
     (sym is) it
 
 -- what was told before a copy is as it was before its twin was made
-pub copied_from : {D E : Type 0} {g : disk.Ghosts D} (k : disk.Ghosts E) (image other : Image)
-    (database : Database) (from until : Option (List Step)) (exit : Exit) (before after told : Option
+pub copied_from : {D E X : Type 0} {g : disk.Ghosts D} (k : disk.Ghosts E) (image other : Image)
+    (database : Database) (from until : Option (List Step)) (exit : Exit X) (before after told : Option
     (List ℕ))
     (copied : Result (Held (FileStore D g) × (Files E × Holdings)) (CopyEnd g k)) (out now : Option (List ℕ))
     → after ≡ before
     → IsCopied {g = g} k image other database from until (ending exit after told) copied out now
     → IsCopied {g = g} k image other database from until (ending exit before told) copied out now
-copied_from {D} {E} {g} k image other database from until exit before after told copied out now is it =
+copied_from {D} {E} {X} {g} k image other database from until exit before after told copied out now is it =
     subst (λ b. IsCopied {g = g} k image other database from until (ending exit b told) copied out now) is it

@@ -3,7 +3,7 @@ use Rattle.std.specs.Prelude.{◌≡◌, ◌⊎◌, ⊤, ℕ, Bool, true, false,
 use Rattle.std.specs.Prelude.{Option, None, Some, IfSome, option_and_then, Result, Ok, Err}
 use Rattle.std.specs.Io.KnownBytes.{Appends}
 use Rattle.desk_ends.specs.Writing.{BreaksOff}
-use Rattle.desk_ends.specs.declared.writing.WriteFault.{WriteFault}
+use Rattle.desk_ends.specs.declared.writing.Cut.{Cut}
 use Rattle.desk_line.specs.declared.failure.Failure.{Failure}
 use Rattle.desk_line.specs.declared.failure.Failure.TheVariants as failure
 use Rattle.desk_line.specs.declared.line.Database.{Database}
@@ -25,12 +25,13 @@ damage_line path frame commits =
     ++ (decimal commits ++ codes " commits from there on can't be read\n")))))
 
 -- a line is written, whole or up to the write that broke off
-abbrev pub IsWritten : List ℕ → Option WriteFault → Option (List ℕ) → Option (List ℕ) → Type 0
+abbrev pub IsWritten : {E : Type 0} → List ℕ → Option (Cut E) → Option (List ℕ) → Option (List ℕ) → Type 0
 IsWritten line None out now = Appends out now line
-IsWritten line (Some fault) out now = BreaksOff line out now fault
+IsWritten line (Some cut) out now = BreaksOff line out now cut.fault
 
 -- a log is damaged, and that is told, up to the write that broke off
-pub record IsLossTold (path log : List ℕ) (cut : Option WriteFault) (out now : Option (List ℕ)) : Type 0 where
+pub record IsLossTold {E : Type 0} (path log : List ℕ) (cut : Option (Cut E)) (out now : Option (List ℕ)) :
+    Type 0 where
   pub frame : ℕ
   pub commits : ℕ
   pub damaged : IsDamaged log frame commits
@@ -44,7 +45,8 @@ IsUndamaged log out now = ((frame commits : ℕ) → ¬ IsDamaged log frame comm
 -- told. It is refused if the log is damaged and the file is not copied. If nothing is known of the log,
 -- nothing is told.
 abbrev pub IsLookedAt :
-    Bool → List ℕ → List ℕ → Result Look Unlooked → Option (List ℕ) → Option (List ℕ) → Type 0
+    {E : Type 0} → Bool → List ℕ → List ℕ → Result (Look E) Unlooked → Option (List ℕ) → Option (List ℕ)
+    → Type 0
 IsLookedAt copied path log (Ok look) out now =
     ((look.is_admitted ≡ true) × (look.is_damaged ≡ false) × IsUndamaged log out now)
     ⊎ ((look.is_admitted ≡ copied) × (look.is_damaged ≡ true) × IsLossTold path log look.cut out now)
@@ -56,7 +58,7 @@ HasCause log unlooked.OutOfMemory = IfSome log (λ bytes. (frame commits : ℕ) 
 HasCause log (unlooked.Unread fault) = IsUnjudged log fault
 
 -- whether a task is begun at a file, by what came of the look at its log, and whether that is damaged
-abbrev pub admission_of : Result Look Unlooked → Result Bool Failure
+abbrev pub admission_of : {E : Type 0} → Result (Look E) Unlooked → Result Bool Failure
 admission_of (Ok look) = if look.is_admitted then Ok look.is_damaged else Err failure.DamagedLog
 admission_of (Err unlooked.OutOfMemory) = Err failure.Memory
 admission_of (Err (unlooked.Unread fault)) = Err failure.Store

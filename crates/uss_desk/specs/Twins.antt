@@ -1,11 +1,13 @@
 -- Twins: files that are read by a copy beside them, which is removed afterwards.
 use Rattle.std.specs.Prelude.{◌≡◌, ◌≢◌, ◌⊎◌, ℕ, Bool, true, List, [], ◌∷◌, ◌++◌, codes, decimal, string_bytes}
 use Rattle.std.specs.Prelude.{MatchOption, Option, None, Some, Result, Ok, Err}
+use Rattle.std.specs.Io.KnownBytes.{Appends}
 use Rattle.sqlite_disk.specs.declared.Disk as disk
 use Rattle.sqlite_disk.specs.declared.Files.{Files}
 use Rattle.sqlite_wal.specs.Recovery.{Image}
 use Rattle.sqlite_store.specs.declared.store.FileStore.{FileStore}
 use Rattle.sqlite.specs.Held.{Held}
+use Rattle.desk_ends.specs.Writing.{BreaksOff}
 use Rattle.desk_ends.specs.declared.writing.WriteFault.{WriteFault}
 use Rattle.desk_line.specs.declared.failure.Failure.{Failure}
 use Rattle.desk_line.specs.declared.failure.Failure.TheVariants as failure
@@ -19,7 +21,6 @@ use Rattle.uss_desk.specs.declared.twins.Rows.{Rows}
 use Rattle.uss_desk.specs.declared.twins.Rows.TheVariants as rows
 use Rattle.uss_desk.specs.declared.twins.Twin.{Twin}
 use Rattle.uss_desk.specs.declared.ways.Way.{Way}
-use Rattle.uss_desk.specs.Damage.{IsWritten}
 use Rattle.uss_desk.specs.Keeping.{CopyEnd, FailsTelling, FailsToRead, IsCopied, IsNamedIf, IsReadAs}
 use Rattle.uss_desk.specs.Naming.{Cleared, Failed, Follows, LeavesOthers, Removed, Step, Takes, Twinned, log_of}
 use Rattle.uss_desk.specs.Ways.{is_summed, untested}
@@ -78,7 +79,8 @@ rows_line path pages it = unsummed_line path pages (rows_text it)
 
 -- a line is written, whole or up to the write that broke off; or memory ran out for it
 abbrev pub IsNoted : List ℕ → Option (List ℕ) → Option (List ℕ) → Type 0
-IsNoted line out now = (now ≡ out) ⊎ ((cut : Option WriteFault) × IsWritten line cut out now)
+IsNoted line out now =
+    (now ≡ out) ⊎ Appends out now line ⊎ ((fault : WriteFault) × BreaksOff line out now fault)
 
 -- there is no twin, which is told, and nothing is printed
 pub record FailsUntwinned (end : Ending) (out now : Option (List ℕ)) : Type 0 where

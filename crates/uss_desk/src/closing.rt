@@ -19,7 +19,7 @@ pub fn close_after<F: Start, N: Paths + Drop, E: Write>(
     status: u8,
     desk: Option<FileDesk<F, N>>,
     errors: &mut E,
-) -> (Exit, Option<Closed<FileFrom<F>>>)
+) -> (Exit<E>, Option<Closed<FileFrom<F>>>)
     ensures { IsClosed desk status
         (ending result.0 (E.contents errors.old) (E.contents errors.new)) result.1 }
 {
@@ -32,7 +32,7 @@ pub fn close_after<F: Start, N: Paths + Drop, E: Write>(
 }
 
 // How a line ends whose desk was closed, or can't be.
-fn end_closed<D: Disk, E: Write>(status: u8, closed: &Closed<D>, errors: &mut E) -> Exit
+fn end_closed<D: Disk, E: Write>(status: u8, closed: &Closed<D>, errors: &mut E) -> Exit<E>
     ensures { IsEnded closed.now.files closed.now.are_at_paths status
         (ending result (E.contents errors.old) (E.contents errors.new)) }
 {
@@ -44,7 +44,7 @@ fn end_closed<D: Disk, E: Write>(status: u8, closed: &Closed<D>, errors: &mut E)
 }
 
 // How a line ends whose desk can't be closed, or wasn't at its paths any more.
-fn end_unclosed<E: Write>(status: u8, errors: &mut E) -> Exit
+fn end_unclosed<E: Write>(status: u8, errors: &mut E) -> Exit<E>
     ensures { IsUnclosed status (ending result (E.contents errors.old) (E.contents errors.new)) }
 {
     if status == 0 {
@@ -54,7 +54,7 @@ fn end_unclosed<E: Write>(status: u8, errors: &mut E) -> Exit
 }
 
 /// The exit status of a line whose desk was closed, on whatever disk it was.
-pub fn status_closed<D: Disk + Drop>(ended: (Exit, Option<Closed<D>>)) -> u8
+pub fn status_closed<D: Disk + Drop, E>(ended: (Exit<E>, Option<Closed<D>>)) -> u8
     ensures { result ≡ ended.0.status }
 {
     let (exit, _) = ended;

@@ -8,7 +8,7 @@ ghost use Rattle.uss_desk.specs.Damage as spec;
 ghost use Rattle.uss_desk.specs.Damage.{HasCause, IsLookedAt, IsWritten};
 
 use crate::causes::tell_of;
-use desk_ends::{WriteFault, write_whole};
+use desk_ends::{Cut, write_whole};
 use desk_line::{Database, Failure, Line, Task};
 use desk_log::{LogFault, Verdict, damaged_is_long, judge_log};
 use sqlite::Unknown;
@@ -26,15 +26,15 @@ const LEAST_WITH_A_COMMIT: u64 = 568;
 // What is told of a file that isn't there, and its log is.
 const LOG_ALONE: &str = "its log is there without it: was it moved or removed while a desk ran?";
 
-/// What came of a look at a log.
-#[derive(Clone, Copy, Debug, PartialEq, Eq)]
-pub struct Look {
+/// What came of a look at a log that tells its damage to a writer of this type.
+#[derive_where(Clone, Copy, Debug, PartialEq, Eq)]
+pub struct Look<E> {
     /// Whether its file may be opened, or copied.
     pub is_admitted: bool,
     /// Whether it is damaged.
     pub is_damaged: bool,
     /// Where the line that tells its damage was broken off, if it was.
-    pub cut: Option<WriteFault>,
+    pub cut: Option<Cut<E>>,
 }
 
 /// Why nothing is known of a log.
@@ -83,7 +83,7 @@ pub fn look_before<E: Write>(
 }
 
 // Whether a task is begun at a file, by what came of the look at its log, and whether that is damaged.
-fn admission_of(look: Result<Look, Unlooked>) -> Result<bool, Failure>
+fn admission_of<E>(look: Result<Look<E>, Unlooked>) -> Result<bool, Failure>
     ensures { result ≡ spec.admission_of look }
 {
     match look {
@@ -106,7 +106,7 @@ pub fn look_at_log<R: Read, E: Write>(
     is_copied: bool,
     log: &mut R,
     errors: &mut E,
-) -> Result<Look, Unlooked>
+) -> Result<Look<E>, Unlooked>
     ensures looked { IfSome (R.remaining log.old) (λ bytes. IsLookedAt is_copied path.now bytes result
         (E.contents errors.old) (E.contents errors.new)) }
     ensures cause { IfErr result (HasCause (R.remaining log.old)) }
@@ -136,7 +136,7 @@ fn tell_damage<E: Write>(
     frame: u64,
     commits: u64,
     errors: &mut E,
-) -> Result<Option<WriteFault>, AllocError>
+) -> Result<Option<Cut<E>>, AllocError>
     ensures told { IfOk result (λ cut. IsWritten (spec.damage_line path.now frame commits) cut
         (E.contents errors.old) (E.contents errors.new)) }
     ensures untold { IfErr result (λ _. E.contents errors.new ≡ E.contents errors.old) }
@@ -144,7 +144,7 @@ fn tell_damage<E: Write>(
     let line = damage_line(alloc, path, frame, commits)?;
     match write_whole(errors, line.as_bytes()) {
         Ok(()) => Ok(None),
-        Err(fault) => Ok(Some(fault)),
+        Err(cut) => Ok(Some(cut)),
     }
 }
 

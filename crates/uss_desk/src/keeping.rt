@@ -125,7 +125,7 @@ pub fn check_file<F: Start, W: Write, E: Write>(
     start: F,
     output: &mut W,
     errors: &mut E,
-) -> (Exit, Result<Look<F>, Unread<F>>)
+) -> (Exit<E>, Result<Look<F>, Unread<F>>)
     ensures { IsChecked (image_at F.Start) database.now
         (ending result.0 (E.contents errors.old) (E.contents errors.new)) result.1
         (W.contents output.old) (W.contents output.new) }
@@ -143,9 +143,9 @@ pub fn check_file<F: Start, W: Write, E: Write>(
 }
 
 /// The exit status of a look. What was looked at, on whatever disk it is, is closed.
-pub fn status_checked<D: Disk + Drop>(
+pub fn status_checked<D: Disk + Drop, E>(
     checked: (
-        Exit,
+        Exit<E>,
         Result<Connection<FileStore<D>>, Unopened<FileStore<D>>>,
     ),
 ) -> u8
@@ -161,7 +161,7 @@ fn tell_unread<E: Write>(
     database: &Database,
     failure: Failure,
     errors: &mut E,
-) -> Exit
+) -> Exit<E>
     ensures { FailsTelling failure (ending result (E.contents errors.old) (E.contents errors.new)) }
 {
     tell_database(rt, database, failure, errors);
@@ -256,7 +256,7 @@ pub fn copy_file<F: Start, N: Start, P: Folder, W: Write, E: Write>(
     output: &mut W,
     errors: &mut E,
 ) -> (
-    Exit,
+    Exit<E>,
     Result<Copies<FileFrom<F>, FileFrom<N>>, CopyEnd<FileFrom<F>, FileFrom<N>>>,
 )
     ensures copied { IsCopied ⟦<FileFrom<N> as Disk>⟧ (image_at F.Start) (image_at N.Start)
@@ -276,8 +276,8 @@ pub fn copy_file<F: Start, N: Start, P: Folder, W: Write, E: Write>(
 }
 
 /// The exit status of a copy. What was copied, on whatever disk it is, is closed.
-pub fn status_copied<D: Disk + Drop, N: Disk + Drop>(
-    copied: (Exit, Result<Copies<D, N>, CopyEnd<D, N>>),
+pub fn status_copied<D: Disk + Drop, N: Disk + Drop, E>(
+    copied: (Exit<E>, Result<Copies<D, N>, CopyEnd<D, N>>),
 ) -> u8
     ensures { result ≡ copied.0.status }
 {
@@ -291,7 +291,7 @@ fn print_holdings<W: Write, E: Write>(
     holdings: &Holdings,
     output: &mut W,
     errors: &mut E,
-) -> Exit
+) -> Exit<E>
     ensures { IsTextPrinted (copied_line holdings.now.operators holdings.now.plans)
         (ending result (E.contents errors.old) (E.contents errors.new))
         (W.contents output.old) (W.contents output.new) }

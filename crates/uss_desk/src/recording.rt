@@ -179,7 +179,7 @@ fn recover_at<'s>(
 }
 
 // Whether a desk was closed, on whatever disk it was.
-fn is_closed<D: Disk + Drop>(ended: (Exit, Option<Closed<D>>)) -> bool {
+fn is_closed<D: Disk + Drop, E>(ended: (Exit<E>, Option<Closed<D>>)) -> bool {
     match ended.1 {
         Some(closed) => closed.are_at_paths && closed.files.is_ok(),
         None => false,

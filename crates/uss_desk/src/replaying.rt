@@ -60,7 +60,7 @@ pub fn replay_line<F: Start, N: Paths + Drop, R: Read, W: Write, E: Write>(
     input: &mut R,
     output: &mut W,
     errors: &mut E,
-) -> (Exit, Option<MemoryDesk>, Option<FileDesk<F, N>>)
+) -> (Exit<E>, Option<MemoryDesk>, Option<FileDesk<F, N>>)
     requires { IsOpenedAt (image_at F.Start) words.now.database opened }
     ensures { IsReplayDone (account_of F.Start) opened words.now.until
         (passage R.Read W.Write input.old input.new output.old output.new)
@@ -88,7 +88,7 @@ fn replay_over<D: Disk + Drop, N: Paths + Drop, R: Read, W: Write, E: Write>(
     input: &mut R,
     output: &mut W,
     errors: &mut E,
-) -> (Exit, Option<Desk<Watched<FileStore<D>, N>>>)
+) -> (Exit<E>, Option<Desk<Watched<FileStore<D>, N>>>)
     ensures opened { IfOk opened (IsReplayedAt over_files until
         (passage R.Read W.Write input.old input.new output.old output.new)
         (ending result.0 (E.contents errors.old) (E.contents errors.new)) result.1) }

@@ -30,7 +30,7 @@ pub fn run_line<F: Start, N: Paths + Drop, P: Port, R: Read, W: Write, E: Write>
     input: &mut R,
     output: &mut W,
     errors: &mut E,
-) -> (Exit, Option<MemoryDesk>, Option<FileDesk<F, N>>)
+) -> (Exit<E>, Option<MemoryDesk>, Option<FileDesk<F, N>>)
     requires line { IsLine line.now }
     requires opened { IsOpenedFor (image_at F.Start) line.now opened }
     ensures { IsDone (account_of F.Start) opened line.now
@@ -65,7 +65,7 @@ fn run_over<D: Disk + Drop, N: Paths + Drop, P: Port, R: Read, W: Write, E: Writ
     input: &mut R,
     output: &mut W,
     errors: &mut E,
-) -> (Exit, Option<Desk<Watched<FileStore<D>, N>>>)
+) -> (Exit<E>, Option<Desk<Watched<FileStore<D>, N>>>)
     requires line { IsLine line.now }
     requires desk { HasDatabase line.now }
     ensures opened { IfOk opened (IsDoneAt over_files line.now (P.traffic port.old) (P.traffic port.new)
@@ -87,7 +87,7 @@ fn tell_moved<F: Start, N: Paths + Drop, W: Write, E: Write>(
     moved: Result<(FileDesk<F, N>, u32), Failure>,
     output: &mut W,
     errors: &mut E,
-) -> (Exit, Option<FileDesk<F, N>>)
+) -> (Exit<E>, Option<FileDesk<F, N>>)
     ensures { IsMoveTold moved (ending result.0 (E.contents errors.old) (E.contents errors.new)) result.1
         (W.contents output.old) (W.contents output.new) }
 {

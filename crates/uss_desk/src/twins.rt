@@ -86,7 +86,7 @@ pub fn check_by_twin<F: Start, P: Folder, W: Write, E: Write>(
     start: F,
     output: &mut W,
     errors: &mut E,
-) -> (Exit, Option<Result<Look<F>, Unread<F>>>)
+) -> (Exit<E>, Option<Result<Look<F>, Unread<F>>>)
     ensures judged { IsJudgedIf (image_at F.Start) path.now pages
         (ending result.0 (E.contents errors.old) (E.contents errors.new)) result.1
         (W.contents output.old) (W.contents output.new) }
@@ -104,7 +104,7 @@ pub fn check_by_twin<F: Start, P: Folder, W: Write, E: Write>(
 }
 
 /// The exit status of a look by a twin. What was looked at, on whatever disk it is, is closed.
-pub fn status_judged<D: Disk + Drop>(judged: (Exit, Option<Judged<D>>)) -> u8
+pub fn status_judged<D: Disk + Drop, E>(judged: (Exit<E>, Option<Judged<D>>)) -> u8
     ensures { result ≡ judged.0.status }
 {
     let (exit, _) = judged;
@@ -119,7 +119,7 @@ fn tell_found<D: Disk + Drop, W: Write, E: Write>(
     found: Result<(Connection<FileStore<D>>, CheckedFile), Unopened<FileStore<D>>>,
     output: &mut W,
     errors: &mut E,
-) -> (Exit, Judged<D>)
+) -> (Exit<E>, Judged<D>)
     ensures { (image : Image) → IfOk found (λ it. IsReadAs image it.0 it.1) → IfErr found (FailsToRead image)
         → IsJudged image path.now pages
         (ending result.0 (E.contents errors.old) (E.contents errors.new)) result.1
@@ -138,7 +138,13 @@ fn tell_found<D: Disk + Drop, W: Write, E: Write>(
 }
 
 // Tells that the rows of a twin are no desk's, if it wasn't memory that ran out, and the word of the failure.
-fn refuse<E: Write>(alloc: Global, path: &str, pages: u64, failure: Failure, errors: &mut E) -> Exit
+fn refuse<E: Write>(
+    alloc: Global,
+    path: &str,
+    pages: u64,
+    failure: Failure,
+    errors: &mut E,
+) -> Exit<E>
     ensures { IsRefused path.now pages failure
         (ending result (E.contents errors.old) (E.contents errors.new)) }
 {
@@ -164,7 +170,7 @@ pub fn copy_by_twin<F: Start, N: Start, P: Folder, W: Write, E: Write>(
     output: &mut W,
     errors: &mut E,
 ) -> (
-    Exit,
+    Exit<E>,
     Option<Result<Copies<FileFrom<F>, FileFrom<N>>, CopyEnd<FileFrom<F>, FileFrom<N>>>>,
 )
     ensures { IsCopiedByTwinIf ⟦<FileFrom<N> as Disk>⟧ (image_at F.Start) (image_at N.Start)
@@ -195,8 +201,8 @@ pub fn copy_by_twin<F: Start, N: Start, P: Folder, W: Write, E: Write>(
 }
 
 /// The exit status of a copy by a twin. What was copied, on whatever disk it is, is closed.
-pub fn status_twinned<D: Disk + Drop, N: Disk + Drop>(
-    copied: (Exit, Option<Result<Copies<D, N>, CopyEnd<D, N>>>),
+pub fn status_twinned<D: Disk + Drop, N: Disk + Drop, E>(
+    copied: (Exit<E>, Option<Result<Copies<D, N>, CopyEnd<D, N>>>),
 ) -> u8
     ensures { result ≡ copied.0.status }
 {

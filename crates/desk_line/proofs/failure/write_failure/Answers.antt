@@ -30,8 +30,8 @@ returns-clause-err g c =
     let after = g.E.Write.contents c.write_whole-2.new.output in
     let last = g.E.Write.contents c.write_whole-3.new.output in
     IfErr-weaker c.write_whole-3.result _ _
-    (λ fault off. begun_next (codes "uss_desk: ") (failure_word c.args.failure ++ codes "\n") _ now last
+    (λ cut off. begun_next (codes "uss_desk: ") (failure_word c.args.failure ++ codes "\n") _ now last
     c.in_ok-write_whole.ensures.ok
     (begun_next (failure_word c.args.failure) (codes "\n") now after last
     (subst (λ w. Appends now after w) word c.in_ok-write_whole-2.ensures.ok)
-    (begun_part (codes "\n") after last fault off))) c.write_whole-3.ensures.err
+    (begun_part (codes "\n") after last cut.fault off))) c.write_whole-3.ensures.err

@@ -55,8 +55,8 @@ returns-in_err-write_whole-clause-served g c =
     c.in_ok-answer.ensures.told.bytes c.in_ok-answer.ensures.told.failed in
     let off = rw c.deref-3.ensures.value at c.in_err-write_whole.ensures.err in
     broken (IsHonest (g.S.PlanStore.doubt c.answer_request.new.desk.store))
-    c.from_residual-in_err-write_whole.result c.in_err-write_whole.field-0.0 _ _ _ _ w after c.args.moment
-    (text ++ body) answer why
+    c.from_residual-in_err-write_whole.result c.in_err-write_whole.field-0.0.fault _ _ _ _ w after
+    c.args.moment (text ++ body) answer why
     c.from_residual-in_err-write_whole.ensures.1 off got.taken told
 
 pub returns-clause-served : goal.returns-clause-served
@@ -139,8 +139,8 @@ returns-in_err-write_whole-clause-kept g c =
     (message_read c.message_of-request.result)
     c.in_ok-text.ensures.taken (c.in_ok-text.ensures.front some) front c.in_ok-body.ensures.taken
     (c.in_ok-body.ensures.size ∙ c.size_of.ensures) message in
-    let unsure = uncertain_write c.from_residual-in_err-write_whole.result c.in_err-write_whole.field-0.0
-    c.from_residual-in_err-write_whole.ensures.1 in
+    let unsure = uncertain_write c.from_residual-in_err-write_whole.result
+    c.in_err-write_whole.field-0.0.fault c.from_residual-in_err-write_whole.ensures.1 in
     kept_answered g.S.PlanStore c.args.desk.now c.answer_request.new.desk
     c.from_residual-in_err-write_whole.result _ c.args.moment _ c.in_ok-answer.answer.error _
     c.in_ok-answer.ensures.leaves c.in_ok-answer.ensures.told.failed
