@@ -8,6 +8,7 @@ pub mod ChangeLemmas
 pub mod PutLemmas
 pub mod SetLemmas
 pub mod AfterLemmas
+pub mod AnyRowLemmas
 pub mod ReadingLemmas
 pub mod FrameLemmas
 pub mod StoreLemmas

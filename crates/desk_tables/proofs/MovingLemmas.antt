@@ -1,9 +1,9 @@
 -- The move of a content from schema 1 to schema 2.
-use Rattle.std.proofs.Common.{◌≡◌, ◌≤◌, ◌↔◌, ◌⊎◌, ℕ, length, Bool, true, List, [], ◌∷◌, ◌++◌, Result, Ok, Err, IsTrue, refl, sym, ap, subst, ◌∙◌, arith, inl, inr, append_assoc, IsPermutation}
+use Rattle.std.proofs.Common.{◌≡◌, ◌≤◌, ◌↔◌, ◌⊎◌, ℕ, length, true, List, [], ◌∷◌, ◌++◌, Result, Ok, Err, IsTrue, refl, sym, ap, subst, ◌∙◌, arith, inl, inr, append_assoc, IsPermutation}
 use Rattle.std.specs.List.{flat_map, AllByRecursion}
 use Rattle.std.proofs.lemmas.List.{append-nil}
 use Rattle.std.proofs.lemmas.Grind.{flat_map-append}
-use Rattle.std.proofs.lemmas.List.Sorted.{IsPermutation-refl, IsPermutation-trans, IsPermutation-append_comm, IsPermutation-append_left, IsPermutation-append_right, IsPermutation-sym, length_permutation}
+use Rattle.std.proofs.lemmas.List.Sorted.{IsPermutation-refl, IsPermutation-trans, IsPermutation-append_comm, IsPermutation-append_left, IsPermutation-append_right}
 use Rattle.sqlite_trees.specs.declared.store.Store.{Ghosts}
 use Rattle.sqlite_trees.specs.View.{doubt}
 use Rattle.sqlite_value.specs.Order.{Row}
@@ -16,7 +16,7 @@ use Rattle.volume4d.specs.FootprintBytes.{HasValidParts, footprint_bytes}
 use Rattle.volume4d.specs.Shape.{Shape, rectangle, shape_positions}
 use Rattle.desk_sql.specs.declared.opening.finding.TablesPresent.{TablesPresent}
 use Rattle.desk_sql.specs.declared.opening.finding.TablesPresent.TheVariants.{All}
-use Rattle.desk_sql.specs.Rows.{IsMadeTo, Tables, Lists, tables_of, tables_at, has_old_rows}
+use Rattle.desk_sql.specs.Rows.{IsMadeTo, Tables, tables_of, tables_at, has_old_rows}
 use Rattle.desk_sql.specs.Effects.{IsKept, ShowsAsBefore, Makes}
 use Rattle.desk_sql.specs.Frames.{OnlyReads, Remembers}
 use Rattle.desk_sql.specs.Batches.{IsUnderWay}
@@ -27,7 +27,7 @@ use Rattle.desk_store.specs.Content.{IsContent}
 use Rattle.desk_tables.specs.declared.opening.open.OpenFault.{OpenFault}
 use Rattle.desk_tables.specs.Opening.{AreRows, BeginsWith, HasNoContent, HasRowsOld, ShowsNoDesk}
 use Rattle.desk_tables.specs.OpeningSteps.{BeginsAllMoved, HadNoOld, IsOpened, IsSetUp}
-use Rattle.desk_tables.specs.Moving.{AddsPlanRows, AddsPlansRows, BeginsMoved, HasNoNewRows, HasNoOldContent, IsOldArea, IsOldContent, IsOldContentOf, IsOldShape, IsWhole, KeepsRows, ShowsNoContent, WasMoved, old_max_cover}
+use Rattle.desk_tables.specs.Moving.{AddsPlanRows, AddsPlansRows, BeginsMoved, HasNoOldContent, IsOldArea, IsOldContent, IsOldContentOf, IsOldShape, IsWhole, KeepsRows, ShowsNoContent, WasMoved, old_max_cover}
 use Rattle.desk_tables.proofs.ContentLemmas.{one_plans}
 use Rattle.desk_tables.proofs.OpeningLemmas.{cause_then, desk_made, made_desk}
 
@@ -185,34 +185,6 @@ old_rectangle shape r ids is cover = (
       (subst (λ s. length (canonical_list (shape_positions s)) ≤ old_max_cover) (sym is)
       (subst IsOldShape is old)),
 )
-
--- ---- tables with no row
-
-no_rows_if : (xs rows : List Row) (keys : List ℕ) → Lists keys xs rows → (rows ≡ []) ↔ (xs ≡ [])
-no_rows_if xs rows keys lists = (
-  λ none. nothing xs (subst (IsPermutation xs) none lists.same),
-  λ none. nothing rows (subst (λ ys. IsPermutation rows ys) none
-      (IsPermutation-sym xs rows lists.same)),
-) where
-  nothing : (ys : List Row) → IsPermutation ys [] → ys ≡ []
-  nothing [] same = refl
-  nothing (y ∷ ys) same = absurd (omega (arith, length_permutation (y ∷ ys) [] same))
-
-pub none_new : (t : Tables) (volumes covers spans : List Row) (empty : Bool)
-    → Lists (0 ∷ 1 ∷ 2 ∷ []) t.volumes volumes → Lists (0 ∷ 1 ∷ 2 ∷ []) t.covers covers
-    → Lists (0 ∷ 1 ∷ 2 ∷ 3 ∷ []) t.spans spans
-    → IsTrue empty ↔ ((volumes ≡ []) × (covers ≡ []) × (spans ≡ [])) → IsTrue empty ↔ HasNoNewRows t
-none_new t volumes covers spans empty one two three is =
-    let first = no_rows_if t.volumes volumes (0 ∷ 1 ∷ 2 ∷ []) one in
-    let second = no_rows_if t.covers covers (0 ∷ 1 ∷ 2 ∷ []) two in
-    let third = no_rows_if t.spans spans (0 ∷ 1 ∷ 2 ∷ 3 ∷ []) three in (
-      λ h. let parts = is.0 h in record {
-        volumes = first.0 parts.0;
-        covers = second.0 parts.1;
-        spans = third.0 parts.2;
-      },
-      λ none. is.1 (first.1 none.volumes, second.1 none.covers, third.1 none.spans),
-    )
 
 -- ---- a content of schema 1
 

@@ -1,6 +1,6 @@
 //! How a content of schema 1 is moved to schema 2.
 
-ghost use Rattle.std.specs.Prelude.{◌≡◌, ◌≢◌, ◌↔◌, ◌<◌, ◌-◌, ◌^◌, List, [], ◌∷◌, true, false, IfOk, IfErr, OnOk, OnErr, IsTrue, length, None};
+ghost use Rattle.std.specs.Prelude.{◌≡◌, ◌≢◌, ◌↔◌, ◌<◌, ◌-◌, ◌^◌, List, ◌∷◌, true, false, IfOk, IfErr, OnOk, OnErr, IsTrue, length, None};
 ghost use Rattle.std.specs.List.{AllByRecursion};
 ghost use Rattle.sqlite.specs.State.{HasCleanDisk, KeepsCommit};
 ghost use Rattle.sqlite.specs.Held.{state};
@@ -33,6 +33,7 @@ use crate::canon::canons_of;
 use crate::changing::records::{asked_of, span_rows, volume_rows};
 use crate::kept::GhostWorld;
 use crate::known::Known;
+use crate::opening::any_row::has_row;
 use crate::opening::content::{Content, TableRows};
 use crate::opening::exact::FiledPlan;
 use crate::opening::finding::{content_with, tables_found, uncovered_parts, world_of};
@@ -46,7 +47,7 @@ use desk_sql::{
     insert_spans, insert_volumes,
 };
 use s2_cover::laws::{canonical_list_is, one_canonical_list, one_list_of_ranges};
-use sqlite::{Connection, Error, Row, Transaction};
+use sqlite::{Connection, Error, Transaction};
 use sqlite_trees::store::Alter;
 use std::alloc::{AllocError, Global};
 use volume4d::laws::{covers_are_few, one_shape};
@@ -270,15 +271,15 @@ fn old_heads_alone<S: Alter>(
     ensures cause { IfErr result (BlamesReading S.Store connection.old connection.new) }
     ensures reads { OnlyReads S.Store connection.old connection.new }
 {
-    if !are_new_empty(alloc, connection, made)? {
+    if !are_new_empty(connection, made)? {
         return Err(OpenFault::NotADesk);
     }
     old_heads_in(alloc, connection, made)
 }
 
 /// Whether the tables that schema 2 has alone have no row.
+#[tactic(auto, using(crate::proofs::FrameLemmas::reads_then))]
 pub(crate) fn are_new_empty<S: Alter>(
-    alloc: Global,
     connection: &mut Connection<S>,
     made: TablesPresent,
 ) -> Result<bool, OpenFault>
@@ -291,17 +292,11 @@ pub(crate) fn are_new_empty<S: Alter>(
     ensures cause { IfErr result (BlamesReading S.Store connection.old connection.new) }
     ensures reads { OnlyReads S.Store connection.old connection.new }
 {
-    let volumes = all_rows(alloc, connection, Whole::Volumes, made)?;
-    let covers = all_rows(alloc, connection, Whole::Covers, made)?;
-    let spans = all_rows(alloc, connection, Whole::Spans, made)?;
-    Ok(are_empty(&volumes, &covers, &spans))
-}
-
-// Whether three lists of rows are empty.
-fn are_empty(one: &[Row], two: &[Row], three: &[Row]) -> bool
-    ensures { IsTrue result ↔ ((one.now ≡ []) × (two.now ≡ []) × (three.now ≡ [])) }
-{
-    one.is_empty() && two.is_empty() && three.is_empty()
+    if has_row(connection, Whole::Volumes, made)? {
+        return Ok(false);
+    }
+    let has_spans = has_row(connection, Whole::Spans, made)?;
+    Ok(!has_spans)
 }
 
 /// The rows of schema 1's tables but for spans, each by the columns of its key; of those that aren't made

@@ -135,7 +135,7 @@ fn old_fault<S: Alter>(
     requires settled { connection.old.in_transaction ≡ false }
     ensures { OnlyReads S.Store connection.old connection.new }
 {
-    match are_new_empty(alloc, connection, made) {
+    match are_new_empty(connection, made) {
         Ok(true) => {}
         Ok(false) => return Some(PartFault::BothSchemas),
         Err(_) => return None,
