@@ -1,6 +1,6 @@
 //! Where a desk gets its connections from.
 
-ghost use Rattle.std.specs.Prelude.{IfOk, IfErr, OnErr};
+ghost use Rattle.std.specs.Prelude.{◌≡◌, IfOk, IfErr, OnErr};
 ghost use Rattle.desk_ends.specs.Moments.{IsMoment};
 ghost use Rattle.desk_line.specs.Lines.{AreEnrolments};
 ghost use Rattle.desk_program.specs.Serving.{BringsNews, Closes, Denies, IsDenied, IsFresh, Listens};
@@ -40,7 +40,7 @@ pub trait Register {
     /// `Memory`.
     fn look(&mut self, alloc: Global) -> Result<Vec<Enrolment>, Failure>
         ensures small { IfOk result (λ news. AreEnrolments news.items) }
-        ensures fault { IfErr result IsDenied };
+        ensures fault { IfErr result (λ f. f ≡ Failure.Memory) };
 }
 
 /// A port, from which connections are taken one after the other.

@@ -23,6 +23,7 @@ use Rattle.uss_desk.specs.declared.twins.Twin.{Twin}
 use Rattle.uss_desk.specs.declared.ways.Way.{Way}
 use Rattle.uss_desk.specs.Keeping.{CopyEnd, FailsTelling, FailsToRead, IsCopied, IsNamedIf, IsReadAs}
 use Rattle.uss_desk.specs.Naming.{Cleared, Failed, Follows, LeavesOthers, Removed, Step, Takes, Twinned, log_of}
+use Rattle.uss_desk.specs.Opening.{IsInMemory}
 use Rattle.uss_desk.specs.Ways.{is_summed, untested}
 
 -- the name of a twin
@@ -57,9 +58,11 @@ pub record IsBrokenOff (twin : List ℕ) (old new : Option (List Step)) : Type 0
   pub made : Follows old between (Cleared twin (log_of twin) ∷ Failed ∷ [])
   pub removed : AreRemoved twin between new
 
--- there is no twin: nothing was done; what is at its name can't be removed; or its making broke off
-abbrev pub IsUntwinned : List ℕ → Option (List Step) → Option (List Step) → Type 0
-IsUntwinned twin old new = (new ≡ old) ⊎ (Follows old new (Failed ∷ []) ⊎ IsBrokenOff twin old new)
+-- there is no twin, with this failure: memory ran out, and nothing was done; what is at its name can't be
+-- removed; or its making broke off
+abbrev pub IsUntwinned : List ℕ → Option (List Step) → Option (List Step) → Failure → Type 0
+IsUntwinned twin old new f = ((f ≡ failure.Memory) × (new ≡ old))
+    ⊎ (Follows old new (Failed ∷ []) ⊎ IsBrokenOff twin old new)
 
 -- ---- what is told
 
@@ -83,9 +86,11 @@ IsNoted line out now =
     (now ≡ out) ⊎ Appends out now line ⊎ ((fault : WriteFault) × BreaksOff line out now fault)
 
 -- there is no twin, which is told, and nothing is printed
-pub record FailsUntwinned (end : Ending) (out now : Option (List ℕ)) : Type 0 where
+pub record FailsUntwinned (twin : List ℕ) (old new : Option (List Step)) (end : Ending)
+    (out now : Option (List ℕ)) : Type 0 where
   pub failure : Failure
   pub is : IsBreakdown failure
+  pub untwinned : IsUntwinned twin old new failure
   pub told : FailsTelling failure end
   pub unprinted : now ≡ out
 
@@ -124,10 +129,10 @@ module _ {D : Type 0} {g : disk.Ghosts D} (image : Image) (path : List ℕ) (pag
   IsJudged (Err it) out now = IsRefusedByRows it out now
 
   abbrev pub IsJudgedIf :
-      Option (Result (Held (FileStore D g)) (Unopened (FileStore D g))) → Option (List ℕ) → Option (List ℕ)
-      → Type 0
-  IsJudgedIf None out now = FailsUntwinned end out now
-  IsJudgedIf (Some judged) out now = IsJudged judged out now
+      Option (Result (Held (FileStore D g)) (Unopened (FileStore D g))) → Option (List Step)
+      → Option (List Step) → Option (List ℕ) → Option (List ℕ) → Type 0
+  IsJudgedIf None old new out now = FailsUntwinned (twin_of path) old new end out now
+  IsJudgedIf (Some judged) old new out now = IsJudged judged out now
 
 -- a twin is made of a file, and removed once it was read
 pub record WasTwin (source twin : List ℕ) (summed : Bool) (old new : Option (List Step)) : Type 0 where
@@ -135,17 +140,20 @@ pub record WasTwin (source twin : List ℕ) (summed : Bool) (old new : Option (L
   pub made : Follows old from (making source twin summed)
   pub removed : AreRemoved twin from new
 
-abbrev pub WasTwinIf :
-    {A : Type 0} → Option A → List ℕ → List ℕ → Bool → Option (List Step) → Option (List Step) → Type 0
-WasTwinIf None source twin summed old new = IsUntwinned twin old new
-WasTwinIf (Some it) source twin summed old new = WasTwin source twin summed old new
-
 -- ---- a copy
 
 -- that the sums were not tested is told, if the copy of such a file was made
 abbrev pub IsTestTold : List ℕ → Way → ℕ → Option (List ℕ) → Option (List ℕ) → Type 0
 IsTestTold path way status out now = MatchOption (untested way status) (now ≡ out)
     (λ pages. IsNoted (rows_line path pages rows.TestedAlone) out now)
+
+-- a database in memory has no file
+pub record HasNoFile (database : Database) (end : Ending) (old new : Option (List Step))
+    (out now : Option (List ℕ)) : Type 0 where
+  pub is : IsInMemory database
+  pub fails : FailsWith failure.Store end
+  pub undone : new ≡ old
+  pub unprinted : now ≡ out
 
 module _ {D E : Type 0} {g : disk.Ghosts D} (k : disk.Ghosts E) (image other : Image) where
   -- a twin is made of a file; it is copied, as a file is; and it is removed
@@ -162,13 +170,13 @@ module _ {D E : Type 0} {g : disk.Ghosts D} (k : disk.Ghosts E) (image other : I
     pub removed : AreRemoved (twin_of to) until new
     pub noted : IsTestTold source way end.status told end.now
 
-  -- so; or there is no twin, which is told, and nothing is printed or copied
+  -- so; or there is no twin, or no file, which is told, and nothing is printed or copied
   abbrev pub IsCopiedByTwinIf :
       Option (List ℕ) → List ℕ → Way → Database → Ending
       → Option (Result (Held (FileStore D g) × (Files E × Holdings)) (CopyEnd g k))
       → Option (List Step) → Option (List Step) → Option (List ℕ) → Option (List ℕ) → Type 0
   IsCopiedByTwinIf source to way database end None old new out now =
-      FailsUntwinned end out now × IsUntwinned (twin_of to) old new
+      FailsUntwinned (twin_of to) old new end out now ⊎ HasNoFile database end old new out now
   IsCopiedByTwinIf None to way database end (Some copied) old new out now = ⊥
   IsCopiedByTwinIf (Some source) to way database end (Some copied) old new out now =
       IsCopiedByTwin source to way database end copied old new out now

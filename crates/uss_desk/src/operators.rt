@@ -2,7 +2,7 @@
 
 ghost use Rattle.std.specs.Prelude.{◌≡◌, List, [], ◌∷◌, IfErr, IfOk, MatchResult, None, OnErr, Option, option_map, string_bytes};
 ghost use Rattle.desk_line.specs.Lines.{AreEnrolments};
-ghost use Rattle.desk_program.specs.Serving.{Grows, IsDenied};
+ghost use Rattle.desk_program.specs.Serving.{Grows};
 ghost use Rattle.uss_desk.specs.Operators as spec;
 ghost use Rattle.uss_desk.specs.Operators.{AreNews, Asking, HasCause, IsRead, Read, Stamped, ok_of};
 
@@ -198,7 +198,7 @@ impl<F: TextFiles + Drop> Register for OperatorsFile<'_, F> {
     #[tactic(auto, using(crate::proofs::OperatorLemmas::no_news))]
     fn look(&mut self, alloc: Global) -> Result<Vec<Enrolment>, Failure>
         ensures small { IfOk result (λ news. AreEnrolments news.items) }
-        ensures fault { IfErr result IsDenied }
+        ensures fault { IfErr result (λ f. f ≡ Failure.Memory) }
         ensures news { IfOk result (λ news. AreNews (option_map (λ path. path.now) self.old.path)
             self.old.seen self.new.seen (F.asked self.old.files) (F.asked self.new.files) news.items) }
     {

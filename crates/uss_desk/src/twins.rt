@@ -1,7 +1,7 @@
 //! A look at a file, and a copy of it, by a twin: a copy beside it, or beside the new file, that is read in
 //! its place and is removed afterwards. The file itself is not opened as a desk's, and so is left as it is.
 
-ghost use Rattle.std.specs.Prelude.{◌≡◌, true, IfErr, IfOk, List, OnOk, string_bytes, ℕ};
+ghost use Rattle.std.specs.Prelude.{◌≡◌, true, IfErr, IfOk, IfSome, List, OnOk, string_bytes, ℕ};
 ghost use Rattle.sqlite_wal.specs.Files.{image_at};
 ghost use Rattle.sqlite_wal.specs.Recovery.{Image};
 ghost use Rattle.desk_line.specs.Exits.{ending, IsBreakdown};
@@ -10,7 +10,7 @@ ghost use Rattle.uss_desk.specs.Keeping.{FailsToRead, IsReadAs, Tells};
 ghost use Rattle.uss_desk.specs.Naming.{Follows};
 ghost use Rattle.uss_desk.specs.Twins as spec;
 ghost use Rattle.uss_desk.specs.Twins.{AreRemoved, AreTwins, IsCopiedByTwinIf, IsJudged, IsJudgedIf, IsNoted};
-ghost use Rattle.uss_desk.specs.Twins.{IsRefused, IsTestTold, IsUntwinned, WasTwinIf, making, twin_of};
+ghost use Rattle.uss_desk.specs.Twins.{IsRefused, IsTestTold, IsUntwinned, WasTwin, making, twin_of};
 
 use crate::causes::tell_of;
 use crate::keeping::{Copies, CopyEnd, Look, copy_file, look_in};
@@ -89,9 +89,9 @@ pub fn check_by_twin<F: Start, P: Folder, W: Write, E: Write>(
 ) -> (Exit<E>, Option<Result<Look<F>, Unread<F>>>)
     ensures judged { IsJudgedIf (image_at F.Start) path.now pages
         (ending result.0 (E.contents errors.old) (E.contents errors.new)) result.1
-        (W.contents output.old) (W.contents output.new) }
-    ensures twin { WasTwinIf result.1 path.now (twin_of path.now) true
-        (P.steps folder.old) (P.steps folder.new) }
+        (P.steps folder.old) (P.steps folder.new) (W.contents output.old) (W.contents output.new) }
+    ensures twin { IfSome result.1 (λ _. WasTwin path.now (twin_of path.now) true
+        (P.steps folder.old) (P.steps folder.new)) }
 {
     let twin = match make_twin(rt.alloc(), folder, path, path, true, errors) {
         Ok(twin) => twin,
@@ -230,7 +230,7 @@ fn make_twin<P: Folder, E: Write>(
 ) -> Result<Twin, Failure>
     ensures made { IfOk result (λ twin. AreTwins beside.now twin × Follows (P.steps folder.old)
         (P.steps folder.new) (making source.now (twin_of beside.now) is_summed)) }
-    ensures unmade { IfErr result (λ _. IsUntwinned (twin_of beside.now)
+    ensures unmade { IfErr result (IsUntwinned (twin_of beside.now)
         (P.steps folder.old) (P.steps folder.new)) }
     ensures failure { IfErr result IsBreakdown }
     ensures quiet { OnOk result (E.contents errors.new ≡ E.contents errors.old) }

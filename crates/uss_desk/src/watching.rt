@@ -146,7 +146,8 @@ fn apply_at<S: PlanStore, N: Paths>(
     change: &Change,
 ) -> Result<(), StoreFault>
     requires { IsHonest (S.doubt store.old) → IsFitting change.now (S.content store.old) }
-    ensures watched { IsWatched (N.looks paths.old) (N.looks paths.new) store.old store.new result }
+    ensures watched { IsWatched (N.looks paths.old) (N.looks paths.new) refused.old refused.new
+        store.old store.new result }
     ensures ok { IsHonest (S.doubt store.new) →
         OnOk result (S.content store.new ≡ changed_by change.now (S.content store.old)) }
     ensures err { OnErr result (S.content store.new ≡ S.content store.old) }

@@ -1,26 +1,9 @@
-use Rattle.std.proofs.Common.{◌≡◌, ap, inl, inr, refl, rules, string_bytes, subst}
+use Rattle.std.proofs.Common.{◌≡◌, ap, rules, string_bytes, subst}
 use Rattle.desk_line.specs.Lines.{file_of}
-use Rattle.desk_line.specs.declared.failure.Failure.TheVariants as failure
 use Rattle.uss_desk.specs.Naming.{Follows}
 use Rattle.uss_desk.specs.Twins.{AreTwins, IsTestTold, making, twin_of}
-use Rattle.uss_desk.proofs.KeepLemmas.{tells_nothing}
 use Rattle.uss_desk.proofs.TwinLemmas.{copied_from, copied_if}
 use Rattle.uss_desk.proofs.twins.copy_by_twin.Goals as goal
-
-pub returns-in_default : goal.returns-in_default
-returns-in_default g c = (
-  record {
-    failure = failure.Store;
-    is = inr refl;
-    told = record {
-      between = g.E.Write.contents c.args.errors.now;
-      cause = tells_nothing (g.E.Write.contents c.args.errors.now);
-      fails = (c.conclude.ensures.status, c.conclude.ensures.told);
-    };
-    unprinted = refl;
-  },
-  inl refl,
-)
 
 pub returns : goal.returns
 returns g c =
