@@ -46,12 +46,6 @@ no_cover Spans db e = none_of_both (columns 8) cover_columns (db 9) e
 no_cover All db e = none_of_both (columns 8) cover_columns (db 9) e
 no_cover Packed db e = none_of_both (columns 8) cover_columns (db 8) e
 
-pub some_new : (t : Tables) → true ≡ has_rows t.volumes → IsTrue false ↔ HasNoNewRows t
-some_new t some = (
-  λ t. absurd (true≢false (sym t)),
-  λ none. absurd (true≢false (some ∙ ap has_rows none.volumes)),
-)
-
 pub none_new : (made : TablesPresent) (db : Trees) (has_spans : Bool)
     → false ≡ has_rows (tables_at made db).volumes → has_spans ≡ has_rows (tables_at made db).spans
     → IsTrue (not has_spans) ↔ HasNoNewRows (tables_at made db)

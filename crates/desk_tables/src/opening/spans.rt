@@ -283,8 +283,8 @@ pub(crate) fn take_spans<S: Alter>(
     }
 }
 
-/// What an opening answers where not all rows were taken; so many that they are not counted are as memory that
-/// ran out.
+/// What an opening answers where not all rows were taken; so many that they are not counted are as memory
+/// that ran out.
 pub(crate) fn fault_of(error: Error) -> OpenFault
     ensures store { result ≡ OpenFault.Store → (error ≢ Error.SqliteFailure ErrorCode.OutOfMemory)
         × (error ≢ Error.SqliteFailure ErrorCode.TooBig) }
