@@ -64,12 +64,17 @@ pub record IsDone (line : List ℕ) (end : Ending) (writes : Course (Option (Lis
   pub ends : EndsWith done end
   pub printed : IsPrinted done line writes.before writes.after
 
+-- a line is written, or a beginning of it if a write broke off
+pub record IsWritten (line : List ℕ) (out now : Option (List ℕ)) : Type 0 where
+  pub is_cut : Bool
+  pub written : HasWritten is_cut line out now
+
 -- nothing is printed, and why is told before the word of the failure, up to a write that fails; or not, if
 -- memory ran out for it
 pub record IsFailed (f : Failure) (line : List ℕ) (end : Ending) (writes : Course (Option (List ℕ))) :
     Type 0 where
   pub mid : Option (List ℕ)
-  pub told : ((is_cut : Bool) × HasWritten is_cut line end.before mid) ⊎ (mid ≡ end.before)
+  pub told : IsWritten line end.before mid ⊎ (mid ≡ end.before)
   pub fails : FailsWith f (record end { before = mid })
   pub unwritten : writes.after ≡ writes.before
 

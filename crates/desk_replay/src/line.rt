@@ -1,6 +1,6 @@
 //! The line of a replay: a record played at the desk that was opened for it, and what is told of it.
 
-ghost use Rattle.std.specs.Prelude.{◌≡◌, ◌≤◌, ◌⊎◌, Bool, None, IfErr, IfOk, is_some, string_bytes};
+ghost use Rattle.std.specs.Prelude.{◌≡◌, ◌≤◌, ◌⊎◌, None, IfErr, IfOk, is_some, string_bytes};
 ghost use Rattle.std.specs.Option.{IsSomeAnd};
 ghost use Rattle.desk_store.specs.StoreFaults.{IsHonest};
 ghost use Rattle.desk_store.specs.StoreFrames.{Remembers};
@@ -9,7 +9,7 @@ ghost use Rattle.desk_wire.specs.Passage.{course, passage};
 ghost use Rattle.desk_line.specs.Exits.{FailsWith, ending};
 ghost use Rattle.desk_line.specs.Written.{HasWritten};
 ghost use Rattle.desk_replay.specs.Telling as spec;
-ghost use Rattle.desk_replay.specs.Telling.{IsPrinted, IsReplayed, IsTold, place_line, replayed_line};
+ghost use Rattle.desk_replay.specs.Telling.{IsPrinted, IsReplayed, IsTold, IsWritten, place_line, replayed_line};
 
 use crate::fault::ReplayFault;
 use crate::stream::{ReplayEnd, Replayed, replay};
@@ -158,8 +158,8 @@ fn replayed_text(alloc: Global, requests: u64) -> Result<String, AllocError>
 
 // Tells where and why a replay ended. A fault of the writer is passed over, and so is want of memory.
 fn tell_place<E: Write>(alloc: Global, requests: u64, place: u64, cause: &str, errors: &mut E)
-    ensures { ((is_cut : Bool) × HasWritten is_cut (place_line requests place cause.now)
-        (E.contents errors.old) (E.contents errors.new)) ⊎ (E.contents errors.new ≡ E.contents errors.old) }
+    ensures { IsWritten (place_line requests place cause.now) (E.contents errors.old) (E.contents errors.new)
+        ⊎ (E.contents errors.new ≡ E.contents errors.old) }
 {
     if let Ok(text) = place_text(alloc, requests, place, cause) {
         let _ = write_told(errors, &text);
