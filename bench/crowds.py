@@ -19,6 +19,8 @@ from harness.requests import Json, list_plans, over, put, volume  # noqa: E402  
 
 Square = tuple[int, int]
 
+FIRST = datetime.datetime(2026, 6, 1, 12, 10)
+"""When the city's first day begins, unless it is another."""
 CITY_LEVEL, CITY_SIDE, HUBS, REACH = 17, 128, 20, 40
 CORNER = (37 * CITY_SIDE, 90 * CITY_SIDE)
 VOLUMES, CELLS = 32, 64
@@ -57,12 +59,17 @@ def line(one: Square, other: Square) -> list[Square]:
     return list(dict.fromkeys(way))[:CELLS]
 
 
-def flight(chance: random.Random, hubs: list[Square], days: int = 25) -> Json:
+def some_hubs(chance: random.Random, count: int = HUBS) -> list[Square]:
+    """Where flights start."""
+    return [(chance.randrange(CITY_SIDE), chance.randrange(CITY_SIDE)) for _ in range(count)]
+
+
+def flight(chance: random.Random, hubs: list[Square], days: int = 25, first: datetime.datetime = FIRST) -> Json:
     """A volume of a flight in the city, on one of so many days."""
     hub = chance.choice(hubs)
     to_i, to_j = (min(max(at + chance.randrange(-REACH, REACH + 1), 0), CITY_SIDE - 1) for at in hub)
     squares = [position(CITY_LEVEL, CORNER[0] + i, CORNER[1] + j) for i, j in line(hub, (to_i, to_j))]
-    start = datetime.datetime(2026, 6, 1, 12, 10) + datetime.timedelta(minutes=chance.randrange(days * 24 * 60))
+    start = first + datetime.timedelta(minutes=chance.randrange(days * 24 * 60))
     written = [at.strftime("%Y-%m-%dT%H:%M:%SZ") for at in (start, start + datetime.timedelta(minutes=10))]
     band = chance.randrange(4) * 300
     cells = [token_of(cell_at(CITY_LEVEL, square)) for square in squares]
@@ -72,7 +79,7 @@ def flight(chance: random.Random, hubs: list[Square], days: int = 25) -> Json:
 def city(count: int, asked: int = 0) -> Iterator[bytes]:
     """So many first PUTs of a city, 200 an operator, and then so many that only ask."""
     chance = random.Random(7)
-    hubs = [(chance.randrange(CITY_SIDE), chance.randrange(CITY_SIDE)) for _ in range(HUBS)]
+    hubs = some_hubs(chance)
     for number in range(count + asked):
         style = "IfAllowed" if number < count else "Hypothetical"
         identity = uuid.UUID(int=chance.getrandbits(128))

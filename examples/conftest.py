@@ -19,6 +19,7 @@ DESK in the environment is the command that runs the program (the script uss_des
 | `harness.nginx` | nginx with nginx.conf before it |
 | `harness.setting`, fixture `setting` | a desk over a file that is started again when it ends, behind nginx |
 | `harness.ports` | `free_port`, `is_listening`, `until` |
+| `harness.mounting`, fixture `apart` | disks in memory of some KB, which some commands see alone |
 | `harness.sums` | the sums on the pages of a file: counted, and made anew |
 | `harness.tracing` | strace: the words before a command that is killed at a call |
 | fixture `room` | a folder that is removed afterwards |
@@ -38,7 +39,8 @@ import pytest
 
 pytest.register_assert_rewrite("harness.rows", "tables.judging")
 
-from harness.program import DESK, run  # noqa: E402  (rewritten before it is read)
+from harness.mounting import way_to_mount  # noqa: E402  (rewritten before it is read)
+from harness.program import DESK, run  # noqa: E402
 from harness.rows import Rows, Subtests  # noqa: E402
 from harness.serving import Served  # noqa: E402
 from harness.setting import Setting  # noqa: E402
@@ -88,6 +90,15 @@ def serve() -> Iterator[Callable[..., Served]]:
     """Starts a desk at a free port; the words are those of harness.serving.Served. It is killed afterwards."""
     with contextlib.ExitStack() as left:
         yield lambda *words, **more: left.enter_context(Served(*words, **more))
+
+
+@pytest.fixture(scope="session")
+def apart() -> list[str]:
+    """The words that run a command where it may mount."""
+    words = way_to_mount()
+    if words is None:
+        pytest.skip("no file system can be mounted here")
+    return words
 
 
 @pytest.fixture(scope="module")

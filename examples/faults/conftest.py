@@ -7,7 +7,6 @@ from collections import Counter
 from collections.abc import Callable, Iterator
 
 import pytest
-from faults.mounting import way_to_mount
 from harness.program import need_program
 
 Note = Callable[..., None]
@@ -46,12 +45,3 @@ def note(record_property: Callable[[str, object], None]) -> Iterator[Note]:
     yield count
     for what, number in counts.items():
         record_property(what, number)
-
-
-@pytest.fixture(scope="session")
-def apart() -> list[str]:
-    """The words that run a command where it may mount."""
-    words = way_to_mount()
-    if words is None:
-        pytest.skip("no file system can be mounted here")
-    return words

@@ -38,6 +38,38 @@ def beginning(
     ]
 
 
+class Said(NamedTuple):
+    """What an entry says."""
+
+    word: str
+    number: int
+    data: bytes
+
+
+def size_in(text: bytes) -> int | None:
+    """How many bytes the line counts with which a text begins, if it begins with one."""
+    line = text[:LINE]
+    return int(line[31:51]) if line[69:] == checksum(line[:69]) + b"\n" else None
+
+
+def entries_in(text: bytes) -> tuple[list[Said], bytes]:
+    """The whole entries with which a text begins, and what stands behind them."""
+    found = []
+    while (size := size_in(text)) is not None:
+        data, more = text[LINE : LINE + size], text[LINE + size :]
+        if text[52:68] != checksum(data) or more[:1] != b"\n":
+            break
+        found.append(Said(text[:9].decode().rstrip(), int(text[10:30]), data))
+        text = more[1:]
+    return found, text
+
+
+def is_damaged(rest: bytes) -> bool:
+    """Whether what stands behind the last whole entry is neither nothing nor the beginning of one."""
+    size = size_in(rest)
+    return len(rest) >= LINE if size is None else len(rest) > LINE + size
+
+
 class Heard(NamedTuple):
     """A request, the second at which it was answered, and its answer."""
 
@@ -62,3 +94,29 @@ def exchanges(heard: Sequence[Heard]) -> list[bytes]:
         for it in heard
         for one in (entry("request", it.second, it.request), entry("answer", it.second, it.answer))
     ]
+
+
+def is_failure(answer: bytes) -> bool:
+    """Whether an answer says that the desk failed: such a request counts as one that has no answer."""
+    return answer.startswith(b"HTTP/1.1 500 ")
+
+
+def answered_in(said: Sequence[Said]) -> list[Heard]:
+    """The requests of some entries that have an answer, each with it."""
+    pairs = zip(said, said[1:])
+    return [
+        Heard(one.number, one.data, other.data)
+        for one, other in pairs
+        if (one.word, other.word) == ("request", "answer") and not is_failure(other.data)
+    ]
+
+
+def count_played(said: Sequence[Said]) -> int:
+    """How many requests a replay of some entries plays: one that is asked again counts once."""
+    count, is_left = 0, False
+    for it in said:
+        count += it.word == "request" and not is_left
+        is_left = is_left or it.word == "request"
+        if it.word == "answer" and not is_failure(it.data):
+            is_left = False
+    return count

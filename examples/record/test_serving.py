@@ -1,130 +1,135 @@
-"""A desk that serves with `--record`: killed in the midst, started again, and its records played into a new file."""
+"""A desk that serves with `--record`: a second one that follows it and takes over, and its file made again from a copy
+and the records since."""
 
 from __future__ import annotations
 
 import contextlib
+import os
 import pathlib
 import random
+import shutil
 import socket
-import sqlite3
 import subprocess
 import time
-import uuid
 
+from harness.ports import until
 from harness.program import DESK, Ran, run
-from harness.requests import delete, list_plans, over, put
+from harness.requests import clear, delete, list_plans, plan_id
 from harness.rows import Rows
 from harness.serving import Served
 
-from record.entries import LINE, beginning, entry
+from record.city import operators
+from record.entries import count_played, entries_in
+from record.folders import alike, dump_of, recorded, text_of
+from record.layers import PLANNED, layer, planned
 
-LIVES = 8
-TABLES = "SELECT name FROM sqlite_master WHERE type = 'table'"
-
-
-def recorded(folder: pathlib.Path) -> list[pathlib.Path]:
-    """The records of a folder, in their order."""
-    return sorted(folder.glob("*.record"))
+OPERATORS = ("alfa", "bravo")
 
 
-def played(folder: pathlib.Path, file: pathlib.Path) -> Ran:
-    """What comes of all records of a folder, played into a file."""
-    return run("replay", "--db", str(file), given=b"".join(it.read_bytes() for it in recorded(folder)))
+def words_of(file: pathlib.Path, folder: pathlib.Path) -> list[str]:
+    """The words of a line that records."""
+    return ["--db", str(file), "--record", str(folder), *(f"{name}=100" for name in OPERATORS)]
 
 
-def rows_of(file: pathlib.Path) -> dict[str, list[str]]:
-    """All rows of a file, by table, as sqlite3 reads them."""
-    with contextlib.closing(sqlite3.connect(f"file:{file}?mode=ro", uri=True)) as connection:
-        names = [name for (name,) in connection.execute(TABLES)]
-        return {name: sorted(map(str, connection.execute(f"SELECT * FROM {name}"))) for name in names}
+def lists_of(desk: Served) -> list[bytes]:
+    """What the desk lists of each operator."""
+    return [desk.ask(list_plans(name)) for name in OPERATORS]
 
 
-def some_request(chance: random.Random) -> bytes:
-    """A PUT or a DELETE of one of a few plans."""
-    operator, number = chance.choice(["alfa", "bravo"]), uuid.UUID(int=chance.randrange(1, 12))
-    if chance.random() < 0.2:
-        return delete(operator, number)
-    lower = chance.randrange(0, 900, 100)
-    return put(operator, number, [over([chance.choice("1359b")], lower, lower + chance.randrange(100, 400))], 10)
-
-
-def words_of(file: pathlib.Path, folder: pathlib.Path, life: int) -> list[str]:
-    """The words of a life: every second one permits plans of priority 10 to share points."""
-    equal = ["--equal", "10"] if life % 2 else []
-    return ["--db", str(file), "--record", str(folder), *equal, "alfa=100", "bravo=100"]
-
-
-def live(words: list[str], chance: random.Random) -> None:
-    """A desk that is asked a few times and killed while one more request is on its way."""
-    with Served(*words) as desk:
-        for _ in range(chance.randrange(1, 6)):
-            desk.ask(some_request(chance))
-        with socket.create_connection(("127.0.0.1", desk.port)) as last:
-            last.sendall(some_request(chance))
-            time.sleep(chance.random() / 50)
-            desk.kill()
-
-
-def test_kills(room: pathlib.Path, rows: Rows) -> None:
-    """After each kill all records, played into a new file, give equal answers, and in the end equal rows."""
-    chance, file, folder = random.Random(61), room / "desk.db", room / "records"
-    folder.mkdir()
-    for life in range(LIVES):
-        live(words_of(file, folder, life), chance)
-        ran = played(folder, room / f"{life}.db")
-        rows.equal(f"life {life}", (0, ""), (ran.status, ran.errors))
-    with Served(*words_of(file, folder, 0), connections=1) as desk:
-        desk.ask(list_plans("alfa"))
-        rows.equal("the last life", (0, ""), desk.end()[::2])
-    rows.equal("all of them", 0, played(folder, room / "all.db").status)
-    rows.equal("the rows", rows_of(file), rows_of(room / "all.db"))
-    rows.equal("numbers", list(range(1, len(recorded(folder)) + 1)), [int(it.name[:10]) for it in recorded(folder)])
-    rows.equal("the owner's alone", {0o600}, {it.stat().st_mode & 0o777 for it in recorded(folder)})
+def is_read(process: int, file: pathlib.Path) -> bool:
+    """Whether a process that has a file open has read all of it."""
+    for number in os.listdir(f"/proc/{process}/fd"):
+        with contextlib.suppress(OSError):
+            if os.readlink(f"/proc/{process}/fd/{number}") == str(file.resolve()):
+                place = pathlib.Path(f"/proc/{process}/fdinfo/{number}").read_text().split()[1]
+                return int(place) == file.stat().st_size
+    return False
 
 
 def test_standby(room: pathlib.Path, rows: Rows) -> None:
-    """A second desk plays what comes through a pipe, and holds all that was answered when it takes over."""
-    chance, file, folder = random.Random(7), room / "desk.db", room / "records"
+    """A second desk plays what comes through a pipe, and is served in the place of the first once that was killed."""
+    file, folder, second = room / "desk.db", room / "records", room / "second.db"
     folder.mkdir()
-    second = subprocess.Popen([*DESK, "replay", "--db", str(room / "second.db")], stdin=subprocess.PIPE)
-    assert second.stdin
-    with Served(*words_of(file, folder, 0)) as desk:
-        source = recorded(folder)[0].open("rb")
-        for _ in range(10):
-            desk.ask(some_request(chance))
-            second.stdin.write(source.read())
-            second.stdin.flush()
+    city = operators(random.Random(7), OPERATORS)
+    with Served(*words_of(file, folder)) as desk:
+        record = recorded(folder)[0]
+        with subprocess.Popen(["tail", "-c", "+1", "-f", str(record)], stdout=subprocess.PIPE) as tail:
+            line = [*DESK, "replay", "--db", str(second)]
+            standby = subprocess.Popen(line, stdin=tail.stdout, stdout=subprocess.PIPE, stderr=subprocess.PIPE)
+            for number in range(1, 8):
+                rows.equal(f"plan {number}", PLANNED, desk.ask(planned(number)))
+                desk.ask(city[1].request())
+            with socket.create_connection(("127.0.0.1", desk.port)) as last:
+                last.sendall(planned(8))
+                time.sleep(0.01)
+                desk.kill()
+            until("the pipe", lambda: is_read(tail.pid, record))
+            tail.terminate()
+        output, errors = standby.communicate()
+    said, rest = entries_in(record.read_bytes())
+    wanted = (3, b"", "cut_short") if rest else (0, alike(count_played(said)).output, "")
+    rows.equal("it ends", wanted, (standby.returncode, output, errors.decode().rpartition(": ")[2].rstrip()))
+    take_over(rows, room, second)
+    with Served(*words_of(file, folder), connections=len(OPERATORS)) as desk:
+        listed = lists_of(desk)
+        desk.end()
+    with Served("--db", str(second), connections=len(OPERATORS)) as desk:
+        rows.equal("the first, and what follows it", listed, lists_of(desk))
+        desk.end()
+    rows.equal("equal tables", dump_of(file), dump_of(second))
+
+
+def take_over(rows: Rows, room: pathlib.Path, second: pathlib.Path) -> None:
+    """What was answered is there at the second desk, which records in a folder of its own."""
+    folder = room / "records_of_the_second"
+    folder.mkdir()
+    with Served("--db", str(second), "--record", str(folder), connections=1) as desk:
+        listed = desk.ask(list_plans("alfa"))
+        rows.equal("its end", (0, ""), desk.end()[::2])
+    rows.equal("nothing is lost", [True] * 7, [plan_id(number).encode() in listed for number in range(1, 8)])
+    rows.equal("its own record", ["0000000001"], [it.name[:10] for it in recorded(folder)])
+
+
+def test_made_again(room: pathlib.Path, rows: Rows) -> None:
+    """The file is thrown away, and made again from a copy and the records since; up to a mistake, too."""
+    file, folder, copy = room / "desk.db", room / "records", room / "copy.db"
+    folder.mkdir()
+    with Served(*words_of(file, folder), connections=3) as desk:
+        rows.equal("before the copy", [PLANNED] * 3, [desk.ask(planned(number)) for number in (1, 2, 3)])
+        desk.end()
+    copied = Ran(0, b"copied 2 operators, 3 plans\n", "")
+    rows.equal("the copy", copied, run("copy", "--db", str(file), "--to", str(copy)))
+    with Served(*words_of(file, folder)) as desk:
+        rows.equal("since the copy", [PLANNED] * 2, [desk.ask(planned(number)) for number in (4, 5)])
+        desk.ask(delete("alfa", plan_id(1)))
+        before = dump_of(file)
         desk.kill()
-    second.stdin.write(source.read())
-    second.stdin.close()
-    rows.equal("alike", 0, second.wait())
-    with Served("--db", str(file), connections=1) as desk:
-        desk.ask(list_plans("alfa"))
-        desk.end()
-    rows.equal("the rows", rows_of(file), rows_of(room / "second.db"))
+    time.sleep(1.1)  # a second in which nothing is asked
+    until_then = int(time.time()) - 1
+    with Served(*words_of(file, folder)) as desk:
+        desk.ask(clear("alfa", layer(2)))
+        rows.equal("after the mistake", PLANNED, desk.ask(planned(6)))
+        after = dump_of(file)
+        desk.kill()
+    again(rows, file, copy, folder)
+    rows.equal("equal tables", after, dump_of(file))
+    back = room / "back.db"
+    shutil.copy(copy, back)
+    since = b"".join(it.read_bytes() for it in recorded(folder)[1:])
+    ran = run("replay", "--db", str(back), "--until", str(until_then), given=since)
+    rows.equal("up to the mistake", alike(3), ran)
+    rows.equal("and as it was then", before, dump_of(back))
 
 
-def test_request_left(room: pathlib.Path, rows: Rows) -> None:
-    """A request that has no answer in the last record is asked again at its second, in a record of its own."""
-    file, folder = room / "desk.db", room / "records"
-    folder.mkdir()
-    with Served(*words_of(file, folder, 0), connections=1) as desk:
-        desk.ask(list_plans("alfa"))
-        desk.end()
-    first = recorded(folder)[0]
-    left = entry("request", 1_780_315_000, put("alfa", uuid.UUID(int=1), [over(["04"])]))
-    first.write_bytes(first.read_bytes() + left + entry("answer", 1_780_315_000, b"HTTP/1.1")[: LINE + 3])
-    with Served(*words_of(file, folder, 1), connections=1) as desk:
-        answer = desk.ask(list_plans("alfa"))
-        desk.end()
-    rows.equal("it is planned", True, str(uuid.UUID(int=1)).encode() in answer)
-    names = [it.name[:10] for it in recorded(folder)]
-    rows.equal("three records", ["0000000001", "0000000002", "0000000003"], names)
-    again = recorded(folder)[1].read_bytes()
-    wanted = b"".join([*beginning(2, [("alfa", 100), ("bravo", 100)]), left])
-    rows.equal("on the terms of its record", wanted, again[: len(wanted)])
-    rows.equal("the torn bytes beside it", [f"{first.name}.rest"], [it.name for it in folder.glob("*.rest")])
-    rows.equal("alike", 0, played(folder, room / "new.db").status)
+def again(rows: Rows, file: pathlib.Path, copy: pathlib.Path, folder: pathlib.Path) -> None:
+    """The copy in the place of the file, with the records that came after it."""
+    for name in (file, file.with_name(f"{file.name}-wal")):
+        name.unlink()
+    shutil.copy(copy, file)
+    since = b"".join(it.read_bytes() for it in recorded(folder)[1:])
+    rows.equal("the records since", alike(5), run("replay", "--db", str(file), given=since))
+    without = run("replay", "--db", ":memory:", given=text_of(folder))
+    rows.equal("all records", alike(8), without)
 
 
 def test_no_folder(room: pathlib.Path, rows: Rows) -> None:

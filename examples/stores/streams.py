@@ -61,7 +61,7 @@ def random_requests(chance: random.Random, count: int) -> list[bytes]:
 
 def flights(chance: random.Random) -> Areas:
     """Volumes of flights in a city on a busy day, without end."""
-    hubs = [(chance.randrange(crowds.CITY_SIDE), chance.randrange(crowds.CITY_SIDE)) for _ in range(crowds.HUBS)]
+    hubs = crowds.some_hubs(chance)
     while True:
         yield [crowds.flight(chance, hubs, days=1)]
 
