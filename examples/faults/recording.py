@@ -109,14 +109,12 @@ def serve_traced(room: pathlib.Path, options: Sequence[str], requests: Sequence[
 
 def wrong_end(ran: Ran, answers: Sequence[bytes]) -> str | None:
     """A line has given right answers. Then it was killed, or a client was told a 500 or nothing, and it ended with its
-    word; or all were given, and it ended well, or its files could not be closed."""
+    word; or all were given, and it ended well, or its files could not be closed. It ends well too where the last of its
+    connections was told a 500 because the answer could not be kept."""
     count, rest = told(ran.output, answers)
     if ran.status == 0:
-        return (
-            None
-            if count == len(answers) and not rest + ran.errors.encode()
-            else f"status 0: {rest!r}, {ran.errors!r}"
-        )
+        is_right = (count, rest, ran.errors) == (len(answers), b"", "") or (count, rest) == (len(answers) - 1, BROKEN)
+        return None if is_right else f"status 0, {count} right answers, then {rest[:200]!r}, {ran.errors!r}"
     right = answers[count] if count < len(answers) else b""
     if ran.status < 0:
         return None if right.startswith(rest) else f"killed after {count} right answers and {rest[:200]!r}"

@@ -7,7 +7,8 @@ import datetime
 from faults.scenario import done
 from harness.requests import Json, plan_id, put, volume
 
-LAYER = 10
+LOWEST, LAYER = 1_000, 10
+"""Where they begin, so that all up to the 800th have as many digits, and how high each is."""
 PLANNED = done("Planned")
 """The answer to each of them."""
 
@@ -15,7 +16,7 @@ PLANNED = done("Planned")
 def layer(number: int) -> Json:
     """The volume of a layer."""
     day = (datetime.datetime.now(datetime.timezone.utc) + datetime.timedelta(days=1)).date().isoformat()
-    lower = LAYER * number
+    lower = LOWEST + LAYER * number
     return volume({"cells": ["04"]}, lower, lower + LAYER, f"{day}T12:00:00Z", f"{day}T13:00:00Z")
 
 

@@ -26,6 +26,7 @@ SHARES = 4
 STEP = 24
 """Each of so many bytes is the place of a cut or of damage, and all where an entry begins or ends."""
 BOTH = ("desk.db", "desk.db-wal")
+BEGINNING = len(entry("record", 1, b"1"))
 OPERATORS = [("alfa", 100), ("bravo", 100)]
 
 
@@ -76,25 +77,25 @@ def lay_out(room: pathlib.Path, files: dict[str, bytes], name: str, record: byte
     return path
 
 
-def places_in(record: bytes) -> list[tuple[int, bool]]:
-    """Where the record is cut, from its last request on, and whether that is within the answer to it."""
-    request, told = (len(entry(it.word, it.number, it.data)) for it in entries_in(record)[0][-2:])
-    end = len(record)
-    ends = [end - request - told, end - told, end]
+def cuts_of(left: Left) -> list[tuple[int, bool, dict[str, bytes]]]:
+    """Where the record is cut, from its last request on; whether that is asked; and the files that may be beside it:
+    those of before the request's change if the record lacks the answer, those of after it if it has the request."""
+    request, told = (len(entry(it.word, it.number, it.data)) for it in entries_in(left.record)[0][-2:])
+    ends = [len(left.record) - request - told, len(left.record) - told, len(left.record)]
     sizes = {
-        *range(ends[0], end, STEP),
-        *(place + by for place in ends for by in (-1, 0, 1, LINE - 1, LINE, LINE + 1)),
+        *range(ends[0], ends[2], STEP),
+        *(end + by for end in ends for by in (-1, 0, 1, LINE - 1, LINE, LINE + 1)),
     }
-    return [(size, size >= ends[1]) for size in sorted(sizes) if ends[0] <= size <= end]
+    before = [(size, size >= ends[1], left.before) for size in sorted(sizes) if ends[0] <= size < ends[2]]
+    return before + [(size, True, left.after) for size in sorted(sizes) if ends[1] <= size <= ends[2]]
 
 
 @pytest.mark.parametrize("share", range(SHARES))
 def test_cut(room: pathlib.Path, rows: Rows, left: Left, share: int) -> None:
     """A record that is cut from its last request on: what is whole is gone on with, what is torn lies beside it."""
-    for size, is_asked in places_in(left.record)[share::SHARES]:
-        for files in (left.before, left.after) if is_asked else (left.before,):
-            record = lay_out(room, files, left.name, left.record[:size])
-            gone_on(rows, room, record, left.record[:size], is_asked)
+    for size, is_asked, files in cuts_of(left)[share::SHARES]:
+        record = lay_out(room, files, left.name, left.record[:size])
+        gone_on(rows, room, record, left.record[:size], is_asked)
 
 
 def gone_on(rows: Rows, room: pathlib.Path, record: pathlib.Path, text: bytes, is_asked: bool) -> None:
@@ -137,7 +138,8 @@ def test_damaged(room: pathlib.Path, rows: Rows, left: Left, share: int) -> None
         damaged = bytearray(left.record)
         damaged[place] ^= 1 << place % 8
         lay_out(room, left.after, left.name, bytes(damaged))
-        refused(rows, room, f"byte {place}", "damaged")
+        # a record whose beginning isn't read has no number
+        refused(rows, room, f"byte {place}", "number" if place < BEGINNING else "damaged")
 
 
 # the name of a record, its bytes, and a word of why it is refused
@@ -191,10 +193,8 @@ def test_request_left(room: pathlib.Path, rows: Rows, left: Left) -> None:
     again = recorded(record.parent)[1].read_bytes()
     told = entry("answer", int(asked[10:30]), PLANNED)
     rows.equal("its record", b"".join([*beginning(2, OPERATORS, [10, 20], 5), asked, told]), again)
-    next_one = beginning(3, OPERATORS)
-    rows.equal(
-        "the next begins", next_one, [entry(*it) for it in entries_in(recorded(record.parent)[2].read_bytes())[0][:2]]
-    )
+    begun, next_one = b"".join(beginning(3, OPERATORS)), recorded(record.parent)[2].read_bytes()
+    rows.equal("the next begins", begun, next_one[: len(begun)])
 
 
 # what a keeper does between a crash and the next start: the ceiling of 100 that `enrol` replaces; the priority of the
