@@ -2,6 +2,7 @@
 
 NO_TABLE = "no table"
 OTHER = "other tables than a desk's"
+ORDER = "its tables stand in another order than a desk's: copy makes a desk of it"
 BOTH = "rows of schema 1 beside rows of schema 2"
 OPERATOR = "rows of no content in operator"
 HEAD = "rows of no content in plan"

@@ -42,7 +42,6 @@ NEARLY = [
     ("not_strict", packed_but(4, " STRICT", ""), "not_a_desk"),
     ("name", packed_but(4, "volume2", "volume3"), "not_a_desk"),
     ("unique", packed_but(7, "INDEX", "UNIQUE INDEX"), "not_a_desk"),
-    ("indexes_turned", PACKED[:6] + [PACKED[7], PACKED[6]], "not_a_desk"),
 ]
 # name, the statements after those of a packed file
 CONTENTS: list[tuple[str, list[str]]] = [("plan", PLAN), ("closed", CLOSED), ("many", many(200)), ("no_rows", [])]

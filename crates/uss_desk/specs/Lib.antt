@@ -1,4 +1,4 @@
--- Read first: Running, Opening, Guarding, Closing, Keeping; Damage and Sums stand alone.
+-- Read first: Running, Opening, Guarding, Closing, Keeping; Damage, Sums and Orders stand alone.
 pub mod Opening
 pub mod Operators
 pub mod Guarding
@@ -10,5 +10,6 @@ pub mod Naming
 pub mod Keeping
 pub mod Damage
 pub mod Sums
+pub mod Orders
 pub mod Ways
 pub mod Twins

@@ -4,7 +4,7 @@ use Rattle.uss_desk.specs.declared.naming.Names.{Names}
 
 -- a step: a path is looked at, and there is nothing; what a copy that was cut off left at two paths, a file
 -- and its log, is gone; a file is made there for a trial, and is gone again; a file is read, and its twin
--- made at another path, either with each page's sum or, with its log, byte for byte; a file is removed; one
+-- made at another path, either mended or, with its log, byte for byte; a file is removed; one
 -- gets another name; the folder of a path is synced; or what was asked is not so, or can't be done
 pub data Step : Type 0 where
   Free : List ℕ → Step
@@ -66,7 +66,7 @@ abbrev pub GivesNoName : Step → Type 0
 GivesNoName (Free path) = ⊤
 GivesNoName (Cleared part log) = ⊤
 GivesNoName (Tried path) = ⊤
-GivesNoName (Twinned source twin summed) = ⊥
+GivesNoName (Twinned source twin mended) = ⊥
 GivesNoName (Removed path) = ⊤
 GivesNoName (Renamed from to) = ⊥
 GivesNoName (Synced path) = ⊤
@@ -83,7 +83,7 @@ abbrev pub ClearsOwn : List ℕ → Step → Type 0
 ClearsOwn to (Free path) = ⊤
 ClearsOwn to (Cleared part log) = (part ≡ part_of to) × (log ≡ log_of (part_of to))
 ClearsOwn to (Tried path) = ⊥
-ClearsOwn to (Twinned source twin summed) = ⊥
+ClearsOwn to (Twinned source twin mended) = ⊥
 ClearsOwn to (Removed path) = ⊥
 ClearsOwn to (Renamed from into) = ⊥
 ClearsOwn to (Synced path) = ⊤
@@ -94,7 +94,7 @@ abbrev pub ChangesOwn : List ℕ → Step → Type 0
 ChangesOwn to (Free path) = ⊤
 ChangesOwn to (Cleared part log) = ⊥
 ChangesOwn to (Tried path) = ⊥
-ChangesOwn to (Twinned source twin summed) = ⊥
+ChangesOwn to (Twinned source twin mended) = ⊥
 ChangesOwn to (Removed path) = (path ≡ part_of to) ⊎ (path ≡ log_of (part_of to))
 ChangesOwn to (Renamed from into) = (from ≡ part_of to) × (into ≡ to)
 ChangesOwn to (Synced path) = ⊤

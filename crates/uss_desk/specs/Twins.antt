@@ -19,10 +19,12 @@ use Rattle.uss_desk.specs.declared.twins.Rows.{Rows}
 use Rattle.uss_desk.specs.declared.twins.Rows.TheVariants as rows
 use Rattle.uss_desk.specs.declared.twins.Twin.{Twin}
 use Rattle.uss_desk.specs.declared.ways.Way.{Way}
+use Rattle.uss_desk.specs.declared.ways.Way.TheVariants as way
 use Rattle.uss_desk.specs.Damage.{IsWritten}
 use Rattle.uss_desk.specs.Keeping.{CopyEnd, FailsTelling, FailsToRead, IsCopied, IsNamedIf, IsReadAs}
 use Rattle.uss_desk.specs.Naming.{Cleared, Failed, Follows, LeavesOthers, Removed, Step, Takes, Twinned, log_of}
-use Rattle.uss_desk.specs.Ways.{is_summed, untested}
+use Rattle.uss_desk.specs.Orders.{order_text}
+use Rattle.uss_desk.specs.Ways.{is_mended, untested}
 
 -- the name of a twin
 abbrev pub twin_of : List ℕ → List ℕ
@@ -37,7 +39,7 @@ pub record AreTwins (path : List ℕ) (twin : Twin) : Type 0 where
 
 -- what an earlier twin left is gone, and one is made of the file at a path
 abbrev pub making : List ℕ → List ℕ → Bool → List Step
-making source twin summed = Cleared twin (log_of twin) ∷ Twinned source twin summed ∷ []
+making source twin mended = Cleared twin (log_of twin) ∷ Twinned source twin mended ∷ []
 
 -- a step is made, or fails
 pub record IsAsked (step : Step) (old new : Option (List Step)) : Type 0 where
@@ -76,9 +78,28 @@ unsummed_line path pages text =
 abbrev pub rows_line : List ℕ → ℕ → Rows → List ℕ
 rows_line path pages it = unsummed_line path pages (rows_text it)
 
+-- the line that tells a text of a file, and the one that tells that its tables stand in another order
+unfoldable pub line_of : List ℕ → List ℕ → List ℕ
+line_of path text = codes "uss_desk: " ++ (path ++ (codes ": " ++ (text ++ codes "\n")))
+
+abbrev pub order_line : List ℕ → List ℕ
+order_line path = line_of path order_text
+
+-- what is told of a file that is read in a way, by a twin whose rows are a desk's
+abbrev pub taken_line : List ℕ → Way → Option (List ℕ)
+taken_line path way.Itself = None
+taken_line path way.Damaged = None
+taken_line path (way.Unsummed pages) = Some (rows_line path pages rows.OfADesk)
+taken_line path way.Disordered = Some (order_line path)
+
 -- a line is written, whole or up to the write that broke off; or memory ran out for it
 abbrev pub IsNoted : List ℕ → Option (List ℕ) → Option (List ℕ) → Type 0
 IsNoted line out now = (now ≡ out) ⊎ ((cut : Option WriteFault) × IsWritten line cut out now)
+
+-- so, if there is a line
+abbrev pub IsNotedIf : Option (List ℕ) → Option (List ℕ) → Option (List ℕ) → Type 0
+IsNotedIf None out now = now ≡ out
+IsNotedIf (Some line) out now = IsNoted line out now
 
 -- there is no twin, which is told, and nothing is printed
 pub record FailsUntwinned (end : Ending) (out now : Option (List ℕ)) : Type 0 where
@@ -94,25 +115,32 @@ pub record FailsNoted (path : List ℕ) (pages : ℕ) (end : Ending) : Type 0 wh
   pub fails : FailsWith failure.Store (record end { before = between })
 
 -- by why they could not be read: want of memory says nothing of them
-abbrev pub IsRefused : List ℕ → ℕ → Failure → Ending → Type 0
-IsRefused path pages f end = ((f ≡ failure.Memory) × FailsWith failure.Memory end)
+abbrev pub AreRowsRefused : List ℕ → ℕ → Failure → Ending → Type 0
+AreRowsRefused path pages f end = ((f ≡ failure.Memory) × FailsWith failure.Memory end)
     ⊎ ((f ≢ failure.Memory) × FailsNoted path pages end)
+
+-- so, if its pages lack their sums; else why is told, and then this failure
+abbrev pub IsRefused : List ℕ → Way → Failure → Ending → Type 0
+IsRefused path way.Itself f end = FailsTelling f end
+IsRefused path way.Damaged f end = FailsTelling f end
+IsRefused path (way.Unsummed pages) f end = AreRowsRefused path pages f end
+IsRefused path way.Disordered f end = FailsTelling f end
 
 -- ---- a look
 
-module _ {D : Type 0} {g : disk.Ghosts D} (image : Image) (path : List ℕ) (pages : ℕ) (end : Ending) where
-  -- the rows of a file are a desk's, and what they are is told
+module _ {D : Type 0} {g : disk.Ghosts D} (image : Image) (path : List ℕ) (way : Way) (end : Ending) where
+  -- the rows of a file are a desk's, and what is told of its way is told, and what they are
   pub record IsTakenByRows (left : Held (FileStore D g)) (out now : Option (List ℕ)) : Type 0 where
     pub between : Option (List ℕ)
     pub file : CheckedFile
-    pub noted : IsNoted (rows_line path pages rows.OfADesk) end.before between
+    pub noted : IsNotedIf (taken_line path way) end.before between
     pub read : IsReadAs image left file
     pub printed : IsTextPrinted (checked_line file) (record end { before = between }) out now
 
   -- they can't be read as a desk's, and nothing is printed
   pub record IsRefusedByRows (it : Unopened (FileStore D g)) (out now : Option (List ℕ)) : Type 0 where
     pub look : FailsToRead image it
-    pub told : IsRefused path pages it.failure end
+    pub told : IsRefused path way it.failure end
     pub unprinted : now ≡ out
 
   -- the one or the other, by what the twin showed
@@ -128,15 +156,15 @@ module _ {D : Type 0} {g : disk.Ghosts D} (image : Image) (path : List ℕ) (pag
   IsJudgedIf (Some judged) out now = IsJudged judged out now
 
 -- a twin is made of a file, and removed once it was read
-pub record WasTwin (source twin : List ℕ) (summed : Bool) (old new : Option (List Step)) : Type 0 where
+pub record WasTwin (source twin : List ℕ) (mended : Bool) (old new : Option (List Step)) : Type 0 where
   pub from : Option (List Step)
-  pub made : Follows old from (making source twin summed)
+  pub made : Follows old from (making source twin mended)
   pub removed : AreRemoved twin from new
 
 abbrev pub WasTwinIf :
     {A : Type 0} → Option A → List ℕ → List ℕ → Bool → Option (List Step) → Option (List Step) → Type 0
-WasTwinIf None source twin summed old new = IsUntwinned twin old new
-WasTwinIf (Some it) source twin summed old new = WasTwin source twin summed old new
+WasTwinIf None source twin mended old new = IsUntwinned twin old new
+WasTwinIf (Some it) source twin mended old new = WasTwin source twin mended old new
 
 -- ---- a copy
 
@@ -153,7 +181,7 @@ module _ {D E : Type 0} {g : disk.Ghosts D} (k : disk.Ghosts E) (image other : I
     pub from : Option (List Step)
     pub until : Option (List Step)
     pub told : Option (List ℕ)
-    pub made : Follows old from (making source (twin_of to) (is_summed way))
+    pub made : Follows old from (making source (twin_of to) (is_mended way))
     pub copies : IsCopied k image other database from until (record end { now = told }) copied out now
     pub named : IsNamedIf copied to from until
     pub own : LeavesOthers to from until

@@ -7,8 +7,10 @@ ghost use Rattle.uss_desk.specs.Naming.{Follows, Free, LeavesNames, TakesIfNone}
 
 use crate::naming::{Folder, IN_USE, LocalFolder, READ_ONLY, TAKEN, is_no_path};
 use crate::opening::{Opened, OpenedDesk};
+use crate::orders::order_text;
 use crate::sums::pages_without_sums;
 use crate::watching::Paths;
+use crate::ways::{Way, way_to};
 use desk_ends::write_whole;
 use desk_line::{Database, Failure, Line, malformed_word};
 use desk_tables::{PartFault, part_at};
@@ -220,6 +222,9 @@ fn taken_cause(path: &str) -> &'static str {
 
 // Why a file holds no desk, if that is found once more.
 fn desk_cause(rt: &HostRuntime, path: &str) -> &'static str {
+    if way_to(rt, path, false) == Way::Disordered {
+        return order_text();
+    }
     match part_at(rt, path) {
         Some(part) => part_cause(part),
         None => "no table, other tables than a desk's, or rows of no content",

@@ -43,11 +43,11 @@ pub trait Folder {
     fn try_file(&mut self, path: &str) -> Option<&'static str>
         ensures { TakesIfNone (steps self.old) (steps self.new) result (Tried path.now) };
 
-    /// Makes the twin of a file at a path where there is nothing, with the sum of each page (`is_summed`) or,
-    /// beside that of its log, as it is; and answers why that could not be done, if so.
-    fn twin(&mut self, source: &str, twin: &str, is_summed: bool) -> Option<TwinFault>
+    /// Makes the twin of a file at a path where there is nothing, mended (`is_mended`) or, beside that of its
+    /// log, as it is; and answers why that could not be done, if so.
+    fn twin(&mut self, source: &str, twin: &str, is_mended: bool) -> Option<TwinFault>
         ensures { TakesIfNone (steps self.old) (steps self.new) result
-            (Twinned source.now twin.now is_summed) };
+            (Twinned source.now twin.now is_mended) };
 
     /// Removes a file, and answers whether that was done.
     fn remove(&mut self, path: &str) -> bool
@@ -103,8 +103,8 @@ impl<'s> Folder for LocalFolder<'s> {
         }
     }
 
-    fn twin(&mut self, source: &str, twin: &str, is_summed: bool) -> Option<TwinFault> {
-        write_twin(self.rt, source, twin, is_summed).err()
+    fn twin(&mut self, source: &str, twin: &str, is_mended: bool) -> Option<TwinFault> {
+        write_twin(self.rt, source, twin, is_mended).err()
     }
 
     fn remove(&mut self, path: &str) -> bool {

@@ -2,7 +2,8 @@
 
 use crate::causes::access_cause;
 use crate::naming::{OWNER_ALONE, unmade_text};
-use crate::sums::{copy_bytes, copy_with_sums};
+use crate::orders::copy_mended;
+use crate::sums::copy_bytes;
 use sqlite::Unknown;
 use sqlite_std_file::OpenError;
 use std::alloc::AllocError;
@@ -30,8 +31,8 @@ impl From<AllocError> for TwinFault {
 // What is told of a file that can't be read.
 const UNREAD: &str = "it can't be read";
 
-/// Makes the twin of a file, which no other program has meanwhile, where there is nothing: with the sum of
-/// each page, or, with its log, as it is. The twin is its owner's alone. No log is left beside the file where
+/// Makes the twin of a file, which no other program has meanwhile, where there is nothing: mended, or, with
+/// its log, as it is. The twin is its owner's alone. No log is left beside the file where
 /// there was none.
 ///
 /// # Errors
@@ -41,7 +42,7 @@ pub fn write_twin(
     rt: &HostRuntime,
     source: &str,
     twin: &str,
-    is_summed: bool,
+    is_mended: bool,
 ) -> Result<(), TwinFault> {
     let real = fs::canonicalize(rt, source).map_err(|error| source_fault(&error))?;
     let log = format!(in rt.alloc(); "{}-wal", real.as_str())?;
@@ -52,8 +53,8 @@ pub fn write_twin(
             if is_alone {
                 remove_empty(rt, &log);
             }
-            if is_summed {
-                write_summed(rt, source, twin)
+            if is_mended {
+                write_mended(rt, source, twin)
             } else {
                 write_pair(rt, source, &log, twin)
             }
@@ -70,12 +71,12 @@ fn remove_empty(rt: &HostRuntime, log: &str) {
     }
 }
 
-// Copies a file with the sum of each page. It is opened once, and closed after all else: its closing lets go
+// Copies a file, mended. It is opened once, and closed after all else: its closing lets go
 // of it.
-fn write_summed(rt: &HostRuntime, source: &str, twin: &str) -> Result<(), TwinFault> {
+fn write_mended(rt: &HostRuntime, source: &str, twin: &str) -> Result<(), TwinFault> {
     let mut file = File::open(rt, source).map_err(|error| source_fault(&error))?;
     let mut made = new_file(rt, twin)?;
-    copy_with_sums(&mut file, &mut made).map_err(|error| copy_fault(&error))
+    copy_mended(&mut file, &mut made).map_err(|error| copy_fault(&error))
 }
 
 // Copies a file and its log. Both are closed after all else.

@@ -8,7 +8,7 @@ ghost use Rattle.uss_desk.specs.Sums as spec;
 
 use sqlite_wal::{PageSize, checksum_of};
 use std::fs::{self, File};
-use std::io::{self, ErrorKind, Read, Seek, Write};
+use std::io::{self, ErrorKind, Read, Write};
 
 // Where the header of a database says how large a page is, and how many bytes at the end of each page are
 // kept for a sum (the SQLite file format, sections 1.3.2 and 1.3.4).
@@ -16,13 +16,14 @@ const SIZE_AT: usize = 16;
 
 const RESERVED_AT: usize = 20;
 
-// How many bytes of a header are read.
-const HEADER: usize = 24;
+/// How many bytes of a header are read.
+pub const HEADER: usize = 24;
 
 // How many bytes a sum has.
 const SUM: usize = 8;
 
-const MAX_PAGE: usize = 65_536;
+/// How many bytes the largest page has.
+pub const MAX_PAGE: usize = 65_536;
 
 /// Whether the pages of the database at a path have sums; they haven't if it can't be looked at.
 pub fn has_sums(rt: &HostRuntime, path: &str) -> bool {
@@ -47,9 +48,19 @@ fn summed_size(rt: &HostRuntime, path: &str) -> Option<PageSize> {
 
 // The size of a page by the header of a database, if its pages have sums.
 fn size_in(header: &[u8; HEADER]) -> Option<PageSize> {
-    if usize::from(header[RESERVED_AT]) != SUM {
+    if !keeps_sums(header) {
         return None;
     }
+    page_size_in(header)
+}
+
+/// Whether the pages of a database have sums, by its header.
+pub fn keeps_sums(header: &[u8; HEADER]) -> bool {
+    usize::from(header[RESERVED_AT]) == SUM
+}
+
+/// The size of a page by the header of a database.
+pub fn page_size_in(header: &[u8; HEADER]) -> Option<PageSize> {
     size_named(header[SIZE_AT], header[SIZE_AT + 1])
 }
 
@@ -61,29 +72,16 @@ fn size_named(high: u8, low: u8) -> Option<PageSize> {
     }
 }
 
-// Reads the first bytes of a file. What is no regular file is not opened: a pipe would wait for a writer.
-fn read_header(rt: &HostRuntime, path: &str, header: &mut [u8]) -> io::Result<()> {
+/// Reads the first bytes of a file. What is no regular file is not opened: a pipe would wait for a writer.
+///
+/// # Errors
+///
+/// What the reading failed with; `Unsupported` if it is no regular file.
+pub fn read_header(rt: &HostRuntime, path: &str, header: &mut [u8]) -> io::Result<()> {
     if !fs::metadata(rt, path)?.is_file() {
         return Err(io::Error::from(ErrorKind::Unsupported));
     }
     File::open(rt, path)?.read_exact(header)
-}
-
-/// Copies the file of a database whose pages have sums, each page with its own. Nothing else is opened, so
-/// that whoever holds the file goes on holding it.
-///
-/// # Errors
-///
-/// What the reading or the writing failed with; `Unsupported` if its pages have no sums.
-pub fn copy_with_sums<W: Write>(file: &mut File, twin: &mut W) -> io::Result<()> {
-    let mut header = [0u8; HEADER];
-    file.read_exact(&mut header)?;
-    let Some(size) = size_in(&header) else {
-        return Err(io::Error::from(ErrorKind::Unsupported));
-    };
-    let len = file.metadata()?.len();
-    file.rewind()?;
-    copy_summed(file, twin, size, len)
 }
 
 /// Copies a file of so many bytes page by page, each with its sum in the place of its last bytes.

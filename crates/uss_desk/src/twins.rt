@@ -6,16 +6,19 @@ ghost use Rattle.sqlite_wal.specs.Files.{image_at};
 ghost use Rattle.sqlite_wal.specs.Recovery.{Image};
 ghost use Rattle.desk_line.specs.Exits.{ending, IsBreakdown};
 ghost use Rattle.desk_line.specs.Lines.{file_of};
-ghost use Rattle.uss_desk.specs.Keeping.{FailsToRead, IsReadAs, Tells};
+ghost use Rattle.uss_desk.specs.Keeping.{FailsTelling, FailsToRead, IsReadAs, Tells};
 ghost use Rattle.uss_desk.specs.Naming.{Follows};
 ghost use Rattle.uss_desk.specs.Twins as spec;
-ghost use Rattle.uss_desk.specs.Twins.{AreRemoved, AreTwins, IsCopiedByTwinIf, IsJudged, IsJudgedIf, IsNoted};
-ghost use Rattle.uss_desk.specs.Twins.{IsRefused, IsTestTold, IsUntwinned, WasTwinIf, making, twin_of};
+ghost use Rattle.uss_desk.specs.Twins.{AreRemoved, AreRowsRefused, AreTwins, IsCopiedByTwinIf, IsJudged};
+ghost use Rattle.uss_desk.specs.Twins.{IsJudgedIf, IsNoted, IsNotedIf, IsRefused, IsTestTold, IsUntwinned};
+ghost use Rattle.uss_desk.specs.Twins.{WasTwinIf, making, twin_of};
+ghost use Rattle.uss_desk.specs.Ways.{is_mended};
 
-use crate::causes::tell_of;
+use crate::causes::{tell, tell_of};
 use crate::keeping::{Copies, CopyEnd, Look, copy_file, look_in};
 use crate::naming::{Folder, name_with};
 use crate::opening::{Unopened, Unread};
+use crate::orders::order_text;
 use crate::pairs::TwinFault;
 use crate::ways::Way;
 use desk_ends::write_whole;
@@ -74,32 +77,32 @@ impl Twin {
 /// A connection with which the files of a disk `D` were looked at, or what refused them.
 pub type Judged<D> = Result<Connection<FileStore<D>>, Unopened<FileStore<D>>>;
 
-/// Prints what a file holds so many of whose pages have other sums than theirs, read by a twin beside it, and
-/// answers how that ended and the connection to the twin, or why it can't be read; nothing if there is no
-/// twin. What its rows are, or why there is no twin, and the word of the failure, go to `errors`; a fault
-/// there is passed over.
+/// Prints what a file holds, read in its way by a twin beside it, and answers how that ended and the
+/// connection to the twin, or why it can't be read; nothing if there is no twin. What its rows are, if its
+/// pages lack their sums, that its tables stand in another order, or why there is no twin, and the word of
+/// the failure, go to `errors`; a fault there is passed over.
 pub fn check_by_twin<F: Start, P: Folder, W: Write, E: Write>(
     rt: &HostRuntime,
     folder: &mut P,
     path: &str,
-    pages: u64,
+    way: Way,
     start: F,
     output: &mut W,
     errors: &mut E,
 ) -> (Exit, Option<Result<Look<F>, Unread<F>>>)
-    ensures judged { IsJudgedIf (image_at F.Start) path.now pages
+    ensures judged { IsJudgedIf (image_at F.Start) path.now way
         (ending result.0 (E.contents errors.old) (E.contents errors.new)) result.1
         (W.contents output.old) (W.contents output.new) }
-    ensures twin { WasTwinIf result.1 path.now (twin_of path.now) true
+    ensures twin { WasTwinIf result.1 path.now (twin_of path.now) (is_mended way)
         (P.steps folder.old) (P.steps folder.new) }
 {
-    let twin = match make_twin(rt.alloc(), folder, path, path, true, errors) {
+    let twin = match make_twin(rt.alloc(), folder, path, path, way.is_mended(), errors) {
         Ok(twin) => twin,
         Err(failure) => return (conclude(errors, Err(failure)), None),
     };
     let found = look_in(rt, &twin.path, start);
+    let (exit, judged) = tell_found(rt, path, &twin.path, way, found, output, errors);
     remove_twin(folder, &twin);
-    let (exit, judged) = tell_found(rt.alloc(), path, pages, found, output, errors);
     (exit, Some(judged))
 }
 
@@ -111,35 +114,88 @@ pub fn status_judged<D: Disk + Drop>(judged: (Exit, Option<Judged<D>>)) -> u8
     exit.status
 }
 
-// Tells whether the rows of a twin are a desk's, and prints what they are.
+// Tells what the twin of a file showed, and prints what its rows are. The twin is still there.
 fn tell_found<D: Disk + Drop, W: Write, E: Write>(
-    alloc: Global,
+    rt: &HostRuntime,
     path: &str,
-    pages: u64,
+    twin: &str,
+    way: Way,
     found: Result<(Connection<FileStore<D>>, CheckedFile), Unopened<FileStore<D>>>,
     output: &mut W,
     errors: &mut E,
 ) -> (Exit, Judged<D>)
     ensures { (image : Image) → IfOk found (λ it. IsReadAs image it.0 it.1) → IfErr found (FailsToRead image)
-        → IsJudged image path.now pages
+        → IsJudged image path.now way
         (ending result.0 (E.contents errors.old) (E.contents errors.new)) result.1
         (W.contents output.old) (W.contents output.new) }
 {
     match found {
         Ok((connection, file)) => {
-            tell_rows(alloc, path, pages, Rows::OfADesk, errors);
-            (print_checked(alloc, &file, output, errors), Ok(connection))
+            tell_taken(rt.alloc(), path, way, errors);
+            let exit = print_checked(rt.alloc(), &file, output, errors);
+            (exit, Ok(connection))
         }
-        Err(unread) => (
-            refuse(alloc, path, pages, unread.failure, errors),
-            Err(unread),
-        ),
+        Err(unread) => {
+            let exit = refuse(rt, path, twin, way, unread.failure, errors);
+            (exit, Err(unread))
+        }
     }
 }
 
+// Tells of a file whose twin is a desk's what is told of its way.
+fn tell_taken<E: Write>(alloc: Global, path: &str, way: Way, errors: &mut E)
+    ensures { IsNotedIf (spec.taken_line path.now way) (E.contents errors.old) (E.contents errors.new) }
+{
+    match way {
+        Way::Unsummed(pages) => tell_rows(alloc, path, pages, Rows::OfADesk, errors),
+        Way::Disordered => tell_order(alloc, path, errors),
+        Way::Itself | Way::Damaged => {}
+    }
+}
+
+// Tells why a file whose twin is refused is refused, and the word of the failure.
+fn refuse<E: Write>(
+    rt: &HostRuntime,
+    path: &str,
+    twin: &str,
+    way: Way,
+    failure: Failure,
+    errors: &mut E,
+) -> Exit
+    ensures { IsRefused path.now way failure
+        (ending result (E.contents errors.old) (E.contents errors.new)) }
+{
+    match way {
+        Way::Unsummed(pages) => refuse_rows(rt.alloc(), path, pages, failure, errors),
+        Way::Itself | Way::Damaged | Way::Disordered => {
+            refuse_as(rt, path, twin, failure, errors)
+        }
+    }
+}
+
+// Tells what the twin of a file is refused for, as of the file, and the word of the failure.
+fn refuse_as<E: Write>(
+    rt: &HostRuntime,
+    path: &str,
+    twin: &str,
+    failure: Failure,
+    errors: &mut E,
+) -> Exit
+    ensures { FailsTelling failure (ending result (E.contents errors.old) (E.contents errors.new)) }
+{
+    tell(rt, twin, path, failure, errors);
+    conclude(errors, Err(failure))
+}
+
 // Tells that the rows of a twin are no desk's, if it wasn't memory that ran out, and the word of the failure.
-fn refuse<E: Write>(alloc: Global, path: &str, pages: u64, failure: Failure, errors: &mut E) -> Exit
-    ensures { IsRefused path.now pages failure
+fn refuse_rows<E: Write>(
+    alloc: Global,
+    path: &str,
+    pages: u64,
+    failure: Failure,
+    errors: &mut E,
+) -> Exit
+    ensures { AreRowsRefused path.now pages failure
         (ending result (E.contents errors.old) (E.contents errors.new)) }
 {
     match failure {
@@ -175,7 +231,7 @@ pub fn copy_by_twin<F: Start, N: Start, P: Folder, W: Write, E: Write>(
     let Database::File(path) = &words.database else {
         return (conclude(errors, Err(Failure::Store)), None);
     };
-    let twin = match make_twin(rt.alloc(), folder, path, &words.to, way.is_summed(), errors) {
+    let twin = match make_twin(rt.alloc(), folder, path, &words.to, way.is_mended(), errors) {
         Ok(twin) => twin,
         Err(failure) => return (conclude(errors, Err(failure)), None),
     };
@@ -219,11 +275,11 @@ fn make_twin<P: Folder, E: Write>(
     folder: &mut P,
     source: &str,
     beside: &str,
-    is_summed: bool,
+    is_mended: bool,
     errors: &mut E,
 ) -> Result<Twin, Failure>
     ensures made { IfOk result (λ twin. AreTwins beside.now twin × Follows (P.steps folder.old)
-        (P.steps folder.new) (making source.now (twin_of beside.now) is_summed)) }
+        (P.steps folder.new) (making source.now (twin_of beside.now) is_mended)) }
     ensures unmade { IfErr result (λ _. IsUntwinned (twin_of beside.now)
         (P.steps folder.old) (P.steps folder.new)) }
     ensures failure { IfErr result IsBreakdown }
@@ -235,7 +291,7 @@ fn make_twin<P: Folder, E: Write>(
         tell_of(alloc, &twin.path, cause, errors);
         return Err(Failure::Store);
     }
-    match folder.twin(source, &twin.path, is_summed) {
+    match folder.twin(source, &twin.path, is_mended) {
         None => Ok(twin),
         Some(fault) => {
             remove_twin(folder, &twin);
@@ -281,6 +337,24 @@ fn tell_rows<E: Write>(alloc: Global, path: &str, pages: u64, rows: Rows, errors
     if let Ok(line) = unsummed_line(alloc, path, pages, rows.text()) {
         let _ = write_whole(errors, line.as_bytes());
     }
+}
+
+// Tells that the tables of a file stand in another order. A fault of the writer is passed over, and so is
+// want of memory.
+fn tell_order<E: Write>(alloc: Global, path: &str, errors: &mut E)
+    ensures { IsNoted (spec.order_line path.now) (E.contents errors.old) (E.contents errors.new) }
+{
+    if let Ok(line) = line_of(alloc, path, order_text()) {
+        let _ = write_whole(errors, line.as_bytes());
+    }
+}
+
+// The line that tells this text of a file.
+#[tactic(auto, unfolding(crate::specs::Twins::line_of))]
+fn line_of(alloc: Global, path: &str, text: &str) -> Result<String, AllocError>
+    ensures { IfOk result (λ line. string_bytes line ≡ spec.line_of path.now text.now) }
+{
+    format!(in alloc; "uss_desk: {path}: {text}\n")
 }
 
 // The line that tells of pages without their sums, and what their rows are.

@@ -1,11 +1,12 @@
 //! The way in which the file of a look or of a copy is read: itself, or by a twin, if another program spoilt
-//! it. It is decided before the file is opened as a desk's.
+//! it or put its tables in another order. It is decided before the file is opened as a desk's.
 
 ghost use Rattle.std.specs.Prelude.{◌≡◌};
 ghost use Rattle.uss_desk.specs.Ways as spec;
 
 use crate::damage::has_commit;
 use crate::naming::is_no_path;
+use crate::orders::has_other_order;
 use crate::sums::pages_without_sums;
 use std::fs;
 
@@ -18,15 +19,18 @@ pub enum Way {
     Damaged,
     /// By a twin whose pages have their sums: so many of its own have others.
     Unsummed(u64),
+    /// By a twin that lists its tables in a desk's own order: it lists them in another.
+    Disordered,
 }
 
 impl Way {
-    /// Whether the pages of the twin get their sums.
-    pub fn is_summed(self) -> bool
-        ensures { result ≡ spec.is_summed self }
+    /// Whether the twin is mended: its tables are put in a desk's own order, if they are a desk's in another,
+    /// and its pages get their sums, if they have sums.
+    pub fn is_mended(self) -> bool
+        ensures { result ≡ spec.is_mended self }
     {
         match self {
-            Way::Unsummed(_) => true,
+            Way::Unsummed(_) | Way::Disordered => true,
             Way::Itself | Way::Damaged => false,
         }
     }
@@ -46,20 +50,26 @@ impl Way {
 /// read as it is: its pages may stand in the log anew.
 pub fn way_to(rt: &HostRuntime, path: &str, is_damaged: bool) -> Way {
     if is_damaged || is_no_path(path) || has_changes(rt, path) {
-        return way_for(is_damaged, None);
+        return way_for(is_damaged, None, false);
     }
-    way_for(is_damaged, pages_without_sums(rt, path))
+    way_for(
+        is_damaged,
+        pages_without_sums(rt, path),
+        has_other_order(rt, path),
+    )
 }
 
-// The way, by whether the log is damaged and how many pages end with another sum than theirs.
-fn way_for(is_damaged: bool, unsummed: Option<u64>) -> Way
-    ensures { result ≡ spec.way_for is_damaged unsummed }
+// The way, by whether the log is damaged, how many pages end with another sum than theirs, and whether the
+// tables are a desk's in another order.
+fn way_for(is_damaged: bool, unsummed: Option<u64>, is_disordered: bool) -> Way
+    ensures { result ≡ spec.way_for is_damaged unsummed is_disordered }
 {
     if is_damaged {
         return Way::Damaged;
     }
     match unsummed {
         Some(count) if count != 0 => Way::Unsummed(count),
+        _ if is_disordered => Way::Disordered,
         _ => Way::Itself,
     }
 }

@@ -6,7 +6,7 @@ use Rattle.uss_desk.proofs.twins.check_by_twin.Goals as goal
 
 pub returns-clause-judged : goal.returns-clause-judged
 returns-clause-judged g c =
-    subst (λ before. IsJudged (image_at g.F.Start) c.args.path.now c.args.pages
+    subst (λ before. IsJudged (image_at g.F.Start) c.args.path.now c.args.way
     (ending c.tell_found-judged.result.0 before (g.E.Write.contents c.tell_found-judged.new.errors))
     c.tell_found-judged.result.1 (g.W.Write.contents c.args.output.now)
     (g.W.Write.contents c.tell_found-judged.new.output)) c.in-Ok.ensures.quiet
