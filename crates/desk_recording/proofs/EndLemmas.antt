@@ -2,12 +2,18 @@
 use Rattle.std.proofs.Common.{◌≡◌, ◌≢◌, ◌≤◌, ◌<◌, ◌⊎◌, ◌∙◌, ◌+◌, ℕ, ℤ, pos, nat_abs, List, [], ◌∷◌, ◌++◌, All, map, length, take, drop, Bool, true, Option, Some, None, IfSome, Result, Ok, Err, append-nil, append_assoc, ap, inl, inr, refl, subst, sym, arith}
 use Rattle.std.specs.Prelude.{⊤, IsSome}
 use Rattle.std.proofs.lemmas.List.{take-append-drop}
-use Rattle.std.proofs.lemmas.List.Elements.{All-head, All-tail}
+use Rattle.std.proofs.lemmas.List.Elements.{All-cons, All-head, All-nil, All-tail}
 use Rattle.desk_ends.specs.Moments.{IsMoment}
 use Rattle.desk_record.specs.Record.{EntryParts, entries, entry}
+use Rattle.desk_reading.specs.Readings.{Reading}
 use Rattle.desk_reading.specs.Requests.{asked}
-use Rattle.desk_run.specs.DeskWorld.{DeskWorld, enrolled}
+use Rattle.desk_rules.specs.declared.call.Asked.{Asked}
+use Rattle.desk_store.specs.World.{World}
+use Rattle.desk_run.specs.DeskWorld.{DeskWorld, enrolled, with_content}
+use Rattle.desk_run.specs.Verdicts.{step}
+use Rattle.desk_run.specs.laws.Repeat.{step_again}
 use Rattle.desk_wire.specs.Bytes.{world_after}
+use Rattle.desk_wire.specs.Crashes.{IsCertain}
 use Rattle.desk_wire.specs.Passage.{passed}
 use Rattle.desk_wire.specs.Serving.{HasServed}
 use Rattle.desk_wire.specs.Streams.{IsRequest, request_len}
@@ -16,11 +22,12 @@ use Rattle.desk_line.specs.Lines.{AreEnrolments}
 use Rattle.desk_line.specs.declared.failure.Failure.{Failure}
 use Rattle.desk_line.specs.declared.line.Enrolment.{Enrolment}
 use Rattle.desk_program.specs.Enrolling.{AreEnrolled, AreListedSoFar, with_operators}
+use Rattle.desk_program.specs.Keeping.{IsFoundServed, IsLeftByNews, IsLeftUncertain}
 use Rattle.desk_program.specs.Recorded.{AreNamed, Ended, IsAnswerRecorded, IsCutOff, IsRecorded, Noted, Open, Recorded, RecordsAnswer, RecordsNone, RecordsRequest, answer_entry, operator_entry, request_entry, with_answer, with_news, with_request}
-use Rattle.desk_program.specs.Serving.{AreNoted, AreServed, AreTaken, EndsAfter, EndsBy, Exchange, IsLast, Traffic, outcome_of, passage_of}
+use Rattle.desk_program.specs.Serving.{AreNoted, AreServed, AreTaken, EndsAfter, EndsBy, Exchange, IsLast, Traffic, is_answered, outcome_of, passage_of}
 use Rattle.desk_replay.specs.Replaying.{State, played, taken}
-use Rattle.desk_recording.specs.Played.{AddsPlayed, EndsAs, EndsPlayed, IsPlayedTo, caught_up, entries_of, known, pair_of}
-use Rattle.desk_recording.proofs.ExchangeLemmas.{AreAsked, IsGivenUp, IsLeft, are_asked, is_given_up, is_left, low_second, same_second, some_failure}
+use Rattle.desk_recording.specs.Played.{AddsPlayed, CatchesUp, EndsAs, EndsFound, EndsPlayed, IsPlayedTo, IsUnanswered, caught_up, entries_of, known, pair_of}
+use Rattle.desk_recording.proofs.ExchangeLemmas.{AreAsked, IsGivenUp, IsLeft, are_asked, is_certain, left_next, is_given_up, is_left, low_second, same_second, some_failure}
 use Rattle.desk_recording.proofs.PlayedLemmas.{asked_of, entries_then, failure_taken, is_asked, news_played, played_one, played_then}
 use Rattle.desk_recording.proofs.RecordLemmas.{all_enrolled, both_played, news_added, pair_added, served_known, told_whole}
 
@@ -34,9 +41,82 @@ ends_as : (n : Noted) (now : Option Recorded) → RecordsNone (Some (Open n)) no
 ends_as n now (inl same) = inl same
 ends_as n now (inr cut) = inr (inr cut)
 
+-- ---- what is found
+
+-- what is left has caught up; and so has what is found, if that is the same
+caught : (after : DeskWorld) (news : List Enrolment) (moment : ℤ) (request : List ℕ) (left : DeskWorld)
+    → left ≡ caught_up after news moment request → (found : Option World) → found ≡ Some after.content
+    → CatchesUp found after news moment request left
+caught after news moment request left behind found is = record {
+  content = after.content;
+  is = is;
+  behind = behind;
+}
+
+-- after no connection
+none_found : (after : DeskWorld) (news : List Enrolment) (moment : ℤ) (request : List ℕ) (left : DeskWorld)
+    (last : Option (List Enrolment)) → left ≡ caught_up after news moment request → (found : Option World)
+    → IsFoundServed [] last after found
+    → CatchesUp found after news moment request left ⊎ IsLeftByNews after found last
+none_found after news moment request left last behind found (inl is) =
+    inl (caught after news moment request left behind found is)
+none_found after news moment request left last behind found (inr (inl none)) = absurd none
+none_found after news moment request left last behind found (inr (inr some)) = inr some
+
+-- after one connection, by what its request leaves if that isn't certain
+one_found : (x : Exchange) (after : DeskWorld) (news : List Enrolment) (moment : ℤ) (request : List ℕ)
+    (left : DeskWorld) → left ≡ caught_up after news moment request
+    → ((found : Option World) → IsLeftUncertain after found x
+    → CatchesUp found after news moment request left) → (found : Option World)
+    → IsFoundServed (x ∷ []) None after found
+    → CatchesUp found after news moment request left ⊎ IsLeftByNews after found None
+one_found x after news moment request left behind next found (inl is) =
+    inl (caught after news moment request left behind found is)
+one_found x after news moment request left behind next found (inr (inl (inl some))) = inl (next found some)
+one_found x after news moment request left behind next found (inr (inl (inr none))) = absurd none
+one_found x after news moment request left behind next found (inr (inr none)) = absurd none
+
+-- a request changes no terms, and asked twice in a row it leaves what it leaves once
+on_its_terms : (w : DeskWorld) (moment : ℤ) (reading : Reading Asked)
+    → with_content w.terms (world_after w moment reading).content ≡ world_after w moment reading
+unfolding step
+on_its_terms w moment (Ok a) = refl
+on_its_terms w moment (Err fault) = refl
+
+after_again : (w : DeskWorld) (moment : ℤ) (reading : Reading Asked)
+    → world_after (world_after w moment reading) moment reading ≡ world_after w moment reading
+after_again w moment (Ok a) = step_again w a.operator moment a.call
+after_again w moment (Err fault) = refl
+
+-- what an uncertain request leaves, asked again
+abbrev Next : DeskWorld → ℤ → List ℕ → Exchange → Type 0
+Next after moment request x = (found : Option World) → IsLeftUncertain after found x
+    → (0 < length request) × (found ≡ Some (world_after after moment (asked request)).content)
+
+again_found : (x : Exchange) (after : DeskWorld) (moment : ℤ) (b : ℕ) (request : List ℕ) (left : DeskWorld)
+    → left ≡ world_after after moment (asked (b ∷ request)) → Next after moment (b ∷ request) x
+    → (found : Option World) → IsLeftUncertain after found x
+    → CatchesUp found after [] moment (b ∷ request) left
+again_found x after moment b request left behind next found some = record {
+  content = (world_after after moment (asked (b ∷ request))).content;
+  is = (next found some).1;
+  behind = behind ∙ sym (after_again after moment (asked (b ∷ request)))
+      ∙ ap (λ v. world_after v moment (asked (b ∷ request)))
+      (sym (on_its_terms after moment (asked (b ∷ request))));
+}
+
+-- one that was carried out leaves the same again
+done_found : (x : Exchange) (listed after : DeskWorld) (moment : ℤ) (request : List ℕ) (left : DeskWorld)
+    → left ≡ after → after ≡ world_after listed moment (asked request) → Next after moment request x
+    → (found : Option World) → IsLeftUncertain after found x
+    → CatchesUp found after [] (pos 0) [] left
+done_found x listed after moment request left behind is next found some =
+    caught after [] (pos 0) [] left behind found ((next found some).1 ∙ ap (λ v. Some v.content)
+    (ap (λ v. world_after v moment (asked request)) is ∙ after_again listed moment (asked request) ∙ sym is))
+
 -- no connection is taken
 none_ends : (n : Noted) (now : Option Recorded) (s : State) (w left : DeskWorld)
-    → RecordsNone (Some (Open n)) now → left ≡ w → IsPlayedTo s w → EndsPlayed n now [] s left
+    → RecordsNone (Some (Open n)) now → left ≡ w → IsPlayedTo s w → EndsPlayed n now [] None s left
 unfolding played
 none_ends n now s w left none same at = record {
   whole = [];
@@ -47,18 +127,21 @@ none_ends n now s w left none same at = record {
   m = n;
   text_is = sym (append-nil n.text);
   ends = ends_as n now none;
+  why = All-nil (IsUnanswered n now);
   left = s;
   plays = refl;
   news = [];
   moment = pos 0;
   request = [];
   behind = at.world ∙ sym same;
+  finds = none_found left [] (pos 0) [] s.world None (at.world ∙ sym same);
 }
 
 -- news are brought, and no connection is taken then
 news_end : (n : Noted) (now : Option Recorded) (news later : List Enrolment) (s : State) (w left : DeskWorld)
     → AreEnrolments news → AreNamed news → RecordsNone (Some (Open (with_news n news))) now
-    → with_operators w news ≡ with_operators left later → IsPlayedTo s w → EndsPlayed n now [] s left
+    → with_operators w news ≡ with_operators left later → IsPlayedTo s w
+    → EndsPlayed n now [] (Some news) s left
 news_end n now news later s w left small named none is at = record {
   whole = [];
   others = [];
@@ -68,18 +151,21 @@ news_end n now news later s w left small named none is at = record {
   m = with_news n news;
   text_is = refl;
   ends = ends_as (with_news n news) now none;
+  why = All-nil (IsUnanswered (with_news n news) now);
   left = record s { world = with_operators s.world news };
   plays = news_played s news at.begun small named;
   news = later;
   moment = pos 0;
   request = [];
   behind = ap (λ v. with_operators v news) at.world ∙ is;
+  finds = none_found left later (pos 0) [] (with_operators s.world news) (Some news)
+      (ap (λ v. with_operators v news) at.world ∙ is);
 }
 
 last_news_end : (H : Type 0) (h : H) (done : Result ⊤ Failure) (n : Noted) (now : Option Recorded)
     (news : List Enrolment) (s : State) (w left : DeskWorld) → IsLast H (Some news) done w left
     → AreEnrolments news → AreNamed news → RecordsNone (Some (Open (with_news n news))) now → IsPlayedTo s w
-    → EndsPlayed n now [] s left
+    → EndsPlayed n now [] (Some news) s left
 last_news_end H h (Ok d) n now news s w left last small named none at = absurd last
 last_news_end H h (Err f) n now news s w left (inl some) small named none at =
     let listed = some.1 in
@@ -125,8 +211,9 @@ lost_end : (H : Type 0) (h : H) (x : Exchange) (n : Noted) (now : Option Recorde
     (request : List ℕ) (s : State) (w listed left : DeskWorld) → AreEnrolments x.news → AreNamed x.news
     → AreEnrolled H x.news w listed → IsMoment moment → IsPlayedTo s w
     → now ≡ Some (Ended (with_request (with_news n x.news) moment request).text)
-    → IsLeft listed moment request left → EndsPlayed n now (x ∷ []) s left
-lost_end H h x n now moment [] s w listed left small named enrolled range at is (inl same) = record {
+    → IsLeft listed moment request left → Next left moment request x
+    → EndsPlayed n now (x ∷ []) None s left
+lost_end H h x n now moment [] s w listed left small named enrolled range at is (inl same) next = record {
   whole = [];
   others = x ∷ [];
   split = refl;
@@ -135,17 +222,22 @@ lost_end H h x n now moment [] s w listed left small named enrolled range at is 
   m = with_news n x.news;
   text_is = refl;
   ends = inr (inl is);
+  why = All-cons (IsUnanswered (with_news n x.news) now) x [] (inl is)
+      (All-nil (IsUnanswered (with_news n x.news) now));
   left = listed_state s x.news;
   plays = news_played s x.news at.begun small named;
   news = [];
   moment = pos 0;
   request = [];
   behind = listed_world H h x.news moment [] s w listed small named enrolled range at ∙ sym same;
+  finds = one_found x left [] (pos 0) [] (listed_state s x.news).world
+      (listed_world H h x.news moment [] s w listed small named enrolled range at ∙ sym same)
+      (λ found some. absurd (omega (arith, (next found some).0)));
 }
-lost_end H h x n now moment [] s w listed left small named enrolled range at is (inr one) =
+lost_end H h x n now moment [] s w listed left small named enrolled range at is (inr one) next =
     absurd (omega (arith, one.0))
 lost_end H h x n now moment (b ∷ request) s w listed left small named enrolled range at is
-    (inl same) = record {
+    (inl same) next = record {
       whole = [];
       others = x ∷ [];
       split = refl;
@@ -155,6 +247,8 @@ lost_end H h x n now moment (b ∷ request) s w listed left small named enrolled
       text_is = sym (entry_last n.text (map operator_entry x.news)
           (request_entry (nat_abs moment) (b ∷ request)));
       ends = inr (inl is);
+      why = All-cons (IsUnanswered (with_request (with_news n x.news) moment (b ∷ request)) now) x [] (inl is)
+          (All-nil (IsUnanswered (with_request (with_news n x.news) moment (b ∷ request)) now));
       left = asked_of (listed_state s x.news) (nat_abs moment) (b ∷ request);
       plays = asked_played H h x.news moment (b ∷ request) s w listed small named enrolled range at;
       news = [];
@@ -162,9 +256,15 @@ lost_end H h x n now moment (b ∷ request) s w listed left small named enrolled
       request = b ∷ request;
       behind = asked_world H h x.news moment (b ∷ request) s w listed small named enrolled range at
           ∙ ap (λ v. world_after v moment (asked (b ∷ request))) (sym same);
+      finds = one_found x left [] moment (b ∷ request) _
+          (asked_world H h x.news moment (b ∷ request) s w listed small named enrolled range at
+          ∙ ap (λ v. world_after v moment (asked (b ∷ request))) (sym same))
+          (again_found x left moment b request _
+          (asked_world H h x.news moment (b ∷ request) s w listed small named enrolled range at
+          ∙ ap (λ v. world_after v moment (asked (b ∷ request))) (sym same)) next);
     }
 lost_end H h x n now moment (b ∷ request) s w listed left small named enrolled range at is
-    (inr one) = record {
+    (inr one) next = record {
       whole = [];
       others = x ∷ [];
       split = refl;
@@ -174,6 +274,8 @@ lost_end H h x n now moment (b ∷ request) s w listed left small named enrolled
       text_is = sym (entry_last n.text (map operator_entry x.news)
           (request_entry (nat_abs moment) (b ∷ request)));
       ends = inr (inl is);
+      why = All-cons (IsUnanswered (with_request (with_news n x.news) moment (b ∷ request)) now) x [] (inl is)
+          (All-nil (IsUnanswered (with_request (with_news n x.news) moment (b ∷ request)) now));
       left = asked_of (listed_state s x.news) (nat_abs moment) (b ∷ request);
       plays = asked_played H h x.news moment (b ∷ request) s w listed small named enrolled range at;
       news = [];
@@ -181,6 +283,11 @@ lost_end H h x n now moment (b ∷ request) s w listed left small named enrolled
       request = [];
       behind = asked_world H h x.news moment (b ∷ request) s w listed small named enrolled range at
           ∙ sym one.1;
+      finds = one_found x left [] (pos 0) [] _
+          (asked_world H h x.news moment (b ∷ request) s w listed small named enrolled range at ∙ sym one.1)
+          (done_found x listed left moment (b ∷ request) _
+          (asked_world H h x.news moment (b ∷ request) s w listed small named enrolled range at ∙ sym one.1)
+          one.1 next);
     }
 
 -- its answer says that the desk failed: it is the last
@@ -188,27 +295,34 @@ failed_end : (H : Type 0) (h : H) (x : Exchange) (n : Noted) (now : Option Recor
     (request answer : List ℕ) (s : State) (w listed left : DeskWorld) → AreEnrolments x.news
     → AreNamed x.news → AreEnrolled H x.news w listed → IsMoment moment → IsPlayedTo s w
     → now ≡ Some (Open (with_answer (with_request (with_news n x.news) moment request) answer))
-    → IsGivenUp listed request answer left → EndsPlayed n now (x ∷ []) s left
-failed_end H h x n now moment [] answer s w listed left small named enrolled range at is given =
+    → IsGivenUp listed request answer left → failure_at x.served ≢ None → Next left moment request x
+    → EndsPlayed n now (x ∷ []) None s left
+failed_end H h x n now moment [] answer s w listed left small named enrolled range at is given fails next =
     absurd (omega (arith, given.some))
-failed_end H h x n now moment (b ∷ request) [] s w listed left small named enrolled range at is given =
+failed_end H h x n now moment (b ∷ request) [] s w listed left small named enrolled range at is given
+    fails next =
     absurd (omega (arith, subst (λ a. 0 < length a) (sym given.told) (some_failure given.why)))
 failed_end H h x n now moment (b ∷ request)
-    (c ∷ answer) s w listed left small named enrolled range at is given =
+    (c ∷ answer) s w listed left small named enrolled range at is given fails next =
+    let m = with_answer (with_request (with_news n x.news) moment (b ∷ request)) (c ∷ answer) in
     let request_is = request_entry (nat_abs moment) (b ∷ request) in
     let answer_is = answer_entry (nat_abs moment) (c ∷ answer) in
     let asked_state = asked_of (listed_state s x.news) (nat_abs moment) (b ∷ request) in
     let taken_so = failure_taken (listed_state s x.news) (nat_abs moment) (b ∷ request) given.why at.begun in
+    let behind_is : taken_so.0.world ≡ world_after left moment (asked (b ∷ request)) =
+    taken_so.2 ∙ asked_world H h x.news moment (b ∷ request) s w listed small named enrolled range at
+    ∙ ap (λ v. world_after v moment (asked (b ∷ request))) (sym given.left) in
     record {
       whole = [];
       others = x ∷ [];
       split = refl;
       few = omega arith;
       rest = (map operator_entry x.news ++ request_is ∷ []) ++ answer_is ∷ [];
-      m = with_answer (with_request (with_news n x.news) moment (b ∷ request)) (c ∷ answer);
+      m = m;
       text_is = sym (entry_last n.text (map operator_entry x.news ++ request_is ∷ []) answer_is
           ∙ ap (λ v. v ++ entry answer_is) (entry_last n.text (map operator_entry x.news) request_is));
       ends = inl is;
+      why = All-cons (IsUnanswered m now) x [] (inr fails) (All-nil (IsUnanswered m now));
       left = taken_so.0;
       plays = played_then s asked_state (map operator_entry x.news ++ request_is ∷ []) (answer_is ∷ [])
           (asked_played H h x.news moment (b ∷ request) s w listed small named enrolled range at)
@@ -218,9 +332,9 @@ failed_end H h x n now moment (b ∷ request)
       news = [];
       moment = moment;
       request = b ∷ request;
-      behind = taken_so.2
-          ∙ asked_world H h x.news moment (b ∷ request) s w listed small named enrolled range at
-          ∙ ap (λ v. world_after v moment (asked (b ∷ request))) (sym given.left);
+      behind = behind_is;
+      finds = one_found x left [] moment (b ∷ request) taken_so.0.world behind_is
+          (again_found x left moment b request taken_so.0.world behind_is next);
     }
 
 -- one that is answered, and then others
@@ -228,12 +342,22 @@ parts_then : (a b c d : List EntryParts) → (a ++ (b ++ c)) ++ d ≡ (a ++ b) +
 parts_then a b c d = append_assoc a (b ++ c) d ∙ ap (λ v. a ++ v) (append_assoc b c d)
     ∙ sym (append_assoc a b (c ++ d))
 
-then_ends : (x : Exchange) (xs : List Exchange) (n k : Noted) (now : Option Recorded) (s : State)
-    (v left : DeskWorld)
+-- a certain answer leaves nothing else to be found
+then_found : (x : Exchange) (xs : List Exchange) (last : Option (List Enrolment)) (after : DeskWorld)
+    (found : Option World) → IsCertain x.served → IsFoundServed (x ∷ xs) last after found
+    → IsFoundServed xs last after found
+then_found x xs last after found certain (inl is) = inl is
+then_found x xs last after found certain (inr (inl (inl some))) = absurd (some.0 certain)
+then_found x xs last after found certain (inr (inl (inr more))) = inr (inl more)
+then_found x xs last after found certain (inr (inr news)) = inr (inr news)
+
+then_ends : (x : Exchange) (xs : List Exchange) (last : Option (List Enrolment)) (n k : Noted)
+    (now : Option Recorded) (s : State) (v left : DeskWorld) → IsCertain x.served
     → AddsPlayed n k.text (map operator_entry x.news
     ++ pair_of x.arrival.moment (known x.arrival.bytes) (known x.parting.sent)) s v
-    → ((t : State) → IsPlayedTo t v → EndsPlayed k now xs t left) → EndsPlayed n now (x ∷ xs) s left
-then_ends x xs n k now s v left first then =
+    → ((t : State) → IsPlayedTo t v → EndsPlayed k now xs last t left)
+    → EndsPlayed n now (x ∷ xs) last s left
+then_ends x xs last n k now s v left certain first then =
     let more = then first.left first.now in
     let pair = pair_of x.arrival.moment (known x.arrival.bytes) (known x.parting.sent) in
     let front = map operator_entry x.news ++ pair in
@@ -250,6 +374,7 @@ then_ends x xs n k now s v left first then =
           ∙ ap (λ t. n.text ++ t) (sym (entries_then front (entries_of more.whole ++ more.rest)))
           ∙ ap (λ es. n.text ++ entries es) (sym same);
       ends = more.ends;
+      why = more.why;
       left = more.left;
       plays = ap (played s) same
           ∙ played_then s first.left front (entries_of more.whole ++ more.rest) first.plays ∙ more.plays;
@@ -257,6 +382,7 @@ then_ends x xs n k now s v left first then =
       moment = more.moment;
       request = more.request;
       behind = more.behind;
+      finds = λ found is. more.finds found (then_found x xs last left found certain is);
     }
 
 -- ---- all of them
@@ -315,13 +441,13 @@ module _ (H : Type 0) (h : H) (Ends : (request rest : List ℕ) → IsRequest re
       → AreNoted answered xs last now → OnlyLast (x ∷ xs) last → AreServed H xs v between
       → IsLast H last done between left
       → ((k : Noted) (t : State) → AreNoted (Some (Open k)) xs last now → OnlyLast xs last → IsPlayedTo t v
-      → EndsPlayed k now xs t left)
-      → IsPlayedTo s w → EndsPlayed n now (x ∷ xs) s left
+      → EndsPlayed k now xs last t left)
+      → IsPlayedTo s w → EndsPlayed n now (x ∷ xs) last s left
   one_ends x xs last done n answered now s w listed v between left request small named enrolled range whole
       bytes out told served (inl a) stays noted (inl on) others is rest at =
       let first = with_news n x.news in
       let then = with_answer (with_request first x.arrival.moment request) a.answer in
-      then_ends x xs n then now s v left
+      then_ends x xs last n then now s v left (is_certain x.served on.0 (told_whole x told a.whole))
       (subst (λ b. AddsPlayed n then.text (map operator_entry x.news
       ++ pair_of x.arrival.moment (known b) (known x.parting.sent)) s v) (sym bytes)
       (subst (λ c. AddsPlayed n then.text (map operator_entry x.news
@@ -339,28 +465,32 @@ module _ (H : Type 0) (h : H) (Ends : (request rest : List ℕ) → IsRequest re
       let same : left ≡ v = last_left H done xs last v between left end.1 end.2 others is in
       let now_is = subst (λ r. IfSome r (λ recorded. failure_at x.served ≢ None
       → now ≡ r)) a.added stays end.0 in
-      subst (λ ys. EndsPlayed n now (x ∷ ys) s left) (sym end.1)
+      subst (λ ys. EndsPlayed n now (x ∷ ys) last s left) (sym end.1)
+      (subst (λ l. EndsPlayed n now (x ∷ []) l s left) (sym end.2)
       (failed_end H h x n now x.arrival.moment request a.answer s w listed left small named enrolled range at
       now_is (subst (IsGivenUp listed request a.answer) (sym same)
       (is_given_up H Ends x.served request a.answer x.parting.unread listed x.arrival.moment v end.0
       (told_whole x told a.whole) whole
-      (served_known H h Ends x listed v request a.answer bytes out a.known served))))
+      (served_known H h Ends x listed v request a.answer bytes out a.known served))) end.0
+      (left_next Ends x request left bytes whole)))
   one_ends x xs last done n answered now s w listed v between left request small named enrolled range whole
       bytes out told served (inr lost) stays noted only others is rest at =
       let end = lost_last (with_request (with_news n x.news) x.arrival.moment request).text xs last now
       (subst (λ r. AreNoted r xs last now) lost noted) in
       let same : left ≡ v = last_left H done xs last v between left end.0 end.1 others is in
-      subst (λ ys. EndsPlayed n now (x ∷ ys) s left) (sym end.0)
+      subst (λ ys. EndsPlayed n now (x ∷ ys) last s left) (sym end.0)
+      (subst (λ l. EndsPlayed n now (x ∷ []) l s left) (sym end.1)
       (lost_end H h x n now x.arrival.moment request s w listed left small named enrolled range at end.2
       (subst (IsLeft listed x.arrival.moment request) (sym same)
       (is_left H h Ends x.served request x.parting.unread x.out x.parting.sent listed x.arrival.moment v whole
       (subst (λ b. HasServed H x.served (passed b x.parting.unread x.out x.parting.sent) listed
-      x.arrival.moment v) bytes served))))
+      x.arrival.moment v) bytes served))) (left_next Ends x request left bytes whole)))
 
   pub all_end : (xs : List Exchange) (last : Option (List Enrolment)) (done : Result ⊤ Failure) (n : Noted)
       (now : Option Recorded) (s : State) (w between left : DeskWorld) → AreNoted (Some (Open n)) xs last now
       → AreServed H xs w between → IsLast H last done between left → OnlyLast xs last
-      → All (λ x. x.parting.outcome ≡ outcome_of x.served) xs → IsPlayedTo s w → EndsPlayed n now xs s left
+      → All (λ x. x.parting.outcome ≡ outcome_of x.served) xs → IsPlayedTo s w
+      → EndsPlayed n now xs last s left
   all_end [] None done n now s w between left noted served is only told at =
       none_ends n now s w left noted (is ∙ served) at
   all_end [] (Some news) done n now s w between left noted served is only told at =
@@ -383,8 +513,17 @@ module _ (H : Type 0) (h : H) (Ends : (request rest : List ℕ) → IsRequest re
   -- connections that were taken, however they ended
   pub taken_end : (done : Result ⊤ Failure) (count : ℕ) (old new : Traffic) (w left : DeskWorld) (n : Noted)
       (s : State) → (taken : AreTaken {A = ⊤} H done count old new w left) → old.recorded ≡ Some (Open n)
-      → IsPlayedTo s w → EndsPlayed n new.recorded taken.exchanges s left
+      → IsPlayedTo s w → EndsPlayed n new.recorded taken.exchanges taken.last s left
   taken_end done count old new w left n s taken was at =
       all_end taken.exchanges taken.last done n new.recorded s w taken.between left
       (subst (λ r. AreNoted r taken.exchanges taken.last new.recorded) was taken.recorded) taken.served
       taken.untaken (only_last done count taken.exchanges taken.last taken.ends) taken.told at
+
+  -- and what is found then
+  pub taken_found : (done : Result ⊤ Failure) (count : ℕ) (old new : Traffic) (w left : DeskWorld) (n : Noted)
+      (s : State) (found : Option World) → (taken : AreTaken {A = ⊤} H done count old new w left)
+      → IsFoundServed taken.exchanges taken.last left found → old.recorded ≡ Some (Open n) → IsPlayedTo s w
+      → EndsFound n new.recorded taken.exchanges taken.last s left found
+  taken_found done count old new w left n s found taken is was at =
+      let ended = taken_end done count old new w left n s taken was at in
+      record { ended = ended; finds = ended.finds found is }

@@ -1,5 +1,5 @@
 -- What is written down of one connection is played again.
-use Rattle.std.proofs.Common.{◌≡◌, ◌≢◌, ◌≤◌, ◌<◌, ◌⊎◌, ◌∙◌, ◌+◌, ◌==◌, ℕ, ℤ, pos, nat_abs, List, [], ◌∷◌, ◌++◌, map, length, Bool, true, false, Option, Some, None, IfSome, Result, Ok, Err, if◌then◌else◌, append-nil, append_assoc, ap, inl, inr, refl, subst, sym, arith}
+use Rattle.std.proofs.Common.{◌≡◌, ◌≢◌, ◌≤◌, ◌<◌, ◌⊎◌, ◌∙◌, ◌+◌, ◌==◌, ℕ, ℤ, pos, nat_abs, List, [], ◌∷◌, ◌++◌, map, length, Bool, true, false, Option, Some, None, IfSome, Result, Ok, Err, if◌then◌else◌, eq-eqb, append-nil, append_assoc, ap, inl, inr, refl, subst, sym, arith}
 use Rattle.std.specs.Prelude.{IsSome, ◌≤ℤ◌}
 use Rattle.std.proofs.lemmas.Bool.Decides.{nat_tests}
 use Rattle.std.proofs.lemmas.Int.{ints}
@@ -14,11 +14,13 @@ use Rattle.desk_reading.specs.Framing.{head_len}
 use Rattle.desk_reading.specs.Readings.{Reading}
 use Rattle.desk_reading.specs.Requests.{asked}
 use Rattle.desk_rules.specs.declared.call.Asked.{Asked}
+use Rattle.desk_store.specs.World.{World}
 use Rattle.desk_run.specs.DeskWorld.{DeskWorld}
 use Rattle.desk_run.specs.Verdicts.{Told, no_such_plan, replied, told_to, unknown_operator}
 use Rattle.desk_writing.specs.Answer.{answer_text, error_text, json_answer}
 use Rattle.desk_writing.specs.Replies.{reply_text}
 use Rattle.desk_wire.specs.Bytes.{IsAnsweredSo, IsServerError, status_so, text, text_for, world_after}
+use Rattle.desk_wire.specs.Crashes.{IsCertain}
 use Rattle.desk_wire.specs.Passage.{passed}
 use Rattle.desk_wire.specs.Refusals.{refusal_text, server_error_text}
 use Rattle.desk_wire.specs.Serving.{HasServed, IsReplied, IsServed, IsTaken}
@@ -29,7 +31,8 @@ use Rattle.desk_line.specs.declared.failure.Failure.{Failure}
 use Rattle.desk_line.specs.declared.failure.Failure.TheVariants as failure
 use Rattle.desk_line.specs.Exits.{failure_at}
 use Rattle.desk_program.specs.Recorded.{Noted, answer_entry, request_entry, with_answer, with_request}
-use Rattle.desk_program.specs.Serving.{is_answered}
+use Rattle.desk_program.specs.Keeping.{IsLeftUncertain}
+use Rattle.desk_program.specs.Serving.{Exchange, is_answered}
 use Rattle.desk_replay.specs.Replaying.{last_moment}
 
 -- ---- moments
@@ -202,3 +205,34 @@ is_given_up H Ends (Err fault) request answer unread w moment after fails whole 
 pub some_failure : (why : ServerError) → 0 < length (server_error_text why)
 some_failure given.OutOfMemory = some_error _ _ _
 some_failure given.Store = some_error _ _ _
+
+-- a request that was answered whole, and not by a 500, is certain
+pub is_certain : (served : Result Served ServeFault) → failure_at served ≡ None → is_answered served ≡ true
+    → IsCertain served
+is_certain (Ok (Answered status framed)) none whole = λ is.
+    let failed : (if status == 500 then Some failure.Broken else None) ≡ Some failure.Broken =
+    ap (λ b. if b then Some failure.Broken else None) (eq-eqb status 500 is) in
+    let never : Some failure.Broken ≡ None = sym failed ∙ none in cc
+is_certain (Ok End) none whole = tt
+is_certain (Err fault) none whole = cc
+
+-- what one leaves that isn't certain is what the request leaves that was kept
+next_is : (Ends : (request rest : List ℕ) → IsRequest request → request_len (request ++ rest)
+    ≡ Some (length request)) → (q request : List ℕ) (unread : Option (List ℕ))
+    → (0 < length request → IsRequest request) → IsTaken (Some request) unread q
+    → (0 < length request) × (request ≡ q)
+next_is Ends q request None one taken = absurd taken.taken
+next_is Ends q request (Some rest) one taken = all_of Ends q request rest taken.whole taken.taken one
+
+pub left_next : (Ends : (request rest : List ℕ) → IsRequest request → request_len (request ++ rest)
+    ≡ Some (length request)) → (x : Exchange) (request : List ℕ) (w : DeskWorld)
+    → x.arrival.bytes ≡ Some request → (0 < length request → IsRequest request) → (found : Option World)
+    → IsLeftUncertain w found x
+    → (0 < length request) × (found ≡ Some (world_after w x.arrival.moment (asked request)).content)
+left_next Ends x request w bytes one found left =
+    let next = left.2 in
+    let same = next_is Ends next.0 request x.parting.unread one
+    (subst (λ b. IsTaken b x.parting.unread next.0) bytes next.1) in (
+      same.0,
+      next.2 ∙ ap (λ v. Some (world_after w x.arrival.moment (asked v)).content) (sym same.1),
+    )

@@ -1,12 +1,15 @@
 -- Played: what a record says that a desk wrote at a port, played again (docs/RECORD.md).
-use Rattle.std.specs.Prelude.{◌≡◌, ◌≤◌, ◌⊎◌, length, ℕ, ℤ, nat_abs, List, [], ◌∷◌, ◌++◌, map, Option, None, Some, IsSome, Ok}
+use Rattle.std.specs.Prelude.{◌≡◌, ◌≢◌, ◌≤◌, ◌⊎◌, length, ℕ, ℤ, nat_abs, List, [], ◌∷◌, ◌++◌, All, map, Option, None, Some, IsSome, Ok}
 use Rattle.desk_record.specs.Record.{EntryParts, entries}
 use Rattle.desk_reading.specs.Requests.{asked}
-use Rattle.desk_run.specs.DeskWorld.{DeskWorld}
+use Rattle.desk_store.specs.World.{World}
+use Rattle.desk_run.specs.DeskWorld.{DeskWorld, with_content}
 use Rattle.desk_wire.specs.Bytes.{world_after}
 use Rattle.desk_line.specs.declared.line.Enrolment.{Enrolment}
+use Rattle.desk_line.specs.Exits.{failure_at}
 use Rattle.desk_replay.specs.Replaying.{State, played}
 use Rattle.desk_program.specs.Enrolling.{with_operators}
+use Rattle.desk_program.specs.Keeping.{IsFoundServed, IsLeftByNews}
 use Rattle.desk_program.specs.Recorded.{Ended, IsCutOff, Noted, Open, Recorded, answer_entry, operator_entry, request_entry}
 use Rattle.desk_program.specs.Serving.{Exchange}
 
@@ -50,10 +53,21 @@ caught_up w news moment (b ∷ request) = world_after (with_operators w news) mo
 abbrev pub EndsAs : Noted → Option Recorded → Type 0
 EndsAs m now = (now ≡ Some (Open m)) ⊎ (now ≡ Some (Ended m.text)) ⊎ IsCutOff m now
 
+-- why an answer lacks: it could not be kept, and the record has ended; or the desk failed at its request
+abbrev pub IsUnanswered : Noted → Option Recorded → Exchange → Type 0
+IsUnanswered m now x = (now ≡ Some (Ended m.text)) ⊎ (failure_at x.served ≢ None)
+
+-- a desk that begins with what is found, on the same terms, leaves this once it has caught up
+pub record CatchesUp (found : Option World) (after : DeskWorld) (news : List Enrolment) (moment : ℤ)
+    (request : List ℕ) (left : DeskWorld) : Type 0 where
+  pub content : World
+  pub is : found ≡ Some content
+  pub behind : left ≡ caught_up (with_content after.terms content) news moment request
+
 -- however a run of connections ended: all but the last of them are added, and of the last whatever it got to.
 -- That differs nowhere, and leaves what the run left, once it has caught up with what is written there
-pub record EndsPlayed (n : Noted) (now : Option Recorded) (xs : List Exchange) (s : State) (after : DeskWorld)
-    : Type 0 where
+pub record EndsPlayed (n : Noted) (now : Option Recorded) (xs : List Exchange)
+    (last : Option (List Enrolment)) (s : State) (after : DeskWorld) : Type 0 where
   pub whole : List Exchange
   pub others : List Exchange
   pub split : xs ≡ whole ++ others
@@ -62,9 +76,19 @@ pub record EndsPlayed (n : Noted) (now : Option Recorded) (xs : List Exchange) (
   pub m : Noted
   pub text_is : m.text ≡ n.text ++ entries (entries_of whole ++ rest)
   pub ends : EndsAs m now
+  pub why : All (IsUnanswered m now) others
   pub left : State
   pub plays : played s (entries_of whole ++ rest) ≡ Ok left
   pub news : List Enrolment
   pub moment : ℤ
   pub request : List ℕ
   pub behind : left.world ≡ caught_up after news moment request
+  pub finds : (found : Option World) → IsFoundServed xs last after found
+      → CatchesUp found after news moment request left.world ⊎ IsLeftByNews after found last
+
+-- and so does a desk that begins with what is found then; or of the last news an operator could not be listed
+pub record EndsFound (n : Noted) (now : Option Recorded) (xs : List Exchange) (last : Option (List Enrolment))
+    (s : State) (after : DeskWorld) (found : Option World) : Type 0 where
+  pub ended : EndsPlayed n now xs last s after
+  pub finds : CatchesUp found after ended.news ended.moment ended.request ended.left.world
+      ⊎ IsLeftByNews after found last

@@ -1,13 +1,15 @@
 //! Laws of the definitions. Each is the contract of a function that does nothing but call another law.
 
-ghost use Rattle.std.specs.Prelude.{◌≡◌, ⊤, ℕ, Ok, Result, Some};
+ghost use Rattle.std.specs.Prelude.{◌≡◌, ⊤, ℕ, Ok, Option, Result, Some};
 ghost use Rattle.desk_store.specs.StoreFaults.{IsHonest};
+ghost use Rattle.desk_store.specs.World.{World};
 ghost use Rattle.desk_run.specs.DeskWorld.{DeskWorld};
 ghost use Rattle.desk_line.specs.declared.failure.Failure.{Failure};
+ghost use Rattle.desk_program.specs.Keeping.{IsFoundServed};
 ghost use Rattle.desk_program.specs.Recorded.{Noted, Open};
 ghost use Rattle.desk_program.specs.Serving.{AreTaken, Traffic};
 ghost use Rattle.desk_replay.specs.Replaying.{State};
-ghost use Rattle.desk_recording.specs.Played.{AddsPlayed, EndsPlayed, IsPlayedTo, entries_of};
+ghost use Rattle.desk_recording.specs.Played.{AddsPlayed, EndsFound, EndsPlayed, IsPlayedTo, entries_of};
 
 use desk_wire::laws::request_ends;
 
@@ -33,7 +35,23 @@ pub fn recorded_to_the_end()
         (n : Noted) (s : State) → IsHonest doubt →
         (taken : AreTaken {A = ⊤} (IsHonest doubt) done count old new w after) →
         old.recorded ≡ Some (Open n) → IsPlayedTo s w →
-        EndsPlayed n new.recorded taken.exchanges s after }
+        EndsPlayed n new.recorded taken.exchanges taken.last s after }
+{
+    request_ends();
+}
+
+/// Recorded, joined with Kept and Repeated: what a start finds of the desk, whatever ended such a run (the
+/// clause `kept` of `serve`). A desk that begins with it, on the same terms, is where all that is recorded
+/// leads, played in its order from the world at which the run began, once it has caught up: once it has
+/// listed the operators and carried out the request that the record has behind its last answer, even if that
+/// was done before. Or of the last news an operator could not be listed.
+pub fn recorded_and_kept()
+    ensures { (doubt count : ℕ) (done : Result ⊤ Failure) (old new : Traffic) (w after : DeskWorld)
+        (n : Noted) (s : State) (found : Option World) → IsHonest doubt →
+        (taken : AreTaken {A = ⊤} (IsHonest doubt) done count old new w after) →
+        IsFoundServed taken.exchanges taken.last after found →
+        old.recorded ≡ Some (Open n) → IsPlayedTo s w →
+        EndsFound n new.recorded taken.exchanges taken.last s after found }
 {
     request_ends();
 }
