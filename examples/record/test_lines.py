@@ -32,9 +32,11 @@ def enrol(file: pathlib.Path, folder: pathlib.Path, name: str, ceiling: int) -> 
     return run("enrol", "--db", str(file), "--record", str(folder), name, str(ceiling))
 
 
-def words_of(file: pathlib.Path | None) -> list[str]:
-    """The words of a line of `play`, over a file or in memory."""
-    return ["play", *(["--db", str(file)] if file else []), "--at", str(SECOND), "--equal", "7", "alfa=100", "bravo=7"]
+def words_of(file: pathlib.Path | None, folder: pathlib.Path | None = None) -> list[str]:
+    """The words of a line of `play`, over a file or in memory, recorded or not."""
+    kept = ["--record", str(folder)] if folder else []
+    database = ["--db", str(file)] if file else []
+    return ["play", *database, *kept, "--at", str(SECOND), "--equal", "7", "alfa=100", "bravo=7"]
 
 
 def test_enrol(room: pathlib.Path, rows: Rows) -> None:
@@ -46,7 +48,7 @@ def test_enrol(room: pathlib.Path, rows: Rows) -> None:
         ran = enrol(file, folder, name, ceiling)
         rows.equal(f"{name} {ceiling}", (0, f"enrolled {name} {ceiling}\n".encode()), ran[:2])
     held = [given[:1], given[:2], [*given[:2], given[2]]]
-    for number, (record, operators) in enumerate(zip(recorded(folder), held, strict=True), 1):
+    for number, (record, operators) in enumerate(zip(recorded(folder), held), 1):
         rows.equal(f"record {number}", b"".join(beginning(number, operators)), record.read_bytes())
     rows.equal("alike", 0, played(folder, room / "new.db").status)
     rows.equal("the rows", rows_of(file), rows_of(room / "new.db"))
@@ -89,7 +91,7 @@ def test_play(room: pathlib.Path, rows: Rows) -> None:
             folder.mkdir()
             file, other = (room / f"{name}.db", room / f"{name} other.db") if place == "file" else (None, None)
             bare = run(*words_of(other), given=given)
-            kept = run(*words_of(file)[:-2], "--record", str(folder), "alfa=100", "bravo=7", given=given)
+            kept = run(*words_of(file, folder), given=given)
             rows.equal(f"{name}, {place}", bare, kept)
             if name == "requests":
                 heard = [
@@ -104,13 +106,12 @@ def test_play_goes_on(room: pathlib.Path, rows: Rows) -> None:
     """A line of `play` over a file asks again what a record left; one in memory wants a folder without records."""
     file, folder = room / "desk.db", room / "records"
     folder.mkdir()
-    words = [*words_of(file)[:-2], "--record", str(folder), "alfa=100", "bravo=7"]
-    run(*words, given=REQUESTS[0])
+    run(*words_of(file, folder), given=REQUESTS[0])
     first = recorded(folder)[0]
     first.write_bytes(first.read_bytes() + entry("request", SECOND + 5, REQUESTS[3]))
-    rows.equal("goes on", 0, run(*words, given=REQUESTS[1]).status)
+    rows.equal("goes on", 0, run(*words_of(file, folder), given=REQUESTS[1]).status)
     rows.equal("three records", 3, len(recorded(folder)))
     rows.equal("alike", 0, played(folder, room / "new.db").status)
     rows.equal("the rows", rows_of(file), rows_of(room / "new.db"))
-    ran = run(*words_of(None)[:-2], "--record", str(folder), "alfa=100", given=REQUESTS[0])
+    ran = run(*words_of(None, folder), given=REQUESTS[0])
     rows.equal("in memory", (4, b"", "uss_desk: write\n"), (ran.status, ran.output, ran.errors[-16:]))

@@ -4,7 +4,7 @@ use Rattle.std.specs.Prelude.{option_to_list}
 use Rattle.desk_rules.specs.declared.terms.Terms.{Terms}
 use Rattle.desk_line.specs.declared.line.Enrolment.{Enrolment}
 use Rattle.desk_record.specs.Record.{EntryParts, entries, entry}
-use Rattle.desk_recording.specs.Beginning.{header, permitted_below, permitted_if, record_entry, spans_entry, terms_entries}
+use Rattle.desk_recording.specs.Beginning.{header, permitted_below, permitted_if, record_entry, spans_entry}
 use Rattle.desk_program.specs.Recorded.{operator_entry}
 
 entries_both : (es more : List EntryParts) → entries (es ++ more) ≡ entries es ++ entries more

@@ -1,6 +1,6 @@
 -- What is written down of connections is played again, however they ended.
-use Rattle.std.proofs.Common.{◌≡◌, ◌≢◌, ◌≤◌, ◌<◌, ◌⊎◌, ◌∙◌, ◌+◌, ℕ, ℤ, pos, nat_abs, List, [], ◌∷◌, ◌++◌, All, map, length, take, drop, Bool, true, Option, Some, None, IfSome, Result, Ok, Err, append-nil, append_assoc, ap, inl, inr, refl, subst, sym, arith}
-use Rattle.std.specs.Prelude.{⊤, IsSome}
+use Rattle.std.proofs.Common.{◌≡◌, ◌≢◌, ◌<◌, ◌⊎◌, ◌∙◌, ℕ, ℤ, pos, nat_abs, List, [], ◌∷◌, ◌++◌, All, map, length, take, drop, Option, Some, None, IfSome, Result, Ok, Err, append-nil, append_assoc, ap, inl, inr, refl, subst, sym, arith}
+use Rattle.std.specs.Prelude.{⊤}
 use Rattle.std.proofs.lemmas.List.{take-append-drop}
 use Rattle.std.proofs.lemmas.List.Elements.{All-cons, All-head, All-nil, All-tail}
 use Rattle.desk_ends.specs.Moments.{IsMoment}
@@ -21,13 +21,13 @@ use Rattle.desk_line.specs.Exits.{failure_at}
 use Rattle.desk_line.specs.Lines.{AreEnrolments}
 use Rattle.desk_line.specs.declared.failure.Failure.{Failure}
 use Rattle.desk_line.specs.declared.line.Enrolment.{Enrolment}
-use Rattle.desk_program.specs.Enrolling.{AreEnrolled, AreListedSoFar, with_operators}
+use Rattle.desk_program.specs.Enrolling.{AreEnrolled, with_operators}
 use Rattle.desk_program.specs.Keeping.{IsFoundServed, IsLeftByNews, IsLeftUncertain}
-use Rattle.desk_program.specs.Recorded.{AreNamed, Ended, IsAnswerRecorded, IsCutOff, IsRecorded, Noted, Open, Recorded, RecordsAnswer, RecordsNone, RecordsRequest, answer_entry, operator_entry, request_entry, with_answer, with_news, with_request}
-use Rattle.desk_program.specs.Serving.{AreNoted, AreServed, AreTaken, EndsAfter, EndsBy, Exchange, IsLast, Traffic, is_answered, outcome_of, passage_of}
+use Rattle.desk_program.specs.Recorded.{AreNamed, Ended, IsAnswerRecorded, IsRecorded, Noted, Open, Recorded, RecordsAnswer, RecordsNone, RecordsRequest, answer_entry, operator_entry, request_entry, with_answer, with_news, with_request}
+use Rattle.desk_program.specs.Serving.{AreNoted, AreServed, AreTaken, EndsAfter, EndsBy, Exchange, IsLast, Traffic, outcome_of, passage_of}
 use Rattle.desk_replay.specs.Replaying.{State, played, taken}
 use Rattle.desk_recording.specs.Played.{AddsPlayed, CatchesUp, EndsAs, EndsFound, EndsPlayed, IsPlayedTo, IsUnanswered, caught_up, entries_of, known, pair_of}
-use Rattle.desk_recording.proofs.ExchangeLemmas.{AreAsked, IsGivenUp, IsLeft, are_asked, is_certain, left_next, is_given_up, is_left, low_second, same_second, some_failure}
+use Rattle.desk_recording.proofs.ExchangeLemmas.{IsGivenUp, IsLeft, are_asked, is_certain, left_next, is_given_up, is_left, low_second, same_second, some_failure}
 use Rattle.desk_recording.proofs.PlayedLemmas.{asked_of, entries_then, failure_taken, is_asked, news_played, played_one, played_then}
 use Rattle.desk_recording.proofs.RecordLemmas.{all_enrolled, both_played, news_added, pair_added, served_known, told_whole}
 

@@ -1,10 +1,8 @@
 -- What is written down of one connection is played again.
-use Rattle.std.proofs.Common.{◌≡◌, ◌≢◌, ◌≤◌, ◌<◌, ◌⊎◌, ◌∙◌, ◌+◌, ◌==◌, ℕ, ℤ, pos, nat_abs, List, [], ◌∷◌, ◌++◌, map, length, Bool, true, false, Option, Some, None, IfSome, Result, Ok, Err, if◌then◌else◌, eq-eqb, append-nil, append_assoc, ap, inl, inr, refl, subst, sym, arith}
-use Rattle.std.specs.Prelude.{IsSome, ◌≤ℤ◌}
+use Rattle.std.proofs.Common.{◌≡◌, ◌≢◌, ◌≤◌, ◌<◌, ◌⊎◌, ◌∙◌, ◌==◌, ℕ, ℤ, pos, nat_abs, List, [], ◌∷◌, ◌++◌, length, Bool, true, false, Option, Some, None, IfSome, Result, Ok, Err, if◌then◌else◌, eq-eqb, append-nil, ap, inl, inr, refl, subst, sym, arith}
 use Rattle.std.proofs.lemmas.Bool.Decides.{nat_tests}
 use Rattle.std.proofs.lemmas.Int.{ints}
 use Rattle.std.proofs.lemmas.List.{length-append}
-use Rattle.std.specs.Io.KnownBytes.{Appends, Consumes, Keeps}
 use Rattle.desk_ends.specs.Moments.{IsMoment}
 use Rattle.desk_ends.specs.declared.serving.Served.{Served}
 use Rattle.desk_ends.specs.declared.serving.Served.TheVariants.{Answered, End}
@@ -23,14 +21,12 @@ use Rattle.desk_wire.specs.Bytes.{IsAnsweredSo, IsServerError, status_so, text, 
 use Rattle.desk_wire.specs.Crashes.{IsCertain}
 use Rattle.desk_wire.specs.Passage.{passed}
 use Rattle.desk_wire.specs.Refusals.{refusal_text, server_error_text}
-use Rattle.desk_wire.specs.Serving.{HasServed, IsReplied, IsServed, IsTaken}
+use Rattle.desk_wire.specs.Serving.{HasServed, IsReplied, IsTaken}
 use Rattle.desk_wire.specs.Streams.{IsRequest, front_within, request_len}
 use Rattle.desk_wire.specs.declared.response.ServerError.{ServerError}
 use Rattle.desk_wire.specs.declared.response.ServerError.TheVariants as given
-use Rattle.desk_line.specs.declared.failure.Failure.{Failure}
 use Rattle.desk_line.specs.declared.failure.Failure.TheVariants as failure
 use Rattle.desk_line.specs.Exits.{failure_at}
-use Rattle.desk_program.specs.Recorded.{Noted, answer_entry, request_entry, with_answer, with_request}
 use Rattle.desk_program.specs.Keeping.{IsLeftUncertain}
 use Rattle.desk_program.specs.Serving.{Exchange, is_answered}
 use Rattle.desk_replay.specs.Replaying.{last_moment}

@@ -1,27 +1,24 @@
 -- What a desk wrote at a port is played again.
-use Rattle.std.proofs.Common.{◌≡◌, ◌≢◌, ◌≤◌, ◌<◌, ◌⊎◌, ◌∙◌, ◌+◌, ◌==◌, ℕ, ℤ, pos, nat_abs, List, [], ◌∷◌, ◌++◌, All, map, length, Bool, true, false, Option, Some, None, IfSome, Result, Ok, Err, if◌then◌else◌, append-nil, append_assoc, ap, inl, inr, refl, subst, sym, arith, eq-eqb}
-use Rattle.std.specs.Prelude.{◌||◌, IsSome, IsTrue, is_none, nat_lt, not}
-use Rattle.std.specs.List.{AllByRecursion, concat}
+use Rattle.std.proofs.Common.{◌≡◌, ◌≤◌, ◌∙◌, ℕ, pos, List, [], ◌∷◌, ◌++◌, map, Bool, true, false, Option, Some, None, Result, Ok, Err, append_assoc, ap, refl, sym, arith, eq-eqb}
+use Rattle.std.specs.Prelude.{◌||◌, IsSome, IsTrue, is_none, nat_lt}
 use Rattle.std.specs.Str.{bytes_eq}
 use Rattle.std.proofs.lemmas.Bool.Decides.{nat_tests}
 use Rattle.std.proofs.lemmas.List.Elements.{All-head, All-tail}
 use Rattle.std.proofs.lemmas.Slice.Eq.{bytes_eq-Decides}
 use Rattle.desk_rules.specs.Limits.{max_priority}
 use Rattle.desk_rules.specs.Name.{is_operator_name}
-use Rattle.desk_ends.specs.Moments.{IsMoment}
 use Rattle.desk_record.specs.Record.{EntryParts, entries, entry}
 use Rattle.desk_reading.specs.Requests.{asked}
-use Rattle.desk_run.specs.DeskWorld.{DeskWorld, enrolled}
+use Rattle.desk_run.specs.DeskWorld.{enrolled}
 use Rattle.desk_wire.specs.Bytes.{text_for, world_after}
 use Rattle.desk_wire.specs.Refusals.{server_error_text}
 use Rattle.desk_wire.specs.declared.response.ServerError.{ServerError}
 use Rattle.desk_wire.specs.declared.response.ServerError.TheVariants.{OutOfMemory, Store}
 use Rattle.desk_line.specs.Lines.{AreEnrolments}
 use Rattle.desk_line.specs.declared.line.Enrolment.{Enrolment}
-use Rattle.desk_program.specs.Enrolling.{AreEnrolled, with_operators}
+use Rattle.desk_program.specs.Enrolling.{with_operators}
 use Rattle.desk_program.specs.Recorded.{AreNamed, answer_entry, operator_entry, request_entry}
 use Rattle.desk_replay.specs.Replaying.{AskingParts, Outcome, State, answered, counted, is_alike, is_failure, last_moment, listed, played, requested, taken, then_taken}
-use Rattle.desk_recording.specs.Played.{IsPlayedTo}
 
 ok_same : {A E : Type 0} {x y : A} → ◌≡◌ {A = Result A E} (Ok x) (Ok y) → x ≡ y
 ok_same e = cc

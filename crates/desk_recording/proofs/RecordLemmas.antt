@@ -1,6 +1,6 @@
 -- What is written down of connections, one after the other, is played again.
-use Rattle.std.proofs.Common.{◌≡◌, ◌<◌, ◌⊎◌, ◌∙◌, ◌+◌, ℕ, ℤ, pos, nat_abs, List, [], ◌∷◌, ◌++◌, All, map, length, Bool, true, Option, Some, None, IfSome, Result, Ok, Err, append-nil, append_assoc, ap, inl, inr, refl, subst, sym, arith}
-use Rattle.std.specs.Prelude.{⊤, IsSome}
+use Rattle.std.proofs.Common.{◌≡◌, ◌<◌, ◌⊎◌, ◌∙◌, ℕ, ℤ, pos, nat_abs, List, [], ◌∷◌, ◌++◌, All, map, length, true, Option, Some, None, IfSome, Ok, append-nil, append_assoc, ap, inl, inr, refl, subst, sym, arith}
+use Rattle.std.specs.Prelude.{⊤}
 use Rattle.std.proofs.lemmas.List.Elements.{All-head, All-tail}
 use Rattle.desk_ends.specs.Moments.{IsMoment}
 use Rattle.desk_record.specs.Record.{EntryParts, entries, entry}
@@ -14,9 +14,9 @@ use Rattle.desk_line.specs.Exits.{failure_at}
 use Rattle.desk_line.specs.Lines.{AreEnrolments}
 use Rattle.desk_line.specs.declared.line.Enrolment.{Enrolment}
 use Rattle.desk_program.specs.Enrolling.{AreEnrolled, with_operators}
-use Rattle.desk_program.specs.Recorded.{AreNamed, Ended, IsAnswerRecorded, IsRecorded, Noted, Open, Recorded, RecordsAnswer, RecordsNone, RecordsRequest, answer_entry, operator_entry, request_entry, with_answer, with_news, with_request}
+use Rattle.desk_program.specs.Recorded.{AreNamed, Ended, IsAnswerRecorded, IsRecorded, Noted, Open, Recorded, RecordsAnswer, RecordsRequest, answer_entry, operator_entry, request_entry, with_answer, with_news, with_request}
 use Rattle.desk_program.specs.Serving.{AreNoted, AreServed, AreTaken, Exchange, IsLast, Traffic, is_answered, outcome_of, passage_of}
-use Rattle.desk_replay.specs.Replaying.{State, last_moment, played}
+use Rattle.desk_replay.specs.Replaying.{State, played}
 use Rattle.desk_recording.specs.Played.{AddsPlayed, IsPlayedTo, entries_of, known, pair_of}
 use Rattle.desk_recording.proofs.ExchangeLemmas.{AreAsked, are_asked, low_second, same_second, some_text}
 use Rattle.desk_recording.proofs.PlayedLemmas.{after, entries_then, news_played, pair_played, played_then}

@@ -6,7 +6,7 @@ use Rattle.desk_record.specs.Record.{entry}
 use Rattle.desk_wire.specs.Streams.{IsRequest}
 use Rattle.desk_line.specs.Lines.{AreEnrolments}
 use Rattle.desk_line.specs.declared.line.Enrolment.{Enrolment}
-use Rattle.desk_program.specs.Recorded.{AreNamed, Ended, Noted, Open, Recorded, RecordsAnswer, RecordsNews, RecordsNone, RecordsRequest, request_entry, with_answer, with_news, with_request}
+use Rattle.desk_program.specs.Recorded.{AreNamed, Ended, Noted, Recorded, RecordsAnswer, RecordsNews, RecordsNone, RecordsRequest, request_entry, with_answer, with_news, with_request}
 use Rattle.desk_program.specs.Serving.{BringsNews, Closes, Denies, Parting, Takes, arrived}
 use Rattle.desk_recording.specs.Recording.{Adds, Answered, Asked, Enrolled, HasText, Lost, Notes, NotesOnDisk, SendsKept, Step, arrivals_in, news_in, partings_in, traffic_of}
 use Rattle.desk_recording.specs.Telling.{recorded_by}

@@ -1,10 +1,10 @@
 -- What writes add to the text of a journal.
-use Rattle.std.proofs.Common.{◌≡◌, ◌∙◌, ◌==◌, ℕ, ℤ, nat_abs, length, List, [], ◌∷◌, ◌++◌, Bool, true, false, Option, None, Some, append-nil, append_assoc, ap, inl, inr, refl, subst, sym}
+use Rattle.std.proofs.Common.{◌≡◌, ◌∙◌, ◌==◌, ℕ, ℤ, nat_abs, length, List, [], ◌∷◌, ◌++◌, Bool, true, false, Option, None, Some, append-nil, append_assoc, ap, inr, refl, subst, sym}
 use Rattle.std.specs.Prelude.{option_map}
 use Rattle.desk_record.specs.Record.{entry}
 use Rattle.desk_program.specs.Recorded.{Noted, request_entry, with_request}
 use Rattle.desk_recording.specs.Recording.{HasText, NotesOnDisk}
-use Rattle.desk_recording.specs.Writing.{Appended, Extends, Failed, Follows, Makes, Synced, Write, appended_in, noted_in, text_in}
+use Rattle.desk_recording.specs.Writing.{Appended, Extends, Failed, Makes, Synced, Write, appended_in, noted_in, text_in}
 
 appended_and : (writes : List Write) (more : List Write)
     → appended_in (writes ++ more) ≡ appended_in writes ++ appended_in more

@@ -1,4 +1,4 @@
-use Rattle.std.proofs.Common.{◌≡◌, ◌++◌, List, ℕ, refl, map}
+use Rattle.std.proofs.Common.{refl, map}
 use Rattle.desk_record.specs.Record.{entries}
 use Rattle.desk_program.specs.Recorded.{operator_entry, with_news}
 use Rattle.desk_recording.proofs.WritingLemmas.{notes_synced}
