@@ -2,6 +2,7 @@
 
 import re
 import time
+from datetime import date, timedelta
 
 from clients.given import desk_itself
 from harness.rows import Rows
@@ -71,14 +72,33 @@ def seen_when(rows: Rows, bravo: Page) -> None:
     bravo.until("nothing at the lowest altitude", lambda: not shown() and bravo.find("#altitude-alone").is_selected())
     bravo.click("#altitude-alone")
     bravo.until("shown at all altitudes", shown)
-    at = int(bravo.value("#moment", "value"))
+    at = bravo.value("#moment", "value")
     bravo.keys("#moment", Keys.ARROW_LEFT)
     bravo.until("nothing a step before it begins", lambda: not shown() and bravo.find("#moment-alone").is_selected())
+    bravo.keys("#moment", Keys.ARROW_RIGHT)
+    bravo.until("shown as it begins", shown)
     bravo.click("#play")
-    bravo.until("shown while it is played", shown)
+    bravo.until("moments that are played", lambda: bravo.value("#moment", "value") != at)
+    rows.equal("bravo: shown while it is played", 1, shown())
     bravo.click("#play")
-    rows.holds("bravo: played", int(bravo.value("#moment", "value")) >= at)
+    over_the_edge_of_a_day(rows, bravo)
     bravo.click("#moment-alone")
+
+
+def over_the_edge_of_a_day(rows: Rows, bravo: Page) -> None:
+    """From the first moment of a day the keys go on into the day before, and from there back again."""
+
+    def place() -> tuple[str, str]:
+        return bravo.value("#day", "value"), bravo.text("#moment-told")[:5]
+
+    bravo.keys("#moment", Keys.HOME)
+    today, first = place()
+    rows.equal("bravo: the first moment of a day", "00:00", first)
+    bravo.keys("#moment", Keys.ARROW_LEFT)
+    yesterday = (date.fromisoformat(today) - timedelta(1)).isoformat()
+    rows.equal("bravo: a step before it", (yesterday, "23:55"), place())
+    bravo.keys("#moment", Keys.ARROW_RIGHT)
+    rows.equal("bravo: and back", (today, "00:00"), place())
 
 
 def refused_and_moved(rows: Rows, setting: Setting, alfa: Page) -> None:
@@ -112,7 +132,9 @@ def refused_and_moved(rows: Rows, setting: Setting, alfa: Page) -> None:
 
 def times_are_local(rows: Rows, alfa: Page) -> None:
     """Times are those of the browser, with UTC beside."""
-    found = re.search(r"(\d\d):\d\d to \S+ here, (\d\d):\d\dZ", alfa.text("#cover"))
+    date_if_another = r"(?:\d{4}-\d\d-\d\d )?"
+    times = rf"(\d\d):\d\d to {date_if_another}\d\d:\d\d here, {date_if_another}(\d\d):\d\dZ"
+    found = re.search(times, alfa.text("#cover"))
     assert found, alfa.text("#cover")
     here, utc = found.groups()
     offset = alfa.js("return -new Date().getTimezoneOffset() / 60")

@@ -11,6 +11,7 @@ const LANES = 8;
 const LANE_LETTERS = 0.72;
 const AXIS_LETTERS = 1.05;
 const STEP = 5 * MINUTE;
+const ARROWS = { ArrowLeft: -STEP, ArrowRight: STEP, ArrowDown: -STEP, ArrowUp: STEP };
 const PLAY_MILLISECONDS = 120;
 const LEAST_TOP = 150;
 const TICK_LETTERS = 1.8;
@@ -33,7 +34,7 @@ export function makeBars() {
 function makeTimeBar() {
   parts.strip = element("div", { class: "strip" });
   parts.slider = element("input", { type: "range", min: 0, step: 1, id: "moment", "aria-label": "Moment of the day",
-    on: { input: () => setMoment(state.day + parts.slider.value * STEP, true) } });
+    on: { input: () => setMoment(state.day + parts.slider.value * STEP, true), keydown: leaveDay } });
   parts.told = element("output", { for: "moment", id: "moment-told" });
   parts.play = button("▶ Play", play, { id: "play", "aria-pressed": "false" });
   parts.date = element("input", { type: "date", id: "day", "aria-label": "Day", on: { change: pickDay } });
@@ -50,6 +51,14 @@ function check(id, words, member) {
   };
   const box = element("input", { type: "checkbox", id, on: { change } });
   return { box, label: element("label", { class: "check" }, box, ` ${words}`) };
+}
+
+/** At an end of the bar an arrow key that points beyond it goes on in the day before, or in the next one. */
+function leaveDay(event) {
+  const second = state.moment + (ARROWS[event.key] ?? 0);
+  if (second >= state.day && second < state.day + dayLength()) return;
+  event.preventDefault();
+  setMoment(second, true);
 }
 
 function dayLength() {
@@ -187,7 +196,7 @@ function drawDraftBar(draft, x, y, height) {
 }
 
 function moveByKey(event, id) {
-  const steps = { ArrowLeft: -STEP, ArrowRight: STEP, ArrowDown: -STEP, ArrowUp: STEP, PageDown: -3600, PageUp: 3600 };
+  const steps = { ...ARROWS, PageDown: -3600, PageUp: 3600 };
   if (!(event.key in steps)) return;
   event.preventDefault();
   moveDraft(id, steps[event.key] * (event.shiftKey ? 3 : 1));
