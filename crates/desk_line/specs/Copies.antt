@@ -20,6 +20,7 @@ pub record SamePlay (a b : PlayWords) : Type 0 where
   pub moment : b.moment ≡ a.moment
   pub terms : b.terms ≡ a.terms
   pub enrolments : b.enrolments.items ≡ a.enrolments.items
+  pub folder : option_map string_bytes b.folder ≡ option_map string_bytes a.folder
 
 pub record SameServe (a b : ServeWords) : Type 0 where
   pub database : SameDatabase a.database b.database
@@ -33,6 +34,7 @@ pub record SameServe (a b : ServeWords) : Type 0 where
 pub record SameEnrol (a b : EnrolWords) : Type 0 where
   pub database : SameDatabase a.database b.database
   pub enrolment : b.enrolment ≡ a.enrolment
+  pub folder : option_map string_bytes b.folder ≡ option_map string_bytes a.folder
 
 pub record SameCopying (a b : CopyWords) : Type 0 where
   pub database : SameDatabase a.database b.database

@@ -117,7 +117,7 @@ abbrev pub picture : Rule
 picture = flag (codes "picture") (codes "svg")
 
 abbrev pub words_of_play : List Rule
-words_of_play = database ∷ moment ∷ equal ∷ spans ∷ enrolments ∷ []
+words_of_play = database ∷ moment ∷ equal ∷ spans ∷ record_folder ∷ enrolments ∷ []
 
 abbrev pub words_of_token : List Rule
 words_of_token = token ∷ []
@@ -138,7 +138,8 @@ words_of_cover =
     ∷ []
 
 abbrev pub words_of_enrol : List Rule
-words_of_enrol = needed database ∷ needed (value (codes "NAME")) ∷ needed (value (codes "CEILING")) ∷ []
+words_of_enrol =
+    needed database ∷ record_folder ∷ needed (value (codes "NAME")) ∷ needed (value (codes "CEILING")) ∷ []
 
 abbrev pub words_of_migrate : List Rule
 words_of_migrate = needed database ∷ []
@@ -255,6 +256,7 @@ pub record IsPlayGiven (rows : List Row) (play : PlayWords) : Type 0 where
   pub moment : IsSecondGiven (codes "moment") rows play.moment
   pub terms : AreTermsOf rows play.terms
   pub enrolments : AreEnrolmentsGiven play.enrolments.items rows
+  pub folder : option_map string_bytes play.folder ≡ first_of (codes "record") rows
 
 pub record IsServeGiven (rows : List Row) (serve : ServeWords) : Type 0 where
   pub database : file_of serve.database ≡ file_given rows
@@ -277,6 +279,7 @@ pub record IsCoverGiven (rows : List Row) (cover : CoverWords) : Type 0 where
 pub record IsEnrolGiven (rows : List Row) (enrol : EnrolWords) : Type 0 where
   pub database : file_of enrol.database ≡ file_given rows
   pub enrolment : enrolment_given rows ≡ Some enrol.enrolment
+  pub folder : option_map string_bytes enrol.folder ≡ first_of (codes "record") rows
 
 abbrev pub IsTextGiven : List Row → Text → Type 0
 IsTextGiven rows text = first_of (codes "token") rows ≡ Some text

@@ -63,6 +63,7 @@ static FORMS: [Form; 9] = [
             Word::Moment,
             Word::Equal,
             Word::Spans,
+            Word::Record,
             Word::Enrolments,
         ],
     },
@@ -103,6 +104,7 @@ static FORMS: [Form; 9] = [
         about: "Enrols an operator in a database, or replaces its ceiling",
         words: &[
             Word::GivenDatabase,
+            Word::Record,
             Word::Text("NAME", "The operator's name"),
             Word::Text("CEILING", "The greatest priority that it may use"),
         ],

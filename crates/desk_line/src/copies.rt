@@ -39,6 +39,7 @@ impl Play {
             moment: self.moment,
             terms: self.terms,
             enrolments: copies(&self.enrolments)?,
+            folder: copy_text(&self.folder)?,
         })
     }
 }
@@ -76,6 +77,7 @@ impl Enrol {
         Ok(Enrol {
             database: self.database.copy()?,
             enrolment: self.enrolment,
+            folder: copy_text(&self.folder)?,
         })
     }
 }

@@ -94,6 +94,8 @@ pub struct Play {
     pub terms: Terms,
     /// The operators, in the order given; a name may be there twice.
     pub enrolments: Vec<Enrolment>,
+    /// The path of the folder in which each request and its answer are recorded, if there is one.
+    pub folder: Option<String>,
 }
 
 /// The words of `serve`.
@@ -142,6 +144,8 @@ pub struct Enrol {
     pub database: Database,
     /// The operator and its ceiling.
     pub enrolment: Enrolment,
+    /// The path of the folder of the desk's records, if there is one.
+    pub folder: Option<String>,
 }
 
 /// The words of `migrate`.
@@ -314,6 +318,7 @@ fn read_play(alloc: Global, given: &ArgMatches<'_>) -> Result<Play, WordsFault>
         moment,
         terms: read_terms(alloc, given)?,
         enrolments: read_enrolments(alloc, given)?,
+        folder: read_folder(alloc, given)?,
     })
 }
 
@@ -499,6 +504,7 @@ fn read_enrol(alloc: Global, given: &ArgMatches<'_>) -> Result<Enrol, WordsFault
     Ok(Enrol {
         database: read_database(alloc, given)?,
         enrolment,
+        folder: read_folder(alloc, given)?,
     })
 }
 

@@ -6,6 +6,7 @@ pub mod Outside
 pub mod Playing
 pub mod Waiting
 pub mod Keeping
+pub mod Inputs
 pub mod Recorded
 pub mod Running
 pub mod Moving

@@ -17,5 +17,5 @@ pub use moving::print_migrated;
 pub use port::{Connection, Outcome, Port, Register};
 pub use program::{set_up, with_desk};
 pub use running::run_opened;
-pub use server::serve;
+pub use server::{play_port, serve};
 pub use timed::{PATIENCE, Timed};

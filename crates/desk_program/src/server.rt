@@ -5,12 +5,13 @@ ghost use Rattle.std.specs.Io.KnownBytes.{Appends};
 ghost use Rattle.desk_store.specs.StoreFrames.{Remembers};
 ghost use Rattle.desk_store.specs.StoreFaults.{IsHonest};
 ghost use Rattle.desk_line.specs.Exits.{IsAnnounced, failure_at};
-ghost use Rattle.desk_line.specs.Lines.{IsServe};
+ghost use Rattle.desk_line.specs.Lines.{IsPlay, IsServe};
 ghost use Rattle.desk_line.specs.Written.{HasBegun};
 ghost use Rattle.desk_run.specs.DeskFrames.{FindsOnly};
 ghost use Rattle.desk_run.specs.DeskWorld.{world_of};
 ghost use Rattle.desk_wire.specs.Passage.{course};
 ghost use Rattle.desk_program.specs.Causes.{HasCause, IsCounted};
+ghost use Rattle.desk_program.specs.Inputs.{IsInputKept, IsInputPlayed};
 ghost use Rattle.desk_program.specs.Keeping.{AreKept, IsPortKept, IsServeKept};
 ghost use Rattle.desk_program.specs.Outside.{ended, written};
 ghost use Rattle.desk_program.specs.Serving as spec;
@@ -19,12 +20,15 @@ ghost use Rattle.desk_program.specs.Serving.{AreTaken, IsAtPort, IsDenied, IsLin
 use crate::port::{Connection, Outcome, Port};
 use crate::program::{enrol_news, set_up};
 use desk_ends::{ServeFault, Served, write_whole};
-use desk_line::{Exit, Failure, Serve, conclude};
+use desk_line::{Exit, Failure, Play, Serve, conclude};
 use desk_run::Desk;
 use desk_store::PlanStore;
 use desk_wire::serve_one;
 use std::alloc::{AllocError, Global};
 use std::io::Write;
+
+/// The most requests that a line of `play` answers.
+const MAX_ANSWERED: u32 = 1_000_000;
 
 /// The status of an answer that says that the desk failed.
 const SERVER_ERROR: u16 = 500;
@@ -109,6 +113,32 @@ fn listening_text(alloc: Global, port: u16) -> Result<String, AllocError>
     ensures { IfOk result (λ text. string_bytes text ≡ listening_line port) }
 {
     format!(in alloc; "listening 127.0.0.1:{port}\n")
+}
+
+/// Does what a line of `play` says at a desk, with the requests of a port in the place of an input: permits
+/// the line's priorities, enrols its operators, and answers the requests at the moments that the port tells.
+///
+/// # Errors
+///
+/// The first fault of an enrolment; or why the port gave no more requests, or the desk ended at one.
+pub fn play_port<S: PlanStore, P: Port>(
+    alloc: Global,
+    port: &mut P,
+    play: &Play,
+    desk: &mut Desk<S>,
+) -> Result<(), Failure>
+    requires { IsPlay play.now }
+    ensures played { IsInputPlayed (IsHonest (S.doubt desk.new.store)) result play.now
+        (course (P.traffic port.old) (P.traffic port.new)) (world_of S.content desk.old)
+        (world_of S.content desk.new) }
+    ensures kept { FindsOnly S.PlanStore desk.old desk.new (IsInputKept (IsHonest (S.doubt desk.new.store))
+        result play.now (course (P.traffic port.old) (P.traffic port.new)) (world_of S.content desk.old)
+        (world_of S.content desk.new)) }
+    ensures remembered { Remembers S.doubt S.faults S.is_shielded desk.old.store desk.new.store }
+    ensures cause { IsCounted result (S.faults desk.old.store) (S.faults desk.new.store) }
+{
+    set_up(desk, &play.terms, &play.enrolments)?;
+    serve_connections(alloc, port, MAX_ANSWERED, desk)
 }
 
 // Serves so many connections, one after the other.

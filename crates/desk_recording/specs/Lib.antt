@@ -1,4 +1,5 @@
 pub mod Beginning
+pub mod Inputs
 pub mod Played
 pub mod Recording
 pub mod Recovering

@@ -3,6 +3,7 @@
 #![tactic(auto)]
 
 mod header;
+mod inputs;
 mod journal;
 pub mod laws;
 mod port;
@@ -13,6 +14,7 @@ mod tail;
 mod written;
 
 pub use header::begin_record;
+pub use inputs::{InputPort, play_opened};
 pub use journal::Journal;
 pub use port::RecordedPort;
 pub use record::{Parted, Record};

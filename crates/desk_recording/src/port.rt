@@ -33,7 +33,7 @@ const UNANSWERED: Outcome = Outcome {
 /// are sent. Once something can't be kept, no connection is taken any more.
 #[derive(Drop)]
 pub struct RecordedPort<P: Drop, R: Drop> {
-    port: P,
+    pub(crate) port: P,
     keeper: R,
     is_broken: bool,
 }

@@ -39,6 +39,7 @@ fn play_line(alloc: Global) -> Result<Play, Fail>
         moment: 0,
         terms: Terms::none(),
         enrolments: vec![in alloc; alfa, bravo]?,
+        folder: None,
     })
 }
 
@@ -117,6 +118,7 @@ fn enrol_line() -> Result<Enrol, Fail>
             operator: Operator::try_new(b"alfa").ok_or("a name")?,
             ceiling: 100,
         },
+        folder: None,
     })
 }
 

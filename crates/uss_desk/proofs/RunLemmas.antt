@@ -29,7 +29,9 @@ use Rattle.uss_desk.specs.declared.watching.Closed.{Closed}
 use Rattle.uss_desk.specs.Opening.{FailsOver, FileDesk, IsOpenedFor, IsOpenedIn, open_failure, or_failure}
 use Rattle.uss_desk.specs.Replaying.{IsReplayRun, IsReplayedAt}
 use Rattle.uss_desk.specs.Running.{IsDoneAt, IsRun, StaysGuarded}
-use Rattle.desk_wire.specs.Passage.{Passage}
+use Rattle.uss_desk.specs.Playing.{IsInputDoneAt, IsInputRun, Stopping}
+use Rattle.desk_line.specs.declared.line.Play.{Play as PlayWords}
+use Rattle.desk_wire.specs.Passage.{Course, Passage}
 
 -- a desk over files is opened for a line that names them, and they held this
 pub for_files : {M : Type 0} (m : disk.Ghosts M) {D : Type 0} {g : disk.Ghosts D} (image : Image) (it : Line)
@@ -99,6 +101,26 @@ pub played_at : {S : Type 0} (g : Ghosts S) (one other : Result (Parts (Shown S)
     → IsReplayRun g one until p end left → IsReplayRun g other until p end left
 played_at g one other same {until} {p} {end} {left} run =
     subst (λ o. IsReplayRun g o until p end left) same run
+
+-- so does one at which an input is played
+pub input_guarded : {D : Type 0} {g : disk.Ghosts D} (account : Account D)
+    → ((d : D) → g.is_fair d ≡ (replay (account.start d) (account.calls d)).is_fair)
+    → ((d : D) → g.is_clean d ≡ (replay (account.start d) (account.calls d)).is_honest)
+    → (image : Image) (play : PlayWords) (stop : Stopping) (end : Ending) (port : Course Traffic)
+    → (opened : FileDesk g) (left : Option (Parts (Shown (FileStore D g)))) → IsOpenedIn image opened
+    → IfOk (or_failure opened) (IsInputDoneAt over_files play stop end port left)
+    → StaysGuarded account (or_failure opened) left
+input_guarded account fair clean image play stop end port (Ok desk) (Some left) opens done =
+    λ honest. true_or_collided account fair clean left (done.2 (opens.guarded honest))
+input_guarded account fair clean image play stop end port (Ok desk) None opens done = done
+input_guarded account fair clean image play stop end port (Err unread) left opens done = tt
+
+pub input_at : {S : Type 0} (g : Ghosts S) (one other : Result (Parts (Shown S)) Failure) → one ≡ other
+    → {play : PlayWords} {stop : Stopping} {end : Ending} {port : Course Traffic}
+    → {left : Option (Parts (Shown S))} → IsInputRun g play stop end port one left
+    → IsInputRun g play stop end port other left
+input_at g one other same {play} {stop} {end} {port} {left} run =
+    subst (λ o. IsInputRun g play stop end port o left) same run
 
 -- a desk whose store was closed, by what the store is
 pub is_closed : {D : Type 0} {g : disk.Ghosts D} (desk : Parts (Shown (FileStore D g)))

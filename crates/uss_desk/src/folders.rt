@@ -1,7 +1,7 @@
 //! The folder of a desk's records: the files in it, and how a new one gets its name. No clause tells what the
 //! operating system did.
 
-use crate::naming::{READ_ONLY, TAKEN};
+use crate::naming::{OWNER_ALONE, READ_ONLY, TAKEN, sync_folder};
 use desk_recording::{Tail, TailEnd, TailFault, read_tail};
 use std::alloc::{AllocError, Global};
 use std::fs::{self, File, OpenOptions};
@@ -13,9 +13,6 @@ const ENDING: &str = ".record";
 
 // The fewest digits of a record's number in its name.
 const DIGITS: usize = 10;
-
-// The mode of a file that its owner alone reads and writes.
-const OWNER_ALONE: u32 = 0o600;
 
 /// Why a record can't be read or kept.
 #[derive(Drop)]
@@ -75,27 +72,20 @@ pub struct FoundRecord {
 /// As `Unkept` says.
 pub fn last_record(rt: &HostRuntime, folder: &str) -> Result<Option<FoundRecord>, Unkept> {
     let mut greatest = None;
+    let mut path = String::new(rt.alloc());
     for entry in fs::read_dir(rt, folder)? {
         let entry = entry?;
-        greatest = greatest.max(record_number(entry.file_name()));
-    }
-    match greatest {
-        Some(number) => find_record(rt, folder, number),
-        None => Ok(None),
-    }
-}
-
-// The record of this number in a folder.
-fn find_record(rt: &HostRuntime, folder: &str, number: u64) -> Result<Option<FoundRecord>, Unkept> {
-    for entry in fs::read_dir(rt, folder)? {
-        let entry = entry?;
-        if record_number(entry.file_name()) == Some(number) {
-            let path = path_in(rt.alloc(), folder, entry.file_name())?;
-            let len = fs::metadata(rt, &path)?.len();
-            return Ok(Some(FoundRecord { number, path, len }));
+        let later = greatest.max(record_number(entry.file_name()));
+        if later != greatest {
+            greatest = later;
+            path = path_in(rt.alloc(), folder, entry.file_name())?;
         }
     }
-    Ok(None)
+    let Some(number) = greatest else {
+        return Ok(None);
+    };
+    let len = fs::metadata(rt, &path)?.len();
+    Ok(Some(FoundRecord { number, path, len }))
 }
 
 // The number in the name of a record, if this is one: `NNNNNNNNNN-SECOND.record`.
@@ -133,12 +123,7 @@ pub fn tail_of(rt: &HostRuntime, record: &FoundRecord) -> Result<(Tail, TailEnd)
 /// # Errors
 ///
 /// As `Unkept` says. The record is cut only once the file beside it is on the disk.
-pub fn move_rest(
-    rt: &HostRuntime,
-    folder: &str,
-    record: &FoundRecord,
-    size: u64,
-) -> Result<(), Unkept> {
+pub fn move_rest(rt: &HostRuntime, record: &FoundRecord, size: u64) -> Result<(), Unkept> {
     let mut file = OpenOptions::new()
         .read(true)
         .write(true)
@@ -147,7 +132,7 @@ pub fn move_rest(
     file.seek(SeekFrom::Start(size))?;
     file.read_to_end(&mut rest)?;
     write_rest(rt, &record.path, &rest)?;
-    sync_folder(rt, folder)?;
+    sync_folder(rt, &record.path)?;
     file.set_len(size)?;
     file.sync_all()?;
     Ok(())
@@ -194,16 +179,10 @@ pub fn name_part(rt: &HostRuntime, folder: &str, number: u64, second: u64) -> Re
     let part = part_of(rt.alloc(), folder, number)?;
     let name = format!(in rt.alloc(); "{folder}/{number:010}-{second}{ENDING}")?;
     fs::rename(rt, &part, &name)?;
-    sync_folder(rt, folder)
+    Ok(sync_folder(rt, &name)?)
 }
 
 // The path that a new record has before it gets its name.
 fn part_of(alloc: Global, folder: &str, number: u64) -> Result<String, AllocError> {
     format!(in alloc; "{folder}/.new-{number:010}")
-}
-
-// Syncs a folder.
-fn sync_folder(rt: &HostRuntime, folder: &str) -> Result<(), Unkept> {
-    File::open(rt, folder)?.sync_all()?;
-    Ok(())
 }

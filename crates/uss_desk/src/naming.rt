@@ -184,8 +184,12 @@ pub fn make_private(rt: &HostRuntime, path: &str) {
     }
 }
 
-// Syncs the folder of a path.
-fn sync_folder(rt: &HostRuntime, path: &str) -> io::Result<()> {
+/// Syncs the folder of a path.
+///
+/// # Errors
+///
+/// As the operating system says.
+pub fn sync_folder(rt: &HostRuntime, path: &str) -> io::Result<()> {
     let mut folder = fs::canonicalize(rt, path)?;
     folder.pop();
     File::open(rt, folder.as_str())?.sync_all()

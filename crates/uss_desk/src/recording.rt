@@ -1,15 +1,20 @@
 //! The record of a line: begun before the line serves, once what the last one left undone is done. No clause
 //! tells what the operating system did.
 
+ghost use Rattle.std.specs.Prelude.{◌≡◌, ◌++◌, IfOk, option_map};
+ghost use Rattle.uss_desk.specs.Recording as spec;
+ghost use Rattle.uss_desk.specs.Recording.{enrolled_by};
+
 use crate::causes::{tell, tell_of};
 use crate::closing::close_after;
+use crate::damage::file_of_line;
 use crate::folders::{FoundRecord, Unkept, last_record, make_part, move_rest, name_part, tail_of};
 use crate::naming::IN_USE;
 use crate::opening::{open_file, or_failure};
 use crate::paths::paths_of;
 use crate::rolls::Roll;
 use crate::watching::{Closed, Paths, Watched};
-use desk_line::{Database, Enrolment, Exit, Failure, Line, Serve};
+use desk_line::{Enrolment, Exit, Failure, Line};
 use desk_recording::{
     Journal, Parted, Record, Tail, TailEnd, WrittenRecord, begin_record, missing_of, recover,
 };
@@ -70,7 +75,7 @@ pub struct RecordFolder<'s> {
 // The desk, over whatever disk its files are, at which a record's last request is asked again.
 type DeskAt<D, N> = Desk<Watched<FileStore<D>, N>>;
 
-/// The folder in which a line records what it is asked, if it does, once what its last record left undone is
+/// The folder in which a line records what it does, if it names one, once what its last record left undone is
 /// done.
 ///
 /// # Errors
@@ -81,22 +86,51 @@ pub fn recover_for<'s>(
     rt: &'s HostRuntime,
     line: &'s Line,
 ) -> Result<Option<RecordFolder<'s>>, Failure> {
-    let Line::Serve(words) = line else {
+    let Some(path) = folder_of(line) else {
         return Ok(None);
     };
-    let Some(path) = words.folder.as_deref() else {
-        return Ok(None);
+    let last = told(rt, path, last_record(rt, path))?;
+    let Some(file) = file_of_line(line) else {
+        return Ok(Some(begin_alone(rt, line, path, last)?));
     };
-    let Database::File(file) = &words.database else {
-        return Err(store_failure(rt, path, "a record needs a database in a file"));
-    };
-    match told(rt, path, last_record(rt, path))? {
-        None => Ok(Some(RecordFolder {
-            path,
-            last: 0,
-            len: 0,
-        })),
+    match last {
+        None => Ok(Some(no_record(path))),
         Some(record) => Ok(Some(go_on(rt, line, path, file, record)?)),
+    }
+}
+
+// A folder that has no record yet.
+fn no_record(path: &str) -> RecordFolder<'_> {
+    RecordFolder {
+        path,
+        last: 0,
+        len: 0,
+    }
+}
+
+// The folder of a line at a desk in memory, which goes on from no record.
+fn begin_alone<'s>(
+    rt: &HostRuntime,
+    line: &Line,
+    path: &'s str,
+    last: Option<FoundRecord>,
+) -> Result<RecordFolder<'s>, Failure> {
+    match (line, last) {
+        (Line::Play(_), None) => Ok(no_record(path)),
+        (Line::Play(_), Some(_)) => told(rt, path, Err(Unkept::Cause("records of another desk"))),
+        _ => Err(store_failure(rt, path, "a record needs a database in a file")),
+    }
+}
+
+// The folder that a line names, if it names one.
+fn folder_of(line: &Line) -> Option<&str>
+    ensures { option_map (λ path. path.now) result ≡ spec.folder_of line.now }
+{
+    match line {
+        Line::Play(words) => words.folder.as_deref(),
+        Line::Serve(words) => words.folder.as_deref(),
+        Line::Enrol(words) => words.folder.as_deref(),
+        _ => None,
     }
 }
 
@@ -205,7 +239,7 @@ fn recover_desk<'s, D: Disk + Drop, N: Paths + Drop>(
     } = tail;
     is_last(rt, folder, record.number, record.len)?;
     if ended == TailEnd::Short {
-        told(rt, folder, move_rest(rt, folder, record, size))?;
+        told(rt, folder, move_rest(rt, record, size))?;
     }
     let Some(roll) = roll.into_operators() else {
         return Err(Failure::Memory);
@@ -241,11 +275,7 @@ fn last_of<'s>(rt: &HostRuntime, path: &'s str) -> Result<RecordFolder<'s>, Fail
             last: record.number,
             len: record.len,
         }),
-        None => Ok(RecordFolder {
-            path,
-            last: 0,
-            len: 0,
-        }),
+        None => Ok(no_record(path)),
     }
 }
 
@@ -266,7 +296,32 @@ fn joined(
     Ok(operators)
 }
 
-/// Begins the record of a line at the desk that was opened for it, with these operators.
+// The terms on which the desk of a line plans.
+fn terms_of(line: &Line) -> Terms
+    ensures { result ≡ spec.terms_of line.now }
+{
+    match line {
+        Line::Play(words) => words.terms,
+        Line::Serve(words) => words.terms,
+        _ => Terms::none(),
+    }
+}
+
+// The operators of a desk, and behind them those that a line enrols first.
+fn operators_with(line: &Line, mut operators: Vec<Enrolment>) -> Result<Vec<Enrolment>, AllocError>
+    ensures { IfOk result (λ all. all.items ≡ operators.items ++ enrolled_by line.now) }
+{
+    match line {
+        Line::Play(words) => operators.extend_from_slice(&words.enrolments)?,
+        Line::Serve(words) => operators.extend_from_slice(&words.enrolments)?,
+        Line::Enrol(words) => operators.push(words.enrolment)?,
+        _ => {}
+    }
+    Ok(operators)
+}
+
+/// Begins the record of a line at the desk that was opened for it, which has these operators, before the line
+/// enrols any.
 ///
 /// # Errors
 ///
@@ -275,7 +330,7 @@ fn joined(
 pub fn begin_for<'s>(
     rt: &'s HostRuntime,
     folder: RecordFolder<'s>,
-    words: &Serve,
+    line: &Line,
     roll: Roll,
 ) -> Result<LocalRecord<'s>, Failure> {
     is_last(rt, folder.path, folder.last, folder.len)?;
@@ -283,8 +338,8 @@ pub fn begin_for<'s>(
         return Err(Failure::Memory);
     };
     let number = next_number(rt, folder.path, folder.last)?;
-    let operators = joined(operators, &words.enrolments)?;
-    let journal = begin_part(rt, folder.path, number, &words.terms, &operators)?;
+    let operators = operators_with(line, operators)?;
+    let journal = begin_part(rt, folder.path, number, &terms_of(line), &operators)?;
     let second = second_now(rt)?;
     told(rt, folder.path, name_part(rt, folder.path, number, second))?;
     Ok(WrittenRecord::new(rt.alloc(), journal))

@@ -4,7 +4,7 @@ use desk_line::Enrolment;
 use desk_tables::SqliteStore;
 use sqlite::FileStore;
 use sqlite_disk::Disk;
-use std::alloc::AllocError;
+use std::alloc::{AllocError, Global};
 
 /// The operators that a desk over files has as it is opened, if they are wanted.
 #[derive(Drop)]
@@ -19,6 +19,14 @@ impl Roll {
         Roll {
             is_wanted,
             operators: None,
+        }
+    }
+
+    /// The roll of a desk that has no operator.
+    pub fn empty(alloc: Global) -> Roll {
+        Roll {
+            is_wanted: true,
+            operators: Some(Vec::new(alloc)),
         }
     }
 

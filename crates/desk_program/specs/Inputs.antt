@@ -1,0 +1,42 @@
+-- Inputs: a line of `play` whose requests are taken from a port, one after the other.
+use Rattle.std.specs.Prelude.{◌≡◌, ◌⊎◌, Option, Result}
+use Rattle.std.specs.Result.{IsErrAnd}
+use Rattle.desk_store.specs.World.{World}
+use Rattle.desk_run.specs.DeskWorld.{DeskWorld}
+use Rattle.desk_wire.specs.Passage.{Course}
+use Rattle.desk_wire.specs.Playing.{max_answered}
+use Rattle.desk_line.specs.declared.failure.Failure.{Failure}
+use Rattle.desk_line.specs.declared.line.Play.{Play as PlayWords}
+use Rattle.desk_line.specs.Exits.{IsBreakdown}
+use Rattle.desk_program.specs.Enrolling.{AreListedSoFar, on_terms, with_operators}
+use Rattle.desk_program.specs.Keeping.{AreKeptSoFar, IsFoundServed}
+use Rattle.desk_program.specs.Serving.{AreTaken, Traffic}
+
+-- the desk plans on the line's terms and its operators are listed, and then requests are taken
+pub record AreInputsTaken {A : Type 0} (H : Type 0) (done : Result A Failure) (play : PlayWords)
+    (port : Course Traffic) (w after : DeskWorld) : Type 0 where
+  pub begun : DeskWorld
+  pub listed : H → begun ≡ with_operators (on_terms w play.terms) play.enrolments.items
+  pub taken : AreTaken H done max_answered port.before port.after begun after
+
+-- an operator could not be listed: those before it are, and no request is taken
+pub record AreNoneTaken {A : Type 0} (H : Type 0) (done : Result A Failure) (play : PlayWords)
+    (port : Course Traffic) (w after : DeskWorld) : Type 0 where
+  pub broken : IsErrAnd done IsBreakdown
+  pub untaken : port.after ≡ port.before
+  pub listed : AreListedSoFar H play.enrolments.items (on_terms w play.terms) after
+
+abbrev pub IsInputPlayed :
+    {A : Type 0} → Type 0 → Result A Failure → PlayWords → Course Traffic → DeskWorld → DeskWorld → Type 0
+IsInputPlayed H done play port w after =
+    AreInputsTaken H done play port w after ⊎ AreNoneTaken H done play port w after
+
+-- and what is found then
+abbrev pub IsInputKept :
+    {A : Type 0} → Type 0 → Result A Failure → PlayWords → Course Traffic → DeskWorld → DeskWorld
+    → Option World → Type 0
+IsInputKept H done play port w after found =
+    ((begun : AreInputsTaken H done play port w after)
+    × IsFoundServed begun.taken.exchanges begun.taken.last after found)
+    ⊎ (AreNoneTaken H done play port w after
+    × AreKeptSoFar H play.enrolments.items (on_terms w play.terms) after found)

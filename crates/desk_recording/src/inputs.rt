@@ -1,0 +1,233 @@
+//! The requests of an input, handed out one after the other as connections of a port, so that they are
+//! recorded.
+
+ghost use Rattle.std.specs.Prelude.{◌≡◌, ◌≤◌, ⊤, Err, IfErr, IfOk, IsSome, OnErr, Option, Some, not};
+ghost use Rattle.std.specs.Option.{IsSomeAnd};
+ghost use Rattle.std.specs.Io.Cursor.{cursor_inner, cursor_remaining};
+ghost use Rattle.desk_ends.specs.Moments.{IsMoment};
+ghost use Rattle.desk_store.specs.StoreFaults.{IsHonest};
+ghost use Rattle.desk_store.specs.StoreFrames.{Remembers};
+ghost use Rattle.desk_store.specs.World.{World};
+ghost use Rattle.desk_run.specs.DeskFrames.{FindsOnly};
+ghost use Rattle.desk_run.specs.DeskWorld.{IsSettled, world_of};
+ghost use Rattle.desk_wire.specs.Passage.{course};
+ghost use Rattle.desk_wire.specs.Serving.{IsTaken};
+ghost use Rattle.desk_line.specs.Exits.{ending};
+ghost use Rattle.desk_line.specs.Lines.{IsPlay};
+ghost use Rattle.desk_program.specs.Outside.{ended};
+ghost use Rattle.desk_program.specs.Serving.{Closes, Denies, IsDenied, IsFresh, Takes, arrived, parted, untold};
+ghost use Rattle.desk_recording.specs.Inputs as spec;
+ghost use Rattle.desk_recording.specs.Inputs.{HasStopped, IsPlayRecorded, IsRecordedCause, IsRecordedKept};
+ghost use Rattle.desk_recording.specs.Inputs.{IsUnrecorded};
+ghost use Rattle.desk_recording.specs.Recording.{Sends};
+ghost use Rattle.desk_recording.specs.Telling.{told_by};
+
+use crate::port::RecordedPort;
+use crate::record::Record;
+use desk_ends::write_whole;
+use desk_line::{Enrolment, Exit, Failure, Play, conclude};
+use desk_program::{Connection, Outcome, Port, play_port};
+use desk_run::Desk;
+use desk_store::PlanStore;
+use desk_wire::receive_request;
+use std::alloc::Global;
+use std::io::{Cursor, Read, Write};
+use volume4d::MAX_SECOND;
+
+/// A port whose connections are the requests of an input, one after the other, all at one moment. Their
+/// answers go to an output.
+#[derive(Drop)]
+pub struct InputPort<R: Drop, W: Drop> {
+    input: R,
+    output: W,
+    moment: i64,
+    // Whether the place of the next request is not known.
+    is_unframed: bool,
+    // How the input ended, or the output, if one did.
+    ended: Option<Result<(), Failure>>,
+}
+
+impl<R: Read + Drop, W: Write + Drop> InputPort<R, W> {
+    /// A port over an input and an output, whose requests are all asked at this moment (a Unix second).
+    pub fn new(input: R, output: W, moment: i64) -> InputPort<R, W>
+        ensures input { result.input ≡ input }
+        ensures output { result.output ≡ output }
+        ensures moment { result.moment ≡ moment }
+    {
+        InputPort {
+            input,
+            output,
+            moment,
+            is_unframed: false,
+            ended: None,
+        }
+    }
+
+    // How a line ends after which no more is played.
+    fn ending(&self, done: Result<(), Failure>) -> Result<(), Failure>
+        ensures { result ≡ spec.ended_by self.now.ended self.now.is_unframed done }
+    {
+        match (self.ended, done) {
+            (Some(ended), _) => ended,
+            (None, Err(failure)) => Err(failure),
+            (None, Ok(())) if self.is_unframed => Err(Failure::Unframed),
+            (None, Ok(())) => Err(Failure::Limit),
+        }
+    }
+}
+
+impl<R: Read + Drop, W: Write + Drop> Port for InputPort<R, W> {
+    type Input = Cursor<Vec<u8>>;
+
+    type Output = Vec<u8>;
+
+    fn listen(&mut self, _number: u16) -> Result<(), Failure> {
+        Ok(())
+    }
+
+    fn news(&mut self, alloc: Global) -> Result<Vec<Enrolment>, Failure> {
+        Ok(Vec::new(alloc))
+    }
+
+    fn take(&mut self, alloc: Global) -> Result<Connection<Cursor<Vec<u8>>, Vec<u8>>, Failure>
+        ensures moment { IfOk result (λ c. IsMoment c.moment) }
+        ensures taken { IfOk result (λ c. Takes untold untold
+            (arrived c.moment (cursor_remaining (λ v. Some v.items) c.input))) }
+        ensures unsent { IfOk result (λ c. IsFresh untold (Some c.output.items)) }
+        ensures same { OnErr result (Denies untold untold) }
+        ensures fault { IfErr result IsDenied }
+        ensures given { IfOk result (λ c. (c.moment ≡ self.old.moment)
+            × IsTaken (R.remaining self.old.input) (R.remaining self.new.input)
+            (cursor_inner c.input).items) }
+        ensures ended { result ≡ Err Failure.Network → IsSome self.new.ended }
+    {
+        if self.ended.is_some() {
+            return Err(Failure::Network);
+        }
+        if !(0..=MAX_SECOND).contains(&self.moment) {
+            return Err(Failure::Clock);
+        }
+        match next_of(alloc, self.is_unframed, &mut self.input) {
+            Ok(request) => Ok(Connection {
+                moment: self.moment,
+                input: Cursor::new(request),
+                output: Vec::new(alloc),
+            }),
+            Err(ended) => {
+                self.ended = Some(ended);
+                Err(Failure::Network)
+            }
+        }
+    }
+
+    fn close(&mut self, input: Cursor<Vec<u8>>, output: Vec<u8>, outcome: Outcome)
+        ensures closed { Closes untold untold (parted (cursor_remaining (λ v. Some v.items) input)
+            (Some output.items) outcome) }
+        ensures sent { Sends output.items (W.contents self.old.output) (W.contents self.new.output) }
+        ensures framed { self.new.is_unframed ≡ not outcome.is_whole }
+    {
+        self.is_unframed = !outcome.is_whole;
+        if write_whole(&mut self.output, &output).is_err() {
+            self.ended = Some(Err(Failure::Write));
+        }
+    }
+}
+
+// The next request of an input, or how the input ended.
+fn next_of<R: Read>(
+    alloc: Global,
+    is_unframed: bool,
+    input: &mut R,
+) -> Result<Vec<u8>, Result<(), Failure>>
+    ensures taken { IfOk result (λ request.
+        IsTaken (R.remaining input.old) (R.remaining input.new) request.items) }
+    ensures stopped { IfErr result (HasStopped is_unframed (R.remaining input.old)) }
+{
+    if is_unframed {
+        return Err(Err(Failure::Unframed));
+    }
+    match receive_request(alloc, input) {
+        Ok(request) if request.is_empty() => Err(Ok(())),
+        Ok(request) => Ok(request),
+        Err(fault) => Err(Err(Failure::from(fault))),
+    }
+}
+
+/// Plays the requests of an input at the desk that was opened for a line of `play`. Each is kept before the
+/// desk is asked, and its answer before it is written. Answers how the line ended and the desk. The word of a
+/// failure goes to `errors`; a fault there is passed over.
+pub fn play_opened<S, R, W, K, E>(
+    alloc: Global,
+    play: &Play,
+    opened: Result<Desk<S>, Failure>,
+    port: &mut RecordedPort<InputPort<R, W>, K>,
+    errors: &mut E,
+) -> (Exit, Option<Desk<S>>)
+where
+    S: PlanStore + Drop,
+    R: Read + Drop,
+    W: Write + Drop,
+    K: Record + Drop,
+    E: Write,
+    requires { IsPlay play.now }
+    ensures opened { IfOk opened (λ desk. IsSomeAnd result.1 (λ left.
+        IsPlayRecorded (IsHonest (S.doubt left.store)) play.now port.new.port.ended port.new.port.is_unframed
+        (ending result.0 (E.contents errors.old) (E.contents errors.new))
+        (course (told_by K.Record port.old.keeper port.old.is_broken)
+        (told_by K.Record port.new.keeper port.new.is_broken))
+        (world_of S.content desk) (world_of S.content left)
+        × (S.doubt desk.store ≤ S.doubt left.store)
+        × (S.is_shielded desk.store → S.is_shielded left.store))) }
+    ensures kept { IfOk opened (λ desk. IsSomeAnd result.1 (λ left.
+        IsHonest (S.doubt left.store) → IsSettled S.content S.may_leave desk →
+        (found : Option World) → S.may_leave left.store found →
+        IsRecordedKept (IsHonest (S.doubt left.store)) play.now port.new.port.ended port.new.port.is_unframed
+        (ending result.0 (E.contents errors.old) (E.contents errors.new))
+        (course (told_by K.Record port.old.keeper port.old.is_broken)
+        (told_by K.Record port.new.keeper port.new.is_broken))
+        (world_of S.content desk) (world_of S.content left) found)) }
+    ensures cause { IfOk opened (λ desk. IsSomeAnd result.1 (λ left. IsRecordedCause
+        port.new.port.ended port.new.port.is_unframed
+        (ending result.0 (E.contents errors.old) (E.contents errors.new))
+        (S.faults desk.store) (S.faults left.store))) }
+    ensures unopened { IfErr opened (IsUnrecorded
+        (course (told_by K.Record port.old.keeper port.old.is_broken)
+        (told_by K.Record port.new.keeper port.new.is_broken))
+        (ending result.0 (E.contents errors.old) (E.contents errors.new)) result.1) }
+{
+    match opened {
+        Ok(mut desk) => {
+            let exit = play_recorded(alloc, play, &mut desk, port, errors);
+            (exit, Some(desk))
+        }
+        Err(failure) => (conclude(errors, Err(failure)), None),
+    }
+}
+
+// Plays the requests of an input at a desk, and answers how the line ended.
+fn play_recorded<S: PlanStore, R: Read + Drop, W: Write + Drop, K: Record + Drop, E: Write>(
+    alloc: Global,
+    play: &Play,
+    desk: &mut Desk<S>,
+    port: &mut RecordedPort<InputPort<R, W>, K>,
+    errors: &mut E,
+) -> Exit
+    requires { IsPlay play.now }
+    ensures played { IsPlayRecorded (IsHonest (S.doubt desk.new.store)) play.now port.new.port.ended
+        port.new.port.is_unframed (ended E.Write result errors.old errors.new)
+        (course (told_by K.Record port.old.keeper port.old.is_broken)
+        (told_by K.Record port.new.keeper port.new.is_broken))
+        (world_of S.content desk.old) (world_of S.content desk.new) }
+    ensures kept { FindsOnly S.PlanStore desk.old desk.new (IsRecordedKept
+        (IsHonest (S.doubt desk.new.store)) play.now port.new.port.ended
+        port.new.port.is_unframed (ended E.Write result errors.old errors.new)
+        (course (told_by K.Record port.old.keeper port.old.is_broken)
+        (told_by K.Record port.new.keeper port.new.is_broken))
+        (world_of S.content desk.old) (world_of S.content desk.new)) }
+    ensures remembered { Remembers S.doubt S.faults S.is_shielded desk.old.store desk.new.store }
+    ensures cause { IsRecordedCause port.new.port.ended port.new.port.is_unframed
+        (ended E.Write result errors.old errors.new) (S.faults desk.old.store) (S.faults desk.new.store) }
+{
+    let done = play_port(alloc, port, play, desk);
+    conclude(errors, port.port.ending(done))
+}
