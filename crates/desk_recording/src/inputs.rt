@@ -162,7 +162,7 @@ pub fn play_opened<S, R, W, K, E>(
     opened: Result<Desk<S>, Failure>,
     port: &mut RecordedPort<InputPort<R, W>, K>,
     errors: &mut E,
-) -> (Exit, Option<Desk<S>>)
+) -> (Exit<E>, Option<Desk<S>>)
 where
     S: PlanStore + Drop,
     R: Read + Drop,
@@ -211,7 +211,7 @@ fn play_recorded<S: PlanStore, R: Read + Drop, W: Write + Drop, K: Record + Drop
     desk: &mut Desk<S>,
     port: &mut RecordedPort<InputPort<R, W>, K>,
     errors: &mut E,
-) -> Exit
+) -> Exit<E>
     requires { IsPlay play.now }
     ensures played { IsPlayRecorded (IsHonest (S.doubt desk.new.store)) play.now port.new.port.ended
         port.new.port.is_unframed (ended E.Write result errors.old errors.new)

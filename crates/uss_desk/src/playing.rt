@@ -31,7 +31,7 @@ pub fn play_line<F, N, R, W, K, E>(
     opened: OpenedDesk<F, N>,
     port: &mut RecordedPort<InputPort<R, W>, K>,
     errors: &mut E,
-) -> (Exit, Option<MemoryDesk>, Option<FileDesk<F, N>>)
+) -> (Exit<E>, Option<MemoryDesk>, Option<FileDesk<F, N>>)
 where
     F: Start,
     N: Paths + Drop,
@@ -68,7 +68,7 @@ fn play_over<D, N, R, W, K, E>(
     opened: Result<Desk<Watched<FileStore<D>, N>>, Failure>,
     port: &mut RecordedPort<InputPort<R, W>, K>,
     errors: &mut E,
-) -> (Exit, Option<Desk<Watched<FileStore<D>, N>>>)
+) -> (Exit<E>, Option<Desk<Watched<FileStore<D>, N>>>)
 where
     D: Disk + Drop,
     N: Paths + Drop,
