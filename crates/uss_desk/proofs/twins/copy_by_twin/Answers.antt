@@ -20,9 +20,9 @@ returns g c =
       from = b;
       until = g.P.Folder.steps c.copy_file-copied.new.folder;
       told = g.E.Write.contents c.copy_file-copied.new.errors;
-      made = subst (λ s. Follows a b (making source (twin_of to) s)) c.is_summed.ensures
-          (subst (λ t. Follows a b (making source (twin_of t) c.is_summed.result)) to_is
-          (subst (λ p. Follows a b (making p (twin_of c.deref-2.result.now) c.is_summed.result)) path_is
+      made = subst (λ s. Follows a b (making source (twin_of to) s)) c.is_mended.ensures
+          (subst (λ t. Follows a b (making source (twin_of t) c.is_mended.result)) to_is
+          (subst (λ p. Follows a b (making p (twin_of c.deref-2.result.now) c.is_mended.result)) path_is
           made.1));
       copies = copied_from _ _ _ _ _ _ _ _ _ _ _ _ _ c.in-Ok.ensures.quiet c.copy_file-copied.ensures.copied;
       named = c.copy_file-copied.ensures.named;

@@ -9,5 +9,5 @@ returns-in-Ok g c image looks fails = record {
   file = c.in-Ok.file;
   noted = c.tell_taken.ensures;
   read = subst (λ r. IfOk r (λ it. IsReadAs image it.0 it.1)) c.in-Ok.is looks;
-  printed = c.print_checked.ensures;
+  printed = c.print_checked-exit.ensures;
 }
