@@ -24,6 +24,7 @@ use Rattle.uss_desk.specs.declared.ways.Way.{Way}
 use Rattle.uss_desk.specs.declared.ways.Way.TheVariants as way
 use Rattle.uss_desk.specs.Keeping.{CopyEnd, FailsTelling, FailsToRead, IsCopied, IsNamedIf, IsReadAs}
 use Rattle.uss_desk.specs.Naming.{Cleared, Failed, Follows, LeavesOthers, Removed, Step, Takes, Twinned, log_of}
+use Rattle.uss_desk.specs.Opening.{IsInMemory}
 use Rattle.uss_desk.specs.Orders.{order_text}
 use Rattle.uss_desk.specs.Ways.{is_mended, untested}
 
