@@ -14,7 +14,7 @@ from harness.rows import named
 from harness.sums import count_unsummed, sum_anew
 from tables.causes import ORDER, OTHER, SPAN, TAKEN
 from tables.files import bytes_of, made_file, names_beside, old_file, rows_of, stated_file
-from tables.judging import REFUSED, assert_in_schema_2, assert_opened, copied, enrolled, looked, moved, told
+from tables.judging import REFUSED, assert_in_schema_2, copied, enrolled, looked, moved, told
 from tables.statements import CLOSED, PACKED, PLAN, SCHEMA, many
 
 SPAN_TABLES = {SCHEMA[4]: SCHEMA[3], SCHEMA[7]: SCHEMA[6]}
@@ -92,7 +92,8 @@ def assert_taken(path: str, counts: str, copy: str, sums: str = "no", schema: in
     assert [enrolled(path), moved(path)] == [refused] * 2
     assert bytes_of(path) == before
     assert_in_schema_2(rows, new)
-    assert_opened(new)
+    ran = enrolled(new)
+    assert (ran.status, ran.errors) == (0, "")
 
 
 def assert_not_taken(path: str, cause: str, serving: str = "") -> None:
