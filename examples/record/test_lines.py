@@ -10,7 +10,7 @@ from harness.requests import answers, delete, list_plans, over, put
 from harness.rows import Rows
 
 from record.entries import Heard, beginning, entry, exchanges
-from record.test_serving import played, recorded, rows_of
+from record.folders import dump_of, played, recorded
 
 SECOND = 1_780_315_000
 REQUESTS = [
@@ -51,17 +51,17 @@ def test_enrol(room: pathlib.Path, rows: Rows) -> None:
     for number, (record, operators) in enumerate(zip(recorded(folder), held), 1):
         rows.equal(f"record {number}", b"".join(beginning(number, operators)), record.read_bytes())
     rows.equal("alike", 0, played(folder, room / "new.db").status)
-    rows.equal("the rows", rows_of(file), rows_of(room / "new.db"))
+    rows.equal("the rows", dump_of(file), dump_of(room / "new.db"))
 
 
 def test_enrol_unkept(room: pathlib.Path, rows: Rows) -> None:
     """Nobody is enrolled where that can't be recorded."""
     file = room / "desk.db"
     run("enrol", "--db", str(file), "alfa", "100")
-    before = rows_of(file)
+    before = dump_of(file)
     ran = enrol(file, room / "none", "bravo", 7)
     rows.equal("no folder", (4, b"", "uss_desk: write\n"), (ran.status, ran.output, ran.errors[-16:]))
-    rows.equal("nobody", before, rows_of(file))
+    rows.equal("nobody", before, dump_of(file))
     ran = run("enrol", "--db", ":memory:", "--record", str(room), "bravo", "7")
     rows.equal("no file", (4, "uss_desk: store\n"), (ran.status, ran.errors[-16:]))
 
@@ -80,7 +80,7 @@ def test_enrol_after_a_kill(room: pathlib.Path, rows: Rows) -> None:
     last = b"".join(beginning(3, [("alfa", 100), ("bravo", 7), ("carol", 9)]))
     rows.equal("the last", last, recorded(folder)[2].read_bytes())
     rows.equal("alike", 0, played(folder, room / "new.db").status)
-    rows.equal("the rows", rows_of(file), rows_of(room / "new.db"))
+    rows.equal("the rows", dump_of(file), dump_of(room / "new.db"))
 
 
 def test_play(room: pathlib.Path, rows: Rows) -> None:
@@ -112,6 +112,6 @@ def test_play_goes_on(room: pathlib.Path, rows: Rows) -> None:
     rows.equal("goes on", 0, run(*words_of(file, folder), given=REQUESTS[1]).status)
     rows.equal("three records", 3, len(recorded(folder)))
     rows.equal("alike", 0, played(folder, room / "new.db").status)
-    rows.equal("the rows", rows_of(file), rows_of(room / "new.db"))
+    rows.equal("the rows", dump_of(file), dump_of(room / "new.db"))
     ran = run(*words_of(None, folder), given=REQUESTS[0])
     rows.equal("in memory", (4, b"", "uss_desk: write\n"), (ran.status, ran.output, ran.errors[-16:]))
