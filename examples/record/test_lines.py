@@ -67,20 +67,23 @@ def test_enrol_unkept(room: pathlib.Path, rows: Rows) -> None:
 
 
 def test_enrol_after_a_kill(room: pathlib.Path, rows: Rows) -> None:
-    """What a record left undone is done before the enrolment."""
-    file, folder = room / "desk.db", room / "records"
-    folder.mkdir()
-    enrol(file, folder, "alfa", 100)
-    first = recorded(folder)[0]
-    left = entry("request", SECOND, put("alfa", uuid.UUID(int=1), [over(["04"])]))
-    first.write_bytes(first.read_bytes() + entry("operator", 7, b"bravo") + left)
-    rows.equal("enrolled", 0, enrol(file, folder, "carol", 9).status)
-    names = [it.name[:10] for it in recorded(folder)]
-    rows.equal("three records", ["0000000001", "0000000002", "0000000003"], names)
-    last = b"".join(beginning(3, [("alfa", 100), ("bravo", 7), ("carol", 9)]))
-    rows.equal("the last", last, recorded(folder)[2].read_bytes())
-    rows.equal("alike", 0, played(folder, room / "new.db").status)
-    rows.equal("the rows", dump_of(file), dump_of(room / "new.db"))
+    """What a record left undone is done before the enrolment: an operator is listed, or a request asked again."""
+    request = entry("request", SECOND, put("alfa", uuid.UUID(int=1), [over(["04"])]))
+    for name, left, operators, count in (
+        ("an operator", entry("operator", 7, b"bravo"), [("alfa", 100), ("bravo", 7), ("carol", 9)], 2),
+        ("a request", request, [("alfa", 100), ("carol", 9)], 3),
+    ):
+        file, folder = room / f"{name}.db", room / name
+        folder.mkdir()
+        enrol(file, folder, "alfa", 100)
+        first = recorded(folder)[0]
+        first.write_bytes(first.read_bytes() + left)
+        rows.equal(f"{name}: enrolled", 0, enrol(file, folder, "carol", 9).status)
+        numbers = [int(it.name[:10]) for it in recorded(folder)]
+        rows.equal(f"{name}: records", list(range(1, count + 1)), numbers)
+        rows.equal(f"{name}: the last", b"".join(beginning(count, operators)), recorded(folder)[-1].read_bytes())
+        rows.equal(f"{name}: alike", 0, played(folder, room / f"{name} played.db").status)
+        rows.equal(f"{name}: the rows", dump_of(file), dump_of(room / f"{name} played.db"))
 
 
 def test_play(room: pathlib.Path, rows: Rows) -> None:
