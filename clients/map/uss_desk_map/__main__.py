@@ -1,6 +1,13 @@
 """python3 -m uss_desk_map: the map, at a port of this machine."""
 import sys
 
-from uss_desk_map.command import main
+try:
+    from uss_desk_client.library import found
+    from uss_desk_map.command import main
+
+    found()
+except ImportError as missing:
+    needed = "apt-get install -y python3-pywraps2 python3-aiohttp libjs-leaflet, and run it by Debian's own python3"
+    sys.exit(f"uss_desk_map: {missing.name or 'pywraps2'} isn't there for {sys.executable}: {needed}")
 
 sys.exit(main())

@@ -3,10 +3,9 @@ from __future__ import annotations
 
 from typing import Iterable, List, Tuple
 
-import pywraps2 as s2
-
 from uss_desk_client import Rectangle
 from uss_desk_client.grid import Block, block_of_cell, block_of_rectangle, outline_of
+from uss_desk_client.library import s2
 
 Ring = List[Tuple[float, float]]
 """Pairs of latitude and longitude, as Leaflet wants them."""

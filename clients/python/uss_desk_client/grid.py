@@ -3,9 +3,8 @@ from __future__ import annotations
 
 from typing import Iterable, List, NamedTuple, Sequence, Tuple
 
-import pywraps2 as s2
-
 from uss_desk_client.areas import Rectangle, Volume
+from uss_desk_client.library import s2
 from uss_desk_client.shapes import Place
 from uss_desk_client.tokens import id_of, level_of
 

@@ -7,8 +7,7 @@ from __future__ import annotations
 import math
 from typing import Iterable, List, Sequence
 
-import pywraps2 as s2
-
+from uss_desk_client.library import s2
 from uss_desk_client.shapes import Circle, Corridor, Place, Polygon, Shape, Shapes, angle_of, length_of, loop_of
 from uss_desk_client.shapes import place_of, that_move, vector_of
 
