@@ -84,6 +84,32 @@ def count_alone(file: pathlib.Path) -> str:
     return count_of(alone)
 
 
+def lane(name: str) -> list[str]:
+    """The crates of one of the build's lanes."""
+    found = re.search(rf'(?m)^{name}_lane="([^"]*)"', SCRIPT.read_text())
+    assert found, name
+    return found[1].split()
+
+
+def crates_below() -> dict[str, set[str]]:
+    """The crates that the program stands on, each with those of the repository that it names."""
+    lines = [line.split(":") for line in (TOP / "crates.txt").read_text().splitlines() if re.match("[a-z]", line)]
+    uses = {name: set(needs.split()) & {name for name, _ in lines} for name, needs in lines}
+    below, found = set[str](), uses["uss_desk"]
+    while found:
+        below |= found
+        found = set[str]().union(*(uses[name] for name in found)) - below
+    return {name: uses[name] for name in below}
+
+
+def test_build_lanes() -> None:
+    """Each crate below the program is in one of the build's lanes, behind those of it that it stands on."""
+    below = crates_below()
+    assert sorted([*lane("first"), *lane("second"), "desk_tables"]) == sorted(below)
+    for names in lane("first"), lane("second"):
+        assert [(name, names[at:]) for at, name in enumerate(names) if below[name] & set(names[at:])] == []
+
+
 @pytest.fixture
 def linked(room: pathlib.Path) -> pathlib.Path:
     """A folder in which ./uss_desk is a link to the script."""
