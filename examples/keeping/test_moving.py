@@ -154,6 +154,23 @@ def test_killed_after(rows: Rows, desk_file: pathlib.Path) -> None:
     rows.equal("the file and its log", " 2 operators, 1 plans", checked(desk_file))
 
 
+def test_killed_over_another(rows: Rows, desk_file: pathlib.Path) -> None:
+    """The desk is killed once another desk's file was put in the place of its own: the log beside it is the first's,
+    and each line refuses the two, until the log is moved to the file that it belongs to."""
+    kept, other = desk_file.with_name("kept.db"), desk_file.with_name("other.db")
+    run([*DESK, "enrol", "--db", other, "zulu", "1"])
+    with Served("--db", str(desk_file)) as desk:
+        rows.has("a change before it", COMPLETED, desk.ask(given()[0]).decode())
+        desk_file.rename(kept)
+        other.rename(desk_file)
+    for words in (["play", "--at", AT], ["check"], ["enrol", "alfa", "1"]):
+        line = [*DESK, words[0], "--db", str(desk_file), *words[1:]]
+        rows.has(words[0], "the log of another file", run(line))
+    log_of(desk_file).rename(log_of(kept))
+    rows.equal("the file that was put there", " 1 operators, 0 plans", checked(desk_file))
+    rows.equal("the first with its log", " 2 operators, 1 plans", checked(kept))
+
+
 def test_put_back(rows: Rows, desk_file: pathlib.Path) -> None:
     """Both are moved away and put back before the next change: nothing is told, and all is kept."""
     kept = desk_file.with_name("kept.db")
