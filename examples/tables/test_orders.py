@@ -51,6 +51,7 @@ PARTS = [
     ("four_tables", [SCHEMA[at] for at in (0, 3, 1, 2)]),
     ("five_tables", [SCHEMA[at] for at in (0, 1, 2, 3, 5, 4)]),
     ("no_last_index", [SCHEMA[at] for at in (0, 1, 3, 6, 2, 5, 4)]),
+    ("packed_but_an_index", PACKED[:7]),
 ]
 # name, and the statements of rows
 CONTENTS = [("plan", PLAN), ("closed", CLOSED), ("many", many(200)), ("no_rows", [])]
@@ -197,8 +198,13 @@ def test_with_a_log(room: pathlib.Path) -> None:
             (room / f"left.db{end}").write_bytes(pathlib.Path(path + end).read_bytes())
     left = str(room / "left.db")
     assert [looked(left), enrolled(left)] == [(REFUSED, b"", told(left, OTHER, "not_a_desk"))] * 2
-    (room / "logged.db-wal").write_bytes(b"")
-    assert_taken(path, "1 operators, 0 plans, 0 live", "1 operators, 0 plans")
+    log = room / "logged.db-wal"
+    log.write_bytes(b"")
+    look = looked(path)
+    assert (look.status, look.errors) == (0, f"uss_desk: {path}: {ORDER}\n")
+    assert copied(path, f"{path}.new") == (0, b"copied 1 operators, 0 plans\n", "")
+    assert log.read_bytes() == b""
+    assert rows_of(f"{path}.new")[0] == [("alfa", 99)]
 
 
 def test_in_the_way(room: pathlib.Path) -> None:

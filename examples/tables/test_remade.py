@@ -35,7 +35,6 @@ NEARLY = [
     ("column", packed_but(5, " PRIMARY", " more INTEGER NOT NULL, PRIMARY"), "not_a_desk"),
     ("key", packed_but(5, "place, first)", "place, last)"), "not_a_desk"),
     ("index_column", packed_but(7, "first, last", "last, first"), "not_a_desk"),
-    ("no_index", PACKED[:7], "not_a_desk"),
     # the kit reads no such table, and refuses the file, since its foreign keys would not be kept
     ("without_rowid", packed_but(5, "STRICT", "STRICT, WITHOUT ROWID"), "store"),
     ("collation", packed_but(4, "operator TEXT NOT NULL", "operator TEXT NOT NULL COLLATE NOCASE"), "not_a_desk"),
