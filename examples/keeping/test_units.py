@@ -1,4 +1,4 @@
-"""The two units, the rotation of the proxy's log, and the glibc that the built program wants."""
+"""The units, the rotation of the proxy's log, and the glibc that the built program wants."""
 
 from __future__ import annotations
 
@@ -33,7 +33,7 @@ def test_one_unit_and_many() -> None:
     assert many.replace(" at port %i", "").replace("%i", "8080") == settings("uss_desk.service")
 
 
-@pytest.mark.parametrize("name", UNITS)
+@pytest.mark.parametrize("name", [*UNITS, "uss_desk_standby.service"])
 def test_what_a_unit_allows(name: str) -> None:
     """It lets a program do little."""
     words = ["systemd-analyze", "security", "--offline=true", f"--threshold={THRESHOLD}", "--no-pager"]
