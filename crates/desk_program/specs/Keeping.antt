@@ -5,7 +5,7 @@ use Rattle.desk_store.specs.World.{World}
 use Rattle.desk_run.specs.DeskWorld.{DeskWorld, enrolled}
 use Rattle.desk_wire.specs.Given.{told_in_play}
 use Rattle.desk_wire.specs.Crashes.{IsCertain, IsKept, IsLeftBy}
-use Rattle.desk_wire.specs.Passage.{Course, Passage, course, passed}
+use Rattle.desk_wire.specs.Passage.{Course, Passage}
 use Rattle.desk_wire.specs.Serving.{HasServed, IsTaken}
 use Rattle.desk_line.specs.declared.failure.Failure.{Failure}
 use Rattle.desk_line.specs.declared.line.Enrolment.{Enrolment}
@@ -15,6 +15,7 @@ use Rattle.desk_line.specs.declared.line.Play.{Play as PlayWords}
 use Rattle.desk_line.specs.declared.line.Serve.{Serve as ServeWords}
 use Rattle.desk_line.specs.Exits.{Ending, EndsWith, IsBrokenDown}
 use Rattle.desk_program.specs.Enrolling.{AreListedSoFar, on_terms, with_operators}
+use Rattle.desk_program.specs.Outside.{Outside}
 use Rattle.desk_program.specs.Playing.{IsNotPlayed, IsPlayed}
 use Rattle.desk_program.specs.Serving.{AreTaken, Exchange, HasBegun, IsNotBegun, Traffic, passage_of}
 
@@ -118,16 +119,11 @@ pub record IsServeKept (H : Type 0) (serve : ServeWords) (end : Ending) (port : 
   pub ends : EndsWith done end
   pub kept : IsPortKept H done serve port w after found
 
--- by the line that is carried out at a desk. `from` and `to` are what the port told before and tells after
-abbrev pub IsLineKept :
-    Type 0 → Line → Ending → Traffic → Traffic → Option (List ℕ) → Option (List ℕ)
-    → Option (List ℕ) → Option (List ℕ) → DeskWorld → DeskWorld → Option World → Type 0
-IsLineKept H (line.Play play) end from to old new out now w after found =
-    IsLinePlayKept H (line.Play play) end (passed old new out now) w after found
-IsLineKept H (line.Enrol enrol) end from to old new out now w after found =
-    IsLinePlayKept H (line.Enrol enrol) end (passed old new out now) w after found
-IsLineKept H (line.Serve serve) end from to old new out now w after found =
-    IsServeKept H serve end (course from to) w after found
-IsLineKept H (line.Token token) end from to old new out now w after found = ⊥
-IsLineKept H (line.Cover cover) end from to old new out now w after found = ⊥
-IsLineKept H (line.Migrate migrate) end from to old new out now w after found = ⊥
+-- by the line that is carried out at a desk
+abbrev pub IsLineKept : Type 0 → Line → Outside → DeskWorld → DeskWorld → Option World → Type 0
+IsLineKept H (line.Play play) o w after found = IsPlayKept H play o.end o.bytes w after found
+IsLineKept H (line.Enrol enrol) o w after found = FindsEnrolled enrol.enrolment o.end o.bytes.writes w found
+IsLineKept H (line.Serve serve) o w after found = IsServeKept H serve o.end o.port w after found
+IsLineKept H (line.Token token) o w after found = ⊥
+IsLineKept H (line.Cover cover) o w after found = ⊥
+IsLineKept H (line.Migrate migrate) o w after found = ⊥

@@ -17,6 +17,7 @@ use Rattle.desk_line.specs.Exits.{Ending, ending}
 use Rattle.desk_line.specs.declared.failure.Exit.{Exit}
 use Rattle.desk_line.specs.declared.line.Line.{Line}
 use Rattle.desk_line.specs.declared.line.Line.TheVariants as line
+use Rattle.desk_program.specs.Outside.{Outside}
 use Rattle.desk_program.specs.Serving.{Traffic}
 use Rattle.uss_desk.specs.declared.opening.Opened.TheVariants as opened
 use Rattle.desk_tables.specs.Closing.{IsLeftUnclosed}
@@ -45,11 +46,9 @@ for_files m image (line.Migrate migrate) desk opens = absurd opens
 
 -- a run at what was opened, by another name
 pub run_at : {S : Type 0} (g : Ghosts S) (one other : Result (Parts (Shown S)) Failure) → one ≡ other
-    → {it : Line} {end : Ending} {left : Option (Parts (Shown S))} {from to : Traffic}
-    → {old new out now : Option (List ℕ)} → IsRun g one it end left from to old new out now
-    → IsRun g other it end left from to old new out now
-run_at g one other same {it} {end} {left} {from} {to} {old} {new} {out} {now} run =
-    subst (λ o. IsRun g o it end left from to old new out now) same run
+    → {it : Line} {o : Outside} {left : Option (Parts (Shown S))} → IsRun g one it o left
+    → IsRun g other it o left
+run_at g one other same {it} {o} {left} run = subst (λ opened. IsRun g opened it o left) same run
 
 -- a flag that is up leaves no doubt
 no_doubt : (clean : Bool) → IsTrue clean → doubt clean ≡ 0
@@ -72,15 +71,13 @@ true_or_collided account fair clean desk shielded =
 pub stays_guarded : {D : Type 0} {g : disk.Ghosts D} (account : Account D)
     → ((d : D) → g.is_fair d ≡ (replay (account.start d) (account.calls d)).is_fair)
     → ((d : D) → g.is_clean d ≡ (replay (account.start d) (account.calls d)).is_honest)
-    → (image : Image) (it : Line) (from to : Traffic) (old new out now : Option (List ℕ))
-    → (end : Ending) (opened : FileDesk g) (left : Option (Parts (Shown (FileStore D g))))
-    → IsOpenedIn image opened
-    → IfOk (or_failure opened) (IsDoneAt over_files it from to old new out now end left)
-    → StaysGuarded account (or_failure opened) left
-stays_guarded account fair clean image it from to old new out now end (Ok desk) (Some left) opens done =
+    → (image : Image) (it : Line) (o : Outside) (opened : FileDesk g)
+    → (left : Option (Parts (Shown (FileStore D g)))) → IsOpenedIn image opened
+    → IfOk (or_failure opened) (IsDoneAt over_files it o left) → StaysGuarded account (or_failure opened) left
+stays_guarded account fair clean image it o (Ok desk) (Some left) opens done =
     λ honest. true_or_collided account fair clean left (done.2 (opens.guarded honest))
-stays_guarded account fair clean image it from to old new out now end (Ok desk) None opens done = done
-stays_guarded account fair clean image it from to old new out now end (Err unread) left opens done = tt
+stays_guarded account fair clean image it o (Ok desk) None opens done = done
+stays_guarded account fair clean image it o (Err unread) left opens done = tt
 
 -- so does one at which a record is played
 pub replay_guarded : {D : Type 0} {g : disk.Ghosts D} (account : Account D)

@@ -1,13 +1,13 @@
 //! A line carried out at what was opened for it, whatever the streams and the port are.
 
-ghost use Rattle.std.specs.Prelude.{IfErr, IfOk};
 ghost use Rattle.sqlite_wal.specs.Files.{image_at};
 ghost use Rattle.sqlite.specs.Files.{over_files};
-ghost use Rattle.desk_line.specs.Exits.{ending};
 ghost use Rattle.desk_line.specs.Lines.{HasDatabase, IsLine};
+ghost use Rattle.desk_wire.specs.Passage.{passage};
+ghost use Rattle.desk_program.specs.Outside.{ended, outside, written};
 ghost use Rattle.uss_desk.specs.Guarding.{account_of};
 ghost use Rattle.uss_desk.specs.Opening.{IsOpenedFor};
-ghost use Rattle.uss_desk.specs.Running.{IsDone, IsDoneAt, IsKeptAt, IsMoveTold, IsUndone};
+ghost use Rattle.uss_desk.specs.Running.{IsDone, IsMoveTold, IsRun};
 
 use crate::opening::{FileDesk, MemoryDesk, Opened, OpenedDesk, or_failure};
 use crate::watching::{Paths, Watched};
@@ -33,10 +33,9 @@ pub fn run_line<F: Start, N: Paths + Drop, P: Port, R: Read, W: Write, E: Write>
 ) -> (Exit<E>, Option<MemoryDesk>, Option<FileDesk<F, N>>)
     requires line { IsLine line.now }
     requires opened { IsOpenedFor (image_at F.Start) line.now opened }
-    ensures { IsDone (account_of F.Start) opened line.now
-        (ending result.0 (E.contents errors.old) (E.contents errors.new)) result.1 result.2
-        (P.traffic port.old) (P.traffic port.new) (R.remaining input.old) (R.remaining input.new)
-        (W.contents output.old) (W.contents output.new) }
+    ensures { IsDone (account_of F.Start) opened line.now (outside
+        (passage R.Read W.Write input.old input.new output.old output.new) (P.traffic port.old)
+        (P.traffic port.new) (ended E.Write result.0 errors.old errors.new)) result.1 result.2 }
 {
     match opened {
         Opened::Nothing => (print_line(alloc, line, output, errors), None, None),
@@ -68,15 +67,9 @@ fn run_over<D: Disk + Drop, N: Paths + Drop, P: Port, R: Read, W: Write, E: Writ
 ) -> (Exit<E>, Option<Desk<Watched<FileStore<D>, N>>>)
     requires line { IsLine line.now }
     requires desk { HasDatabase line.now }
-    ensures opened { IfOk opened (IsDoneAt over_files line.now (P.traffic port.old) (P.traffic port.new)
-        (R.remaining input.old) (R.remaining input.new) (W.contents output.old) (W.contents output.new)
-        (ending result.0 (E.contents errors.old) (E.contents errors.new)) result.1) }
-    ensures kept { IfOk opened (IsKeptAt over_files line.now (P.traffic port.old) (P.traffic port.new)
-        (R.remaining input.old) (R.remaining input.new) (W.contents output.old) (W.contents output.new)
-        (ending result.0 (E.contents errors.old) (E.contents errors.new)) result.1) }
-    ensures unopened { IfErr opened (IsUndone (P.traffic port.old) (P.traffic port.new)
-        (R.remaining input.old) (R.remaining input.new) (W.contents output.old) (W.contents output.new)
-        (ending result.0 (E.contents errors.old) (E.contents errors.new)) result.1) }
+    ensures { IsRun over_files opened line.now (outside
+        (passage R.Read W.Write input.old input.new output.old output.new) (P.traffic port.old)
+        (P.traffic port.new) (ended E.Write result.0 errors.old errors.new)) result.1 }
 {
     run_opened(alloc, line, opened, port, input, output, errors)
 }
@@ -88,8 +81,8 @@ fn tell_moved<F: Start, N: Paths + Drop, W: Write, E: Write>(
     output: &mut W,
     errors: &mut E,
 ) -> (Exit<E>, Option<FileDesk<F, N>>)
-    ensures { IsMoveTold moved (ending result.0 (E.contents errors.old) (E.contents errors.new)) result.1
-        (W.contents output.old) (W.contents output.new) }
+    ensures { IsMoveTold moved (ended E.Write result.0 errors.old errors.new) result.1
+        (written W.Write output.old output.new) }
 {
     match moved {
         Ok((desk, count)) => {

@@ -13,14 +13,10 @@ returns-in-Files g c =
     let ended = c.run_over-left-in-Files in
     let opens = for_files _ image c.args.line.now c.in-Files.desk
     (subst (IsOpenedFor image c.args.line.now) c.in-Files.is c.requires.opened) in
-    let run = run_at over_files _ _ c.or_failure-desk.ensures (record {
-      done = ended.ensures.opened;
-      kept = ended.ensures.kept;
-      undone = ended.ensures.unopened;
-    }) in
+    let run = run_at over_files _ _ c.or_failure-desk.ensures ended.ensures in
     rw c.in-Files.is (
       refl,
       run,
-      stays_guarded (account_of g.F.Start) (λ _. refl) (λ _. refl) image c.args.line.now _ _ _ _ _ _
-          _ c.in-Files.desk ended.result.1 opens run.done,
+      stays_guarded (account_of g.F.Start) (λ _. refl) (λ _. refl) image c.args.line.now _
+          c.in-Files.desk ended.result.1 opens run.done,
     )
