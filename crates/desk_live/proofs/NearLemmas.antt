@@ -30,7 +30,7 @@ use Rattle.desk_live.specs.declared.near.PlanKey.{PlanKey}
 use Rattle.desk_live.specs.declared.near.Wanted.{Wanted}
 use Rattle.desk_live.specs.declared.volume.LiveVolume.{LiveVolume}
 use Rattle.desk_live.specs.Live.{AreFenced, AreLive, AreVolumes, AreVolumesOf, IsFenced, IsLiveVolume, is_of, may_meet, overlap, volumes_in}
-use Rattle.desk_live.specs.Near.{AddsPlans, AreNearPlans, AreOthersPlans, AreRivalPlans, IsAnothers, TakesPlan, is_among, is_id, is_listed, is_missed_at, is_near_to, is_own, is_wanted, key_of, listed_level, listed_top}
+use Rattle.desk_live.specs.Near.{AddsPlans, AreNearPlans, AreWantedPlans, IsAnothers, TakesPlan, is_among, is_id, is_listed, is_missed_at, is_near_to, is_own, is_wanted, key_of, listed_level, listed_top}
 use Rattle.desk_live.proofs.ChunkLemmas.{gathered_more}
 use Rattle.desk_live.specs.laws.Live.{and_turned, same_key}
 use Rattle.desk_live.specs.laws.Near.{both, last_still, overlapping, overlaps_round}
@@ -367,36 +367,21 @@ level_of_other : (o : List ℕ) (x : Point) (p : Filed) → other_level o p x
 unfolding other_level
 level_of_other o x p = refl
 
-none_below : (n : ℕ) → nat_le 0 n ≡ true
-none_below n = grind (arith, nat_tests)
-
-any_level : (l : Option ℕ) → at_least 0 l ≡ l
-any_level None = refl
-any_level (Some n) = ap (λ b. cond b (Some n) None) (none_below n)
-
--- the plans near an extent hold what rivals hold
-pub are_rival_plans : (o id : List ℕ) (least : ℕ) (extent : Slab) (ks : List PlanKey) (w : World)
-    (lives : List LiveVolume) → AreLive w lives
-    → AreNearPlans (record { operator = o; id = Some id; least = least }) (slabs_have (extent ∷ [])) lives ks
-    → AreRivalPlans w o id least extent ks
-are_rival_plans o id least extent ks w lives live near = λ x here.
+-- the plans near some extents hold what those that are wanted hold
+pub are_wanted_plans : (o : List ℕ) (id : Option (List ℕ)) (least : ℕ) (extents : List Slab)
+    (ks : List PlanKey) (w : World) (lives : List LiveVolume) → AreLive w lives
+    → AreNearPlans (record { operator = o; id = id; least = least }) (slabs_have extents) lives ks
+    → AreWantedPlans w (record { operator = o; id = id; least = least }) extents ks
+are_wanted_plans o (Some id) least extents ks w lives live near = λ x here.
     live_agree (record { operator = o; id = Some id; least = least }) ks near.another x
     (λ p. rival_level o id p x) (λ ps. rivals_top o id ps x) (level_of_rival o id x) (rivals_top-nil o id x)
-    (λ p ps. rivals_top-cons o id p ps x) w lives live
-    (near.whole x (or_false (slab_has extent x) ∙ here))
+    (λ p ps. rivals_top-cons o id p ps x) w lives live (near.whole x here)
     ∙ ap (at_least least) (held_by_rivals o id w x)
-
--- and those of others near extents what others hold
-pub are_others_plans : (o : List ℕ) (extents : List Slab) (ks : List PlanKey) (w : World)
-    (lives : List LiveVolume) → AreLive w lives
-    → AreNearPlans (record { operator = o; id = None; least = 0 }) (slabs_have extents) lives ks
-    → AreOthersPlans w o extents ks
-are_others_plans o extents ks w lives live near = λ x here.
-    sym (any_level (listed_top ks w.plans x))
-    ∙ live_agree (record { operator = o; id = None; least = 0 }) ks near.another x
+are_wanted_plans o None least extents ks w lives live near = λ x here.
+    live_agree (record { operator = o; id = None; least = least }) ks near.another x
     (λ p. other_level o p x) (λ ps. others_top o ps x) (level_of_other o x) (others_top-nil o x)
     (λ p ps. others_top-cons o p ps x) w lives live (near.whole x here)
-    ∙ any_level (others_top o w.plans x) ∙ held_by_others o w x
+    ∙ ap (at_least least) (held_by_others o w x)
 
 -- ---- chunk after chunk
 

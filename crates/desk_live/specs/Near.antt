@@ -30,17 +30,18 @@ abbrev pub listed_top : List PlanKey → List Filed → Point → Option ℕ
 listed_top keys [] x = None
 listed_top keys (p ∷ ps) x = greater (listed_level keys p x) (listed_top keys ps x)
 
--- at each point of an extent they hold what plans other than the operator's own of the id hold, where that
--- is at least the least
-abbrev pub AreRivalPlans : World → List ℕ → List ℕ → ℕ → Slab → List PlanKey → Type 0
-AreRivalPlans w operator id least extent keys = (x : Point) → slab_has extent x ≡ true
-    → at_least least (listed_top keys w.plans x)
-    ≡ at_least least (held_at (plans_of operator w) (held w operator) id x)
+-- what is held at a point by all plans but the operator's own one with this id, or, if there is no id, but
+-- all of its own
+abbrev pub held_but : World → List ℕ → Option (List ℕ) → Point → Option ℕ
+held_but w operator None x = held w operator x
+held_but w operator (Some id) x = held_at (plans_of operator w) (held w operator) id x
 
--- at each point of some extents they hold what other operators hold
-abbrev pub AreOthersPlans : World → List ℕ → List Slab → List PlanKey → Type 0
-AreOthersPlans w operator extents keys =
-    (x : Point) → slabs_have extents x ≡ true → listed_top keys w.plans x ≡ held w operator x
+-- at each point of some extents they hold what the plans that are wanted hold, where that is at least the
+-- least
+abbrev pub AreWantedPlans : World → Wanted → List Slab → List PlanKey → Type 0
+AreWantedPlans w wanted extents keys = (x : Point) → slabs_have extents x ≡ true
+    → at_least wanted.least (listed_top keys w.plans x)
+    ≡ at_least wanted.least (held_but w wanted.operator wanted.id x)
 
 -- ---- how they are found
 

@@ -16,7 +16,7 @@ mod volume;
 
 pub use listed::ListedOperator;
 pub use live::{Gathering, LiveVolumes};
-pub use near::PlanKey;
+pub use near::{PlanKey, Wanted};
 pub use regions::{push_clipped, whole_of};
 pub use roll::Roll;
 pub use volume::LiveVolume;

@@ -9,7 +9,7 @@ ghost use Rattle.desk_store.specs.StoreChange.{changed_by};
 ghost use Rattle.desk_live.specs.Live.{AreBrought, AreFenced, AreKept, AreVolumes, HasRoomFor};
 ghost use Rattle.desk_live.specs.Live.{gathered_in, stays_at, volumes_of};
 ghost use Rattle.desk_live.specs.Regions.{AddTheirs, HoldNothingBeside};
-ghost use Rattle.desk_live.specs.Near.{AddsPlans, AreNearPlans, AreOthersPlans, AreRivalPlans};
+ghost use Rattle.desk_live.specs.Near.{AddsPlans, AreNearPlans, AreWantedPlans};
 ghost use Rattle.volume4d.specs.Slab.{slab_has, slabs_have};
 
 use crate::changing::{brought_by, leave, push_all, push_plan};
@@ -89,52 +89,22 @@ impl LiveVolumes {
         Ok(theirs)
     }
 
-    /// The plans of which one may hold a point of an extent, of those of a priority at least, but for the
-    /// operator's of the id; or none if they aren't few.
+    /// The plans of which one may hold a point of some extents, of those that are wanted; or none if they
+    /// aren't few.
     ///
     /// # Errors
     ///
     /// `AllocError` if memory runs out.
-    pub fn rival_plans(
+    pub fn wanted_plans(
         &self,
         alloc: Global,
-        operator: &Operator,
-        id: &PlanId,
-        least: u32,
-        extent: &Slab,
-    ) -> Result<Option<Vec<PlanKey>>, AllocError>
-        ensures { IfOk result (λ found. IfSome found (λ keys. (w : World) → AreKept self.now w
-            → AreRivalPlans w operator.now id.now least extent.now keys.items)) }
-    {
-        let wanted = Wanted {
-            operator: *operator,
-            id: Some(*id),
-            least,
-        };
-        self.near_plans(alloc, &wanted, &[*extent])
-    }
-
-    /// The plans of other operators of which one may hold a point of some extents; or none if they aren't
-    /// few.
-    ///
-    /// # Errors
-    ///
-    /// `AllocError` if memory runs out.
-    pub fn others_plans(
-        &self,
-        alloc: Global,
-        operator: &Operator,
+        wanted: &Wanted,
         extents: &[Slab],
     ) -> Result<Option<Vec<PlanKey>>, AllocError>
         ensures { IfOk result (λ found. IfSome found (λ keys. (w : World) → AreKept self.now w
-            → AreOthersPlans w operator.now extents.now keys.items)) }
+            → AreWantedPlans w wanted.now extents.now keys.items)) }
     {
-        let wanted = Wanted {
-            operator: *operator,
-            id: None,
-            least: 0,
-        };
-        self.near_plans(alloc, &wanted, extents)
+        self.near_plans(alloc, wanted, extents)
     }
 
     // The plans whose volumes are wanted and near, if they are few.

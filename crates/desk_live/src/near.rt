@@ -20,13 +20,13 @@ pub struct PlanKey {
     pub id: PlanId,
 }
 
-/// Which volumes are looked for: those of a priority at least, but for those of the operator's plan of the
-/// id, or if there is no id, of all its plans.
+/// Whose volumes are wanted: those of plans of priority `least` or a greater one, but for the operator's plan
+/// with this id, or, if there is no id, for all of its plans.
 #[derive(Clone, Copy, Debug)]
-pub(crate) struct Wanted {
-    pub(crate) operator: Operator,
-    pub(crate) id: Option<PlanId>,
-    pub(crate) least: u32,
+pub struct Wanted {
+    pub operator: Operator,
+    pub id: Option<PlanId>,
+    pub least: u32,
 }
 
 /// Plans that are near.

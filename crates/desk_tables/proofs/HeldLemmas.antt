@@ -1,6 +1,6 @@
 -- The greatest priority that the rows of `span` hold at a point.
 use Rattle.std.proofs.Common.{◌≡◌, ℕ, ℤ, pos, ◌+◌, max, Bool, true, false, leb, MatchBool, ◌&&◌, ◌||◌, not, cond, List, [], ◌∷◌, ◌++◌, map, Option, Some, None, refl, sym, ap, subst, ◌∙◌, arith, Less, Equal, Greater, IsPermutation}
-use Rattle.std.specs.Prelude.{int_le, int_lt, nat_le, unsigned_abs}
+use Rattle.std.specs.Prelude.{IfSome, int_le, int_lt, nat_le, unsigned_abs}
 use Rattle.std.specs.List.{AllByRecursion, filter, flat_map, list_any}
 use Rattle.std.specs.Ordering.{is_eq, is_lt, is_le, is_gt, is_ge}
 use Rattle.std.proofs.Math.Bool.{and_assoc, and-or_distrib_left, and-or_distrib_right, and-false}
@@ -40,7 +40,8 @@ use Rattle.desk_tables.specs.Tables.{id_text, span_row, AreSpanRowsFrom, ArePlan
 use Rattle.desk_store.specs.Content.{IsId, IsPlan, IsContent}
 use Rattle.desk_tables.specs.declared.span_bounds.SpanBounds.{SpanBounds}
 use Rattle.desk_tables.specs.SpanBounds.{AreWhole, Bounds, HasKnownSpan, IsKnown, IsWithin}
-use Rattle.desk_tables.specs.RivalRows.{HaveTaken, HaveTakenAll, IsHeldIn, HasTakenHelds, is_asked, is_asked_if, is_asked_of_others, reach_of}
+use Rattle.desk_tables.specs.RivalRows.{HaveTaken, HaveTakenAll, IsHeldIn, HasTakenHelds, is_asked, is_asked_if, reach_of}
+use Rattle.desk_tables.specs.RivalRows.{AreWanted}
 use Rattle.desk_tables.proofs.SpanBoundLemmas.{asked_rival, tables_known}
 use Rattle.desk_tables.proofs.RowLemmas.{after_key}
 use Rattle.desk_tables.proofs.FilterLemmas.{ArePlans, own_row, turned}
@@ -481,12 +482,13 @@ level_of_rival : (o id : List ℕ) (x : Point) (p : Filed)
 unfolding rival_level
 level_of_rival o id x p = refl
 
-pub are_rivals : (tables : Tables) (w : World) (o id : List ℕ) (least : ℕ) (extent : Slab)
+are_rivals : (tables : Tables) (w : World) (o id : List ℕ) (least : ℕ) (extent : Slab)
     (span_bounds : SpanBounds)
     (questions : List Span) (helds : List Held) → IsId id → IsContent w → AreTables tables w
     → Bounds span_bounds w → AreWhole extent (IsKnown span_bounds) questions
     → AllByRecursion (IsWithin extent) questions
-    → HaveTakenAll (is_asked o (id_text id) least extent) questions tables.spans helds
+    → HaveTakenAll (is_asked (record { operator = o; id = Some id; least = least }) extent) questions
+    tables.spans helds
     → AreRivals w o id least extent helds
 are_rivals tables w o id least extent span_bounds questions helds hi h t bounds whole within taken =
     λ x inside. at_point (not_of_plan o id) (λ p. not (is_own o id p)) (another_plan o id hi) least extent x
@@ -515,18 +517,31 @@ pub any_level : (l : Option ℕ) → at_least 0 l ≡ l
 any_level None = refl
 any_level (Some n) = ap (λ b. cond b (Some n) None) (none_below n)
 
-pub are_others : (tables : Tables) (w : World) (o : List ℕ) (extent : Slab) (span_bounds : SpanBounds)
-    (questions : List Span) (helds : List Held) → IsContent w → AreTables tables w
+are_others : (tables : Tables) (w : World) (o : List ℕ) (least : ℕ) (extent : Slab)
+    (span_bounds : SpanBounds) (questions : List Span) (helds : List Held) → IsContent w → AreTables tables w
     → Bounds span_bounds w → AreWhole extent (IsKnown span_bounds) questions
     → AllByRecursion (IsWithin extent) questions
-    → HaveTakenAll (is_asked_of_others o extent) questions tables.spans helds
-    → HaveLevel extent helds (held w o)
-are_others tables w o extent span_bounds questions helds h t bounds whole within taken = λ x inside.
-    at_point (not_by o) (λ p. not (is_by o p)) (by_another o) 0 extent x
+    → HaveTakenAll (is_asked (record { operator = o; id = None; least = least }) extent) questions
+    tables.spans helds
+    → HaveLevel extent helds (λ x. at_least least (held w o x))
+are_others tables w o least extent span_bounds questions helds h t bounds whole within taken = λ x inside.
+    at_point (not_by o) (λ p. not (is_by o p)) (by_another o) least extent x
     (is_in extent x inside) (λ p. other_level o p x) (λ ps. others_top o ps x)
     (level_of_other o x) (others_top-nil o x) (λ p ps. others_top-cons o p ps x) tables w span_bounds
     questions helds h t bounds whole within taken
-    ∙ any_level (others_top o w.plans x) ∙ held_by_others o w x
+    ∙ ap (at_least least) (held_by_others o w x)
+
+-- the slabs of the rows that are asked for are those that are wanted
+pub are_wanted : (tables : Tables) (w : World) (o : List ℕ) (id : Option (List ℕ)) (least : ℕ)
+    (extent : Slab) (span_bounds : SpanBounds) (questions : List Span) (helds : List Held) → IfSome id IsId
+    → IsContent w → AreTables tables w → Bounds span_bounds w
+    → AreWhole extent (IsKnown span_bounds) questions → AllByRecursion (IsWithin extent) questions
+    → HaveTakenAll (is_asked (record { operator = o; id = id; least = least }) extent) questions tables.spans
+    helds → AreWanted w (record { operator = o; id = id; least = least }) extent helds
+are_wanted tables w o (Some id) least extent span_bounds questions helds hi h t bounds whole within taken =
+    are_rivals tables w o id least extent span_bounds questions helds hi h t bounds whole within taken
+are_wanted tables w o None least extent span_bounds questions helds hi h t bounds whole within taken =
+    are_others tables w o least extent span_bounds questions helds h t bounds whole within taken
 
 -- ---- one question after the other
 

@@ -11,10 +11,12 @@ use Rattle.volume4d.specs.Level.{greater}
 use Rattle.volume4d.specs.laws.Level.{greater_none, top_held-nil}
 use Rattle.volume4d.specs.Slab.{slab_has, slabs_have, top_held}
 use Rattle.desk_sql.specs.Frames.{OnlyReads}
+use Rattle.desk_rules.specs.Conflict.{at_least}
 use Rattle.desk_store.specs.World.{World, held}
 use Rattle.desk_store.specs.Rivals.{AddsLevel, AreHeldByOthers, HaveLevel}
 use Rattle.desk_live.specs.Regions.{HoldNothingBeside}
 use Rattle.desk_tables.specs.Store.{Stands}
+use Rattle.desk_tables.proofs.HeldLemmas.{any_level}
 use Rattle.desk_tables.proofs.FrameLemmas.{reads_itself, reads_then}
 
 -- what slabs hold at each point of some regions, and nothing elsewhere
@@ -68,7 +70,7 @@ module _ {S : Type 0} (g : Ghosts S) where
   pub reading_on : (old mid new : Held S) (w : World) (o : List ℕ) (regions : List Slab) (i : ℕ)
       (region : Slab) (helds more given next : List One) → IsReading old mid w o (take i regions) helds
       → OnlyReads g mid new → Stands g new w → i < length regions → region ≡ get_or regions i region
-      → (HasCleanDisk (state g new) → HaveLevel region more (held w o)) → given ≡ more
+      → (HasCleanDisk (state g new) → HaveLevel region more (λ x. at_least 0 (held w o x))) → given ≡ more
       → AddsLevel helds next (λ x. cond (slab_has region x) (top_held given x) None)
       → IsReading old new w o (take (i + 1) regions) next
   reading_on old mid new w o regions i region helds more given next before reads stands below is level same
@@ -77,7 +79,7 @@ module _ {S : Type 0} (g : Ghosts S) where
         reads = reads_then g old mid new before.reads reads;
         theirs = λ clean. theirs_more w o regions i region helds given next below is
             (before.theirs (omega (arith, reads.doubt, clean)))
-            (λ x here. ap (λ hs. top_held hs x) same ∙ level clean x here) added;
+            (λ x here. ap (λ hs. top_held hs x) same ∙ level clean x here ∙ any_level (held w o x)) added;
       }
 
 -- where the regions lie, and where others hold nothing

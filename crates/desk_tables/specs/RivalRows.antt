@@ -1,5 +1,5 @@
 -- Slabs that are held, as rows of `span` show them.
-use Rattle.std.specs.Prelude.{◌≡◌, ◌<◌, ◌^◌, ◌*◌, ◌&&◌, ℕ, Bool, pos, List, map, filter, IsPermutation, FitsSigned}
+use Rattle.std.specs.Prelude.{◌≡◌, ◌<◌, ◌^◌, ◌*◌, ◌&&◌, ℕ, ℤ, Bool, pos, List, Option, Some, None, map, filter, IsPermutation, FitsSigned}
 use Rattle.std.specs.Int.{w32}
 use Rattle.std.specs.List.{AllZip, flat_map}
 use Rattle.sqlite_value.specs.declared.value.Value.TheVariants.{Int}
@@ -11,6 +11,11 @@ use Rattle.desk_sql.specs.Rows.{held_columns, is_at_least, is_reached, is_wanted
 use Rattle.desk_sql.specs.Others.{is_others_from, is_plans}
 use Rattle.desk_sql.specs.declared.reading.rivals.SpanQuery.{SpanQuery}
 use Rattle.desk_live.specs.declared.near.PlanKey.{PlanKey}
+use Rattle.desk_live.specs.declared.near.Wanted.{Wanted}
+use Rattle.desk_live.specs.Near.{held_but}
+use Rattle.desk_rules.specs.Conflict.{at_least}
+use Rattle.desk_store.specs.Rivals.{HaveLevel}
+use Rattle.desk_store.specs.World.{World}
 use Rattle.desk_tables.specs.Tables.{id_text}
 
 -- the columns of `span` from `first` to `stop` are a slab's
@@ -59,15 +64,16 @@ reach_of extent least = record {
 abbrev pub reach_from : Span → Slab → ℕ → SpanQuery
 reach_from question extent least = record (reach_of extent least) { last = pos question.last }
 
--- a question of the spans of others is for a row of `span`
-abbrev pub is_asked : List ℕ → List ℕ → ℕ → Slab → Span → Row → Bool
-is_asked operator id least extent question =
-    is_wanted operator id (reach_from question extent least) (pos question.first)
+-- a row of `span` is of another plan than the operator's own one with this id, or, if there is no id, than
+-- all of its own; it is reached, and begins at a leaf position or later
+abbrev pub is_another_from : List ℕ → Option (List ℕ) → SpanQuery → ℤ → Row → Bool
+is_another_from operator None = is_others_from operator
+is_another_from operator (Some id) = is_wanted operator (id_text id)
 
--- a question of the spans of other operators is for a row of `span`
-abbrev pub is_asked_of_others : List ℕ → Slab → Span → Row → Bool
-is_asked_of_others operator extent question =
-    is_others_from operator (reach_from question extent 0) (pos question.first)
+-- a question of the spans that are wanted near an extent is for a row of `span`
+abbrev pub is_asked : Wanted → Slab → Span → Row → Bool
+is_asked wanted extent question =
+    is_another_from wanted.operator wanted.id (reach_from question extent wanted.least) (pos question.first)
 
 -- a question of the spans of a plan is for a row of `span`
 abbrev pub is_asked_of_plan : ℕ → Slab → PlanKey → Row → Bool
@@ -90,3 +96,8 @@ HaveTakenAll asked questions spans helds =
     (rows : List Row)
     × IsPermutation (flat_map (λ question. map held_columns (filter (asked question) spans)) questions) rows
     × HasTakenHelds helds rows
+
+-- where they meet an extent, these are what the plans that are wanted hold
+abbrev pub AreWanted : World → Wanted → Slab → List Held → Type 0
+AreWanted w wanted extent helds =
+    HaveLevel extent helds (λ x. at_least wanted.least (held_but w wanted.operator wanted.id x))

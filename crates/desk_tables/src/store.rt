@@ -14,7 +14,7 @@ use crate::kept::GhostWorld;
 use crate::known::Known;
 use crate::laws::one_content;
 use crate::reading::{others, readers};
-use desk_live::ListedOperator;
+use desk_live::{ListedOperator, Wanted};
 use desk_rules::operator::Operator;
 use desk_rules::plan::{PlanRow, States};
 use desk_rules::plan_id::PlanId;
@@ -175,13 +175,16 @@ impl<S: Alter> PlanStore for SqliteStore<S> {
         least: u32,
         extent: &Slab,
     ) -> Result<Vec<Held>, StoreFault> {
+        let wanted = Wanted {
+            operator: *operator,
+            id: Some(*id),
+            least,
+        };
         let answer = readers::rivals(
             self.alloc,
             &mut self.connection,
             &self.kept,
-            operator,
-            id,
-            least,
+            &wanted,
             extent,
             &self.known,
         );

@@ -7,7 +7,6 @@ ghost use Rattle.sqlite.specs.State.{HasCleanDisk};
 ghost use Rattle.sqlite.specs.Held.{state};
 ghost use Rattle.desk_rules.specs.declared.plan.PlanRow.{PlanRow as Plan};
 ghost use Rattle.desk_store.specs.World.{Filed, plans_of, stored_of};
-ghost use Rattle.desk_store.specs.Rivals.{AreRivals};
 ghost use Rattle.desk_tables.specs.Tables.{plan_rows, volume_rows};
 ghost use Rattle.desk_store.specs.Content.{IsBlock, IsContent, IsId, IsPlan};
 ghost use Rattle.desk_tables.specs.Reading.{IsHead, IsVolumeAt, listing_rows};
@@ -16,25 +15,22 @@ ghost use Rattle.desk_tables.specs.Lookups.{own_of};
 ghost use Rattle.desk_tables.specs.Causes.{BlamesSpans, BlamesStore};
 ghost use Rattle.desk_tables.specs.Store.{Stands};
 ghost use Rattle.desk_tables.specs.Known.{Knows};
-ghost use Rattle.desk_tables.specs.SpanBounds.{Bounds, IsWithin};
-ghost use Rattle.desk_tables.specs.RivalRows.{HaveTaken, HaveTakenAll, is_asked};
-ghost use Rattle.desk_sql.specs.Calls.{WasOpen};
+ghost use Rattle.desk_tables.specs.RivalRows.{AreWanted};
 ghost use Rattle.desk_sql.specs.Frames.{OnlyReads};
-ghost use Rattle.desk_sql.specs.Rows.{tables_of};
 
 use crate::kept::GhostWorld;
 use crate::known::Known;
+use crate::reading::asking::wanted_in_tables;
 use crate::reading::listing::PlanCollector;
 use crate::reading::plans::held_by_plans;
-use crate::reading::rivals::{Rivals, reach_from};
+use crate::reading::rivals::Rivals;
 use crate::reading::values::{area_in, fault_of, plan_in};
-use crate::span_bounds::SpanBounds;
+use desk_live::Wanted;
 use desk_rules::operator::Operator;
 use desk_rules::plan::PlanRow;
 use desk_rules::plan_id::PlanId;
-use desk_sql::{own_plans as own_listing, plan_of, rival_spans, volumes_of};
+use desk_sql::{own_plans as own_listing, plan_of, volumes_of};
 use desk_store::StoreFault;
-use s2_cover::Span;
 use sqlite::{Connection, Error, ErrorCode, Row};
 use sqlite_trees::store::Alter;
 use std::alloc::Global;
@@ -186,70 +182,8 @@ pub(crate) fn held_by(handed: Result<(), Error>, rivals: Rivals) -> Result<Vec<H
     }
 }
 
-// The slabs of the spans that one question is for, of those of others that may hold a point of an extent.
-fn asked<S: Alter>(
-    alloc: Global,
-    connection: &mut Connection<S>,
-    kept: &GhostWorld,
-    operator: &Operator,
-    id: &str,
-    least: u32,
-    extent: &Slab,
-    question: &Span,
-) -> Result<Vec<Held>, StoreFault>
-    requires stands { Stands S.Store connection.old kept.now.world }
-    requires within { IsWithin extent.now question.now }
-    ensures value { HasCleanDisk (state S.Store connection.new) → IfOk result (λ helds.
-        HaveTaken (is_asked operator.now id.now least extent.now question.now)
-        (tables_of (state S.Store connection.old).now.trees).spans helds.items) }
-    ensures open { WasOpen S.Store connection.old connection.new result }
-    ensures cause { IfErr result (BlamesSpans S.Store connection.old connection.new) }
-    ensures stands { Stands S.Store connection.new kept.now.world }
-    ensures reads { OnlyReads S.Store connection.old connection.new }
-{
-    let mut rivals = Rivals::new(alloc);
-    let reach = reach_from(question, extent, least);
-    let low = question.first as i64;
-    let handed = rival_spans(connection, operator.as_str(), id, reach, low, &mut rivals);
-    held_by(handed, rivals)
-}
-
-// The slabs of the spans that questions are for, those of one question after those of another.
-#[tactic(auto, using(crate::proofs::FrameLemmas::reads_then))]
-fn asked_all<S: Alter>(
-    alloc: Global,
-    connection: &mut Connection<S>,
-    kept: &GhostWorld,
-    operator: &Operator,
-    id: &str,
-    least: u32,
-    extent: &Slab,
-    questions: &[Span],
-) -> Result<Vec<Held>, StoreFault>
-    requires stands { Stands S.Store connection.old kept.now.world }
-    requires within { AllByRecursion (IsWithin extent.now) questions.now }
-    ensures value { HasCleanDisk (state S.Store connection.new) → IfOk result (λ helds.
-        HaveTakenAll (is_asked operator.now id.now least extent.now) questions.now
-        (tables_of (state S.Store connection.old).now.trees).spans helds.items) }
-    ensures open { HasCleanDisk (state S.Store connection.new) →
-        OnOk result (0 < length questions.now → IsTrue (state S.Store connection.old).is_open) }
-    ensures cause { IfErr result (BlamesSpans S.Store connection.old connection.new) }
-    ensures stands { Stands S.Store connection.new kept.now.world }
-    ensures reads { OnlyReads S.Store connection.old connection.new }
-{
-    let mut helds = Vec::new(alloc);
-    for question in questions {
-        let mut more = asked(
-            alloc, connection, kept, operator, id, least, extent, question,
-        )?;
-        helds.append(&mut more)?;
-    }
-    Ok(helds)
-}
-
-/// The slabs that live plans but the operator's own of the id hold, of those of a priority at least,
-/// where they meet an extent. No row is read if the bounds of none of their volumes meet it, and if those of
-/// few plans do, only the rows of these.
+/// The slabs that live plans hold, of those that are wanted, where they meet an extent. No row is read if the
+/// bounds of none of their volumes meet it, and if those of few plans do, only the rows of these.
 ///
 /// # Errors
 ///
@@ -260,60 +194,20 @@ pub(crate) fn rivals<S: Alter>(
     alloc: Global,
     connection: &mut Connection<S>,
     kept: &GhostWorld,
-    operator: &Operator,
-    id: &PlanId,
-    least: u32,
+    wanted: &Wanted,
     extent: &Slab,
     known: &Known,
 ) -> Result<Vec<Held>, StoreFault>
     requires stands { Stands S.Store connection.old kept.now.world }
     requires bounded { Knows known.now kept.now.world }
     ensures value { HasCleanDisk (state S.Store connection.new) → IfOk result (λ helds.
-        AreRivals kept.now.world operator.now id.now least extent.now helds.items) }
+        AreWanted kept.now.world wanted.now extent.now helds.items) }
     ensures cause { IfErr result (BlamesSpans S.Store connection.old connection.new) }
     ensures stands { Stands S.Store connection.new kept.now.world }
     ensures reads { OnlyReads S.Store connection.old connection.new }
 {
-    if let Some(keys) = known.live.rival_plans(alloc, operator, id, least, extent)? {
-        return held_by_plans(alloc, connection, kept, &keys, least, extent);
+    if let Some(keys) = known.live.wanted_plans(alloc, wanted, &[*extent])? {
+        return held_by_plans(alloc, connection, kept, &keys, wanted.least, extent);
     }
-    rivals_in_tables(
-        alloc,
-        connection,
-        kept,
-        operator,
-        id,
-        least,
-        extent,
-        &known.span_bounds,
-    )
-}
-
-// The slabs that live plans but the operator's own of the id hold, of those of a priority at least, where
-// they meet an extent, as the tables have them. How long the spans of live plans are says at which leaves one
-// begins that reaches the extent: no row is read that begins at another.
-fn rivals_in_tables<S: Alter>(
-    alloc: Global,
-    connection: &mut Connection<S>,
-    kept: &GhostWorld,
-    operator: &Operator,
-    id: &PlanId,
-    least: u32,
-    extent: &Slab,
-    span_bounds: &SpanBounds,
-) -> Result<Vec<Held>, StoreFault>
-    requires stands { Stands S.Store connection.old kept.now.world }
-    requires bounded { Bounds span_bounds.now kept.now.world }
-    ensures value { HasCleanDisk (state S.Store connection.new) → IfOk result (λ helds.
-        AreRivals kept.now.world operator.now id.now least extent.now helds.items) }
-    ensures cause { IfErr result (BlamesSpans S.Store connection.old connection.new) }
-    ensures stands { Stands S.Store connection.new kept.now.world }
-    ensures reads { OnlyReads S.Store connection.old connection.new }
-{
-    let mut buffer = [0u8; 36];
-    let text = id.encode(&mut buffer);
-    let questions = span_bounds.questions(alloc, extent)?;
-    asked_all(
-        alloc, connection, kept, operator, text, least, extent, &questions,
-    )
+    wanted_in_tables(alloc, connection, kept, wanted, extent, &known.span_bounds)
 }

@@ -1,9 +1,0 @@
-use Rattle.desk_live.specs.Live.{volumes_of}
-use Rattle.desk_live.proofs.NearLemmas.{are_rival_plans, found_weaker}
-use Rattle.desk_live.proofs.live.LiveVolumes.rival_plans.Goals as goal
-
-pub returns : goal.returns
-returns c =
-    found_weaker c.near_plans.result (λ keys near w kept.
-    are_rival_plans c.args.operator.now c.args.id.now c.args.least c.args.extent.now keys.items w
-    (volumes_of c.args.self.now) kept.live (near kept.fenced)) c.near_plans.ensures
