@@ -42,12 +42,12 @@ table_from form tree = record (table_of form.name.now (map column_from form.colu
 abbrev pub tables_from : List DeskObject → List Table
 tables_from [] = []
 tables_from (object.Table form tree ∷ others) = table_from form tree ∷ tables_from others
-tables_from (object.LeafIndex name tree table ∷ others) = tables_from others
+tables_from (object.LeafIndex form tree table ∷ others) = tables_from others
 
 -- an index over leaves, or that of a table's key
 abbrev pub index_from : DeskObject → Index
 index_from (object.Table form tree) = key_index form.key_index.now tree form.key.now
-index_from (object.LeafIndex name tree table) = record (first_of name.now table) { tree = tree }
+index_from (object.LeafIndex form tree table) = record (first_of form.name.now table) { tree = tree }
 
 -- the schema of these objects, and of no others
 abbrev pub schema_from : List DeskObject → Schema

@@ -15,20 +15,20 @@ use sqlite_value::keys::{Collation, Order};
 use sqlite_value::value::{Bytes, Value};
 
 /// A row that says what a part of a schema is.
-trait Form<T> {
-    ghost made: { Self → T };
+trait FormOf<T> {
+    ghost stands_for: { Self → T };
 
     /// Whether what was found is that.
-    fn is(&self, found: &T) -> bool
-        ensures { IsTrue result ↔ (found.now ≡ made self.now) };
+    fn matches(&self, found: &T) -> bool
+        ensures { IsTrue result ↔ (found.now ≡ stands_for self.now) };
 }
 
-fn are_all<T, F: Form<T>>(found: &[T], forms: &[F]) -> bool
-    ensures { IsTrue result ↔ (found.now ≡ map F.made forms.now) }
+fn are_all<T, F: FormOf<T>>(found: &[T], forms: &[F]) -> bool
+    ensures { IsTrue result ↔ (found.now ≡ map F.stands_for forms.now) }
 {
     match (found, forms) {
         ([], []) => true,
-        ([one, others @ ..], [form, more @ ..]) => form.is(one) && are_all(others, more),
+        ([one, others @ ..], [form, more @ ..]) => form.matches(one) && are_all(others, more),
         _ => false,
     }
 }
@@ -45,10 +45,10 @@ fn is_column(column: &Column, name: &[u8], kind: Kind) -> bool
         && column.collation == Collation::Binary
 }
 
-impl Form<Column> for ColumnForm {
-    ghost made = { column_from };
+impl FormOf<Column> for ColumnForm {
+    ghost stands_for = { column_from };
 
-    fn is(&self, found: &Column) -> bool {
+    fn matches(&self, found: &Column) -> bool {
         match self {
             ColumnForm::Text(name) => is_column(found, name, Kind::Text),
             ColumnForm::Number(name) => is_column(found, name, Kind::Integer),
@@ -57,10 +57,10 @@ impl Form<Column> for ColumnForm {
     }
 }
 
-impl Form<Bytes> for ColumnForm {
-    ghost made = { name_from };
+impl FormOf<Bytes> for ColumnForm {
+    ghost stands_for = { name_from };
 
-    fn is(&self, found: &Bytes) -> bool {
+    fn matches(&self, found: &Bytes) -> bool {
         match self {
             ColumnForm::Text(name) | ColumnForm::Number(name) | ColumnForm::Bytes(name) => {
                 is_name(found, name)
@@ -131,10 +131,10 @@ fn is_plain_table(table: &Table, name: &[u8], tree: u32, key: &[usize]) -> bool
         && has_no_extras(table)
 }
 
-impl Form<Reference> for ReferenceForm {
-    ghost made = { reference_from };
+impl FormOf<Reference> for ReferenceForm {
+    ghost stands_for = { reference_from };
 
-    fn is(&self, found: &Reference) -> bool {
+    fn matches(&self, found: &Reference) -> bool {
         are_places(&found.columns, self.places)
             && is_name(&found.parent, self.parent)
             && are_all(found.parent_columns.as_slice(), self.parent_columns)
@@ -193,14 +193,14 @@ fn is_leaf_index(index: &Index, name: &[u8], tree: u32, table: u32) -> bool
         && !index.is_unique
 }
 
-impl Form<Index> for DeskObject {
-    ghost made = { index_from };
+impl FormOf<Index> for DeskObject {
+    ghost stands_for = { index_from };
 
-    fn is(&self, found: &Index) -> bool {
+    fn matches(&self, found: &Index) -> bool {
         match self {
             DeskObject::Table(form, tree) => is_key_index(found, form, *tree),
-            DeskObject::LeafIndex { name, tree, table } => {
-                is_leaf_index(found, name, *tree, *table)
+            DeskObject::LeafIndex { form, tree, table } => {
+                is_leaf_index(found, form.name, *tree, *table)
             }
         }
     }

@@ -35,6 +35,16 @@ pub(crate) struct TableForm {
     /// The name of the index that SQLite makes for the key.
     pub(crate) key_index: &'static [u8],
     pub(crate) references: &'static [ReferenceForm],
+    /// The text that makes it.
+    pub(crate) sql: &'static str,
+}
+
+/// An index over the leaves of spans.
+#[derive(Clone, Copy)]
+pub(crate) struct LeafForm {
+    pub(crate) name: &'static [u8],
+    /// The text that makes it.
+    pub(crate) sql: &'static str,
 }
 
 /// What a desk makes by one statement, with the tree in which it stands.
@@ -42,9 +52,9 @@ pub(crate) struct TableForm {
 pub(crate) enum DeskObject {
     /// A table; the index of its key is the tree after its own.
     Table(TableForm, u32),
-    /// An index over the leaves of spans, which are the rows of the table in the tree `table`.
+    /// An index over the leaves of the spans in the table whose tree is `table`.
     LeafIndex {
-        name: &'static [u8],
+        form: LeafForm,
         tree: u32,
         table: u32,
     },
@@ -81,31 +91,39 @@ const TO_PLAN: ReferenceForm = ReferenceForm {
     on_delete: Action::Cascade,
 };
 
-const OPERATOR_TABLE: TableForm = TableForm {
+pub(crate) const OPERATOR_TABLE: TableForm = TableForm {
     name: b"operator",
     columns: &[NAME, CEILING],
     key: &[1],
     key_index: b"sqlite_autoindex_operator_1",
     references: &[],
+    sql: "CREATE TABLE operator (name TEXT NOT NULL, ceiling INTEGER NOT NULL, PRIMARY KEY (name)) STRICT",
 };
 
-const PLAN_TABLE: TableForm = TableForm {
+pub(crate) const PLAN_TABLE: TableForm = TableForm {
     name: b"plan",
     columns: &[OPERATOR, ID, PRIORITY, USAGE, AIRCRAFT],
     key: &[1, 2],
     key_index: b"sqlite_autoindex_plan_1",
     references: &[TO_OPERATOR],
+    sql: "CREATE TABLE plan (operator TEXT NOT NULL, id TEXT NOT NULL, priority INTEGER NOT NULL, \
+          usage INTEGER NOT NULL, aircraft INTEGER NOT NULL, PRIMARY KEY (operator, id), \
+          FOREIGN KEY (operator) REFERENCES operator (name)) STRICT",
 };
 
-const OLD_VOLUME_TABLE: TableForm = TableForm {
+pub(crate) const OLD_VOLUME_TABLE: TableForm = TableForm {
     name: b"volume",
     columns: &[OPERATOR, ID, PLACE, LOWER, UPPER, START, STOP, ASKED],
     key: &[1, 2, 3],
     key_index: b"sqlite_autoindex_volume_1",
     references: &[TO_PLAN],
+    sql: "CREATE TABLE volume (operator TEXT NOT NULL, id TEXT NOT NULL, place INTEGER NOT NULL, \
+          lower INTEGER NOT NULL, upper INTEGER NOT NULL, start INTEGER NOT NULL, \
+          stop INTEGER NOT NULL, asked BLOB NOT NULL, PRIMARY KEY (operator, id, place), \
+          FOREIGN KEY (operator, id) REFERENCES plan (operator, id) ON DELETE CASCADE) STRICT",
 };
 
-const OLD_SPAN_TABLE: TableForm = TableForm {
+pub(crate) const OLD_SPAN_TABLE: TableForm = TableForm {
     name: b"span",
     columns: &[
         OPERATOR, ID, PLACE, FIRST, LAST, LOWER, UPPER, START, STOP, PRIORITY,
@@ -113,9 +131,14 @@ const OLD_SPAN_TABLE: TableForm = TableForm {
     key: &[1, 2, 3, 4],
     key_index: b"sqlite_autoindex_span_1",
     references: &[TO_PLAN],
+    sql: "CREATE TABLE span (operator TEXT NOT NULL, id TEXT NOT NULL, place INTEGER NOT NULL, \
+          first INTEGER NOT NULL, last INTEGER NOT NULL, lower INTEGER NOT NULL, \
+          upper INTEGER NOT NULL, start INTEGER NOT NULL, stop INTEGER NOT NULL, \
+          priority INTEGER NOT NULL, PRIMARY KEY (operator, id, place, first), \
+          FOREIGN KEY (operator, id) REFERENCES plan (operator, id) ON DELETE CASCADE) STRICT",
 };
 
-const VOLUME_TABLE: TableForm = TableForm {
+pub(crate) const VOLUME_TABLE: TableForm = TableForm {
     name: b"volume2",
     columns: &[
         OPERATOR, ID, PLACE, LOWER, UPPER, START, STOP, ASKED, CANON,
@@ -123,9 +146,14 @@ const VOLUME_TABLE: TableForm = TableForm {
     key: &[1, 2, 3],
     key_index: b"sqlite_autoindex_volume2_1",
     references: &[TO_PLAN],
+    sql: "CREATE TABLE volume2 (operator TEXT NOT NULL, id TEXT NOT NULL, place INTEGER NOT NULL, \
+          lower INTEGER NOT NULL, upper INTEGER NOT NULL, start INTEGER NOT NULL, \
+          stop INTEGER NOT NULL, asked BLOB NOT NULL, canon BLOB NOT NULL, \
+          PRIMARY KEY (operator, id, place), \
+          FOREIGN KEY (operator, id) REFERENCES plan (operator, id) ON DELETE CASCADE) STRICT",
 };
 
-const SPAN_TABLE: TableForm = TableForm {
+pub(crate) const SPAN_TABLE: TableForm = TableForm {
     name: b"span2",
     columns: &[
         OPERATOR, ID, PLACE, FIRST, LAST, LOWER, UPPER, START, STOP, PRIORITY,
@@ -133,6 +161,25 @@ const SPAN_TABLE: TableForm = TableForm {
     key: &[1, 2, 3, 4],
     key_index: b"sqlite_autoindex_span2_1",
     references: &[TO_PLAN],
+    sql: "CREATE TABLE span2 (operator TEXT NOT NULL, id TEXT NOT NULL, place INTEGER NOT NULL, \
+          first INTEGER NOT NULL, last INTEGER NOT NULL, lower INTEGER NOT NULL, \
+          upper INTEGER NOT NULL, start INTEGER NOT NULL, stop INTEGER NOT NULL, \
+          priority INTEGER NOT NULL, \
+          PRIMARY KEY (operator, id, place, first), \
+          FOREIGN KEY (operator, id) REFERENCES plan (operator, id) ON DELETE CASCADE) STRICT",
+};
+
+pub(crate) const OLD_LEAVES: LeafForm = LeafForm {
+    name: b"span_first",
+    sql: "CREATE INDEX span_first ON span \
+     (first, last, lower, upper, start, stop, priority, operator, id)",
+};
+
+// The columns after `last` are those that the query of rivals reads, so that it reads the index alone.
+pub(crate) const LEAVES: LeafForm = LeafForm {
+    name: b"span2_first",
+    sql: "CREATE INDEX span2_first ON span2 \
+     (first, last, lower, upper, start, stop, priority, operator, id)",
 };
 
 // All, in the order in which a desk makes them.
@@ -142,14 +189,14 @@ static OWN: [DeskObject; 8] = [
     DeskObject::Table(OLD_VOLUME_TABLE, 4),
     DeskObject::Table(OLD_SPAN_TABLE, 6),
     DeskObject::LeafIndex {
-        name: b"span_first",
+        form: OLD_LEAVES,
         tree: 8,
         table: 6,
     },
     DeskObject::Table(VOLUME_TABLE, 9),
     DeskObject::Table(SPAN_TABLE, 11),
     DeskObject::LeafIndex {
-        name: b"span2_first",
+        form: LEAVES,
         tree: 13,
         table: 11,
     },
@@ -164,12 +211,12 @@ static PACKED: [DeskObject; 8] = [
     DeskObject::Table(VOLUME_TABLE, 8),
     DeskObject::Table(SPAN_TABLE, 10),
     DeskObject::LeafIndex {
-        name: b"span_first",
+        form: OLD_LEAVES,
         tree: 12,
         table: 6,
     },
     DeskObject::LeafIndex {
-        name: b"span2_first",
+        form: LEAVES,
         tree: 13,
         table: 10,
     },
