@@ -1,12 +1,14 @@
--- The tables and the indexes of a desk, of which the program has rows.
-use Rattle.std.specs.Prelude.{List, [], ◌∷◌, ℕ, map, false}
+-- The tables and the indexes of a desk as the program's rows say them, and as a schema has them.
+use Rattle.std.specs.Prelude.{List, [], ◌∷◌, ℕ, ◌+◌, map, true, false, None}
+use Rattle.sqlite.specs.Kind.TheVariants.{Integer, Text, Blob}
 use Rattle.sqlite.specs.Table.{Table}
 use Rattle.sqlite.specs.Schema.{Schema}
-use Rattle.sqlite.specs.Kind.TheVariants.{Integer, Text, Blob}
 use Rattle.sqlite_schema.specs.declared.schema.Action.TheVariants.{NoAction}
 use Rattle.sqlite_schema.specs.declared.schema.Column.{Column}
 use Rattle.sqlite_schema.specs.declared.schema.Index.{Index}
 use Rattle.sqlite_schema.specs.declared.schema.Reference.{Reference}
+use Rattle.sqlite_schema.specs.declared.schema.Stamps.{Stamps}
+use Rattle.sqlite_value.specs.Keys.{plain}
 use Rattle.desk_sql.specs.declared.opening.objects.ColumnForm.{ColumnForm}
 use Rattle.desk_sql.specs.declared.opening.objects.ColumnForm.TheVariants as column
 use Rattle.desk_sql.specs.declared.opening.objects.ReferenceForm.{ReferenceForm}
@@ -14,7 +16,29 @@ use Rattle.desk_sql.specs.declared.opening.objects.TableForm.{TableForm}
 use Rattle.desk_sql.specs.declared.opening.objects.DeskObject.{DeskObject}
 use Rattle.desk_sql.specs.declared.opening.objects.DeskObject.TheVariants as object
 use Rattle.desk_sql.specs.Schema.{column_of, table_of, first_of}
-use Rattle.desk_sql.specs.Finding.{key_index}
+
+-- ---- the parts of a table and of an index
+
+-- no default reads the time
+abbrev pub no_stamps : Stamps
+no_stamps = record { places = []; terms = []; formats = [] }
+
+-- the table with no INTEGER PRIMARY KEY, CHECK, computed default or AUTOINCREMENT
+abbrev pub without_extras : Table → Table
+without_extras table =
+    record table { key = None; checks = []; computed = []; stamps = no_stamps; is_counted = false }
+
+-- the table of this name, in this tree and with this primary key, that has the columns and references
+-- of another
+abbrev pub plain_table : Table → List ℕ → ℕ → List ℕ → Table
+plain_table like name tree key = record (table_of name like.columns key like.references) { tree = tree }
+
+-- the index that SQLite makes for the primary key of the table in the tree before its own
+abbrev pub key_index : List ℕ → ℕ → List ℕ → Index
+key_index name table key =
+    record { name = name; tree = table + 1; table = table; columns = key; order = plain; is_unique = true }
+
+-- ---- what a row says
 
 abbrev pub column_from : ColumnForm → Column
 column_from (column.Text name) = column_of name.now Text

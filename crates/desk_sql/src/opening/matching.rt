@@ -3,9 +3,8 @@
 ghost use Rattle.std.specs.Prelude.{◌≡◌, ◌≢◌, ◌↔◌, ◌<◌, ◌-◌, ◌^◌, [], ◌∷◌, IsTrue, MatchOption, map};
 ghost use Rattle.sqlite_value.specs.Keys.{plain};
 ghost use Rattle.desk_sql.specs.Schema.{column_of, first_of, schema_of};
-ghost use Rattle.desk_sql.specs.Finding.{no_stamps, without_extras, plain_table, key_index};
-ghost use Rattle.desk_sql.specs.Objects.{column_from, name_from, reference_from, table_from, tables_from, index_from};
-ghost use Rattle.desk_sql.specs.Objects.{schema_from};
+ghost use Rattle.desk_sql.specs.Objects.{no_stamps, without_extras, plain_table, key_index, column_from, name_from};
+ghost use Rattle.desk_sql.specs.Objects.{reference_from, table_from, tables_from, index_from, schema_from};
 
 use crate::opening::finding::TablesPresent;
 use crate::opening::objects::{ColumnForm, DeskObject, ReferenceForm, TableForm, objects};

@@ -61,20 +61,35 @@ pub(crate) enum DeskObject {
 }
 
 const NAME: ColumnForm = ColumnForm::Text(b"name");
+
 const CEILING: ColumnForm = ColumnForm::Number(b"ceiling");
+
 const OPERATOR: ColumnForm = ColumnForm::Text(b"operator");
+
 const ID: ColumnForm = ColumnForm::Text(b"id");
+
 const PRIORITY: ColumnForm = ColumnForm::Number(b"priority");
+
 const USAGE: ColumnForm = ColumnForm::Number(b"usage");
+
 const AIRCRAFT: ColumnForm = ColumnForm::Number(b"aircraft");
+
 const PLACE: ColumnForm = ColumnForm::Number(b"place");
+
 const LOWER: ColumnForm = ColumnForm::Number(b"lower");
+
 const UPPER: ColumnForm = ColumnForm::Number(b"upper");
+
 const START: ColumnForm = ColumnForm::Number(b"start");
+
 const STOP: ColumnForm = ColumnForm::Number(b"stop");
+
 const ASKED: ColumnForm = ColumnForm::Bytes(b"asked");
+
 const CANON: ColumnForm = ColumnForm::Bytes(b"canon");
+
 const FIRST: ColumnForm = ColumnForm::Number(b"first");
+
 const LAST: ColumnForm = ColumnForm::Number(b"last");
 
 const TO_OPERATOR: ReferenceForm = ReferenceForm {
@@ -140,9 +155,7 @@ pub(crate) const OLD_SPAN_TABLE: TableForm = TableForm {
 
 pub(crate) const VOLUME_TABLE: TableForm = TableForm {
     name: b"volume2",
-    columns: &[
-        OPERATOR, ID, PLACE, LOWER, UPPER, START, STOP, ASKED, CANON,
-    ],
+    columns: &[OPERATOR, ID, PLACE, LOWER, UPPER, START, STOP, ASKED, CANON],
     key: &[1, 2, 3],
     key_index: b"sqlite_autoindex_volume2_1",
     references: &[TO_PLAN],
@@ -172,14 +185,14 @@ pub(crate) const SPAN_TABLE: TableForm = TableForm {
 pub(crate) const OLD_LEAVES: LeafForm = LeafForm {
     name: b"span_first",
     sql: "CREATE INDEX span_first ON span \
-     (first, last, lower, upper, start, stop, priority, operator, id)",
+          (first, last, lower, upper, start, stop, priority, operator, id)",
 };
 
 // The columns after `last` are those that the query of rivals reads, so that it reads the index alone.
 pub(crate) const LEAVES: LeafForm = LeafForm {
     name: b"span2_first",
     sql: "CREATE INDEX span2_first ON span2 \
-     (first, last, lower, upper, start, stop, priority, operator, id)",
+          (first, last, lower, upper, start, stop, priority, operator, id)",
 };
 
 // All, in the order in which a desk makes them.
