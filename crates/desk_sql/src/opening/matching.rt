@@ -17,17 +17,18 @@ use sqlite_value::value::{Bytes, Value};
 trait FormOf<T> {
     ghost stands_for: { Self → T };
 
-    /// Whether what was found is that.
-    fn matches(&self, found: &T) -> bool
+    /// Whether it is this that was found.
+    fn describes(&self, found: &T) -> bool
         ensures { IsTrue result ↔ (found.now ≡ stands_for self.now) };
 }
 
+/// Whether these were found, in this order, and nothing else.
 fn are_all<T, F: FormOf<T>>(found: &[T], forms: &[F]) -> bool
     ensures { IsTrue result ↔ (found.now ≡ map F.stands_for forms.now) }
 {
     match (found, forms) {
         ([], []) => true,
-        ([one, others @ ..], [form, more @ ..]) => form.matches(one) && are_all(others, more),
+        ([one, others @ ..], [form, more @ ..]) => form.describes(one) && are_all(others, more),
         _ => false,
     }
 }
@@ -47,7 +48,7 @@ fn is_column(column: &Column, name: &[u8], kind: Kind) -> bool
 impl FormOf<Column> for ColumnForm {
     ghost stands_for = { column_from };
 
-    fn matches(&self, found: &Column) -> bool {
+    fn describes(&self, found: &Column) -> bool {
         match self {
             ColumnForm::Text(name) => is_column(found, name, Kind::Text),
             ColumnForm::Number(name) => is_column(found, name, Kind::Integer),
@@ -59,7 +60,7 @@ impl FormOf<Column> for ColumnForm {
 impl FormOf<Bytes> for ColumnForm {
     ghost stands_for = { name_from };
 
-    fn matches(&self, found: &Bytes) -> bool {
+    fn describes(&self, found: &Bytes) -> bool {
         match self {
             ColumnForm::Text(name) | ColumnForm::Number(name) | ColumnForm::Bytes(name) => {
                 is_name(found, name)
@@ -133,7 +134,7 @@ fn is_plain_table(table: &Table, name: &[u8], tree: u32, key: &[usize]) -> bool
 impl FormOf<Reference> for ReferenceForm {
     ghost stands_for = { reference_from };
 
-    fn matches(&self, found: &Reference) -> bool {
+    fn describes(&self, found: &Reference) -> bool {
         are_places(&found.columns, self.places)
             && is_name(&found.parent, self.parent)
             && are_all(found.parent_columns.as_slice(), self.parent_columns)
@@ -195,7 +196,7 @@ fn is_leaf_index(index: &Index, name: &[u8], tree: u32, table: u32) -> bool
 impl FormOf<Index> for DeskObject {
     ghost stands_for = { index_from };
 
-    fn matches(&self, found: &Index) -> bool {
+    fn describes(&self, found: &Index) -> bool {
         match self {
             DeskObject::Table(form, tree) => is_key_index(found, form, *tree),
             DeskObject::LeafIndex { form, tree, table } => {

@@ -236,6 +236,7 @@ static PACKED: [DeskObject; 8] = [
 ];
 
 /// The tables and the indexes that are made so far, in their order.
+#[tactic(auto, unfolding(sqlite_tied::specs::Compute::everything))]
 pub(crate) fn objects(made: TablesPresent) -> &'static [DeskObject]
     ensures { schema_from result.now ≡ schema_of made }
 {
