@@ -24,11 +24,11 @@ use Rattle.desk_sql.specs.declared.opening.finding.TablesPresent.TheVariants.{Ol
 use Rattle.desk_sql.specs.declared.opening.numbers.DeskTable.TheVariants as desk
 use Rattle.desk_sql.specs.Schema.{packed_schema, old_table_schema, packed_volume_made, packed_span_made, has_table, tree_of}
 use Rattle.desk_sql.specs.Rows.{IsMadeTo, AreNumbered}
-use Rattle.desk_sql.specs.Finding.{Holds, packed_old_first_index}
+use Rattle.desk_sql.specs.Finding.{Holds}
 use Rattle.desk_sql.specs.Statements.{MayWrite, enforced}
 use Rattle.desk_sql.specs.Making.{Finishes}
 use Rattle.desk_sql.specs.Effects.{Makes}
-use Rattle.desk_sql.specs.Unpacking.{Drops, Unpacks, RemakesTables, loose_schema, spanless_schema}
+use Rattle.desk_sql.specs.Unpacking.{packed_old_first_index, Drops, Unpacks, RemakesTables, loose_schema, spanless_schema}
 use Rattle.desk_sql.proofs.WriteLemmas.{went, same_value, does_command, ran, ran_sound}
 
 abbrev pub drop_old_first_text : List ℕ

@@ -21,13 +21,12 @@ use Rattle.sqlite.specs.Listing.{understood}
 use Rattle.sqlite_tied.specs.Compute.{everything}
 use Rattle.desk_sql.specs.declared.opening.finding.TablesPresent.TheVariants.{OldSpans, Packed}
 use Rattle.desk_sql.specs.Schema.{packed_schema, old_table_schema, packed_volume_made, packed_span_made}
-use Rattle.desk_sql.specs.Finding.{packed_old_first_index}
 use Rattle.desk_sql.specs.Rows.{tables_at}
 use Rattle.desk_sql.specs.Making.{HasSmallSpans}
 use Rattle.desk_sql.specs.Statements.{enforced}
 use Rattle.desk_sql.specs.Changing.{IsWholeIn, MayStop}
 use Rattle.desk_sql.specs.Refusals.{IsRefusal}
-use Rattle.desk_sql.specs.Unpacking.{Drops, Unpacks, loose_schema, spanless_schema}
+use Rattle.desk_sql.specs.Unpacking.{packed_old_first_index, Drops, Unpacks, loose_schema, spanless_schema}
 use Rattle.desk_sql.proofs.WriteLemmas.{is_writing}
 use Rattle.desk_sql.proofs.StopLemmas.{caused_inside, whole_in}
 use Rattle.desk_sql.proofs.RowidLemmas.{refusal_on}

@@ -1,6 +1,5 @@
--- A schema is what is made so far just if its parts are.
+-- What is made so far has each of its tables.
 use Rattle.std.proofs.Common.{◌≡◌, List, [], ◌∷◌, refl, ap, ◌∙◌, sym, true, true≢false}
-use Rattle.sqlite.specs.Schema.{Schema}
 use Rattle.sqlite.specs.Table.{Table}
 use Rattle.sqlite.specs.Effect.{Database}
 use Rattle.sqlite_tied.specs.Compute.{everything}
@@ -9,51 +8,6 @@ use Rattle.desk_sql.specs.declared.opening.finding.TablesPresent.TheVariants.{No
 use Rattle.desk_sql.specs.declared.opening.numbers.DeskTable.{DeskTable}
 use Rattle.desk_sql.specs.declared.opening.numbers.DeskTable.TheVariants.{Operator, Plan, OldVolume, OldSpan, Volume, Span, PackedVolume, PackedSpan}
 use Rattle.desk_sql.specs.Schema.{schema_of, schema_to, has_table, HasTable, plan_made, old_volume_made, old_span_made, volume_made, span_made, packed_volume_made, packed_span_made}
-use Rattle.desk_sql.specs.Finding.{indexes_of, operator_index, plan_index, old_volume_index, old_span_index, old_first_index, volume_index, span_index, first_index, packed_volume_index, packed_span_index, packed_old_first_index, packed_first_index}
-
-indexes_are : (made : TablesPresent) → (schema_of made).indexes ≡ indexes_of made
-unfolding everything operator_index plan_index old_volume_index old_span_index old_first_index
-    volume_index span_index first_index packed_volume_index packed_span_index packed_old_first_index
-    packed_first_index
-indexes_are Nothing = refl
-indexes_are Operators = refl
-indexes_are Plans = refl
-indexes_are OldVolumes = refl
-indexes_are OldSpans = refl
-indexes_are OldIndex = refl
-indexes_are Volumes = refl
-indexes_are Spans = refl
-indexes_are All = refl
-indexes_are Packed = refl
-
-no_views : (made : TablesPresent) → (schema_of made).views ≡ []
-no_views Nothing = refl
-no_views Operators = refl
-no_views Plans = refl
-no_views OldVolumes = refl
-no_views OldSpans = refl
-no_views OldIndex = refl
-no_views Volumes = refl
-no_views Spans = refl
-no_views All = refl
-no_views Packed = refl
-
-pub has_indexes : (s : Schema) (made : TablesPresent) → s ≡ schema_of made → s.indexes ≡ indexes_of made
-has_indexes s made is = ap (λ t. t.indexes) is ∙ indexes_are made
-
-pub has_no_views : (s : Schema) (made : TablesPresent) → s ≡ schema_of made → s.views ≡ []
-has_no_views s made is = ap (λ t. t.views) is ∙ no_views made
-
-pub is_schema : (s : Schema) (made : TablesPresent) → s.tables ≡ (schema_of made).tables
-    → s.indexes ≡ indexes_of made
-    → s.views ≡ [] → s ≡ schema_of made
-is_schema s made tables indexes views = λ i. record {
-  tables = tables i;
-  indexes = (indexes ∙ sym (indexes_are made)) i;
-  views = (views ∙ sym (no_views made)) i;
-}
-
--- ---- the tables that are made
 
 as_made : (table : DeskTable) (others : List Table) (made : TablesPresent) (db : Database)
     → schema_of made ≡ schema_to table others (schema_of made).indexes → db.schema ≡ schema_of made

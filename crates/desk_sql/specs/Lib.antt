@@ -8,6 +8,7 @@ pub mod Making
 pub mod Unpacking
 pub mod Batches
 pub mod Finding
+pub mod Objects
 pub mod Refusals
 pub mod Taking
 pub mod Calls

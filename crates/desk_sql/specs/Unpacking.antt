@@ -7,13 +7,18 @@ use Rattle.sqlite.specs.Effect.{Database, IsDatabase}
 use Rattle.sqlite.specs.Listing.{understood}
 use Rattle.sqlite.specs.Store.{Ghosts}
 use Rattle.sqlite.specs.Held.{Held, state}
+use Rattle.sqlite_schema.specs.declared.schema.Index.{Index}
 use Rattle.sqlite_catalog.specs.Change.{without_table, without_index, KeepsRows}
 use Rattle.desk_sql.specs.declared.opening.finding.TablesPresent.TheVariants.{OldSpans}
-use Rattle.desk_sql.specs.Schema.{packed_schema}
+use Rattle.desk_sql.specs.Schema.{packed_schema, old_span_first}
 use Rattle.desk_sql.specs.Rows.{IsMadeTo, Tables, old_tables_of}
 use Rattle.desk_sql.specs.Statements.{IsWriting, MayWrite}
 use Rattle.desk_sql.specs.Changing.{IsWholeIn, MayStop}
 use Rattle.sqlite.specs.Given.{IsPlain}
+
+-- `span_first` as it stands in a packed file
+unfoldable pub packed_old_first_index : Index
+packed_old_first_index = record old_span_first { tree = 12 }
 
 -- a packed file without the index over the leaves of `span`, which is tree 12 there
 abbrev pub loose_schema : Schema

@@ -15,83 +15,66 @@ ghost use Rattle.desk_sql.specs.Refusals.{IsRefusal};
 use crate::changing::run::run;
 use crate::laws::settled_and_sound;
 use crate::opening::finding::TablesPresent;
+use crate::opening::objects::{
+    LEAVES, OLD_LEAVES, OLD_SPAN_TABLE, OLD_VOLUME_TABLE, OPERATOR_TABLE, PLAN_TABLE, SPAN_TABLE,
+    VOLUME_TABLE,
+};
 use sqlite::{Alter, Connection, Error, Transaction};
 
 #[tactic(auto, using(crate::proofs::StepStops::operator_step))]
 fn operator_text() -> &'static str
     ensures { IsStep result.now TablesPresent.Nothing TablesPresent.Operators }
 {
-    "CREATE TABLE operator (name TEXT NOT NULL, ceiling INTEGER NOT NULL, PRIMARY KEY (name)) STRICT"
+    OPERATOR_TABLE.sql
 }
 
 #[tactic(auto, using(crate::proofs::StepStops::plan_step))]
 fn plan_text() -> &'static str
     ensures { IsStep result.now TablesPresent.Operators TablesPresent.Plans }
 {
-    "CREATE TABLE plan (operator TEXT NOT NULL, id TEXT NOT NULL, priority INTEGER NOT NULL, \
-     usage INTEGER NOT NULL, aircraft INTEGER NOT NULL, PRIMARY KEY (operator, id), \
-     FOREIGN KEY (operator) REFERENCES operator (name)) STRICT"
+    PLAN_TABLE.sql
 }
 
 #[tactic(auto, using(crate::proofs::StepStops::old_volume_step))]
 fn old_volume_text() -> &'static str
     ensures { IsStep result.now TablesPresent.Plans TablesPresent.OldVolumes }
 {
-    "CREATE TABLE volume (operator TEXT NOT NULL, id TEXT NOT NULL, place INTEGER NOT NULL, \
-     lower INTEGER NOT NULL, upper INTEGER NOT NULL, start INTEGER NOT NULL, \
-     stop INTEGER NOT NULL, asked BLOB NOT NULL, PRIMARY KEY (operator, id, place), \
-     FOREIGN KEY (operator, id) REFERENCES plan (operator, id) ON DELETE CASCADE) STRICT"
+    OLD_VOLUME_TABLE.sql
 }
 
 #[tactic(auto, using(crate::proofs::StepStops::old_span_step))]
 fn old_span_text() -> &'static str
     ensures { IsStep result.now TablesPresent.OldVolumes TablesPresent.OldSpans }
 {
-    "CREATE TABLE span (operator TEXT NOT NULL, id TEXT NOT NULL, place INTEGER NOT NULL, \
-     first INTEGER NOT NULL, last INTEGER NOT NULL, lower INTEGER NOT NULL, \
-     upper INTEGER NOT NULL, start INTEGER NOT NULL, stop INTEGER NOT NULL, \
-     priority INTEGER NOT NULL, PRIMARY KEY (operator, id, place, first), \
-     FOREIGN KEY (operator, id) REFERENCES plan (operator, id) ON DELETE CASCADE) STRICT"
+    OLD_SPAN_TABLE.sql
 }
 
 #[tactic(auto, using(crate::proofs::StepStops::old_first_step))]
 fn old_first_text() -> &'static str
     ensures { IsStep result.now TablesPresent.OldSpans TablesPresent.OldIndex }
 {
-    "CREATE INDEX span_first ON span \
-     (first, last, lower, upper, start, stop, priority, operator, id)"
+    OLD_LEAVES.sql
 }
 
 #[tactic(auto, using(crate::proofs::StepStops::volume_step))]
 fn volume_text() -> &'static str
     ensures { IsStep result.now TablesPresent.OldIndex TablesPresent.Volumes }
 {
-    "CREATE TABLE volume2 (operator TEXT NOT NULL, id TEXT NOT NULL, place INTEGER NOT NULL, \
-     lower INTEGER NOT NULL, upper INTEGER NOT NULL, start INTEGER NOT NULL, \
-     stop INTEGER NOT NULL, asked BLOB NOT NULL, canon BLOB NOT NULL, \
-     PRIMARY KEY (operator, id, place), \
-     FOREIGN KEY (operator, id) REFERENCES plan (operator, id) ON DELETE CASCADE) STRICT"
+    VOLUME_TABLE.sql
 }
 
 #[tactic(auto, using(crate::proofs::StepStops::span_step))]
 fn span_text() -> &'static str
     ensures { IsStep result.now TablesPresent.Volumes TablesPresent.Spans }
 {
-    "CREATE TABLE span2 (operator TEXT NOT NULL, id TEXT NOT NULL, place INTEGER NOT NULL, \
-     first INTEGER NOT NULL, last INTEGER NOT NULL, lower INTEGER NOT NULL, \
-     upper INTEGER NOT NULL, start INTEGER NOT NULL, stop INTEGER NOT NULL, \
-     priority INTEGER NOT NULL, \
-     PRIMARY KEY (operator, id, place, first), \
-     FOREIGN KEY (operator, id) REFERENCES plan (operator, id) ON DELETE CASCADE) STRICT"
+    SPAN_TABLE.sql
 }
 
-// The columns after `last` are those that the query of rivals reads, so that it reads the index alone.
 #[tactic(auto, using(crate::proofs::StepStops::first_step))]
 fn first_text() -> &'static str
     ensures { IsStep result.now TablesPresent.Spans TablesPresent.All }
 {
-    "CREATE INDEX span2_first ON span2 \
-     (first, last, lower, upper, start, stop, priority, operator, id)"
+    LEAVES.sql
 }
 
 // The text that makes what comes next, and how far all is made then.

@@ -1,25 +1,37 @@
-//! Whether a schema, part by part, is a desk's.
+//! Whether a schema is that of a desk's tables and indexes, part by part.
 
-ghost use Rattle.std.specs.Prelude.{◌≡◌, ◌≢◌, ◌↔◌, ◌<◌, ◌-◌, ◌^◌, [], ◌∷◌, ◌++◌, false, IsTrue};
-ghost use Rattle.std.specs.Prelude.{MatchOption};
+ghost use Rattle.std.specs.Prelude.{◌≡◌, ◌≢◌, ◌↔◌, ◌<◌, ◌-◌, ◌^◌, [], ◌∷◌, IsTrue, MatchOption, map};
 ghost use Rattle.sqlite_value.specs.Keys.{plain};
-ghost use Rattle.sqlite_schema.specs.declared.schema.Action.TheVariants.{NoAction};
-ghost use Rattle.desk_sql.specs.Schema.{column_of, operator_table, plan_table, old_volume_table};
-ghost use Rattle.desk_sql.specs.Schema.{old_span_table, volume_table, span_table, old_tables_and, first_of};
-ghost use Rattle.desk_sql.specs.Schema.{volume_made, span_made, packed_volume_made, packed_span_made};
-ghost use Rattle.desk_sql.specs.Schema.{to_operator, to_plan, schema_of};
-ghost use Rattle.desk_sql.specs.Finding.{no_stamps, without_extras, plain_table, place_columns};
-ghost use Rattle.desk_sql.specs.Finding.{cell_columns, extent_columns, key_index, indexes_of, later_indexes};
-ghost use Rattle.desk_sql.specs.Finding.{operator_index, plan_index, old_volume_index, old_span_index};
-ghost use Rattle.desk_sql.specs.Finding.{old_indexes_and, old_first_index, volume_index, span_index, first_index};
-ghost use Rattle.desk_sql.specs.Finding.{packed_volume_index, packed_span_index};
-ghost use Rattle.desk_sql.specs.Finding.{packed_old_first_index, packed_first_index};
+ghost use Rattle.desk_sql.specs.Schema.{column_of, first_of, schema_of};
+ghost use Rattle.desk_sql.specs.Objects.{no_stamps, without_extras, plain_table, key_index, column_from, name_from};
+ghost use Rattle.desk_sql.specs.Objects.{reference_from, table_from, tables_from, index_from, schema_from};
 
 use crate::opening::finding::TablesPresent;
+use crate::opening::objects::{ColumnForm, DeskObject, ReferenceForm, TableForm, objects};
 use sqlite_items::Items;
 use sqlite_schema::schema::{Action, Column, Index, Kind, Reference, Schema, Stamps, Table};
 use sqlite_value::keys::{Collation, Order};
 use sqlite_value::value::{Bytes, Value};
+
+/// A row that says what a part of a schema is.
+trait FormOf<T> {
+    ghost stands_for: { Self → T };
+
+    /// Whether it is this that was found.
+    fn describes(&self, found: &T) -> bool
+        ensures { IsTrue result ↔ (found.now ≡ stands_for self.now) };
+}
+
+/// Whether these were found, in this order, and nothing else.
+fn are_all<T, F: FormOf<T>>(found: &[T], forms: &[F]) -> bool
+    ensures { IsTrue result ↔ (found.now ≡ map F.stands_for forms.now) }
+{
+    match (found, forms) {
+        ([], []) => true,
+        ([one, others @ ..], [form, more @ ..]) => form.describes(one) && are_all(others, more),
+        _ => false,
+    }
+}
 
 /// Whether a column of a STRICT table has this name and this type, takes no NULL, and has no default.
 fn is_column(column: &Column, name: &[u8], kind: Kind) -> bool
@@ -33,121 +45,27 @@ fn is_column(column: &Column, name: &[u8], kind: Kind) -> bool
         && column.collation == Collation::Binary
 }
 
-fn are_operator_columns(columns: &[Column]) -> bool
-    ensures { IsTrue result ↔ (columns.now ≡ operator_table.columns) }
-{
-    match columns {
-        [name, ceiling] => {
-            is_column(name, b"name", Kind::Text) && is_column(ceiling, b"ceiling", Kind::Integer)
+impl FormOf<Column> for ColumnForm {
+    ghost stands_for = { column_from };
+
+    fn describes(&self, found: &Column) -> bool {
+        match self {
+            ColumnForm::Text(name) => is_column(found, name, Kind::Text),
+            ColumnForm::Number(name) => is_column(found, name, Kind::Integer),
+            ColumnForm::Bytes(name) => is_column(found, name, Kind::Blob),
         }
-        _ => false,
     }
 }
 
-fn are_plan_columns(columns: &[Column]) -> bool
-    ensures { IsTrue result ↔ (columns.now ≡ plan_table.columns) }
-{
-    match columns {
-        [operator, id, priority, usage, aircraft] => {
-            is_column(operator, b"operator", Kind::Text)
-                && is_column(id, b"id", Kind::Text)
-                && is_column(priority, b"priority", Kind::Integer)
-                && is_column(usage, b"usage", Kind::Integer)
-                && is_column(aircraft, b"aircraft", Kind::Integer)
+impl FormOf<Bytes> for ColumnForm {
+    ghost stands_for = { name_from };
+
+    fn describes(&self, found: &Bytes) -> bool {
+        match self {
+            ColumnForm::Text(name) | ColumnForm::Number(name) | ColumnForm::Bytes(name) => {
+                is_name(found, name)
+            }
         }
-        _ => false,
-    }
-}
-
-/// Whether these begin the columns of the tables of volumes and of spans.
-fn is_place(operator: &Column, id: &Column, place: &Column) -> bool
-    ensures { IsTrue result ↔ (operator.now ∷ id.now ∷ place.now ∷ [] ≡ place_columns) }
-{
-    is_column(operator, b"operator", Kind::Text)
-        && is_column(id, b"id", Kind::Text)
-        && is_column(place, b"place", Kind::Integer)
-}
-
-/// Whether these are the columns of an extent in altitude and time.
-fn is_extent(lower: &Column, upper: &Column, start: &Column, stop: &Column) -> bool
-    ensures { IsTrue result ↔ (lower.now ∷ upper.now ∷ start.now ∷ stop.now ∷ [] ≡ extent_columns) }
-{
-    is_column(lower, b"lower", Kind::Integer)
-        && is_column(upper, b"upper", Kind::Integer)
-        && is_column(start, b"start", Kind::Integer)
-        && is_column(stop, b"stop", Kind::Integer)
-}
-
-/// Whether these are the columns of an extent, and one more.
-fn are_bounds(columns: &[Column], name: &[u8], kind: Kind) -> bool
-    ensures { IsTrue result ↔ (columns.now ≡ extent_columns ++ column_of name.now kind ∷ []) }
-{
-    match columns {
-        [lower, upper, start, stop, other] => {
-            is_extent(lower, upper, start, stop) && is_column(other, name, kind)
-        }
-        _ => false,
-    }
-}
-
-/// Whether these are the cells that were asked for, and the cells of the canonical cover.
-fn are_cells(columns: &[Column]) -> bool
-    ensures { IsTrue result ↔ (columns.now ≡ cell_columns) }
-{
-    match columns {
-        [asked, canon] => {
-            is_column(asked, b"asked", Kind::Blob) && is_column(canon, b"canon", Kind::Blob)
-        }
-        _ => false,
-    }
-}
-
-/// Whether these are the columns of an extent, and then those of cells.
-fn are_bounds_and_cells(columns: &[Column]) -> bool
-    ensures { IsTrue result ↔ (columns.now ≡ extent_columns ++ cell_columns) }
-{
-    match columns {
-        [lower, upper, start, stop, cells @ ..] => {
-            is_extent(lower, upper, start, stop) && are_cells(cells)
-        }
-        _ => false,
-    }
-}
-
-fn are_old_volume_columns(columns: &[Column]) -> bool
-    ensures { IsTrue result ↔ (columns.now ≡ old_volume_table.columns) }
-{
-    match columns {
-        [operator, id, place, bounds @ ..] => {
-            is_place(operator, id, place) && are_bounds(bounds, b"asked", Kind::Blob)
-        }
-        _ => false,
-    }
-}
-
-fn are_volume_columns(columns: &[Column]) -> bool
-    ensures { IsTrue result ↔ (columns.now ≡ volume_table.columns) }
-{
-    match columns {
-        [operator, id, place, rest @ ..] => {
-            is_place(operator, id, place) && are_bounds_and_cells(rest)
-        }
-        _ => false,
-    }
-}
-
-/// Whether these are the columns of `span2`, which are those of `span`.
-fn are_span_columns(columns: &[Column]) -> bool
-    ensures { IsTrue result ↔ (columns.now ≡ span_table.columns) }
-{
-    match columns {
-        [operator, id, place, first, last, bounds @ ..] => {
-            is_place(operator, id, place)
-                && is_column(first, b"first", Kind::Integer)
-                && is_column(last, b"last", Kind::Integer)
-                && are_bounds(bounds, b"priority", Kind::Integer)
-        }
-        _ => false,
     }
 }
 
@@ -213,240 +131,54 @@ fn is_plain_table(table: &Table, name: &[u8], tree: u32, key: &[usize]) -> bool
         && has_no_extras(table)
 }
 
-fn is_reference(reference: &Reference, columns: &[usize], parent: &[u8], on_delete: Action) -> bool
-    ensures { IsTrue result ↔ (reference.now ≡ record reference.now {
-      columns = columns.now;
-      parent = parent.now;
-      on_delete = on_delete;
-      on_update = NoAction;
-      is_deferred = false;
-    }) }
-{
-    are_places(&reference.columns, columns)
-        && is_name(&reference.parent, parent)
-        && reference.on_delete == on_delete
-        && reference.on_update == Action::NoAction
-        && !reference.is_deferred
-}
+impl FormOf<Reference> for ReferenceForm {
+    ghost stands_for = { reference_from };
 
-fn are_names_of_operator(names: &[Bytes]) -> bool
-    ensures { IsTrue result ↔ (names.now ≡ to_operator.parent_columns) }
-{
-    match names {
-        [name] => is_name(name, b"name"),
-        _ => false,
+    fn describes(&self, found: &Reference) -> bool {
+        are_places(&found.columns, self.places)
+            && is_name(&found.parent, self.parent)
+            && are_all(found.parent_columns.as_slice(), self.parent_columns)
+            && found.on_delete == self.on_delete
+            && found.on_update == Action::NoAction
+            && !found.is_deferred
     }
 }
 
-fn are_names_of_plan(names: &[Bytes]) -> bool
-    ensures { IsTrue result ↔ (names.now ≡ to_plan.parent_columns) }
+/// Whether it is the table of this form, in this tree.
+fn is_table(table: &Table, form: &TableForm, tree: u32) -> bool
+    ensures { IsTrue result ↔ (table.now ≡ table_from form.now tree) }
 {
-    match names {
-        [operator, id] => is_name(operator, b"operator") && is_name(id, b"id"),
-        _ => false,
-    }
+    is_plain_table(table, form.name, tree, form.key)
+        && are_all(table.columns.as_slice(), form.columns)
+        && are_all(table.references.as_slice(), form.references)
 }
 
-fn refers_to_operator(references: &[Reference]) -> bool
-    ensures { IsTrue result ↔ (references.now ≡ to_operator ∷ []) }
+/// Whether these are the tables of these objects, in their order.
+fn are_tables(tables: &[Table], objects: &[DeskObject]) -> bool
+    ensures { IsTrue result ↔ (tables.now ≡ tables_from objects.now) }
 {
-    match references {
-        [reference] => {
-            is_reference(reference, [1].as_slice(), b"operator", Action::NoAction)
-                && are_names_of_operator(reference.parent_columns.as_slice())
-        }
-        _ => false,
-    }
-}
-
-fn refers_to_plan(references: &[Reference]) -> bool
-    ensures { IsTrue result ↔ (references.now ≡ to_plan ∷ []) }
-{
-    match references {
-        [reference] => {
-            is_reference(reference, [1, 2].as_slice(), b"plan", Action::Cascade)
-                && are_names_of_plan(reference.parent_columns.as_slice())
-        }
-        _ => false,
-    }
-}
-
-fn is_operator_table(table: &Table) -> bool
-    ensures { IsTrue result ↔ (table.now ≡ operator_table) }
-{
-    is_plain_table(table, b"operator", 0, [1].as_slice())
-        && are_operator_columns(table.columns.as_slice())
-        && table.references.is_empty()
-}
-
-fn is_plan_table(table: &Table) -> bool
-    ensures { IsTrue result ↔ (table.now ≡ record plan_table { tree = 2 }) }
-{
-    is_plain_table(table, b"plan", 2, [1, 2].as_slice())
-        && are_plan_columns(table.columns.as_slice())
-        && refers_to_operator(table.references.as_slice())
-}
-
-fn is_old_volume_table(table: &Table) -> bool
-    ensures { IsTrue result ↔ (table.now ≡ record old_volume_table { tree = 4 }) }
-{
-    is_plain_table(table, b"volume", 4, [1, 2, 3].as_slice())
-        && are_old_volume_columns(table.columns.as_slice())
-        && refers_to_plan(table.references.as_slice())
-}
-
-fn is_old_span_table(table: &Table) -> bool
-    ensures { IsTrue result ↔ (table.now ≡ record old_span_table { tree = 6 }) }
-{
-    is_plain_table(table, b"span", 6, [1, 2, 3, 4].as_slice())
-        && are_span_columns(table.columns.as_slice())
-        && refers_to_plan(table.references.as_slice())
-}
-
-/// Whether it is `volume2`, in this tree.
-fn is_volume_table(table: &Table, tree: u32) -> bool
-    ensures { IsTrue result ↔ (table.now ≡ record volume_table { tree = tree }) }
-{
-    is_plain_table(table, b"volume2", tree, [1, 2, 3].as_slice())
-        && are_volume_columns(table.columns.as_slice())
-        && refers_to_plan(table.references.as_slice())
-}
-
-/// Whether it is `span2`, in this tree.
-fn is_span_table(table: &Table, tree: u32) -> bool
-    ensures { IsTrue result ↔ (table.now ≡ record span_table { tree = tree }) }
-{
-    is_plain_table(table, b"span2", tree, [1, 2, 3, 4].as_slice())
-        && are_span_columns(table.columns.as_slice())
-        && refers_to_plan(table.references.as_slice())
-}
-
-/// Whether these are the tables of version 1, in their order.
-fn are_old_tables(operator: &Table, plan: &Table, volume: &Table, span: &Table) -> bool
-    ensures { IsTrue result ↔ (operator.now ∷ plan.now ∷ volume.now ∷ span.now ∷ [] ≡ old_tables_and []) }
-{
-    is_operator_table(operator)
-        && is_plan_table(plan)
-        && is_old_volume_table(volume)
-        && is_old_span_table(span)
-}
-
-/// Whether these are `volume2` and `span2`.
-fn are_new_tables(tables: &[Table]) -> bool
-    ensures { IsTrue result ↔ (tables.now ≡ volume_made ∷ span_made ∷ []) }
-{
-    match tables {
-        [volume, span] => is_volume_table(volume, 9) && is_span_table(span, 11),
-        _ => false,
-    }
-}
-
-/// Whether these are `volume2` and `span2`, as they stand in a packed file.
-fn are_packed_tables(tables: &[Table]) -> bool
-    ensures { IsTrue result ↔ (tables.now ≡ packed_volume_made ∷ packed_span_made ∷ []) }
-{
-    match tables {
-        [volume, span] => is_volume_table(volume, 8) && is_span_table(span, 10),
-        _ => false,
-    }
-}
-
-/// Whether these are the tables that are made so far, in their order.
-fn are_tables(made: TablesPresent, tables: &[Table]) -> bool
-    ensures { IsTrue result ↔ (tables.now ≡ (schema_of made).tables) }
-{
-    match (made, tables) {
-        (TablesPresent::Nothing, []) => true,
-        (TablesPresent::Operators, [operator]) => is_operator_table(operator),
-        (TablesPresent::Plans, [operator, plan]) => is_operator_table(operator)
-            && is_plan_table(plan),
-        (TablesPresent::OldVolumes, [operator, plan, volume]) => {
-            is_operator_table(operator) && is_plan_table(plan) && is_old_volume_table(volume)
-        }
-        (TablesPresent::OldSpans | TablesPresent::OldIndex, [operator, plan, volume, span]) => {
-            are_old_tables(operator, plan, volume, span)
-        }
-        (TablesPresent::Volumes, [operator, plan, volume, span, volume2]) => {
-            are_old_tables(operator, plan, volume, span) && is_volume_table(volume2, 9)
-        }
-        (TablesPresent::Spans | TablesPresent::All, [operator, plan, volume, span, new @ ..]) => {
-            are_old_tables(operator, plan, volume, span) && are_new_tables(new)
-        }
-        (TablesPresent::Packed, [operator, plan, volume, span, new @ ..]) => {
-            are_old_tables(operator, plan, volume, span) && are_packed_tables(new)
-        }
-        _ => false,
+    let [object, others @ ..] = objects else {
+        return tables.is_empty();
+    };
+    match object {
+        DeskObject::LeafIndex { .. } => are_tables(tables, others),
+        DeskObject::Table(form, tree) => match tables {
+            [table, more @ ..] => is_table(table, form, *tree) && are_tables(more, others),
+            [] => false,
+        },
     }
 }
 
 /// Whether it is the index that SQLite makes for the primary key of the table in the tree before.
-fn is_key_index(index: &Index, name: &[u8], table: u32, columns: &[usize]) -> bool
-    requires { table < 2 ^ 32 - 1 }
-    ensures { IsTrue result ↔ (index.now ≡ key_index name.now table columns.now) }
+fn is_key_index(index: &Index, form: &TableForm, table: u32) -> bool
+    ensures { IsTrue result ↔ (index.now ≡ key_index form.now.key_index.now table form.now.key.now) }
 {
-    is_name(&index.name, name)
-        && index.tree == table + 1
+    is_name(&index.name, form.key_index)
+        && index.tree.checked_sub(1) == Some(table)
         && index.table == table
-        && are_places(&index.columns, columns)
+        && are_places(&index.columns, form.key)
         && index.order.digits == 0
         && index.is_unique
-}
-
-#[tactic(auto, unfolding(crate::specs::Finding::operator_index))]
-fn is_operator_index(index: &Index) -> bool
-    ensures { IsTrue result ↔ (index.now ≡ operator_index) }
-{
-    is_key_index(index, b"sqlite_autoindex_operator_1", 0, [1].as_slice())
-}
-
-#[tactic(auto, unfolding(crate::specs::Finding::plan_index))]
-fn is_plan_index(index: &Index) -> bool
-    ensures { IsTrue result ↔ (index.now ≡ plan_index) }
-{
-    is_key_index(index, b"sqlite_autoindex_plan_1", 2, [1, 2].as_slice())
-}
-
-#[tactic(auto, unfolding(crate::specs::Finding::old_volume_index))]
-fn is_old_volume_index(index: &Index) -> bool
-    ensures { IsTrue result ↔ (index.now ≡ old_volume_index) }
-{
-    is_key_index(index, b"sqlite_autoindex_volume_1", 4, [1, 2, 3].as_slice())
-}
-
-#[tactic(auto, unfolding(crate::specs::Finding::old_span_index))]
-fn is_old_span_index(index: &Index) -> bool
-    ensures { IsTrue result ↔ (index.now ≡ old_span_index) }
-{
-    is_key_index(
-        index,
-        b"sqlite_autoindex_span_1",
-        6,
-        [1, 2, 3, 4].as_slice(),
-    )
-}
-
-#[tactic(auto, unfolding(crate::specs::Finding::volume_index))]
-fn is_volume_index(index: &Index) -> bool
-    ensures { IsTrue result ↔ (index.now ≡ volume_index) }
-{
-    is_key_index(
-        index,
-        b"sqlite_autoindex_volume2_1",
-        9,
-        [1, 2, 3].as_slice(),
-    )
-}
-
-#[tactic(auto, unfolding(crate::specs::Finding::span_index))]
-fn is_span_index(index: &Index) -> bool
-    ensures { IsTrue result ↔ (index.now ≡ span_index) }
-{
-    is_key_index(
-        index,
-        b"sqlite_autoindex_span2_1",
-        11,
-        [1, 2, 3, 4].as_slice(),
-    )
 }
 
 /// Whether it is an index over the leaves of spans, made after the table in the tree `table`.
@@ -461,134 +193,16 @@ fn is_leaf_index(index: &Index, name: &[u8], tree: u32, table: u32) -> bool
         && !index.is_unique
 }
 
-#[tactic(auto, unfolding(crate::specs::Finding::old_first_index))]
-fn is_old_first_index(index: &Index) -> bool
-    ensures { IsTrue result ↔ (index.now ≡ old_first_index) }
-{
-    is_leaf_index(index, b"span_first", 8, 6)
-}
+impl FormOf<Index> for DeskObject {
+    ghost stands_for = { index_from };
 
-#[tactic(auto, unfolding(crate::specs::Finding::first_index))]
-fn is_first_index(index: &Index) -> bool
-    ensures { IsTrue result ↔ (index.now ≡ first_index) }
-{
-    is_leaf_index(index, b"span2_first", 13, 11)
-}
-
-#[tactic(auto, unfolding(crate::specs::Finding::packed_volume_index))]
-fn is_packed_volume_index(index: &Index) -> bool
-    ensures { IsTrue result ↔ (index.now ≡ packed_volume_index) }
-{
-    is_key_index(
-        index,
-        b"sqlite_autoindex_volume2_1",
-        8,
-        [1, 2, 3].as_slice(),
-    )
-}
-
-#[tactic(auto, unfolding(crate::specs::Finding::packed_span_index))]
-fn is_packed_span_index(index: &Index) -> bool
-    ensures { IsTrue result ↔ (index.now ≡ packed_span_index) }
-{
-    is_key_index(
-        index,
-        b"sqlite_autoindex_span2_1",
-        10,
-        [1, 2, 3, 4].as_slice(),
-    )
-}
-
-#[tactic(auto, unfolding(crate::specs::Finding::packed_old_first_index))]
-fn is_packed_old_first_index(index: &Index) -> bool
-    ensures { IsTrue result ↔ (index.now ≡ packed_old_first_index) }
-{
-    is_leaf_index(index, b"span_first", 12, 6)
-}
-
-#[tactic(auto, unfolding(crate::specs::Finding::packed_first_index))]
-fn is_packed_first_index(index: &Index) -> bool
-    ensures { IsTrue result ↔ (index.now ≡ packed_first_index) }
-{
-    is_leaf_index(index, b"span2_first", 13, 10)
-}
-
-/// Whether these are the indexes of version 1's keys, in their order.
-fn are_old_indexes(operator: &Index, plan: &Index, volume: &Index, span: &Index) -> bool
-    ensures { IsTrue result ↔ (operator.now ∷ plan.now ∷ volume.now ∷ span.now ∷ [] ≡ old_indexes_and []) }
-{
-    is_operator_index(operator)
-        && is_plan_index(plan)
-        && is_old_volume_index(volume)
-        && is_old_span_index(span)
-}
-
-/// Whether these are the indexes that come after those of version 1's keys in a packed file.
-fn are_packed_indexes(indexes: &[Index]) -> bool
-    ensures { IsTrue result ↔ (indexes.now ≡ later_indexes TablesPresent.Packed) }
-{
-    match indexes {
-        [volume, span, old, first] => {
-            is_packed_volume_index(volume)
-                && is_packed_span_index(span)
-                && is_packed_old_first_index(old)
-                && is_packed_first_index(first)
+    fn describes(&self, found: &Index) -> bool {
+        match self {
+            DeskObject::Table(form, tree) => is_key_index(found, form, *tree),
+            DeskObject::LeafIndex { form, tree, table } => {
+                is_leaf_index(found, form.name, *tree, *table)
+            }
         }
-        _ => false,
-    }
-}
-
-/// Whether these are the indexes that come after those of version 1's keys once so much is made.
-fn are_later_indexes(made: TablesPresent, indexes: &[Index]) -> bool
-    ensures { IsTrue result ↔ (indexes.now ≡ later_indexes made) }
-{
-    match (made, indexes) {
-        (TablesPresent::OldIndex, [old]) => is_old_first_index(old),
-        (TablesPresent::Volumes, [old, volume]) => is_old_first_index(old)
-            && is_volume_index(volume),
-        (TablesPresent::Spans, [old, volume, span]) => {
-            is_old_first_index(old) && is_volume_index(volume) && is_span_index(span)
-        }
-        (TablesPresent::All, [old, volume, span, first]) => {
-            is_old_first_index(old)
-                && is_volume_index(volume)
-                && is_span_index(span)
-                && is_first_index(first)
-        }
-        (TablesPresent::Packed, indexes) => are_packed_indexes(indexes),
-        (
-            TablesPresent::OldIndex
-            | TablesPresent::Volumes
-            | TablesPresent::Spans
-            | TablesPresent::All,
-            _,
-        ) => false,
-        (_, indexes) => indexes.is_empty(),
-    }
-}
-
-/// Whether these are the indexes that are made so far, in their order.
-fn are_indexes(made: TablesPresent, indexes: &[Index]) -> bool
-    ensures { IsTrue result ↔ (indexes.now ≡ indexes_of made) }
-{
-    match (made, indexes) {
-        (TablesPresent::Nothing, []) => true,
-        (TablesPresent::Operators, [operator]) => is_operator_index(operator),
-        (TablesPresent::Plans, [operator, plan]) => is_operator_index(operator)
-            && is_plan_index(plan),
-        (TablesPresent::OldVolumes, [operator, plan, volume]) => {
-            is_operator_index(operator) && is_plan_index(plan) && is_old_volume_index(volume)
-        }
-        (
-            TablesPresent::OldSpans
-            | TablesPresent::OldIndex
-            | TablesPresent::Volumes
-            | TablesPresent::Spans
-            | TablesPresent::All
-            | TablesPresent::Packed,
-            [operator, plan, volume, span, later @ ..],
-        ) => are_old_indexes(operator, plan, volume, span) && are_later_indexes(made, later),
-        _ => false,
     }
 }
 
@@ -598,17 +212,20 @@ fn has_no_views(schema: &Schema) -> bool
     schema.views.is_empty()
 }
 
+/// Whether there are these objects, in their order, and nothing else.
+fn has_objects(schema: &Schema, objects: &[DeskObject]) -> bool
+    ensures { IsTrue result ↔ (schema.now ≡ schema_from objects.now) }
+{
+    are_tables(schema.tables.as_slice(), objects)
+        && are_all(schema.indexes.as_slice(), objects)
+        && has_no_views(schema)
+}
+
 /// Whether there is what is made so far, and nothing else.
 fn is_made(schema: &Schema, made: TablesPresent) -> bool
     ensures { IsTrue result ↔ (schema.now ≡ schema_of made) }
 {
-    if !are_tables(made, schema.tables.as_slice()) {
-        return false;
-    }
-    if !are_indexes(made, schema.indexes.as_slice()) {
-        return false;
-    }
-    has_no_views(schema)
+    has_objects(schema, objects(made))
 }
 
 /// How far a desk's tables and indexes are made, if there is nothing else.

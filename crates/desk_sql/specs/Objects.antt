@@ -1,0 +1,79 @@
+-- The tables and the indexes of a desk as the program's rows say them, and as a schema has them.
+use Rattle.std.specs.Prelude.{List, [], ◌∷◌, ℕ, ◌+◌, map, true, false, None}
+use Rattle.sqlite.specs.Kind.TheVariants.{Integer, Text, Blob}
+use Rattle.sqlite.specs.Table.{Table}
+use Rattle.sqlite.specs.Schema.{Schema}
+use Rattle.sqlite_schema.specs.declared.schema.Action.TheVariants.{NoAction}
+use Rattle.sqlite_schema.specs.declared.schema.Column.{Column}
+use Rattle.sqlite_schema.specs.declared.schema.Index.{Index}
+use Rattle.sqlite_schema.specs.declared.schema.Reference.{Reference}
+use Rattle.sqlite_schema.specs.declared.schema.Stamps.{Stamps}
+use Rattle.sqlite_value.specs.Keys.{plain}
+use Rattle.desk_sql.specs.declared.opening.objects.ColumnForm.{ColumnForm}
+use Rattle.desk_sql.specs.declared.opening.objects.ColumnForm.TheVariants as column
+use Rattle.desk_sql.specs.declared.opening.objects.ReferenceForm.{ReferenceForm}
+use Rattle.desk_sql.specs.declared.opening.objects.TableForm.{TableForm}
+use Rattle.desk_sql.specs.declared.opening.objects.DeskObject.{DeskObject}
+use Rattle.desk_sql.specs.declared.opening.objects.DeskObject.TheVariants as object
+use Rattle.desk_sql.specs.Schema.{column_of, table_of, first_of}
+
+-- ---- the parts of a table and of an index
+
+-- no default reads the time
+abbrev pub no_stamps : Stamps
+no_stamps = record { places = []; terms = []; formats = [] }
+
+-- the table with no INTEGER PRIMARY KEY, CHECK, computed default or AUTOINCREMENT
+abbrev pub without_extras : Table → Table
+without_extras table =
+    record table { key = None; checks = []; computed = []; stamps = no_stamps; is_counted = false }
+
+-- the table of this name, in this tree and with this primary key, that has the columns and references
+-- of another
+abbrev pub plain_table : Table → List ℕ → ℕ → List ℕ → Table
+plain_table like name tree key = record (table_of name like.columns key like.references) { tree = tree }
+
+-- the index that SQLite makes for the primary key of the table in the tree before its own
+abbrev pub key_index : List ℕ → ℕ → List ℕ → Index
+key_index name table key =
+    record { name = name; tree = table + 1; table = table; columns = key; order = plain; is_unique = true }
+
+-- ---- what a row says
+
+abbrev pub column_from : ColumnForm → Column
+column_from (column.Text name) = column_of name.now Text
+column_from (column.Number name) = column_of name.now Integer
+column_from (column.Bytes name) = column_of name.now Blob
+
+abbrev pub name_from : ColumnForm → List ℕ
+name_from form = (column_from form).name
+
+abbrev pub reference_from : ReferenceForm → Reference
+reference_from form = record {
+  columns = form.places.now;
+  parent = form.parent.now;
+  parent_columns = map name_from form.parent_columns.now;
+  on_delete = form.on_delete;
+  on_update = NoAction;
+  is_deferred = false;
+}
+
+abbrev pub table_from : TableForm → ℕ → Table
+table_from form tree = record (table_of form.name.now (map column_from form.columns.now) form.key.now
+    (map reference_from form.references.now)) { tree = tree }
+
+-- the tables of these objects
+abbrev pub tables_from : List DeskObject → List Table
+tables_from [] = []
+tables_from (object.Table form tree ∷ others) = table_from form tree ∷ tables_from others
+tables_from (object.LeafIndex form tree table ∷ others) = tables_from others
+
+-- an index over leaves, or that of a table's key
+abbrev pub index_from : DeskObject → Index
+index_from (object.Table form tree) = key_index form.key_index.now tree form.key.now
+index_from (object.LeafIndex form tree table) = record (first_of form.name.now table) { tree = tree }
+
+-- the schema of these objects, and of no others
+abbrev pub schema_from : List DeskObject → Schema
+schema_from objects =
+    record { tables = tables_from objects; indexes = map index_from objects; views = [] }

@@ -1,0 +1,255 @@
+//! The tables and the indexes of a desk, as rows: in its own order, and in that of a packed file.
+
+ghost use Rattle.std.specs.Prelude.{◌≡◌};
+ghost use Rattle.desk_sql.specs.Objects.{schema_from};
+ghost use Rattle.desk_sql.specs.Schema.{schema_of};
+
+use crate::opening::finding::TablesPresent;
+use sqlite_schema::schema::{Action, Kind};
+
+/// A column of a STRICT table, which takes no NULL and has no default, by its type and name.
+#[derive(Clone, Copy)]
+pub(crate) enum ColumnForm {
+    Text(&'static [u8]),
+    Number(&'static [u8]),
+    Bytes(&'static [u8]),
+}
+
+/// A foreign key.
+#[derive(Clone, Copy)]
+pub(crate) struct ReferenceForm {
+    /// The places of the columns that refer.
+    pub(crate) places: &'static [usize],
+    pub(crate) parent: &'static [u8],
+    pub(crate) parent_columns: &'static [ColumnForm],
+    pub(crate) on_delete: Action,
+}
+
+/// A table.
+#[derive(Clone, Copy)]
+pub(crate) struct TableForm {
+    pub(crate) name: &'static [u8],
+    pub(crate) columns: &'static [ColumnForm],
+    /// The places of its primary key.
+    pub(crate) key: &'static [usize],
+    /// The name of the index that SQLite makes for the key.
+    pub(crate) key_index: &'static [u8],
+    pub(crate) references: &'static [ReferenceForm],
+    /// The text that makes it.
+    pub(crate) sql: &'static str,
+}
+
+/// An index over the leaves of spans.
+#[derive(Clone, Copy)]
+pub(crate) struct LeafForm {
+    pub(crate) name: &'static [u8],
+    /// The text that makes it.
+    pub(crate) sql: &'static str,
+}
+
+/// What a desk makes by one statement, with the tree in which it stands.
+#[derive(Clone, Copy)]
+pub(crate) enum DeskObject {
+    /// A table; the index of its key is the tree after its own.
+    Table(TableForm, u32),
+    /// An index over the leaves of the spans in the table whose tree is `table`.
+    LeafIndex {
+        form: LeafForm,
+        tree: u32,
+        table: u32,
+    },
+}
+
+const NAME: ColumnForm = ColumnForm::Text(b"name");
+
+const CEILING: ColumnForm = ColumnForm::Number(b"ceiling");
+
+const OPERATOR: ColumnForm = ColumnForm::Text(b"operator");
+
+const ID: ColumnForm = ColumnForm::Text(b"id");
+
+const PRIORITY: ColumnForm = ColumnForm::Number(b"priority");
+
+const USAGE: ColumnForm = ColumnForm::Number(b"usage");
+
+const AIRCRAFT: ColumnForm = ColumnForm::Number(b"aircraft");
+
+const PLACE: ColumnForm = ColumnForm::Number(b"place");
+
+const LOWER: ColumnForm = ColumnForm::Number(b"lower");
+
+const UPPER: ColumnForm = ColumnForm::Number(b"upper");
+
+const START: ColumnForm = ColumnForm::Number(b"start");
+
+const STOP: ColumnForm = ColumnForm::Number(b"stop");
+
+const ASKED: ColumnForm = ColumnForm::Bytes(b"asked");
+
+const CANON: ColumnForm = ColumnForm::Bytes(b"canon");
+
+const FIRST: ColumnForm = ColumnForm::Number(b"first");
+
+const LAST: ColumnForm = ColumnForm::Number(b"last");
+
+const TO_OPERATOR: ReferenceForm = ReferenceForm {
+    places: &[1],
+    parent: b"operator",
+    parent_columns: &[NAME],
+    on_delete: Action::NoAction,
+};
+
+const TO_PLAN: ReferenceForm = ReferenceForm {
+    places: &[1, 2],
+    parent: b"plan",
+    parent_columns: &[OPERATOR, ID],
+    on_delete: Action::Cascade,
+};
+
+pub(crate) const OPERATOR_TABLE: TableForm = TableForm {
+    name: b"operator",
+    columns: &[NAME, CEILING],
+    key: &[1],
+    key_index: b"sqlite_autoindex_operator_1",
+    references: &[],
+    sql: "CREATE TABLE operator (name TEXT NOT NULL, ceiling INTEGER NOT NULL, PRIMARY KEY (name)) STRICT",
+};
+
+pub(crate) const PLAN_TABLE: TableForm = TableForm {
+    name: b"plan",
+    columns: &[OPERATOR, ID, PRIORITY, USAGE, AIRCRAFT],
+    key: &[1, 2],
+    key_index: b"sqlite_autoindex_plan_1",
+    references: &[TO_OPERATOR],
+    sql: "CREATE TABLE plan (operator TEXT NOT NULL, id TEXT NOT NULL, priority INTEGER NOT NULL, \
+          usage INTEGER NOT NULL, aircraft INTEGER NOT NULL, PRIMARY KEY (operator, id), \
+          FOREIGN KEY (operator) REFERENCES operator (name)) STRICT",
+};
+
+pub(crate) const OLD_VOLUME_TABLE: TableForm = TableForm {
+    name: b"volume",
+    columns: &[OPERATOR, ID, PLACE, LOWER, UPPER, START, STOP, ASKED],
+    key: &[1, 2, 3],
+    key_index: b"sqlite_autoindex_volume_1",
+    references: &[TO_PLAN],
+    sql: "CREATE TABLE volume (operator TEXT NOT NULL, id TEXT NOT NULL, place INTEGER NOT NULL, \
+          lower INTEGER NOT NULL, upper INTEGER NOT NULL, start INTEGER NOT NULL, \
+          stop INTEGER NOT NULL, asked BLOB NOT NULL, PRIMARY KEY (operator, id, place), \
+          FOREIGN KEY (operator, id) REFERENCES plan (operator, id) ON DELETE CASCADE) STRICT",
+};
+
+pub(crate) const OLD_SPAN_TABLE: TableForm = TableForm {
+    name: b"span",
+    columns: &[
+        OPERATOR, ID, PLACE, FIRST, LAST, LOWER, UPPER, START, STOP, PRIORITY,
+    ],
+    key: &[1, 2, 3, 4],
+    key_index: b"sqlite_autoindex_span_1",
+    references: &[TO_PLAN],
+    sql: "CREATE TABLE span (operator TEXT NOT NULL, id TEXT NOT NULL, place INTEGER NOT NULL, \
+          first INTEGER NOT NULL, last INTEGER NOT NULL, lower INTEGER NOT NULL, \
+          upper INTEGER NOT NULL, start INTEGER NOT NULL, stop INTEGER NOT NULL, \
+          priority INTEGER NOT NULL, PRIMARY KEY (operator, id, place, first), \
+          FOREIGN KEY (operator, id) REFERENCES plan (operator, id) ON DELETE CASCADE) STRICT",
+};
+
+pub(crate) const VOLUME_TABLE: TableForm = TableForm {
+    name: b"volume2",
+    columns: &[OPERATOR, ID, PLACE, LOWER, UPPER, START, STOP, ASKED, CANON],
+    key: &[1, 2, 3],
+    key_index: b"sqlite_autoindex_volume2_1",
+    references: &[TO_PLAN],
+    sql: "CREATE TABLE volume2 (operator TEXT NOT NULL, id TEXT NOT NULL, place INTEGER NOT NULL, \
+          lower INTEGER NOT NULL, upper INTEGER NOT NULL, start INTEGER NOT NULL, \
+          stop INTEGER NOT NULL, asked BLOB NOT NULL, canon BLOB NOT NULL, \
+          PRIMARY KEY (operator, id, place), \
+          FOREIGN KEY (operator, id) REFERENCES plan (operator, id) ON DELETE CASCADE) STRICT",
+};
+
+pub(crate) const SPAN_TABLE: TableForm = TableForm {
+    name: b"span2",
+    columns: &[
+        OPERATOR, ID, PLACE, FIRST, LAST, LOWER, UPPER, START, STOP, PRIORITY,
+    ],
+    key: &[1, 2, 3, 4],
+    key_index: b"sqlite_autoindex_span2_1",
+    references: &[TO_PLAN],
+    sql: "CREATE TABLE span2 (operator TEXT NOT NULL, id TEXT NOT NULL, place INTEGER NOT NULL, \
+          first INTEGER NOT NULL, last INTEGER NOT NULL, lower INTEGER NOT NULL, \
+          upper INTEGER NOT NULL, start INTEGER NOT NULL, stop INTEGER NOT NULL, \
+          priority INTEGER NOT NULL, \
+          PRIMARY KEY (operator, id, place, first), \
+          FOREIGN KEY (operator, id) REFERENCES plan (operator, id) ON DELETE CASCADE) STRICT",
+};
+
+pub(crate) const OLD_LEAVES: LeafForm = LeafForm {
+    name: b"span_first",
+    sql: "CREATE INDEX span_first ON span \
+          (first, last, lower, upper, start, stop, priority, operator, id)",
+};
+
+// The columns after `last` are those that the query of rivals reads, so that it reads the index alone.
+pub(crate) const LEAVES: LeafForm = LeafForm {
+    name: b"span2_first",
+    sql: "CREATE INDEX span2_first ON span2 \
+          (first, last, lower, upper, start, stop, priority, operator, id)",
+};
+
+// All, in the order in which a desk makes them.
+static OWN: [DeskObject; 8] = [
+    DeskObject::Table(OPERATOR_TABLE, 0),
+    DeskObject::Table(PLAN_TABLE, 2),
+    DeskObject::Table(OLD_VOLUME_TABLE, 4),
+    DeskObject::Table(OLD_SPAN_TABLE, 6),
+    DeskObject::LeafIndex {
+        form: OLD_LEAVES,
+        tree: 8,
+        table: 6,
+    },
+    DeskObject::Table(VOLUME_TABLE, 9),
+    DeskObject::Table(SPAN_TABLE, 11),
+    DeskObject::LeafIndex {
+        form: LEAVES,
+        tree: 13,
+        table: 11,
+    },
+];
+
+// All, in the order of a packed file.
+static PACKED: [DeskObject; 8] = [
+    DeskObject::Table(OPERATOR_TABLE, 0),
+    DeskObject::Table(PLAN_TABLE, 2),
+    DeskObject::Table(OLD_VOLUME_TABLE, 4),
+    DeskObject::Table(OLD_SPAN_TABLE, 6),
+    DeskObject::Table(VOLUME_TABLE, 8),
+    DeskObject::Table(SPAN_TABLE, 10),
+    DeskObject::LeafIndex {
+        form: OLD_LEAVES,
+        tree: 12,
+        table: 6,
+    },
+    DeskObject::LeafIndex {
+        form: LEAVES,
+        tree: 13,
+        table: 10,
+    },
+];
+
+/// The tables and the indexes that are made so far, in their order.
+#[tactic(auto, unfolding(sqlite_tied::specs::Compute::everything))]
+pub(crate) fn objects(made: TablesPresent) -> &'static [DeskObject]
+    ensures { schema_from result.now ≡ schema_of made }
+{
+    match made {
+        TablesPresent::Nothing => &[],
+        TablesPresent::Operators => &OWN[..1],
+        TablesPresent::Plans => &OWN[..2],
+        TablesPresent::OldVolumes => &OWN[..3],
+        TablesPresent::OldSpans => &OWN[..4],
+        TablesPresent::OldIndex => &OWN[..5],
+        TablesPresent::Volumes => &OWN[..6],
+        TablesPresent::Spans => &OWN[..7],
+        TablesPresent::All => &OWN,
+        TablesPresent::Packed => &PACKED,
+    }
+}
