@@ -41,9 +41,9 @@ key_index name table key =
 -- ---- what a row says
 
 abbrev pub column_from : ColumnForm → Column
-column_from (column.Text name) = column_of name.now Text
-column_from (column.Number name) = column_of name.now Integer
-column_from (column.Bytes name) = column_of name.now Blob
+column_from (column.OfText name) = column_of name.now Text
+column_from (column.OfNumber name) = column_of name.now Integer
+column_from (column.OfBytes name) = column_of name.now Blob
 
 abbrev pub name_from : ColumnForm → List ℕ
 name_from form = (column_from form).name
@@ -65,12 +65,12 @@ table_from form tree = record (table_of form.name.now (map column_from form.colu
 -- the tables of these objects
 abbrev pub tables_from : List DeskObject → List Table
 tables_from [] = []
-tables_from (object.Table form tree ∷ others) = table_from form tree ∷ tables_from others
+tables_from (object.KeyedTable form tree ∷ others) = table_from form tree ∷ tables_from others
 tables_from (object.LeafIndex form tree table ∷ others) = tables_from others
 
 -- an index over leaves, or that of a table's key
 abbrev pub index_from : DeskObject → Index
-index_from (object.Table form tree) = key_index form.key_index.now tree form.key.now
+index_from (object.KeyedTable form tree) = key_index form.key_index.now tree form.key.now
 index_from (object.LeafIndex form tree table) = record (first_of form.name.now table) { tree = tree }
 
 -- the schema of these objects, and of no others

@@ -50,9 +50,9 @@ impl FormOf<Column> for ColumnForm {
 
     fn describes(&self, found: &Column) -> bool {
         match self {
-            ColumnForm::Text(name) => is_column(found, name, Kind::Text),
-            ColumnForm::Number(name) => is_column(found, name, Kind::Integer),
-            ColumnForm::Bytes(name) => is_column(found, name, Kind::Blob),
+            ColumnForm::OfText(name) => is_column(found, name, Kind::Text),
+            ColumnForm::OfNumber(name) => is_column(found, name, Kind::Integer),
+            ColumnForm::OfBytes(name) => is_column(found, name, Kind::Blob),
         }
     }
 }
@@ -62,7 +62,7 @@ impl FormOf<Bytes> for ColumnForm {
 
     fn describes(&self, found: &Bytes) -> bool {
         match self {
-            ColumnForm::Text(name) | ColumnForm::Number(name) | ColumnForm::Bytes(name) => {
+            ColumnForm::OfText(name) | ColumnForm::OfNumber(name) | ColumnForm::OfBytes(name) => {
                 is_name(found, name)
             }
         }
@@ -162,7 +162,7 @@ fn are_tables(tables: &[Table], objects: &[DeskObject]) -> bool
     };
     match object {
         DeskObject::LeafIndex { .. } => are_tables(tables, others),
-        DeskObject::Table(form, tree) => match tables {
+        DeskObject::KeyedTable(form, tree) => match tables {
             [table, more @ ..] => is_table(table, form, *tree) && are_tables(more, others),
             [] => false,
         },
@@ -198,7 +198,7 @@ impl FormOf<Index> for DeskObject {
 
     fn describes(&self, found: &Index) -> bool {
         match self {
-            DeskObject::Table(form, tree) => is_key_index(found, form, *tree),
+            DeskObject::KeyedTable(form, tree) => is_key_index(found, form, *tree),
             DeskObject::LeafIndex { form, tree, table } => {
                 is_leaf_index(found, form.name, *tree, *table)
             }

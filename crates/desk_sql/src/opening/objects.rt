@@ -10,9 +10,9 @@ use sqlite_schema::schema::{Action, Kind};
 /// A column of a STRICT table, which takes no NULL and has no default, by its type and name.
 #[derive(Clone, Copy)]
 pub(crate) enum ColumnForm {
-    Text(&'static [u8]),
-    Number(&'static [u8]),
-    Bytes(&'static [u8]),
+    OfText(&'static [u8]),
+    OfNumber(&'static [u8]),
+    OfBytes(&'static [u8]),
 }
 
 /// A foreign key.
@@ -51,7 +51,7 @@ pub(crate) struct LeafForm {
 #[derive(Clone, Copy)]
 pub(crate) enum DeskObject {
     /// A table; the index of its key is the tree after its own.
-    Table(TableForm, u32),
+    KeyedTable(TableForm, u32),
     /// An index over the leaves of the spans in the table whose tree is `table`.
     LeafIndex {
         form: LeafForm,
@@ -60,37 +60,37 @@ pub(crate) enum DeskObject {
     },
 }
 
-const NAME: ColumnForm = ColumnForm::Text(b"name");
+const NAME: ColumnForm = ColumnForm::OfText(b"name");
 
-const CEILING: ColumnForm = ColumnForm::Number(b"ceiling");
+const CEILING: ColumnForm = ColumnForm::OfNumber(b"ceiling");
 
-const OPERATOR: ColumnForm = ColumnForm::Text(b"operator");
+const OPERATOR: ColumnForm = ColumnForm::OfText(b"operator");
 
-const ID: ColumnForm = ColumnForm::Text(b"id");
+const ID: ColumnForm = ColumnForm::OfText(b"id");
 
-const PRIORITY: ColumnForm = ColumnForm::Number(b"priority");
+const PRIORITY: ColumnForm = ColumnForm::OfNumber(b"priority");
 
-const USAGE: ColumnForm = ColumnForm::Number(b"usage");
+const USAGE: ColumnForm = ColumnForm::OfNumber(b"usage");
 
-const AIRCRAFT: ColumnForm = ColumnForm::Number(b"aircraft");
+const AIRCRAFT: ColumnForm = ColumnForm::OfNumber(b"aircraft");
 
-const PLACE: ColumnForm = ColumnForm::Number(b"place");
+const PLACE: ColumnForm = ColumnForm::OfNumber(b"place");
 
-const LOWER: ColumnForm = ColumnForm::Number(b"lower");
+const LOWER: ColumnForm = ColumnForm::OfNumber(b"lower");
 
-const UPPER: ColumnForm = ColumnForm::Number(b"upper");
+const UPPER: ColumnForm = ColumnForm::OfNumber(b"upper");
 
-const START: ColumnForm = ColumnForm::Number(b"start");
+const START: ColumnForm = ColumnForm::OfNumber(b"start");
 
-const STOP: ColumnForm = ColumnForm::Number(b"stop");
+const STOP: ColumnForm = ColumnForm::OfNumber(b"stop");
 
-const ASKED: ColumnForm = ColumnForm::Bytes(b"asked");
+const ASKED: ColumnForm = ColumnForm::OfBytes(b"asked");
 
-const CANON: ColumnForm = ColumnForm::Bytes(b"canon");
+const CANON: ColumnForm = ColumnForm::OfBytes(b"canon");
 
-const FIRST: ColumnForm = ColumnForm::Number(b"first");
+const FIRST: ColumnForm = ColumnForm::OfNumber(b"first");
 
-const LAST: ColumnForm = ColumnForm::Number(b"last");
+const LAST: ColumnForm = ColumnForm::OfNumber(b"last");
 
 const TO_OPERATOR: ReferenceForm = ReferenceForm {
     places: &[1],
@@ -197,17 +197,17 @@ pub(crate) const LEAVES: LeafForm = LeafForm {
 
 // All, in the order in which a desk makes them.
 static OWN: [DeskObject; 8] = [
-    DeskObject::Table(OPERATOR_TABLE, 0),
-    DeskObject::Table(PLAN_TABLE, 2),
-    DeskObject::Table(OLD_VOLUME_TABLE, 4),
-    DeskObject::Table(OLD_SPAN_TABLE, 6),
+    DeskObject::KeyedTable(OPERATOR_TABLE, 0),
+    DeskObject::KeyedTable(PLAN_TABLE, 2),
+    DeskObject::KeyedTable(OLD_VOLUME_TABLE, 4),
+    DeskObject::KeyedTable(OLD_SPAN_TABLE, 6),
     DeskObject::LeafIndex {
         form: OLD_LEAVES,
         tree: 8,
         table: 6,
     },
-    DeskObject::Table(VOLUME_TABLE, 9),
-    DeskObject::Table(SPAN_TABLE, 11),
+    DeskObject::KeyedTable(VOLUME_TABLE, 9),
+    DeskObject::KeyedTable(SPAN_TABLE, 11),
     DeskObject::LeafIndex {
         form: LEAVES,
         tree: 13,
@@ -217,12 +217,12 @@ static OWN: [DeskObject; 8] = [
 
 // All, in the order of a packed file.
 static PACKED: [DeskObject; 8] = [
-    DeskObject::Table(OPERATOR_TABLE, 0),
-    DeskObject::Table(PLAN_TABLE, 2),
-    DeskObject::Table(OLD_VOLUME_TABLE, 4),
-    DeskObject::Table(OLD_SPAN_TABLE, 6),
-    DeskObject::Table(VOLUME_TABLE, 8),
-    DeskObject::Table(SPAN_TABLE, 10),
+    DeskObject::KeyedTable(OPERATOR_TABLE, 0),
+    DeskObject::KeyedTable(PLAN_TABLE, 2),
+    DeskObject::KeyedTable(OLD_VOLUME_TABLE, 4),
+    DeskObject::KeyedTable(OLD_SPAN_TABLE, 6),
+    DeskObject::KeyedTable(VOLUME_TABLE, 8),
+    DeskObject::KeyedTable(SPAN_TABLE, 10),
     DeskObject::LeafIndex {
         form: OLD_LEAVES,
         tree: 12,
