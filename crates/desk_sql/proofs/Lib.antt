@@ -21,6 +21,7 @@ pub mod SchemaLemmas
 pub mod MadeLemmas
 pub mod RowidLemmas
 pub mod PackedLemmas
+pub mod VolumeLemmas
 pub mod ClearLemmas
 pub mod SureTexts
 pub mod AskLemmas

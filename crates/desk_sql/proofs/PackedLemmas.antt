@@ -4,10 +4,10 @@ use Rattle.std.proofs.Common.{[], ◌∷◌, map, codes, refl, true, true≢fals
 use Rattle.sqlite_tied.specs.Compute.{everything}
 use Rattle.sqlite.specs.Listing.{understood}
 use Rattle.desk_sql.specs.declared.opening.numbers.DeskTable.TheVariants.{PackedVolume, PackedSpan}
-use Rattle.desk_sql.specs.Rows.{columns, cover_columns, packed_tables_of}
+use Rattle.desk_sql.specs.Rows.{columns, packed_tables_of}
 use Rattle.desk_sql.specs.Statements.{SelectsAll, rowids}
-use Rattle.desk_sql.proofs.Texts.{all_volumes_text, all_covers_text, all_spans_text, volume_rowids_text, span_rowids_text}
-use Rattle.desk_sql.proofs.QueryTexts.{IsWhole, volumes_in, covers_in, spans_in, rowids_query}
+use Rattle.desk_sql.proofs.Texts.{all_volumes_text, volume_rows_text, all_spans_text, volume_rowids_text, span_rowids_text}
+use Rattle.desk_sql.proofs.QueryTexts.{IsWhole, volumes_in, volume_rows_in, spans_in, rowids_query}
 use Rattle.desk_sql.proofs.ReadLemmas.{scanned}
 use Rattle.desk_sql.proofs.SureTexts.{IsSureWith, sure_scan}
 use Rattle.desk_sql.proofs.StatementLemmas.{every, selects_all}
@@ -32,23 +32,24 @@ volumes_selected =
     (λ db. scanned (λ r. [] ∷ r ∷ []) (volumes_in 8).filter (volumes_in 8).project (columns 8)
     (λ r. true) (λ r. refl) (λ r. refl) (db 8) ∙ every (map (columns 8) (db 8)))
 
-covers_are : IsWhole PackedVolume all_covers_text (covers_in 8)
-    (codes "operator" ∷ codes "id" ∷ codes "place" ∷ codes "canon" ∷ [])
+volume_rows_are : IsWhole PackedVolume volume_rows_text (volume_rows_in 8)
+    (codes "operator" ∷ codes "id" ∷ codes "place" ∷ codes "lower" ∷ codes "upper" ∷ codes "start"
+    ∷ codes "stop" ∷ codes "asked" ∷ codes "canon" ∷ [])
 unfolding understood everything
-covers_are others indexes = record { is = refl; plain = (refl, refl); unlisted = refl }
+volume_rows_are others indexes = record { is = refl; plain = (refl, refl); unlisted = refl }
 
-covers_sure : IsSureWith PackedVolume all_covers_text
+volume_rows_sure : IsSureWith PackedVolume volume_rows_text
 unfolding understood everything
-covers_sure others indexes =
-    sure_scan (covers_are others indexes) refl (omega arith) (λ trees misfit. true≢false misfit)
+volume_rows_sure others indexes =
+    sure_scan (volume_rows_are others indexes) refl (omega arith) (λ trees misfit. true≢false misfit)
 
-pub covers_selected :
-    SelectsAll PackedVolume all_covers_text (0 ∷ 1 ∷ 2 ∷ []) (λ db. (packed_tables_of db).covers)
-covers_selected =
-    selects_all all_covers_text _ _ _ _ _ _ covers_are covers_sure (0 ∷ 1 ∷ 2 ∷ []) _
+pub volume_rows_selected :
+    SelectsAll PackedVolume volume_rows_text (0 ∷ 1 ∷ 2 ∷ []) (λ db. map (columns 9) (db 8))
+volume_rows_selected =
+    selects_all volume_rows_text _ _ _ _ _ _ volume_rows_are volume_rows_sure (0 ∷ 1 ∷ 2 ∷ []) _
     (λ e. refl) (λ x y. refl)
-    (λ db. scanned (λ r. [] ∷ r ∷ []) (covers_in 8).filter (covers_in 8).project cover_columns
-    (λ r. true) (λ r. refl) (λ r. refl) (db 8) ∙ every (map cover_columns (db 8)))
+    (λ db. scanned (λ r. [] ∷ r ∷ []) (volume_rows_in 8).filter (volume_rows_in 8).project (columns 9)
+    (λ r. true) (λ r. refl) (λ r. refl) (db 8) ∙ every (map (columns 9) (db 8)))
 
 spans_are : IsWhole PackedSpan all_spans_text (spans_in 10)
     (codes "operator" ∷ codes "id" ∷ codes "place" ∷ codes "first" ∷ codes "last" ∷ codes "lower"

@@ -21,7 +21,7 @@ use Rattle.desk_sql.specs.Schema.{desk_schema, schema_to}
 use Rattle.desk_sql.specs.declared.reading.rivals.SpanQuery.{SpanQuery}
 use Rattle.desk_sql.specs.declared.opening.numbers.DeskTable.{DeskTable}
 use Rattle.desk_sql.specs.declared.opening.numbers.DeskTable.TheVariants.{Operator, Plan, OldVolume, OldSpan, Volume, Span}
-use Rattle.desk_sql.proofs.Texts.{operator_named_text, all_operators_text, plan_of_text, all_plans_text, volumes_of_text, all_volumes_text, all_covers_text, all_spans_text, own_plans_text, rival_spans_text, operator_rowids_text, plan_rowids_text, old_volume_rowids_text, old_span_rowids_text, volume_rowids_text, span_rowids_text}
+use Rattle.desk_sql.proofs.Texts.{operator_named_text, all_operators_text, plan_of_text, all_plans_text, volumes_of_text, all_volumes_text, volume_rows_text, all_spans_text, own_plans_text, rival_spans_text, operator_rowids_text, plan_rowids_text, old_volume_rowids_text, old_span_rowids_text, volume_rowids_text, span_rowids_text}
 
 abbrev pub query_of : Join → List Term → List Term → List (Term × Key) → Query
 query_of from filter project order = record {
@@ -116,17 +116,21 @@ pub all_volumes_is : IsWhole Volume all_volumes_text all_volumes_query
 unfolding understood everything
 all_volumes_is others indexes = record { is = refl; plain = (refl, refl); unlisted = refl }
 
-abbrev pub covers_in : ℕ → Query
-covers_in tree = query_of (inner tree end) ([]) (col 1 1 ∷ col 1 2 ∷ col 1 3 ∷ col 1 9 ∷ [])
-    ((col 1 1, ascending Binary) ∷ (col 1 2, ascending Binary) ∷ (col 1 3, ascending Binary) ∷ [])
+-- those rows with all their columns
+abbrev pub volume_rows_in : ℕ → Query
+volume_rows_in tree = query_of (inner tree end) ([])
+    (col 1 1 ∷ col 1 2 ∷ col 1 3 ∷ col 1 4 ∷ col 1 5 ∷ col 1 6
+    ∷ col 1 7 ∷ col 1 8 ∷ col 1 9 ∷ []) ((col 1 1, ascending Binary) ∷ (col 1 2, ascending Binary)
+    ∷ (col 1 3, ascending Binary) ∷ [])
 
-abbrev pub all_covers_query : Query
-all_covers_query = covers_in 9
+abbrev pub volume_rows_query : Query
+volume_rows_query = volume_rows_in 9
 
-pub all_covers_is : IsWhole Volume all_covers_text all_covers_query
-    (codes "operator" ∷ codes "id" ∷ codes "place" ∷ codes "canon" ∷ [])
+pub volume_rows_is : IsWhole Volume volume_rows_text volume_rows_query
+    (codes "operator" ∷ codes "id" ∷ codes "place" ∷ codes "lower" ∷ codes "upper" ∷ codes "start"
+    ∷ codes "stop" ∷ codes "asked" ∷ codes "canon" ∷ [])
 unfolding understood everything
-all_covers_is others indexes = record { is = refl; plain = (refl, refl); unlisted = refl }
+volume_rows_is others indexes = record { is = refl; plain = (refl, refl); unlisted = refl }
 
 -- the rows of `span2`, which is this tree
 abbrev pub spans_in : ℕ → Query

@@ -15,7 +15,7 @@ use Rattle.sqlite_value.specs.declared.keys.Key.{Key}
 use Rattle.sqlite.specs.State.{HasCleanDisk, Shown}
 use Rattle.sqlite.specs.Store.{Ghosts}
 use Rattle.sqlite.specs.Held.{Held, state}
-use Rattle.desk_sql.specs.Rows.{IsDesk, is_by, is_of, is_wanted, differs, is_at_most, is_at_least, is_below, is_above, held_columns, is_same, joined, has_volume, with_volumes, by_cells, columns, cover_columns, tables_of, Lists}
+use Rattle.desk_sql.specs.Rows.{IsDesk, is_by, is_of, is_wanted, differs, is_at_most, is_at_least, is_below, is_above, held_columns, is_same, joined, has_volume, with_volumes, by_cells, columns, tables_of, Lists}
 use Rattle.desk_sql.specs.declared.reading.rivals.SpanQuery.{SpanQuery}
 use Rattle.desk_sql.specs.Effects.{IsReady}
 use Rattle.desk_sql.specs.declared.reading.query.Query.{Query}
@@ -34,9 +34,9 @@ use Rattle.desk_sql.specs.Rows.{Tables}
 use Rattle.desk_sql.specs.Refusals.{IsSure, IsSureGiven}
 use Rattle.desk_sql.specs.Statements.{MayRead, Selects, SelectsAll}
 use Rattle.desk_sql.proofs.Sure.{operator_named_sure, plan_of_sure, volumes_of_sure, own_plans_sure, rival_spans_sure}
-use Rattle.desk_sql.proofs.SureTexts.{all_operators_sure, all_plans_sure, all_volumes_sure, all_covers_sure, all_spans_sure}
-use Rattle.desk_sql.proofs.Texts.{operator_named_text, all_operators_text, plan_of_text, all_plans_text, volumes_of_text, all_volumes_text, all_covers_text, all_spans_text, own_plans_text, rival_spans_text}
-use Rattle.desk_sql.proofs.QueryTexts.{IsQueryIn, IsQuery, IsWhole, query_of, operator_named_is, operator_named_query, all_operators_is, all_operators_query, plan_of_is, plan_of_query, all_plans_is, all_plans_query, volumes_of_is, volumes_of_query, all_volumes_is, all_volumes_query, all_covers_is, all_covers_query, all_spans_is, all_spans_query, own_plans_is, own_plans_query, rival_spans_is, rival_spans_query, rival_params}
+use Rattle.desk_sql.proofs.SureTexts.{all_operators_sure, all_plans_sure, all_volumes_sure, volume_rows_sure, all_spans_sure}
+use Rattle.desk_sql.proofs.Texts.{operator_named_text, all_operators_text, plan_of_text, all_plans_text, volumes_of_text, all_volumes_text, volume_rows_text, all_spans_text, own_plans_text, rival_spans_text}
+use Rattle.desk_sql.proofs.QueryTexts.{IsQueryIn, IsQuery, IsWhole, query_of, operator_named_is, operator_named_query, all_operators_is, all_operators_query, plan_of_is, plan_of_query, all_plans_is, all_plans_query, volumes_of_is, volumes_of_query, all_volumes_is, all_volumes_query, volume_rows_is, volume_rows_query, all_spans_is, all_spans_query, own_plans_is, own_plans_query, rival_spans_is, rival_spans_query, rival_params}
 use Rattle.desk_sql.proofs.ReadLemmas.{was_open, answer_rows, may_answer, scanned, equals_text, equals, either_true, le_number, ge_number, lt_number, gt_number}
 
 -- a value that a desk's rows have, whenever something is shown
@@ -282,12 +282,12 @@ all_volumes_selected =
     (λ db. scanned (λ r. [] ∷ r ∷ []) all_volumes_query.filter all_volumes_query.project (columns 8)
     (λ r. true) (λ r. refl) (λ r. refl) (db 9) ∙ every (map (columns 8) (db 9)))
 
-pub all_covers_selected : SelectsAll Volume all_covers_text (0 ∷ 1 ∷ 2 ∷ []) (λ db. (tables_of db).covers)
-all_covers_selected =
-    selects_all all_covers_text _ _ _ _ _ _ all_covers_is all_covers_sure (0 ∷ 1 ∷ 2 ∷ []) _
+pub volume_rows_selected : SelectsAll Volume volume_rows_text (0 ∷ 1 ∷ 2 ∷ []) (λ db. map (columns 9) (db 9))
+volume_rows_selected =
+    selects_all volume_rows_text _ _ _ _ _ _ volume_rows_is volume_rows_sure (0 ∷ 1 ∷ 2 ∷ []) _
     (λ e. refl) (λ x y. refl)
-    (λ db. scanned (λ r. [] ∷ r ∷ []) all_covers_query.filter all_covers_query.project cover_columns
-    (λ r. true) (λ r. refl) (λ r. refl) (db 9) ∙ every (map cover_columns (db 9)))
+    (λ db. scanned (λ r. [] ∷ r ∷ []) volume_rows_query.filter volume_rows_query.project (columns 9)
+    (λ r. true) (λ r. refl) (λ r. refl) (db 9) ∙ every (map (columns 9) (db 9)))
 
 pub all_spans_selected : SelectsAll Span all_spans_text (0 ∷ 1 ∷ 2 ∷ 3 ∷ []) (λ db. (tables_of db).spans)
 all_spans_selected =

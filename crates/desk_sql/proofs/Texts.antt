@@ -52,8 +52,9 @@ abbrev pub all_spans_text : List ℕ
 all_spans_text = codes
     "SELECT operator, id, place, first, last, lower, upper, start, stop, priority FROM span2 ORDER BY operator, id, place, first"
 
-abbrev pub all_covers_text : List ℕ
-all_covers_text = codes "SELECT operator, id, place, canon FROM volume2 ORDER BY operator, id, place"
+abbrev pub volume_rows_text : List ℕ
+volume_rows_text = codes
+    "SELECT operator, id, place, lower, upper, start, stop, asked, canon FROM volume2 ORDER BY operator, id, place"
 
 abbrev pub own_plans_text : List ℕ
 own_plans_text = codes

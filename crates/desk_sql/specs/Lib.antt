@@ -15,6 +15,7 @@ pub mod Calls
 pub mod Others
 pub mod Statements
 pub mod Queries
+pub mod Volumes
 pub mod Changing
 pub mod Putting
 pub mod Changes

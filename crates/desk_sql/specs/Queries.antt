@@ -20,7 +20,6 @@ table_read whole.Plans = desk.Plan
 table_read whole.OldVolumes = desk.OldVolume
 table_read whole.OldSpans = desk.OldSpan
 table_read whole.Volumes = desk.Volume
-table_read whole.Covers = desk.Volume
 table_read whole.Spans = desk.Span
 
 -- that table, which in a packed file may stand in another tree
@@ -30,7 +29,6 @@ table_in whole.Plans packed = desk.Plan
 table_in whole.OldVolumes packed = desk.OldVolume
 table_in whole.OldSpans packed = desk.OldSpan
 table_in whole.Volumes packed = if packed then desk.PackedVolume else desk.Volume
-table_in whole.Covers packed = if packed then desk.PackedVolume else desk.Volume
 table_in whole.Spans packed = if packed then desk.PackedSpan else desk.Span
 
 -- the columns by which its rows come: its key
@@ -51,7 +49,6 @@ rows_read whole.Plans t = t.plans
 rows_read whole.OldVolumes t = t.old_volumes
 rows_read whole.OldSpans t = t.old_spans
 rows_read whole.Volumes t = t.volumes
-rows_read whole.Covers t = t.covers
 rows_read whole.Spans t = t.spans
 
 -- ---- queries that are given something

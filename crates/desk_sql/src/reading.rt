@@ -8,4 +8,5 @@ pub(crate) mod queries;
 pub(crate) mod query;
 pub(crate) mod rivals;
 pub(crate) mod taking;
+pub(crate) mod volumes;
 pub(crate) mod whole;

@@ -86,7 +86,7 @@ fn tested(rise: bool) -> Result<(), Error>
 }
 
 /// Of so many rows that they are not counted, that memory ran out.
-fn but_memory(error: Error) -> Error
+pub(crate) fn but_memory(error: Error) -> Error
     ensures { result ≡ but_memory error }
 {
     match error {

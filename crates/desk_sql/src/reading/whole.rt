@@ -18,7 +18,7 @@ use crate::reading::taking::{RowSink, hand_rows};
 use sqlite::{Alter, Connection, Error, Row};
 use std::alloc::Global;
 
-/// What is read as a whole: the rows of a table, or of `volume2` the covers alone.
+/// What is read as a whole: the rows of a table, those of `volume2` without `canon`.
 #[derive(Clone, Copy)]
 pub enum Whole {
     /// `operator`: `name`, `ceiling`
@@ -31,15 +31,13 @@ pub enum Whole {
     OldSpans,
     /// `volume2`: `operator`, `id`, `place`, `lower`, `upper`, `start`, `stop`, `asked`
     Volumes,
-    /// `volume2`: `operator`, `id`, `place`, `canon`
-    Covers,
     /// `span2`: `operator`, `id`, `place`, `first`, `last`, `lower`, `upper`, `start`, `stop`, `priority`
     Spans,
 }
 
 impl Whole {
     /// The table that is read.
-    fn table(self, packed: bool) -> DeskTable
+    pub(crate) fn table(self, packed: bool) -> DeskTable
         ensures { result ≡ table_in self packed }
     {
         match self {
@@ -47,8 +45,8 @@ impl Whole {
             Whole::Plans => DeskTable::Plan,
             Whole::OldVolumes => DeskTable::OldVolume,
             Whole::OldSpans => DeskTable::OldSpan,
-            Whole::Volumes | Whole::Covers if packed => DeskTable::PackedVolume,
-            Whole::Volumes | Whole::Covers => DeskTable::Volume,
+            Whole::Volumes if packed => DeskTable::PackedVolume,
+            Whole::Volumes => DeskTable::Volume,
             Whole::Spans if packed => DeskTable::PackedSpan,
             Whole::Spans => DeskTable::Span,
         }
@@ -75,8 +73,6 @@ impl Whole {
                 "SELECT operator, id, place, lower, upper, start, stop, asked FROM volume2 \
                  ORDER BY operator, id, place"
             }
-            Whole::Covers =>
-                "SELECT operator, id, place, canon FROM volume2 ORDER BY operator, id, place",
             Whole::Spans => {
                 "SELECT operator, id, place, first, last, lower, upper, start, stop, priority FROM span2 \
                  ORDER BY operator, id, place, first"

@@ -39,6 +39,7 @@ use crate::span_bounds::SpanBounds;
 use desk_live::ListedOperator;
 use desk_sql::{
     DeskTable, TablesPresent, Whole, all_rows, complete_tables, find_tables, has_old_rows,
+    volume_rows,
 };
 use s2_cover::laws::one_list_of_ranges;
 use sqlite::{Connection, Row};
@@ -322,14 +323,13 @@ pub(crate) fn heads_in<S: Alter>(
 {
     let operators = all_rows(alloc, connection, Whole::Operators, made)?;
     let plans = all_rows(alloc, connection, Whole::Plans, made)?;
-    let volumes = all_rows(alloc, connection, Whole::Volumes, made)?;
-    let covers = all_rows(alloc, connection, Whole::Covers, made)?;
+    let rows = volume_rows(alloc, connection, made)?;
     let spans = Vec::new(alloc);
     Ok(TableRows {
         operators,
         plans,
-        volumes,
-        covers,
+        volumes: rows.volumes,
+        covers: rows.covers,
         spans,
     })
 }

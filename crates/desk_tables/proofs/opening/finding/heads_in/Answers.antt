@@ -4,25 +4,22 @@ use Rattle.sqlite.specs.Held.{state}
 use Rattle.desk_tables.proofs.OpeningLemmas.{blames_reading}
 use Rattle.desk_tables.proofs.opening.finding.heads_in.Goals as goal
 
-pub returns-in_err-covers-clause-cause : goal.returns-in_err-covers-clause-cause
-returns-in_err-covers-clause-cause g c =
+pub returns-in_err-rows-clause-cause : goal.returns-in_err-rows-clause-cause
+returns-in_err-rows-clause-cause g c =
     let one = c.all_rows.ensures.answers in
     let two = c.all_rows-2.ensures.answers in
-    let three = c.all_rows-3.ensures.answers in
-    let blames = blames_reading g.S.Store c.args.connection.now c.all_rows-3.new.connection
-    c.all_rows-4.new.connection c.in_err-covers.field-0.0
-    (omega (arith, one.reads.faults, two.reads.faults, three.reads.faults))
-    (three.reads.limit ∙ two.reads.limit ∙ one.reads.limit) c.in_err-covers.ensures.answers.cause in
+    let blames = blames_reading g.S.Store c.args.connection.now c.all_rows-2.new.connection
+    c.volume_rows.new.connection c.in_err-rows.field-0.0
+    (omega (arith, one.reads.faults, two.reads.faults))
+    (two.reads.limit ∙ one.reads.limit) c.in_err-rows.ensures.answers.cause in
     search (rules, blames)
 
 pub returns-clause-live : goal.returns-clause-live
 returns-clause-live g c = λ clean.
-    let three : HasCleanDisk (state g.S.Store c.all_rows-3.new.connection) =
-    omega (arith, c.all_rows-4.ensures.answers.reads.doubt, clean) in
     let two : HasCleanDisk (state g.S.Store c.all_rows-2.new.connection) =
-    omega (arith, c.all_rows-3.ensures.answers.reads.doubt, three) in
+    omega (arith, c.volume_rows.ensures.answers.reads.doubt, clean) in
     let one : HasCleanDisk (state g.S.Store c.all_rows.new.connection) =
     omega (arith, c.all_rows-2.ensures.answers.reads.doubt, two) in
-    c.in_ok-covers.ensures.live clean
-    (c.in_ok-volumes.ensures.live three (c.in_ok-plans.ensures.live two
-    (c.in_ok-operators.ensures.live one (c.in_ok-operators.ensures.open c.requires.some one))))
+    c.in_ok-rows.ensures.live clean
+    (c.in_ok-plans.ensures.live two
+    (c.in_ok-operators.ensures.live one (c.in_ok-operators.ensures.open c.requires.some one)))

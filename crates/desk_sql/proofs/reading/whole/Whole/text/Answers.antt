@@ -2,13 +2,13 @@ use Rattle.std.proofs.Common.{◌≡◌, Bool, [], ◌∷◌, List, ℕ, sym, su
 use Rattle.sqlite.specs.Tree.{Trees}
 use Rattle.desk_sql.specs.declared.opening.numbers.DeskTable.TheVariants as desk
 use Rattle.desk_sql.specs.declared.reading.whole.Whole.{Whole}
-use Rattle.desk_sql.specs.declared.reading.whole.Whole.TheVariants.{Operators, Plans, OldVolumes, OldSpans, Volumes, Covers, Spans}
+use Rattle.desk_sql.specs.declared.reading.whole.Whole.TheVariants.{Operators, Plans, OldVolumes, OldSpans, Volumes, Spans}
 use Rattle.desk_sql.specs.Queries.{table_in, key_cells, rows_read, table_read}
 use Rattle.desk_sql.specs.Rows.{tables_of, tables_in}
 use Rattle.desk_sql.specs.Statements.{SelectsAll}
 use Rattle.desk_sql.proofs.AskLemmas.{IsWholeText, one_tree, two_trees}
 use Rattle.desk_sql.proofs.PackedLemmas as packed
-use Rattle.desk_sql.proofs.StatementLemmas.{all_operators_selected, all_plans_selected, all_volumes_selected, all_covers_selected, all_spans_selected}
+use Rattle.desk_sql.proofs.StatementLemmas.{all_operators_selected, all_plans_selected, all_volumes_selected, all_spans_selected}
 use Rattle.desk_sql.proofs.old_tables.ReadLemmas.{all_old_volumes_selected, all_old_spans_selected}
 use Rattle.desk_sql.proofs.reading.whole.Whole.text.Goals as goal
 
@@ -58,10 +58,6 @@ returns-in-OldSpans c = subst (λ whole. IsWholeText whole _) (sym c.in-OldSpans
 pub returns-in-Volumes : goal.returns-in-Volumes
 returns-in-Volumes c = subst (λ whole. IsWholeText whole _) (sym c.in-Volumes.is)
     (two_trees (IsTextIn Volumes _) all_volumes_selected packed.volumes_selected)
-
-pub returns-in-Covers : goal.returns-in-Covers
-returns-in-Covers c = subst (λ whole. IsWholeText whole _) (sym c.in-Covers.is)
-    (two_trees (IsTextIn Covers _) all_covers_selected packed.covers_selected)
 
 pub returns-in-Spans : goal.returns-in-Spans
 returns-in-Spans c = subst (λ whole. IsWholeText whole _) (sym c.in-Spans.is)
