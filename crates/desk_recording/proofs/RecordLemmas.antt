@@ -1,6 +1,6 @@
 -- What is written down of connections, one after the other, is played again.
 use Rattle.std.proofs.Common.{◌≡◌, ◌<◌, ◌⊎◌, ◌∙◌, ℕ, ℤ, pos, nat_abs, List, [], ◌∷◌, ◌++◌, All, map, length, true, Option, Some, None, IfSome, Ok, append-nil, append_assoc, ap, inl, inr, refl, subst, sym, arith}
-use Rattle.std.specs.Prelude.{⊤}
+use Rattle.std.specs.Prelude.{⊤, Bool, IsSome}
 use Rattle.std.proofs.lemmas.List.Elements.{All-head, All-tail}
 use Rattle.desk_ends.specs.Moments.{IsMoment}
 use Rattle.desk_record.specs.Record.{EntryParts, entries, entry}
@@ -14,10 +14,10 @@ use Rattle.desk_line.specs.Exits.{failure_at}
 use Rattle.desk_line.specs.Lines.{AreEnrolments}
 use Rattle.desk_line.specs.declared.line.Enrolment.{Enrolment}
 use Rattle.desk_program.specs.Enrolling.{AreEnrolled, with_operators}
-use Rattle.desk_program.specs.Recorded.{AreNamed, Ended, IsAnswerRecorded, IsRecorded, Noted, Open, Recorded, RecordsAnswer, RecordsRequest, answer_entry, operator_entry, request_entry, with_answer, with_news, with_request}
+use Rattle.desk_program.specs.Recorded.{AreNamed, Ended, IsAnswerRecorded, IsOpen, IsRecorded, Noted, Open, Recorded, RecordsAnswer, RecordsRequest, answer_entry, operator_entry, request_entry, with_answer, with_news, with_request}
 use Rattle.desk_program.specs.Serving.{AreNoted, AreServed, AreTaken, Exchange, IsLast, Traffic, is_answered, outcome_of, passage_of}
 use Rattle.desk_replay.specs.Replaying.{State, played}
-use Rattle.desk_recording.specs.Played.{AddsPlayed, IsPlayedTo, entries_of, known, pair_of}
+use Rattle.desk_recording.specs.Played.{AddsOpen, AddsPlayed, IsPlayedTo, entries_of, known, pair_of}
 use Rattle.desk_recording.proofs.ExchangeLemmas.{AreAsked, are_asked, low_second, same_second, some_text}
 use Rattle.desk_recording.proofs.PlayedLemmas.{after, entries_then, news_played, pair_played, played_then}
 
@@ -121,6 +121,29 @@ not_opened text [] None m noted = cc
 not_opened text [] (Some news) m noted = noted.1
 not_opened text (x ∷ xs) last m noted = noted.3.news
 
+-- what was recorded stays known
+stays_known : (xs : List Exchange) (r : Recorded) (now : Option Recorded) → AreNoted (Some r) xs None now
+    → IsSome now
+stays_known [] (Ended text) now noted = subst IsSome (sym noted) tt
+stays_known [] (Open n) now (inl same) = subst IsSome (sym same) tt
+stays_known [] (Open n) now (inr cut) = subst IsSome (sym cut.ended) tt
+stays_known (x ∷ xs) (Ended text) now noted = absurd noted.3.news
+stays_known (x ∷ xs) (Open n) now noted =
+    let asked : IsRecorded (with_news n x.news) noted.1 x.arrival.moment x.arrival.bytes =
+    subst (λ r. RecordsRequest r noted.1 x.arrival.moment x.arrival.bytes) noted.3.news.2 noted.3.request in
+    by (subst (λ r. RecordsAnswer r noted.2 x.parting.sent x.parting.outcome.is_answered) asked.added
+    noted.3.answer) where
+      by : {k : Noted} {sent : Option (List ℕ)} {whole : Bool} → IsAnswerRecorded k noted.2 sent whole
+          ⊎ (noted.2 ≡ Some (Ended k.text)) → IsSome now
+      by (inl a) = stays_known xs (Open _) now (subst (λ r. AreNoted r xs None now) a.added noted.5)
+      by (inr ended) = stays_known xs (Ended _) now (subst (λ r. AreNoted r xs None now) ended noted.5)
+
+stays_open : (xs : List Exchange) (r : Recorded) (now : Option Recorded) → AreNoted (Some r) xs None now
+    → IsOpen now → (m : Noted) × (now ≡ Some (Open m))
+stays_open xs r None noted open = absurd (stays_known xs r None noted)
+stays_open xs r (Some (Open m)) noted open = (m, refl)
+stays_open xs r (Some (Ended text)) noted open = absurd open
+
 pub told_whole : (x : Exchange) → x.parting.outcome ≡ outcome_of x.served
     → x.parting.outcome.is_answered ≡ true
     → is_answered x.served ≡ true
@@ -210,16 +233,19 @@ module _ (H : Type 0) (h : H) (Ends : (request rest : List ℕ) → IsRequest re
       (All-tail (λ x. x.parting.outcome ≡ outcome_of x.served) x xs told) at) now
 
   -- connections that were taken
-  pub taken_added : (count : ℕ) (old new : Traffic) (w left : DeskWorld) (n m : Noted) (s : State)
+  pub taken_added : (count : ℕ) (old new : Traffic) (w left : DeskWorld) (n : Noted) (s : State)
       → (taken : AreTaken {A = ⊤} H (Ok tt) count old new w left) → old.recorded ≡ Some (Open n)
-      → new.recorded ≡ Some (Open m) → IsPlayedTo s w
-      → AddsPlayed n m.text (entries_of taken.exchanges) s left
-  taken_added count old new w left n m s taken was is now =
+      → IsPlayedTo s w → AddsOpen n new.recorded (entries_of taken.exchanges) s left
+  taken_added count old new w left n s taken was now =
       let xs = taken.exchanges in
       let goes = none_last H taken.last taken.between left taken.untaken in
-      subst (AddsPlayed n m.text (entries_of xs) s) (sym goes.1)
-      (all_added xs n m s w taken.between
-      (subst (AreNoted (Some (Open n)) xs None) is
-      (subst (λ r. AreNoted r xs None new.recorded) was
-      (subst (λ l. AreNoted old.recorded xs l new.recorded) goes.0 taken.recorded)))
-      taken.served taken.ends.1 taken.told now)
+      let noted = subst (λ r. AreNoted r xs None new.recorded) was
+      (subst (λ l. AreNoted old.recorded xs l new.recorded) goes.0 taken.recorded) in
+      let open = stays_open xs (Open n) new.recorded noted (taken.open (subst IsOpen (sym was) tt)) in
+      record {
+        m = open.0;
+        is = open.1;
+        adds = subst (AddsPlayed n open.0.text (entries_of xs) s) (sym goes.1)
+            (all_added xs n open.0 s w taken.between
+            (subst (AreNoted (Some (Open n)) xs None) open.1 noted) taken.served taken.ends.1 taken.told now);
+      }

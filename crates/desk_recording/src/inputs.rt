@@ -1,7 +1,7 @@
 //! The requests of an input, handed out one after the other as connections of a port, so that they are
 //! recorded.
 
-ghost use Rattle.std.specs.Prelude.{◌≡◌, ◌≤◌, ⊤, Err, IfErr, IfOk, IsSome, OnErr, Option, Some, not};
+ghost use Rattle.std.specs.Prelude.{◌≡◌, ◌≤◌, ⊤, Err, IfErr, IfOk, IsSome, Ok, OnErr, Option, Some, not};
 ghost use Rattle.std.specs.Option.{IsSomeAnd};
 ghost use Rattle.std.specs.Io.Cursor.{cursor_inner, cursor_remaining};
 ghost use Rattle.desk_ends.specs.Moments.{IsMoment};
@@ -120,9 +120,15 @@ impl<R: Read + Drop, W: Write + Drop> Port for InputPort<R, W> {
         }
     }
 
-    fn close(&mut self, input: Cursor<Vec<u8>>, output: Vec<u8>, outcome: Outcome)
+    fn close(
+        &mut self,
+        input: Cursor<Vec<u8>>,
+        output: Vec<u8>,
+        outcome: Outcome,
+    ) -> Result<(), Failure>
         ensures closed { Closes untold untold (parted (cursor_remaining (λ v. Some v.items) input)
             (Some output.items) outcome) }
+        ensures ok { result ≡ Ok (tt {0}) }
         ensures sent { Sends output.items (W.contents self.old.output) (W.contents self.new.output) }
         ensures framed { self.new.is_unframed ≡ not outcome.is_whole }
     {
@@ -130,6 +136,7 @@ impl<R: Read + Drop, W: Write + Drop> Port for InputPort<R, W> {
         if write_whole(&mut self.output, &output).is_err() {
             self.ended = Some(Err(Failure::Write));
         }
+        Ok(())
     }
 }
 
