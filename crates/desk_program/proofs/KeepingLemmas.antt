@@ -174,7 +174,7 @@ module _ {A B C : Type 0} where
               (subst (λ l. Grows a.news b.news (news_of xs l)) goes.0 h.taken.news) t.taken.news);
           recorded = both_noted xs ys t.taken.last a.recorded b.recorded c.recorded h.taken.ends.1
               (subst (λ l. AreNoted a.recorded xs l b.recorded) goes.0 h.taken.recorded) t.taken.recorded;
-          open = λ open. well (IsOpen c.recorded) (t.taken.open (h.taken.open open));
+          stays_open = λ was. well (IsOpen c.recorded) (t.taken.stays_open (h.taken.stays_open was));
           served = both_served K xs ys u v t.taken.between
               (all_then H K by xs u v (subst (λ z. AreServed H xs u z) (sym goes.1) h.taken.served))
               t.taken.served;
@@ -192,8 +192,8 @@ pub none_kept : {A : Type 0} (H : Type 0) (done : Result A Failure) (count : ℕ
     → Denies old new → (IsOpen old.recorded → OnOk done (IsOpen new.recorded)) → after ≡ w
     → EndsAfter done count [] None → ((found : Option World) → now found → before found)
     → AreKept H done count old new w after before now
-none_kept H done count old new w after before now denies open left ends no_more = record {
-  taken = none H done count old new w after denies open left ends;
+none_kept H done count old new w after before now denies still left ends no_more = record {
+  taken = none H done count old new w after denies still left ends;
   finds = λ p found may. inr (left, no_more found may);
 }
 
@@ -228,7 +228,7 @@ news_kept H done f news old mid new w after before now is brings denies ends fin
     told = All-nil (λ x. x.parting.outcome ≡ outcome_of x.served);
     news = subst (λ v. Grows old.news v (news ∷ [])) (sym denies.3) brings.0;
     recorded = (mid.recorded, brings.4, denies.4);
-    open = λ open. not_ok done f (IsOpen new.recorded) is;
+    stays_open = λ was. not_ok done f (IsOpen new.recorded) is;
     served = refl;
     untaken = last_news H done f news w after is ends;
     ends = ends_news done f news is;
@@ -298,7 +298,8 @@ after_news x w listed after before mid found news (inr p) = by (news p.1)
     by (inr q) = inr (p.0 ∙ q.0, q.1)
 
 pub one_kept : {A : Type 0} (H : Type 0) (done : Result A Failure) (x : Exchange)
-    (closed : Result ⊤ Failure) (old new : Traffic) (w listed after : DeskWorld) (before mid now : Option World → Type 0)
+    (closed : Result ⊤ Failure) (old new : Traffic) (w listed after : DeskWorld)
+    (before mid now : Option World → Type 0)
     → new.listened ≡ old.listened → Grows old.taken new.taken (x.arrival ∷ [])
     → Grows old.closed new.closed (x.parting ∷ []) → IsUnsent old x.out
     → x.parting.outcome ≡ outcome_of x.served → Grows old.news new.news (x.news ∷ [])
@@ -312,7 +313,7 @@ pub one_kept : {A : Type 0} (H : Type 0) (done : Result A Failure) (x : Exchange
     (IsTaken x.arrival.bytes x.parting.unread) listed x.arrival.moment after found)
     → AreKept H done 1 old new w after before now
 one_kept H done x closed old new w listed after before mid now listened takes closes fresh told news noted
-    lists served is open denied first finds = record {
+    lists served is still denied first finds = record {
       taken = record {
         exchanges = x ∷ [];
         last = None;
@@ -326,7 +327,7 @@ one_kept H done x closed old new w listed after before mid now listened takes cl
             (All-nil (λ z. z.parting.outcome ≡ outcome_of z.served));
         news = news;
         recorded = noted;
-        open = λ was. one_closed (IsOpen new.recorded) done (failure_at x.served) closed is open;
+        stays_open = λ was. one_closed (IsOpen new.recorded) done (failure_at x.served) closed is still;
         served = (listed, after, lists, served, refl);
         untaken = refl;
         ends = one_ends done x closed denied is;
@@ -366,7 +367,7 @@ module _ {A : Type 0} (H : Type 0) (done : Result A Failure) (serve : ServeWords
       → (found : Option World) → now found → IsPortKept H done serve (course old new) w after found
   unserved_kept f old new is denied listens left no_more = port_kept old new new listens
       (none_kept H done serve.connections new new begun after before now (stays new)
-      (λ open. not_ok done f (IsOpen new.recorded) is) left
+      (λ was. not_ok done f (IsOpen new.recorded) is) left
       (stops done f is serve.connections [] None denied) no_more)
 
 -- ---- a run over the input

@@ -194,7 +194,7 @@ pub none : {A : Type 0} (H : Type 0) (done : Result A Failure) (count : ℕ)
     (old new : Traffic)
     (w after : DeskWorld) → Denies old new → (IsOpen old.recorded → OnOk done (IsOpen new.recorded))
     → after ≡ w → EndsAfter done count [] None → AreTaken H done count old new w after
-none H done count old new w after denies open left ends = record {
+none H done count old new w after denies still left ends = record {
   exchanges = [];
   last = None;
   between = w;
@@ -206,7 +206,7 @@ none H done count old new w after denies open left ends = record {
   told = All-nil (λ x. x.parting.outcome ≡ outcome_of x.served);
   news = none_more old.news new.news denies.3;
   recorded = denies.4;
-  open = open;
+  stays_open = still;
   served = refl;
   untaken = left;
   ends = ends;
@@ -316,5 +316,6 @@ unserved H done f serve old new w after is denied listens listed = inl (record {
   port = new;
   listens = listens;
   taken = none H done serve.connections new new after after (stays new)
-      (λ open. not_ok done f (IsOpen new.recorded) is) refl (stops done f is serve.connections [] None denied);
+      (λ was. not_ok done f (IsOpen new.recorded) is) refl
+      (stops done f is serve.connections [] None denied);
 })

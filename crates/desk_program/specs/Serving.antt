@@ -164,8 +164,8 @@ abbrev pub first_failure : Option Failure → Option Failure → Option Failure
 first_failure None then = then
 first_failure (Some failure) then = Some failure
 
--- the machine denied memory, a write, a connection or the moment; or a request, or the answer to one, can't be
--- recorded: the client was told that the desk failed
+-- the machine denied memory, a write, a connection or the moment; or a request, or the answer to one, can't
+-- be recorded: the client was told that the desk failed
 abbrev pub IsDenied : Failure → Type 0
 IsDenied f =
     (f ≡ failure.Memory) ⊎ (f ≡ failure.Write) ⊎ (f ≡ failure.Network) ⊎ (f ≡ failure.Clock)
@@ -218,7 +218,7 @@ pub record AreTaken {A : Type 0} (H : Type 0) (done : Result A Failure) (count :
   pub told : All (λ x. x.parting.outcome ≡ outcome_of x.served) exchanges
   pub news : Grows old.news new.news (news_of exchanges last)
   pub recorded : AreNoted old.recorded exchanges last new.recorded
-  pub open : IsOpen old.recorded → OnOk done (IsOpen new.recorded)
+  pub stays_open : IsOpen old.recorded → OnOk done (IsOpen new.recorded)
   pub served : AreServed H exchanges w between
   pub untaken : IsLast H last done between after
   pub ends : EndsAfter done count exchanges last

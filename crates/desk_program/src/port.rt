@@ -104,6 +104,6 @@ pub trait Port {
     ) -> Result<(), Failure>
         ensures closed { Closes (traffic self.old) (traffic self.new)
             (parted (Self.Input.remaining input) (Self.Output.contents output) outcome) }
-        ensures open { OnOk result (IsOpen (traffic self.new).recorded) }
+        ensures recorded { OnOk result (IsOpen (traffic self.new).recorded) }
         ensures fault { IfErr result IsDenied };
 }

@@ -1,6 +1,6 @@
 -- What is written down of connections, one after the other, is played again.
 use Rattle.std.proofs.Common.{◌≡◌, ◌<◌, ◌⊎◌, ◌∙◌, ℕ, ℤ, pos, nat_abs, List, [], ◌∷◌, ◌++◌, All, map, length, true, Option, Some, None, IfSome, Ok, append-nil, append_assoc, ap, inl, inr, refl, subst, sym, arith}
-use Rattle.std.specs.Prelude.{⊤, Bool, IsSome}
+use Rattle.std.specs.Prelude.{⊤}
 use Rattle.std.proofs.lemmas.List.Elements.{All-head, All-tail}
 use Rattle.desk_ends.specs.Moments.{IsMoment}
 use Rattle.desk_record.specs.Record.{EntryParts, entries, entry}
@@ -122,27 +122,35 @@ not_opened text [] (Some news) m noted = noted.1
 not_opened text (x ∷ xs) last m noted = noted.3.news
 
 -- what was recorded stays known
+abbrev IsKnown : Option Recorded → Type 0
+IsKnown now = (r : Recorded) × (now ≡ Some r)
+
 stays_known : (xs : List Exchange) (r : Recorded) (now : Option Recorded) → AreNoted (Some r) xs None now
-    → IsSome now
-stays_known [] (Ended text) now noted = subst IsSome (sym noted) tt
-stays_known [] (Open n) now (inl same) = subst IsSome (sym same) tt
-stays_known [] (Open n) now (inr cut) = subst IsSome (sym cut.ended) tt
+    → IsKnown now
+stays_known [] (Ended text) now same = (Ended text, same)
+stays_known [] (Open n) now (inl same) = (Open n, same)
+stays_known [] (Open n) now (inr cut) =
+    (Ended (with_request (with_news n cut.news) cut.moment cut.request).text, cut.ended)
 stays_known (x ∷ xs) (Ended text) now noted = absurd noted.3.news
 stays_known (x ∷ xs) (Open n) now noted =
     let asked : IsRecorded (with_news n x.news) noted.1 x.arrival.moment x.arrival.bytes =
     subst (λ r. RecordsRequest r noted.1 x.arrival.moment x.arrival.bytes) noted.3.news.2 noted.3.request in
-    by (subst (λ r. RecordsAnswer r noted.2 x.parting.sent x.parting.outcome.is_answered) asked.added
-    noted.3.answer) where
-      by : {k : Noted} {sent : Option (List ℕ)} {whole : Bool} → IsAnswerRecorded k noted.2 sent whole
-          ⊎ (noted.2 ≡ Some (Ended k.text)) → IsSome now
-      by (inl a) = stays_known xs (Open _) now (subst (λ r. AreNoted r xs None now) a.added noted.5)
-      by (inr ended) = stays_known xs (Ended _) now (subst (λ r. AreNoted r xs None now) ended noted.5)
+    by (with_request (with_news n x.news) x.arrival.moment asked.request) (subst (λ r. RecordsAnswer r noted.2
+    x.parting.sent x.parting.outcome.is_answered) asked.added noted.3.answer) where
+      by : (k : Noted) → IsAnswerRecorded k noted.2 x.parting.sent x.parting.outcome.is_answered
+          ⊎ (noted.2 ≡ Some (Ended k.text)) → IsKnown now
+      by k (inl a) = stays_known xs (Open (with_answer k a.answer)) now
+          (subst (λ r. AreNoted r xs None now) a.added noted.5)
+      by k (inr ended) = stays_known xs (Ended k.text) now
+          (subst (λ r. AreNoted r xs None now) ended noted.5)
 
+-- and if the record hasn't ended, more is recorded
 stays_open : (xs : List Exchange) (r : Recorded) (now : Option Recorded) → AreNoted (Some r) xs None now
     → IsOpen now → (m : Noted) × (now ≡ Some (Open m))
-stays_open xs r None noted open = absurd (stays_known xs r None noted)
-stays_open xs r (Some (Open m)) noted open = (m, refl)
-stays_open xs r (Some (Ended text)) noted open = absurd open
+stays_open xs r None noted is =
+    let known = (stays_known xs r None noted).1 in cc
+stays_open xs r (Some (Open m)) noted is = (m, refl)
+stays_open xs r (Some (Ended text)) noted is = absurd is
 
 pub told_whole : (x : Exchange) → x.parting.outcome ≡ outcome_of x.served
     → x.parting.outcome.is_answered ≡ true
@@ -241,11 +249,11 @@ module _ (H : Type 0) (h : H) (Ends : (request rest : List ℕ) → IsRequest re
       let goes = none_last H taken.last taken.between left taken.untaken in
       let noted = subst (λ r. AreNoted r xs None new.recorded) was
       (subst (λ l. AreNoted old.recorded xs l new.recorded) goes.0 taken.recorded) in
-      let open = stays_open xs (Open n) new.recorded noted (taken.open (subst IsOpen (sym was) tt)) in
+      let here = stays_open xs (Open n) new.recorded noted (taken.stays_open (subst IsOpen (sym was) tt)) in
       record {
-        m = open.0;
-        is = open.1;
-        adds = subst (AddsPlayed n open.0.text (entries_of xs) s) (sym goes.1)
-            (all_added xs n open.0 s w taken.between
-            (subst (AreNoted (Some (Open n)) xs None) open.1 noted) taken.served taken.ends.1 taken.told now);
+        m = here.0;
+        is = here.1;
+        adds = subst (AddsPlayed n here.0.text (entries_of xs) s) (sym goes.1)
+            (all_added xs n here.0 s w taken.between
+            (subst (AreNoted (Some (Open n)) xs None) here.1 noted) taken.served taken.ends.1 taken.told now);
       }

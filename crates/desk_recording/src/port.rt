@@ -151,7 +151,7 @@ impl<P: Port + Drop, R: Record + Drop> Port for RecordedPort<P, R> {
             (told_by R.Record self.new.keeper self.new.is_broken)
             (parted (cursor_remaining (λ v. Some v.items) input.request) (Some output.answer.items)
             outcome) }
-        ensures open { OnOk result
+        ensures recorded { OnOk result
             (IsOpen (told_by R.Record self.new.keeper self.new.is_broken).recorded) }
         ensures fault { IfErr result IsDenied }
         ensures told { self.new.is_broken ≡ true → result ≡ Err Failure.Broken }
@@ -182,11 +182,10 @@ impl<P: Port + Drop, R: Record + Drop> Port for RecordedPort<P, R> {
 fn closed_if(is_kept: bool, closed: Result<(), Failure>) -> Result<(), Failure>
     ensures { result ≡ (if is_kept then closed else Err Failure.Broken) }
 {
-    if is_kept {
-        closed
-    } else {
-        Err(Failure::Broken)
+    if !is_kept {
+        return Err(Failure::Broken);
     }
+    closed
 }
 
 // Keeps the answer of a connection, if it is whole and nothing was lost before, and then sends it; or else

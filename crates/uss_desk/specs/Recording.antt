@@ -35,8 +35,8 @@ enrolled_by (line.Cover words) = []
 enrolled_by (line.Enrol words) = words.enrolment ∷ []
 enrolled_by (line.Migrate words) = []
 
--- why nothing goes on from a last record, by the number in its name, that of its first entry, if that is whole,
--- and what stands behind its last whole entry
+-- why nothing goes on from a last record, by the number in its name, that of its first entry, if that is
+-- whole, and what stands behind its last whole entry
 abbrev pub cause_of_tail : ℕ → Option ℕ → TailEnd → Option (List ℕ)
 cause_of_tail number None End = Some (codes "its last record is empty")
 cause_of_tail number None Short = Some (codes "its last record is damaged")

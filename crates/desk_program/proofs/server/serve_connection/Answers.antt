@@ -25,7 +25,7 @@ returns-in_err-news-clause-kept g c =
     none_kept (IsHonest (g.S.PlanStore.doubt c.args.desk.now.store)) c.from_residual.result 1
     (g.P.Port.traffic c.args.port.now) (g.P.Port.traffic c.news.new.self) w w before before
     c.in_err-news.ensures.same
-    (λ open. not_ok c.from_residual.result c.in_err-news.field-0.0
+    (λ was. not_ok c.from_residual.result c.in_err-news.field-0.0
     (IsOpen (g.P.Port.traffic c.news.new.self).recorded) c.from_residual.ensures.1)
     refl (stops c.from_residual.result c.in_err-news.field-0.0
     c.from_residual.ensures.1 1 [] _ c.in_err-news.ensures.fault) (λ found may. may)
@@ -126,7 +126,8 @@ returns-clause-kept g c =
       out = out;
       served = c.serve_one-served.result;
       parting = parted unread now c.outcome_of.result;
-    }) c.close-closed.result _ _ w listed after before mid (g.S.PlanStore.may_leave c.serve_one-served.new.desk.store)
+    }) c.close-closed.result _ _ w listed after before mid
+    (g.S.PlanStore.may_leave c.serve_one-served.new.desk.store)
     (closes.2 ∙ taken.2 ∙ brings.3)
     (subst (λ v. Grows v (g.P.Port.traffic c.close-closed.new.self).taken (arrived client.moment bytes ∷ []))
     brings.1 (subst (λ v. Grows (g.P.Port.traffic c.news.new.self).taken v (arrived client.moment bytes ∷ []))
@@ -154,7 +155,7 @@ returns-clause-kept g c =
     c.deref.ensures.value c.in_ok-enrol_news.ensures.listed))
     (subst (λ m. HasServed honest c.serve_one-served.result (passed bytes unread out now) listed m after)
     (same_moment client.moment c.in_ok-client.ensures.moment) c.serve_one-served.ensures.served)
-    c.done_after.ensures c.close-closed.ensures.open c.close-closed.ensures.fault
+    c.done_after.ensures c.close-closed.ensures.recorded c.close-closed.ensures.fault
     (λ p found may. listed_found c.enrol_news.result news w listed before mid
     (subst (λ es. FindsNews c.enrol_news.result es w listed before mid) c.deref.ensures.value
     (c.enrol_news.ensures.found (was p))) found c.in_ok-enrol_news.field-0 c.in_ok-enrol_news.was may)

@@ -66,7 +66,8 @@ returns-clause-kept g c =
 pub loop-before-init : goal.loop-before-init
 loop-before-init g c = record {
   kept = none_kept {A = Unit {0}} (IsHonest (g.S.PlanStore.doubt c.args.desk.now.store)) (Ok tt) 0 _ _ _ _ _ _
-      (stays (g.P.Port.traffic c.args.port.now)) (λ open. open) refl (refl, All-nil (λ x. failure_at x.served ≡ None))
+      (stays (g.P.Port.traffic c.args.port.now)) (λ was. was) refl
+      (refl, All-nil (λ x. failure_at x.served ≡ None))
       (λ found may. may);
   doubt = omega arith;
   counted = omega arith;
