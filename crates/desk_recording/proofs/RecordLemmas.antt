@@ -136,13 +136,12 @@ stays_known (x ∷ xs) (Open n) now noted =
     let asked : IsRecorded (with_news n x.news) noted.1 x.arrival.moment x.arrival.bytes =
     subst (λ r. RecordsRequest r noted.1 x.arrival.moment x.arrival.bytes) noted.3.news.2 noted.3.request in
     by (with_request (with_news n x.news) x.arrival.moment asked.request) (subst (λ r. RecordsAnswer r noted.2
-    x.parting.sent x.parting.outcome.is_answered) asked.added noted.3.answer) where
+    x.parting.sent x.parting.outcome.is_answered) asked.added noted.3.answer)
+    (λ r is. stays_known xs r now (subst (λ v. AreNoted v xs None now) is noted.5)) where
       by : (k : Noted) → IsAnswerRecorded k noted.2 x.parting.sent x.parting.outcome.is_answered
-          ⊎ (noted.2 ≡ Some (Ended k.text)) → IsKnown now
-      by k (inl a) = stays_known xs (Open (with_answer k a.answer)) now
-          (subst (λ r. AreNoted r xs None now) a.added noted.5)
-      by k (inr ended) = stays_known xs (Ended k.text) now
-          (subst (λ r. AreNoted r xs None now) ended noted.5)
+          ⊎ (noted.2 ≡ Some (Ended k.text)) → ((r : Recorded) → noted.2 ≡ Some r → IsKnown now) → IsKnown now
+      by k (inl a) more = more (Open (with_answer k a.answer)) a.added
+      by k (inr ended) more = more (Ended k.text) ended
 
 -- and if the record hasn't ended, more is recorded
 stays_open : (xs : List Exchange) (r : Recorded) (now : Option Recorded) → AreNoted (Some r) xs None now

@@ -118,7 +118,7 @@ impl<P: Port + Drop, R: Record + Drop> Port for RecordedPort<P, R> {
         }
         let mut taken = self.port.take(alloc)?;
         let Ok(request) = request_of(alloc, &mut taken.input) else {
-            self.port.close(taken.input, taken.output, UNANSWERED);
+            let _ = self.port.close(taken.input, taken.output, UNANSWERED);
             return Err(Failure::Memory);
         };
         if self.keeper.keep_request(taken.moment, &request) {
@@ -136,7 +136,7 @@ impl<P: Port + Drop, R: Record + Drop> Port for RecordedPort<P, R> {
         }
         self.is_broken = true;
         refuse(&mut taken.output);
-        self.port.close(taken.input, taken.output, UNANSWERED);
+        let _ = self.port.close(taken.input, taken.output, UNANSWERED);
         Err(Failure::Broken)
     }
 
