@@ -13,8 +13,9 @@ from faults.judging import UNENROLLED, first_of, told, word_of
 from faults.program import PATIENCE, PROCESS, PROGRAM, Ran, damage, finish
 from faults.scenario import CONTENTS, ENROLLED, OPERATORS, STEPS, TIMES, answer, request
 from harness.ports import free_port
-from record.entries import answered_in, count_played, entries_in
-from record.folders import dump_of, text_of
+from harness.program import Ran as Line
+from record.entries import answered_in, entries_in
+from record.folders import dump_of, text_of, told_alike
 
 DAY = "2026-06-01"
 COUNT = 4
@@ -149,7 +150,7 @@ def unlike(room: pathlib.Path) -> str | None:
     folder, new = room / "records", room / "new.db"
     text = text_of(folder)
     played = finish([PROGRAM, "replay", "--db", str(new)], text)
-    line = f"replayed {count_played(entries_in(text)[0])} requests, all answers alike\n"
-    if (played.status, played.output, played.errors) != (0, line.encode(), ""):
+    ran = Line(played.status, played.output, played.errors)
+    if ran != told_alike(entries_in(text)[0], ran):
         return f"played: status {played.status}, {played.output!r}, {played.errors!r}"
     return None if dump_of(room / "desk.db") == dump_of(new) else "the tables differ"

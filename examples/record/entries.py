@@ -3,6 +3,7 @@
 from __future__ import annotations
 
 import hashlib
+import json
 import pathlib
 from collections.abc import Sequence
 from typing import NamedTuple
@@ -120,3 +121,32 @@ def count_played(said: Sequence[Said]) -> int:
         if it.word == "answer" and not is_failure(it.data):
             is_left = False
     return count
+
+
+def is_change(request: bytes, answer: bytes) -> bool:
+    """Whether a request made a change, by its answer: a plan was stored or closed, or some were removed. (A PUT that
+    closes a plan which is closed makes none, and isn't told from one that closes it.)"""
+    if not answer.startswith(b"HTTP/1.1 200 "):
+        return False
+    told = json.loads(answer.partition(b"\r\n\r\n")[2])
+    method, path = request.split(b" ", 2)[:2]
+    if method == b"PUT":
+        asked = json.loads(request.partition(b"\r\n\r\n")[2])
+        return bool(told["planning_result"] == "Completed" and asked["execution_style"] != "Hypothetical")
+    if path == b"/clear_area_requests":
+        return bool(told["outcome"]["message"] != "cleared 0")
+    return method == b"DELETE"
+
+
+def changes_in(said: Sequence[Said]) -> range:
+    """How many of the requests that a replay of some entries plays made a change. A request whose first answer lacks
+    may have made it then, whatever the next one says."""
+    least, open_ones, request, is_again = 0, 0, b"", False
+    for it in said:
+        if it.word == "request":
+            is_again, request = bool(request), it.data
+        if it.word == "answer" and not is_failure(it.data):
+            least += is_change(request, it.data)
+            open_ones += is_again and not is_change(request, it.data)
+            request = b""
+    return range(least, least + open_ones + bool(request) + 1)

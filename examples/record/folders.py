@@ -4,13 +4,17 @@ from __future__ import annotations
 
 import contextlib
 import pathlib
+import re
 import shutil
 import sqlite3
 import tempfile
+from collections.abc import Sequence
 
 from harness.program import Ran, run
 
-from record.entries import Said, count_played, entries_in
+from record.entries import Said, changes_in, count_played, entries_in
+
+COUNTS = re.compile(rb"replayed (\d+) requests, (\d+) changes, all answers alike\n")
 
 
 def recorded(folder: pathlib.Path) -> list[pathlib.Path]:
@@ -33,14 +37,22 @@ def played(folder: pathlib.Path, file: pathlib.Path) -> Ran:
     return run("replay", "--db", str(file), given=text_of(folder))
 
 
-def alike(count: int) -> Ran:
+def alike(count: int, changes: int) -> Ran:
     """All that was to be played is played."""
-    return Ran(0, b"replayed %d requests, all answers alike\n" % count, "")
+    return Ran(0, b"replayed %d requests, %d changes, all answers alike\n" % (count, changes), "")
 
 
-def all_alike(folder: pathlib.Path) -> Ran:
-    """What has to come of all records of a folder."""
-    return alike(count_played(said_in(folder)))
+def told_alike(said: Sequence[Said], ran: Ran) -> Ran:
+    """What has to come of some entries. Where they leave open how many changes were made, it is what came, if that may
+    be."""
+    told, changes = COUNTS.fullmatch(ran.output), changes_in(said)
+    count = int(told[2]) if told and int(told[2]) in changes else changes.start
+    return alike(count_played(said), count)
+
+
+def all_alike(folder: pathlib.Path, ran: Ran) -> Ran:
+    """What has to come of all records of a folder, of which this came."""
+    return told_alike(said_in(folder), ran)
 
 
 def dump_of(file: pathlib.Path) -> list[str]:

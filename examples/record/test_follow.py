@@ -50,7 +50,8 @@ def test_follow(room: pathlib.Path, rows: Rows) -> None:
         until("all plans", lambda: count_plans(second) == 5)
         follow.terminate()
         output, errors = standby.communicate()
-    rows.equal("it ends", all_alike(folder), Ran(standby.returncode, output.encode(), errors))
+    ran = Ran(standby.returncode, output.encode(), errors)
+    rows.equal("it ends", all_alike(folder, ran), ran)
     rows.equal("equal tables", dump_of(file), dump_of(second))
 
 

@@ -100,6 +100,18 @@ def test_full(rows: Rows, room: pathlib.Path, small: Small, padding: int) -> Non
     rows.equal("what was torn off", [rest], [it.read_bytes() for it in small.disk.seen.glob("*.rest")])
 
 
+@pytest.mark.parametrize("padding", PADDINGS)
+def test_full_at_the_last(rows: Rows, room: pathlib.Path, small: Small, padding: int) -> None:
+    """A line whose last request, or the answer to it, can't be kept ends as one that has more to serve."""
+    plans, full = filled(padding)
+    with small.serve(connections=plans + 2) as desk:
+        rows.equal("the first", READY, desk.ask(padded(padding)))
+        told = [desk.ask(planned(it + 1)) for it in range(plans + 1)]
+        rows.equal("answers, and a refusal", [*[PLANNED] * plans, BROKEN], told)
+        rows.equal("the end", Ran(4, b"", f"{small.cannot}uss_desk: broken\n"), desk.end())
+    go_on(rows, room, small, plans + (full == "answer"))
+
+
 def go_on(rows: Rows, room: pathlib.Path, small: Small, plans: int) -> None:
     """With room the next line goes on, and all records, played into a new file, leave what the desk has."""
     small.disk.resize(ROOM)
@@ -108,7 +120,8 @@ def go_on(rows: Rows, room: pathlib.Path, small: Small, plans: int) -> None:
         listed = desk.ask(list_plans("alfa"))
         rows.equal("the last line", (0, ""), desk.end()[::2])
     rows.equal("its plans", [True] * (plans + 1), [plan_id(it + 1).encode() in listed for it in range(plans + 1)])
-    rows.equal("alike", all_alike(small.disk.seen), played(small.disk.seen, room / "new.db"))
+    ran = played(small.disk.seen, room / "new.db")
+    rows.equal("alike", all_alike(small.disk.seen, ran), ran)
     rows.equal("equal tables", dump_of(small.file), dump_of(room / "new.db"))
 
 

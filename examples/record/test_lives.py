@@ -83,7 +83,8 @@ class City:
 
     def compare(self, rows: Rows, life: int, new: pathlib.Path) -> None:
         """All records, played into a new file, give equal answers and tables; nothing that was answered lacks."""
-        rows.equal(f"life {life}: equal answers", all_alike(self.folder), played(self.folder, new))
+        ran = played(self.folder, new)
+        rows.equal(f"life {life}: equal answers", all_alike(self.folder, ran), ran)
         rows.equal(f"life {life}: equal tables", dump_of(self.file), dump_of(new))
         heard = answered_in(said_in(self.folder))
         lacking = [first_lacking(it.told, heard) for it in self.everybody]

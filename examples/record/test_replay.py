@@ -7,11 +7,13 @@ import pathlib
 from collections.abc import Sequence
 
 import pytest
+from faults.scenario import cleared
 from harness.program import Ran, run
-from harness.requests import MOMENT, delete, list_plans, over, plan_id, put, request, show
+from harness.requests import MOMENT, clear, delete, list_plans, over, plan_id, put, request, show
 from harness.rows import Rows, named
 
 from record.entries import LINE, Heard, asked, beginning, entry, exchanges
+from record.folders import alike
 
 OPERATORS = (("alfa", 100), ("bravo", 50))
 WORDS = ("alfa=100", "bravo=50")
@@ -23,6 +25,8 @@ ASKED: list[list[bytes]] = [
     [delete("alfa", plan_id(1)), put("bravo", plan_id(3), AREA, 20), request("PATCH", "/flight_plans", "alfa")],
 ]
 COUNT = sum(map(len, ASKED))
+CHANGES = 4
+"""How many of them make a change: alfa's plan is stored and closed, and two of bravo's are stored."""
 LEAST_WITH_A_COMMIT = 568
 """How many bytes a log has that holds a commit: its header, and one frame of a page of 512 bytes."""
 NO_ENTRY = "no entry of a record"
@@ -56,11 +60,6 @@ def replayed(entries: Sequence[bytes], *words: str, file: str = ":memory:") -> R
     return run("replay", "--db", file, *words, given=b"".join(entries))
 
 
-def alike(count: int) -> Ran:
-    """All that was to be played is played."""
-    return Ran(0, b"replayed %d requests, all answers alike\n" % count, "")
-
-
 def stopped(entries: Sequence[bytes], requests: int, cause: str, word: str) -> Ran:
     """A replay is stopped after these entries."""
     place = len(b"".join(entries))
@@ -76,7 +75,7 @@ def held(file: pathlib.Path) -> list[bytes]:
 def test_whole_record(folder: pathlib.Path, room: pathlib.Path, whole: list[bytes], rows: Rows) -> None:
     """Every answer is alike, and the new file, its owner's alone, holds what the recorded one holds."""
     file = room / "new.db"
-    rows.equal("alike", alike(COUNT), replayed(whole, file=str(file)))
+    rows.equal("alike", alike(COUNT, CHANGES), replayed(whole, file=str(file)))
     rows.equal("the owner's alone", "0o600", oct(os.stat(file).st_mode & 0o777))
     rows.equal("no commit is left in its log", True, (room / "new.db-wal").stat().st_size < LEAST_WITH_A_COMMIT)
     rows.equal("what is held", held(folder / "first.db"), held(file))
@@ -84,13 +83,13 @@ def test_whole_record(folder: pathlib.Path, room: pathlib.Path, whole: list[byte
 
 def test_nothing() -> None:
     """No entry is a record of nothing."""
-    assert replayed([]) == alike(0)
+    assert replayed([]) == alike(0, 0)
 
 
 @pytest.mark.parametrize("number", [0, 1, 7, 18446744073709551615])
 def test_any_first_number(number: int, heard: list[Heard]) -> None:
     """The first record may have any number."""
-    assert replayed([*beginning(number, OPERATORS), *exchanges(heard)]) == alike(COUNT)
+    assert replayed([*beginning(number, OPERATORS), *exchanges(heard)]) == alike(COUNT, CHANGES)
 
 
 # what is another about an answer
@@ -118,7 +117,7 @@ def test_cut(whole: list[bytes], rows: Rows) -> None:
     """A record that is cut at any byte of its last two entries is cut short there, or has one entry less."""
     for last, requests in ((len(whole) - 1, COUNT), (len(whole) - 2, COUNT - 1)):
         before, one = whole[:last], whole[last]
-        rows.equal("cut before an entry", alike(requests), replayed(before))
+        rows.equal("cut before an entry", alike(requests, CHANGES), replayed(before))
         for size in range(1, len(one)):
             wanted = stopped(before, requests, CUT, "cut_short")
             rows.equal(f"cut at byte {size} of {len(one)}", wanted, replayed([*before, one[:size]]))
@@ -143,15 +142,15 @@ def test_line_of_another_entry(whole: list[bytes]) -> None:
 
 def test_until(folder: pathlib.Path, room: pathlib.Path, whole: list[bytes], rows: Rows) -> None:
     """Up to a second, whatever comes behind it."""
-    rows.equal("before the first", alike(0), replayed(whole, "--until", str(MOMENT - 1)))
-    rows.equal("the first second", alike(2), replayed(whole, "--until", str(MOMENT)))
+    rows.equal("before the first", alike(0, 0), replayed(whole, "--until", str(MOMENT - 1)))
+    rows.equal("the first second", alike(2, 1), replayed(whole, "--until", str(MOMENT)))
     rows.equal(
-        "the last but one", alike(4), replayed([*whole[:-6], whole[-6], b"?" * 200], "--until", str(MOMENT + 1))
+        "the last but one", alike(4, 2), replayed([*whole[:-6], whole[-6], b"?" * 200], "--until", str(MOMENT + 1))
     )
-    rows.equal("the last", alike(COUNT), replayed(whole, "--until", str(MOMENT + 2)))
-    rows.equal("the last second of all", alike(COUNT), replayed(whole, "--until", "253370764800"))
+    rows.equal("the last", alike(COUNT, CHANGES), replayed(whole, "--until", str(MOMENT + 2)))
+    rows.equal("the last second of all", alike(COUNT, CHANGES), replayed(whole, "--until", "253370764800"))
     file, same = room / "until.db", room / "same.db"
-    rows.equal("into a file", alike(4), replayed(whole, "--until", str(MOMENT + 1), file=str(file)))
+    rows.equal("into a file", alike(4, 2), replayed(whole, "--until", str(MOMENT + 1), file=str(file)))
     for at, group in enumerate(ASKED[:2]):
         asked(same, MOMENT + at, group, *WORDS)
     rows.equal("what is held then", held(same), held(file))
@@ -161,7 +160,7 @@ def test_records_in_a_row(heard: list[Heard], rows: Rows) -> None:
     """Each further record is the next one; another is told, and all before it stays played."""
     first, second = [*beginning(4, OPERATORS), *exchanges(heard[:3])], exchanges(heard[3:])
     next_one = [*beginning(5), *second]
-    rows.equal("in their order", alike(COUNT), replayed([*first, *next_one]))
+    rows.equal("in their order", alike(COUNT, CHANGES), replayed([*first, *next_one]))
     rows.equal("a wrong order", stopped(next_one[:1], 0, NOT_NEXT, "no_record"), replayed([next_one[0], *first]))
     for number in (3, 4, 6):
         other = [*beginning(number), *second]
@@ -173,11 +172,11 @@ def test_request_asked_again(heard: list[Heard], rows: Rows) -> None:
     first = [*beginning(1, OPERATORS), *exchanges(heard[:2])]
     pending = entry("request", heard[2].second, heard[2].request)
     next_one = [*beginning(2), *exchanges(heard[2:])]
-    rows.equal("at the end", alike(3), replayed([*first, pending]))
-    rows.equal("asked again", alike(COUNT), replayed([*first, pending, *next_one]))
+    rows.equal("at the end", alike(3, 2), replayed([*first, pending]))
+    rows.equal("asked again", alike(COUNT, CHANGES), replayed([*first, pending, *next_one]))
     rows.equal(
         "and once more",
-        alike(COUNT),
+        alike(COUNT, CHANGES),
         replayed([*first, pending, beginning(2)[0], pending, *beginning(3), *exchanges(heard[2:])]),
     )
     other = [*beginning(2), *exchanges(heard[3:])]
@@ -195,7 +194,7 @@ def test_terms(room: pathlib.Path, rows: Rows) -> None:
     one = asked(file, MOMENT, both, *equal, *limit, *WORDS)
     two = asked(file, MOMENT, [put("alfa", plan_id(4), AREA)])
     entries = [*beginning(1, OPERATORS, (10, 20), 1), *exchanges(one), *beginning(2), *exchanges(two)]
-    rows.equal("as they were", alike(4), replayed(entries))
+    rows.equal("as they were", alike(4, 2), replayed(entries))
     bare = [*beginning(1, OPERATORS), *exchanges(one)]
     rows.equal("without them", stopped(bare[:6], 2, OTHER_ANSWER, "differs"), replayed(bare))
     kept = [*beginning(1, OPERATORS, (10, 20), 1), *exchanges(one), *exchanges(two)]
@@ -209,7 +208,46 @@ def test_enrolled_meanwhile(room: pathlib.Path) -> None:
     two = asked(file, MOMENT, [show("bravo", plan_id(1))], "bravo=50")
     assert (one[0].answer[:12], two[0].answer[:12]) == (b"HTTP/1.1 403", b"HTTP/1.1 404")
     entries = [*beginning(1, OPERATORS[:1]), *exchanges(one), entry("operator", 50, b"bravo"), *exchanges(two)]
-    assert replayed(entries) == alike(2)
+    assert replayed(entries) == alike(2, 0)
+
+
+# requests one after the other, and whether each makes a change
+KINDS: list[tuple[str, bytes, bool]] = [
+    ("a status", request("GET", "/status", "alfa"), False),
+    ("a dry run", put("alfa", plan_id(1), AREA, style="Hypothetical"), False),
+    ("a plan", put("alfa", plan_id(1), AREA), True),
+    ("the same again", put("alfa", plan_id(1), AREA), True),
+    ("one that is blocked", put("bravo", plan_id(2), AREA), False),
+    ("one that is used", put("alfa", plan_id(1), AREA, usage="InUse"), True),
+    ("a show", show("alfa", plan_id(1)), False),
+    ("a list", list_plans("alfa"), False),
+    ("no operator of the desk", put("charlie", plan_id(1), OTHER), False),
+    ("no plan of the operator", delete("bravo", plan_id(1)), False),
+    ("a close by a PUT", put("alfa", plan_id(1), AREA, usage="Closed"), True),
+    ("which is closed", put("alfa", plan_id(1), AREA, usage="Closed"), False),
+    ("and closed once more", delete("alfa", plan_id(1)), True),
+    ("a clear", clear("alfa", over(["04"])), True),
+    ("of nothing", clear("alfa", over(["04"])), False),
+    ("no request of the desk", request("PATCH", "/status", "alfa"), False),
+]
+
+
+def test_changes(room: pathlib.Path, rows: Rows) -> None:
+    """How many requests made a change is told, by what each of them asks and is answered."""
+    heard = asked(room / "kinds.db", MOMENT, [it[1] for it in KINDS], *WORDS)
+    for at in range(len(KINDS)):
+        changes = sum(it[2] for it in KINDS[: at + 1])
+        played = replayed([*beginning(1, OPERATORS), *exchanges(heard[: at + 1])])
+        rows.equal(KINDS[at][0], alike(at + 1, changes), played)
+
+
+def test_change_asked_again(heard: list[Heard], rows: Rows) -> None:
+    """A change that a request without an answer makes counts once, whatever the request is answered again."""
+    first = [*beginning(1, OPERATORS), *exchanges(heard[:2])]
+    pending = entry("request", MOMENT, clear("alfa", over(["04"])))
+    for count in (0, 1):
+        told = entry("answer", MOMENT, cleared(count))
+        rows.equal(f"cleared {count}", alike(3, 2), replayed([*first, pending, *beginning(2), pending, told]))
 
 
 BEGUN = beginning(1, OPERATORS)
@@ -310,6 +348,6 @@ def test_input_that_cannot_be_read() -> None:
 def test_into_a_file_that_holds_more(room: pathlib.Path, whole: list[bytes], heard: list[Heard]) -> None:
     """A record that is played twice at one file differs at its first change of what is there."""
     file = room / "twice.db"
-    assert replayed(whole, file=str(file)) == alike(COUNT)
+    assert replayed(whole, file=str(file)) == alike(COUNT, CHANGES)
     again = replayed(whole, file=str(file))
     assert (again.status, again.output, again.errors.splitlines()[-1]) == (3, b"", "uss_desk: differs")

@@ -19,8 +19,8 @@ from harness.rows import Rows
 from harness.serving import Served
 
 from record.city import operators
-from record.entries import count_played, entries_in
-from record.folders import alike, dump_of, recorded, text_of
+from record.entries import entries_in
+from record.folders import alike, dump_of, recorded, text_of, told_alike
 from record.layers import PLANNED, layer, planned
 
 OPERATORS = ("alfa", "bravo")
@@ -67,8 +67,8 @@ def test_standby(room: pathlib.Path, rows: Rows) -> None:
             tail.terminate()
         output, errors = standby.communicate()
     said, rest = entries_in(record.read_bytes())
-    wanted = (3, b"", "cut_short") if rest else (0, alike(count_played(said)).output, "")
-    rows.equal("it ends", wanted, (standby.returncode, output, errors.decode().rpartition(": ")[2].rstrip()))
+    ran = Ran(standby.returncode, output, errors.decode().rpartition(": ")[2].rstrip())
+    rows.equal("it ends", Ran(3, b"", "cut_short") if rest else told_alike(said, ran), ran)
     take_over(rows, room, second)
     with Served(*words_of(file, folder), connections=len(OPERATORS)) as desk:
         listed = lists_of(desk)
@@ -117,7 +117,7 @@ def test_made_again(room: pathlib.Path, rows: Rows) -> None:
     shutil.copy(copy, back)
     since = b"".join(it.read_bytes() for it in recorded(folder)[1:])
     ran = run("replay", "--db", str(back), "--until", str(until_then), given=since)
-    rows.equal("up to the mistake", alike(3), ran)
+    rows.equal("up to the mistake", alike(3, 3), ran)
     rows.equal("and as it was then", before, dump_of(back))
 
 
@@ -127,9 +127,9 @@ def again(rows: Rows, file: pathlib.Path, copy: pathlib.Path, folder: pathlib.Pa
         name.unlink()
     shutil.copy(copy, file)
     since = b"".join(it.read_bytes() for it in recorded(folder)[1:])
-    rows.equal("the records since", alike(5), run("replay", "--db", str(file), given=since))
+    rows.equal("the records since", alike(5, 5), run("replay", "--db", str(file), given=since))
     without = run("replay", "--db", ":memory:", given=text_of(folder))
-    rows.equal("all records", alike(8), without)
+    rows.equal("all records", alike(8, 8), without)
 
 
 def test_no_folder(room: pathlib.Path, rows: Rows) -> None:

@@ -114,7 +114,8 @@ def gone_on(rows: Rows, room: pathlib.Path, record: pathlib.Path, text: bytes, i
     numbers = [int(it.name[:10]) for it in recorded(record.parent)]
     rows.equal(f"{what}: records", [1, 2, 3] if is_left else [1, 2], numbers)
     new = room / "new.db"
-    rows.equal(f"{what}: alike", all_alike(record.parent), played(record.parent, new))
+    ran = played(record.parent, new)
+    rows.equal(f"{what}: alike", all_alike(record.parent, ran), ran)
     rows.equal(f"{what}: equal tables", dump_of(room / "desk.db"), dump_of(new))
     for name in (new, new.with_name("new.db-wal")):
         name.unlink(missing_ok=True)
@@ -138,14 +139,16 @@ def test_damaged(room: pathlib.Path, rows: Rows, left: Left, share: int) -> None
         damaged = bytearray(left.record)
         damaged[place] ^= 1 << place % 8
         lay_out(room, left.after, left.name, bytes(damaged))
-        # a record whose beginning isn't read has no number
-        refused(rows, room, f"byte {place}", "number" if place < BEGINNING else "damaged")
+        refused(rows, room, f"byte {place}", "its last record is damaged")
 
 
 # the name of a record, its bytes, and a word of why it is refused
 OTHERS: list[tuple[str, Callable[[Left], tuple[str, bytes]], str]] = [
     ("another number in its name", lambda left: ("0000000002-1.record", left.record), "number"),
-    ("no entry", lambda left: (left.name, b""), "number"),
+    ("no byte", lambda left: (left.name, b""), "its last record is empty"),
+    ("one byte", lambda left: (left.name, left.record[:1]), "its last record is damaged"),
+    ("no whole entry", lambda left: (left.name, left.record[: BEGINNING - 1]), "its last record is damaged"),
+    ("an entry", lambda left: ("0000000002-1.record", left.record[:BEGINNING]), "number"),
     ("another version", lambda left: (left.name, entry("record", 1, b"2")), "none of a desk"),
     ("no beginning", lambda left: (left.name, entry("operator", 100, b"alfa")), "none of a desk"),
     ("two beginnings", lambda left: (left.name, left.record + left.record), "none of a desk"),
@@ -236,7 +239,7 @@ def plays(rows: Rows, room: pathlib.Path, is_alike: bool) -> None:
     """Whether all records give equal answers and tables, or end with `differs`."""
     ran = played(room / "records", room / "new.db")
     if is_alike:
-        rows.equal("alike", all_alike(room / "records"), ran)
+        rows.equal("alike", all_alike(room / "records", ran), ran)
         rows.equal("equal tables", dump_of(room / "desk.db"), dump_of(room / "new.db"))
     else:
         rows.equal("differs", (3, "uss_desk: differs"), (ran.status, ran.errors.splitlines()[-1]))

@@ -1,6 +1,6 @@
 -- Why a line ends with a store that failed.
 use Rattle.std.proofs.Common.{◌≡◌, ◌∙◌, ◌==◌, ◌≤◌, ℕ, List, Bool, true, false, Option, Some, None, if◌then◌else◌, Result, Ok, Err, inl, inr, sym, subst, ap, refl, arith}
-use Rattle.std.specs.Prelude.{⊤}
+use Rattle.std.specs.Prelude.{⊤, IfErr}
 use Rattle.desk_store.specs.declared.store.PlanStore.{Ghosts}
 use Rattle.desk_store.specs.StoreFaults.{HasRisen}
 use Rattle.desk_run.specs.declared.fault.DeskFault.{DeskFault}
@@ -24,7 +24,7 @@ use Rattle.desk_program.specs.Outside.{outside}
 use Rattle.desk_program.specs.Playing.{IsLinePlayed}
 use Rattle.desk_program.specs.Running.{IsCarriedOut}
 use Rattle.std.specs.Result.{IsErrAnd}
-use Rattle.desk_program.specs.Serving.{IsDenied, Traffic, failing}
+use Rattle.desk_program.specs.Serving.{IsDenied, Traffic, failing, first_failure}
 
 -- an enrolment that is told as a store that failed had that fault
 store_told : (fault : DeskFault) → enrolment_failure fault ≡ Store → fault ≡ desk.Store
@@ -85,11 +85,21 @@ denied_no_store (inr (inr (inr (inr e)))) = cc
 same_failure : {A : Type 0} (f : Failure) → ◌≡◌ {A = Result A Failure} (Err f) (Err Store) → f ≡ Store
 same_failure f e = cc
 
-pub served_counted : {A : Type 0} (done : Result A Failure) (served : Result Served ServeFault) (old new : ℕ)
-    → failing done ≡ failure_at served → IsCounted done old new
-served_counted (Ok d) served old new is store = cc
-served_counted (Err f) served old new is store =
-    absurd (at_no_store served (sym is ∙ ap Some (same_failure f store)))
+-- nor does the close of one
+pub served_counted : {A : Type 0} (done : Result A Failure) (served : Result Served ServeFault)
+    (closed : Result ⊤ Failure) (old new : ℕ) → IfErr closed IsDenied
+    → failing done ≡ first_failure (failure_at served) (failing closed) → IsCounted done old new
+served_counted (Ok d) served closed old new denied is store = cc
+served_counted (Err f) served closed old new denied is store =
+    absurd (by (failure_at served) closed refl denied (ap Some (sym (same_failure f store)) ∙ is)) where
+      some_same : {g : Failure} → Some Store ≡ Some g → g ≡ Store
+      some_same e = cc
+
+      by : (at : Option Failure) (closed : Result ⊤ Failure) → failure_at served ≡ at → IfErr closed IsDenied
+          → Some Store ≡ first_failure at (failing closed) → ⊥
+      by None (Ok d) same denied e = cc
+      by None (Err g) same denied e = denied_no_store (subst IsDenied (some_same e) denied)
+      by (Some g) closed same denied e = at_no_store served (same ∙ sym e)
 
 -- nor does the machine
 pub denied_counted : {A : Type 0} (done : Result A Failure) (f : Failure) (old new : ℕ)

@@ -1,6 +1,6 @@
 -- What may be found of a desk's content, over several connections and enrolments.
 use Rattle.std.proofs.Common.{◌≡◌, ◌≤◌, ◌<◌, ◌⊎◌, inl, inr, ◌+◌, ℕ, ℤ, List, [], ◌∷◌, ◌++◌, ◌∙◌, Option, Some, None, Result, Ok, Err, length, map, take, refl, ap, sym, subst, arith}
-use Rattle.std.specs.Prelude.{⊤}
+use Rattle.std.specs.Prelude.{⊤, IfErr, OnOk}
 use Rattle.std.specs.Result.{IsErrAnd}
 use Rattle.std.proofs.lemmas.List.{length-append, map-append}
 use Rattle.std.proofs.lemmas.List.Elements.{All-append, All-cons, All-nil}
@@ -21,8 +21,9 @@ use Rattle.desk_line.specs.Exits.{Ending, EndsWith, failure_after, failure_at}
 use Rattle.desk_program.specs.Enrolling.{AreEnrolled, HasListed, on_terms, with_operators}
 use Rattle.desk_program.specs.Keeping.{AreKept, AreKeptSoFar, FindsListed, FindsNews, IsFoundServed, IsLeftByOne, IsPlayKept, IsPortKept}
 use Rattle.desk_program.specs.Playing.{done_unless}
-use Rattle.desk_program.specs.Serving.{AreNoted, AreServed, BringsNews, Denies, EndsAfter, EndsAtNews, Exchange, Grows, IsDenied, IsLast, IsUnsent, Listens, Traffic, failing, news_of, outcome_of, passage_of}
-use Rattle.desk_program.proofs.ServedLemmas.{all_then, all_unsent, both_more, both_news, both_noted, both_served, none, none_last, none_more, one_ends, served_then, stays, stops}
+use Rattle.desk_program.specs.Recorded.{IsOpen}
+use Rattle.desk_program.specs.Serving.{AreNoted, AreServed, BringsNews, Denies, EndsAfter, EndsAtNews, Exchange, Grows, IsDenied, IsLast, IsUnsent, Listens, Traffic, failing, first_failure, news_of, outcome_of, passage_of}
+use Rattle.desk_program.proofs.ServedLemmas.{all_then, all_unsent, both_more, both_news, both_noted, both_served, none, none_last, none_more, not_ok, one_closed, one_ends, served_then, stays, stops}
 
 -- ---- enrolments
 
@@ -146,9 +147,9 @@ module _ {A B C : Type 0} where
       → ((xs ys : List Exchange) (one last : Option (List Enrolment)) → EndsAfter {A = A} (Ok d) m xs one
       → EndsAfter then k ys last → EndsAfter whole n (xs ++ ys) last)
       → ((last : Option (List Enrolment)) (x y : DeskWorld) → IsLast K last then x y
-      → IsLast K last whole x y)
+      → IsLast K last whole x y) → ((P : Type 0) → OnOk then P → OnOk whole P)
       → AreKept K whole n a c u w before now
-  both_kept H K by d then whole m k n a b c u v w before mid now h t few ends lasts =
+  both_kept H K by d then whole m k n a b c u v w before mid now h t few ends lasts well =
       let xs = h.taken.exchanges in
       let ys = t.taken.exchanges in
       let goes = none_last H h.taken.last d h.taken.between v h.taken.untaken in
@@ -173,6 +174,7 @@ module _ {A B C : Type 0} where
               (subst (λ l. Grows a.news b.news (news_of xs l)) goes.0 h.taken.news) t.taken.news);
           recorded = both_noted xs ys t.taken.last a.recorded b.recorded c.recorded h.taken.ends.1
               (subst (λ l. AreNoted a.recorded xs l b.recorded) goes.0 h.taken.recorded) t.taken.recorded;
+          stays_open = λ was. well (IsOpen c.recorded) (t.taken.stays_open (h.taken.stays_open was));
           served = both_served K xs ys u v t.taken.between
               (all_then H K by xs u v (subst (λ z. AreServed H xs u z) (sym goes.1) h.taken.served))
               t.taken.served;
@@ -187,10 +189,11 @@ module _ {A B C : Type 0} where
 -- nothing is taken
 pub none_kept : {A : Type 0} (H : Type 0) (done : Result A Failure) (count : ℕ)
     (old new : Traffic) (w after : DeskWorld) (before now : Option World → Type 0)
-    → Denies old new → after ≡ w → EndsAfter done count [] None
-    → ((found : Option World) → now found → before found) → AreKept H done count old new w after before now
-none_kept H done count old new w after before now denies left ends no_more = record {
-  taken = none H done count old new w after denies left ends;
+    → Denies old new → (IsOpen old.recorded → OnOk done (IsOpen new.recorded)) → after ≡ w
+    → EndsAfter done count [] None → ((found : Option World) → now found → before found)
+    → AreKept H done count old new w after before now
+none_kept H done count old new w after before now denies still left ends no_more = record {
+  taken = none H done count old new w after denies still left ends;
   finds = λ p found may. inr (left, no_more found may);
 }
 
@@ -225,6 +228,7 @@ news_kept H done f news old mid new w after before now is brings denies ends fin
     told = All-nil (λ x. x.parting.outcome ≡ outcome_of x.served);
     news = subst (λ v. Grows old.news v (news ∷ [])) (sym denies.3) brings.0;
     recorded = (mid.recorded, brings.4, denies.4);
+    stays_open = λ was. not_ok done f (IsOpen new.recorded) is;
     served = refl;
     untaken = last_news H done f news w after is ends;
     ends = ends_news done f news is;
@@ -294,20 +298,22 @@ after_news x w listed after before mid found news (inr p) = by (news p.1)
     by (inr q) = inr (p.0 ∙ q.0, q.1)
 
 pub one_kept : {A : Type 0} (H : Type 0) (done : Result A Failure) (x : Exchange)
-    (old new : Traffic) (w listed after : DeskWorld) (before mid now : Option World → Type 0)
+    (closed : Result ⊤ Failure) (old new : Traffic) (w listed after : DeskWorld)
+    (before mid now : Option World → Type 0)
     → new.listened ≡ old.listened → Grows old.taken new.taken (x.arrival ∷ [])
     → Grows old.closed new.closed (x.parting ∷ []) → IsUnsent old x.out
     → x.parting.outcome ≡ outcome_of x.served → Grows old.news new.news (x.news ∷ [])
     → AreNoted old.recorded (x ∷ []) None new.recorded → AreEnrolled H x.news w listed
     → HasServed H x.served (passage_of x) listed x.arrival.moment after
-    → failing done ≡ failure_at x.served
+    → failing done ≡ first_failure (failure_at x.served) (failing closed)
+    → OnOk closed (IsOpen new.recorded) → IfErr closed IsDenied
     → (H → (found : Option World) → mid found
     → (found ≡ Some listed.content) ⊎ ((listed ≡ w) × before found))
     → (H → (found : Option World) → now found → IsFoundNow x.served mid
     (IsTaken x.arrival.bytes x.parting.unread) listed x.arrival.moment after found)
     → AreKept H done 1 old new w after before now
-one_kept H done x old new w listed after before mid now listened takes closes fresh told news noted lists
-    served is first finds = record {
+one_kept H done x closed old new w listed after before mid now listened takes closes fresh told news noted
+    lists served is still denied first finds = record {
       taken = record {
         exchanges = x ∷ [];
         last = None;
@@ -321,9 +327,10 @@ one_kept H done x old new w listed after before mid now listened takes closes fr
             (All-nil (λ z. z.parting.outcome ≡ outcome_of z.served));
         news = news;
         recorded = noted;
+        stays_open = λ was. one_closed (IsOpen new.recorded) done (failure_at x.served) closed is still;
         served = (listed, after, lists, served, refl);
         untaken = refl;
-        ends = one_ends done x is;
+        ends = one_ends done x closed denied is;
       };
       finds = λ p found may. after_news x w listed after (before found) (mid found) found (first p found)
           (one_found x listed after (mid found) found
@@ -359,7 +366,8 @@ module _ {A : Type 0} (H : Type 0) (done : Result A Failure) (serve : ServeWords
       → ((found : Option World) → now found → before found)
       → (found : Option World) → now found → IsPortKept H done serve (course old new) w after found
   unserved_kept f old new is denied listens left no_more = port_kept old new new listens
-      (none_kept H done serve.connections new new begun after before now (stays new) left
+      (none_kept H done serve.connections new new begun after before now (stays new)
+      (λ was. not_ok done f (IsOpen new.recorded) is) left
       (stops done f is serve.connections [] None denied) no_more)
 
 -- ---- a run over the input

@@ -1,5 +1,6 @@
 -- What connections leave, one after the other.
 use Rattle.std.proofs.Common.{◌≡◌, ◌≢◌, ◌+◌, ℕ, ℤ, List, [], ◌∷◌, ◌++◌, ◌∙◌, Option, None, Some, Result, Ok, Err, All, IfSome, length, inl, inr, refl, ap, sym, subst, arith}
+use Rattle.std.specs.Prelude.{⊤, IfErr, OnOk}
 use Rattle.std.specs.Result.{IsErrAnd}
 use Rattle.std.proofs.lemmas.List.{length-append, append_assoc, append-nil}
 use Rattle.std.proofs.lemmas.List.Elements.{All-append, All-cons, All-head, All-nil, All-tail}
@@ -16,8 +17,8 @@ use Rattle.desk_line.specs.Exits.{failure_at}
 use Rattle.desk_line.specs.declared.line.Serve.{Serve as ServeWords}
 use Rattle.desk_line.specs.declared.line.Enrolment.{Enrolment}
 use Rattle.desk_program.specs.Enrolling.{AreEnrolled, on_terms, with_operators}
-use Rattle.desk_program.specs.Recorded.{IsCutOff, Noted, Recorded, Ended, Open, RecordsNone, with_news, with_request}
-use Rattle.desk_program.specs.Serving.{AreNoted, AreServed, AreTaken, Denies, EndsAfter, EndsAtNews, EndsBy, Exchange, Grows, IsAtPort, IsDenied, IsLast, IsUnsent, Listens, Parting, Traffic, failing, news_of, outcome_of, passage_of}
+use Rattle.desk_program.specs.Recorded.{IsCutOff, IsOpen, Noted, Recorded, Ended, Open, RecordsNone, with_news, with_request}
+use Rattle.desk_program.specs.Serving.{AreNoted, AreServed, AreTaken, Denies, EndsAfter, EndsAtNews, EndsBy, Exchange, Grows, IsAtPort, IsDenied, IsLast, IsUnsent, Listens, Parting, Traffic, failing, first_failure, news_of, outcome_of, passage_of}
 
 -- ---- the connections that are taken
 
@@ -191,9 +192,9 @@ none_last H (Some news) d w after h = absurd h
 -- nothing is taken
 pub none : {A : Type 0} (H : Type 0) (done : Result A Failure) (count : ℕ)
     (old new : Traffic)
-    (w after : DeskWorld) → Denies old new → after ≡ w → EndsAfter done count [] None
-    → AreTaken H done count old new w after
-none H done count old new w after denies left ends = record {
+    (w after : DeskWorld) → Denies old new → (IsOpen old.recorded → OnOk done (IsOpen new.recorded))
+    → after ≡ w → EndsAfter done count [] None → AreTaken H done count old new w after
+none H done count old new w after denies still left ends = record {
   exchanges = [];
   last = None;
   between = w;
@@ -205,20 +206,47 @@ none H done count old new w after denies left ends = record {
   told = All-nil (λ x. x.parting.outcome ≡ outcome_of x.served);
   news = none_more old.news new.news denies.3;
   recorded = denies.4;
+  stays_open = still;
   served = refl;
   untaken = left;
   ends = ends;
 }
 
--- one connection is taken
-pub one_ends : {A : Type 0} (done : Result A Failure) (x : Exchange) → failing done ≡ failure_at x.served
+-- a failure doesn't end well
+pub not_ok : {A : Type 0} (done : Result A Failure) (f : Failure) (P : Type 0)
+    → IsErrAnd done (λ e. e ≡ f) → OnOk done P
+not_ok (Ok d) f P is = absurd is
+not_ok (Err e) f P is = tt
+
+-- one connection is taken, and closed
+pub one_ends : {A : Type 0} (done : Result A Failure) (x : Exchange) (closed : Result ⊤ Failure)
+    → IfErr closed IsDenied → failing done ≡ first_failure (failure_at x.served) (failing closed)
     → EndsAfter done 1 (x ∷ []) None
-one_ends (Ok d) x is = (
-  refl,
-  All-cons (λ z. failure_at z.served ≡ None) x [] (sym is)
-      (All-nil (λ z. failure_at z.served ≡ None)),
-)
-one_ends (Err f) x is = inr (sym is, refl, refl)
+one_ends {A} done x closed denied is = by done (failure_at x.served) closed refl denied is where
+  some_same : {f g : Failure} → Some f ≡ Some g → f ≡ g
+  some_same e = cc
+
+  by : (done : Result A Failure) (at : Option Failure) (closed : Result ⊤ Failure) → failure_at x.served ≡ at
+      → IfErr closed IsDenied → failing done ≡ first_failure at (failing closed)
+      → EndsAfter done 1 (x ∷ []) None
+  by (Ok d) None (Ok c) same denied is = (
+    refl,
+    All-cons (λ z. failure_at z.served ≡ None) x [] same (All-nil (λ z. failure_at z.served ≡ None)),
+  )
+  by (Ok d) None (Err f) same denied is = cc
+  by (Ok d) (Some f) closed same denied is = cc
+  by (Err e) None (Ok c) same denied is = cc
+  by (Err e) None (Err f) same denied is = inl (same, subst IsDenied (some_same (sym is)) denied)
+  by (Err e) (Some f) closed same denied is = inr (same ∙ sym is, refl, refl)
+
+-- it ends well only if its closing did
+pub one_closed : {A : Type 0} (P : Type 0) (done : Result A Failure) (at : Option Failure)
+    (closed : Result ⊤ Failure) → failing done ≡ first_failure at (failing closed) → OnOk closed P
+    → OnOk done P
+one_closed P (Ok d) None (Ok c) is h = h
+one_closed P (Ok d) None (Err f) is h = cc
+one_closed P (Ok d) (Some f) closed is h = cc
+one_closed P (Err e) at closed is h = tt
 
 -- so many connections and then others are so many in all
 pub goes_on : {A B C : Type 0} (d : A) (e : B) (whole : C) (m k : ℕ) (xs ys : List Exchange)
@@ -287,6 +315,7 @@ unserved H done f serve old new w after is denied listens listed = inl (record {
   listed = listed;
   port = new;
   listens = listens;
-  taken = none H done serve.connections new new after after (stays new) refl (stops done f is
-      serve.connections [] None denied);
+  taken = none H done serve.connections new new after after (stays new)
+      (λ was. not_ok done f (IsOpen new.recorded) is) refl
+      (stops done f is serve.connections [] None denied);
 })

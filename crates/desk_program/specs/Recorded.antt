@@ -19,6 +19,12 @@ pub data Recorded : Type 0 where
   Open : Noted → Recorded
   Ended : List ℕ → Recorded
 
+-- more is recorded, as far as is known
+abbrev pub IsOpen : Option Recorded → Type 0
+IsOpen None = ⊤
+IsOpen (Some (Open n)) = ⊤
+IsOpen (Some (Ended text)) = ⊥
+
 -- the entries of an enrolment, of a request, and of an answer
 abbrev pub operator_entry : Enrolment → EntryParts
 operator_entry e = record { kind = kind.Operator; number = e.ceiling; bytes = e.operator }

@@ -1,5 +1,5 @@
 -- Serving: what a desk at a port prints, and what its connections leave.
-use Rattle.std.specs.Prelude.{◌≡◌, ◌≢◌, ◌≤◌, ◌⊎◌, ⊤, ℕ, ℤ, Bool, true, false, List, [], ◌∷◌, ◌++◌, All, map, length, codes, decimal, Option, Some, None, IfSome, option_to_list, Result, Ok, Err}
+use Rattle.std.specs.Prelude.{◌≡◌, ◌≢◌, ◌≤◌, ◌⊎◌, ⊤, ℕ, ℤ, Bool, true, false, List, [], ◌∷◌, ◌++◌, All, map, length, codes, decimal, Option, Some, None, IfSome, option_to_list, Result, Ok, Err, OnOk}
 use Rattle.std.specs.Result.{IsErrAnd}
 use Rattle.desk_run.specs.DeskWorld.{DeskWorld}
 use Rattle.desk_ends.specs.declared.serving.Served.{Served}
@@ -14,7 +14,7 @@ use Rattle.desk_line.specs.Exits.{Ending, EndsWith, IsAnnounced, IsBreakdown, fa
 use Rattle.desk_line.specs.declared.line.Enrolment.{Enrolment}
 use Rattle.desk_program.specs.declared.port.Outcome.{Outcome}
 use Rattle.desk_program.specs.Enrolling.{AreEnrolled, AreListedSoFar, on_terms, with_operators}
-use Rattle.desk_program.specs.Recorded.{Recorded, RecordsAnswer, RecordsNews, RecordsNone, RecordsRequest}
+use Rattle.desk_program.specs.Recorded.{IsOpen, Recorded, RecordsAnswer, RecordsNews, RecordsNone, RecordsRequest}
 
 -- what is printed when the port is listened at
 abbrev pub listening_line : ℕ → List ℕ
@@ -159,8 +159,13 @@ abbrev pub failing : {A : Type 0} → Result A Failure → Option Failure
 failing (Ok done) = None
 failing (Err failure) = Some failure
 
--- the machine denied memory, a write, a connection or the moment; or a request can't be recorded: the client
--- was told that the desk failed
+-- the first of two failures, if there is one
+abbrev pub first_failure : Option Failure → Option Failure → Option Failure
+first_failure None then = then
+first_failure (Some failure) then = Some failure
+
+-- the machine denied memory, a write, a connection or the moment; or a request, or the answer to one, can't
+-- be recorded: the client was told that the desk failed
 abbrev pub IsDenied : Failure → Type 0
 IsDenied f =
     (f ≡ failure.Memory) ⊎ (f ≡ failure.Write) ⊎ (f ≡ failure.Network) ⊎ (f ≡ failure.Clock)
@@ -183,8 +188,8 @@ IsLast H (Some news) (Err failure) w after = EndsAtNews H failure news w after
 abbrev pub news_of : List Exchange → Option (List Enrolment) → List (List Enrolment)
 news_of xs last = map (λ x. x.news) xs ++ option_to_list last
 
--- the failure is what the last of these connections ended the desk with, or came after them, with the news
--- for which no connection was taken; none before ended the desk
+-- the failure is what the last of these connections ended the desk with, or came as that was closed or after
+-- it, with the news for which no connection was taken; none before ended the desk
 abbrev pub EndsBy : Failure → List Exchange → Option (List Enrolment) → Type 0
 EndsBy f [] None = IsDenied f
 EndsBy f [] (Some news) = ⊤
@@ -198,7 +203,8 @@ EndsAfter (Ok done) count exchanges last =
     (length exchanges ≡ count) × All (λ x. failure_at x.served ≡ None) exchanges
 EndsAfter (Err failure) count exchanges last = EndsBy failure exchanges last
 
--- connections are taken, at most so many, and what is left is what their requests and the news leave
+-- connections are taken, at most so many, and what is left is what their requests and the news leave. If that
+-- ended well, all that was to be recorded is
 pub record AreTaken {A : Type 0} (H : Type 0) (done : Result A Failure) (count : ℕ)
     (old new : Traffic) (w after : DeskWorld) : Type 0 where
   pub exchanges : List Exchange
@@ -212,6 +218,7 @@ pub record AreTaken {A : Type 0} (H : Type 0) (done : Result A Failure) (count :
   pub told : All (λ x. x.parting.outcome ≡ outcome_of x.served) exchanges
   pub news : Grows old.news new.news (news_of exchanges last)
   pub recorded : AreNoted old.recorded exchanges last new.recorded
+  pub stays_open : IsOpen old.recorded → OnOk done (IsOpen new.recorded)
   pub served : AreServed H exchanges w between
   pub untaken : IsLast H last done between after
   pub ends : EndsAfter done count exchanges last

@@ -107,12 +107,13 @@ impl<'s, N: Net, C: Clock, G: Register + Drop, E: Write> Port for LocalPort<'s, 
         mut input: BufReader<Timed<'s, N::Stream, C>>,
         output: Timed<'s, N::Stream, C>,
         outcome: Outcome,
-    ) {
+    ) -> Result<(), Failure> {
         let _ = if outcome.is_whole {
             discard_extra(input.get_mut(), &output)
         } else {
             discard_rest(input.get_mut(), &output)
         };
+        Ok(())
     }
 }
 

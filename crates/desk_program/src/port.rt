@@ -1,8 +1,9 @@
 //! Where a desk gets its connections from.
 
-ghost use Rattle.std.specs.Prelude.{◌≡◌, IfOk, IfErr, OnErr};
+ghost use Rattle.std.specs.Prelude.{◌≡◌, IfOk, IfErr, OnOk, OnErr};
 ghost use Rattle.desk_ends.specs.Moments.{IsMoment};
 ghost use Rattle.desk_line.specs.Lines.{AreEnrolments};
+ghost use Rattle.desk_program.specs.Recorded.{IsOpen};
 ghost use Rattle.desk_program.specs.Serving.{BringsNews, Closes, Denies, IsDenied, IsFresh, Listens};
 ghost use Rattle.desk_program.specs.Serving.{Takes, Traffic};
 ghost use Rattle.desk_program.specs.Serving.{arrived, parted, untold};
@@ -90,7 +91,19 @@ pub trait Port {
 
     /// Ends a connection. If its request was read whole, what has come behind it is dropped first; else the
     /// rest of it is read for a while.
-    fn close(&mut self, input: Self::Input, output: Self::Output, outcome: Outcome)
-        ensures { Closes (traffic self.old) (traffic self.new)
-            (parted (Self.Input.remaining input) (Self.Output.contents output) outcome) };
+    ///
+    /// # Errors
+    ///
+    /// `Broken` if the answer can't be recorded: the client was told that the desk failed. The connection has
+    /// ended all the same.
+    fn close(
+        &mut self,
+        input: Self::Input,
+        output: Self::Output,
+        outcome: Outcome,
+    ) -> Result<(), Failure>
+        ensures closed { Closes (traffic self.old) (traffic self.new)
+            (parted (Self.Input.remaining input) (Self.Output.contents output) outcome) }
+        ensures recorded { OnOk result (IsOpen (traffic self.new).recorded) }
+        ensures fault { IfErr result IsDenied };
 }

@@ -15,7 +15,8 @@ ghost use Rattle.desk_program.specs.Inputs.{IsInputKept, IsInputPlayed};
 ghost use Rattle.desk_program.specs.Keeping.{AreKept, IsPortKept, IsServeKept};
 ghost use Rattle.desk_program.specs.Outside.{ended, written};
 ghost use Rattle.desk_program.specs.Serving as spec;
-ghost use Rattle.desk_program.specs.Serving.{AreTaken, IsAtPort, IsDenied, IsLineServed, Listens, failing, listening_line};
+ghost use Rattle.desk_program.specs.Serving.{AreTaken, IsAtPort, IsDenied, IsLineServed, Listens, failing};
+ghost use Rattle.desk_program.specs.Serving.{first_failure, listening_line};
 
 use crate::port::{Connection, Outcome, Port};
 use crate::program::{enrol_news, set_up};
@@ -189,8 +190,8 @@ fn serve_connection<S: PlanStore, P: Port>(
         &mut client.input,
         &mut client.output,
     );
-    port.close(client.input, client.output, outcome_of(&served));
-    done_after(served)
+    let closed = port.close(client.input, client.output, outcome_of(&served));
+    done_after(served, closed)
 }
 
 // What a port is told that came of a request.
@@ -203,12 +204,15 @@ fn outcome_of(served: &Result<Served, ServeFault>) -> Outcome
     }
 }
 
-// Whether the desk goes on after what came of a request.
-fn done_after(served: Result<Served, ServeFault>) -> Result<(), Failure>
-    ensures { failing result ≡ failure_at served }
+// Whether the desk goes on after what came of a request, and of the close of its connection.
+fn done_after(
+    served: Result<Served, ServeFault>,
+    closed: Result<(), Failure>,
+) -> Result<(), Failure>
+    ensures { failing result ≡ first_failure (failure_at served) (failing closed) }
 {
     match failure_of(served) {
-        None => Ok(()),
+        None => closed,
         Some(failure) => Err(failure),
     }
 }

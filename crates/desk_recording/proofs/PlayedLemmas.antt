@@ -10,7 +10,7 @@ use Rattle.desk_rules.specs.Name.{is_operator_name}
 use Rattle.desk_record.specs.Record.{EntryParts, entries, entry}
 use Rattle.desk_reading.specs.Requests.{asked}
 use Rattle.desk_run.specs.DeskWorld.{enrolled}
-use Rattle.desk_wire.specs.Bytes.{text_for, world_after}
+use Rattle.desk_wire.specs.Bytes.{makes_change_for, text_for, world_after}
 use Rattle.desk_wire.specs.Refusals.{server_error_text}
 use Rattle.desk_wire.specs.declared.response.ServerError.{ServerError}
 use Rattle.desk_wire.specs.declared.response.ServerError.TheVariants.{OutOfMemory, Store}
@@ -18,7 +18,7 @@ use Rattle.desk_line.specs.Lines.{AreEnrolments}
 use Rattle.desk_line.specs.declared.line.Enrolment.{Enrolment}
 use Rattle.desk_program.specs.Enrolling.{with_operators}
 use Rattle.desk_program.specs.Recorded.{AreNamed, answer_entry, operator_entry, request_entry}
-use Rattle.desk_replay.specs.Replaying.{AskingParts, Outcome, State, answered, counted, is_alike, is_failure, last_moment, listed, played, requested, taken, then_taken}
+use Rattle.desk_replay.specs.Replaying.{AskingParts, Outcome, State, answered, counted, is_alike, is_failure, last_moment, listed, played, requested, taken, then_taken, with_change}
 
 ok_same : {A E : Type 0} {x y : A} → ◌≡◌ {A = Result A E} (Ok x) (Ok y) → x ≡ y
 ok_same e = cc
@@ -79,6 +79,7 @@ asking_of s second request = record {
   answer = text_for s.world (pos second) (asked request);
   before = None;
   reopened = false;
+  made_change = makes_change_for s.world (pos second) (asked request);
 }
 
 abbrev pub asked_of : State → ℕ → List ℕ → State
@@ -86,6 +87,7 @@ asked_of s second request = record s {
   world = world_after s.world (pos second) (asked request);
   asking = Some (asking_of s second request);
   requests = counted None s.requests;
+  changes = with_change false (makes_change_for s.world (pos second) (asked request)) s.changes;
 }
 
 abbrev pub after : State → ℕ → List ℕ → State
@@ -93,6 +95,7 @@ after s second request = record s {
   world = world_after s.world (pos second) (asked request);
   asking = None;
   requests = counted None s.requests;
+  changes = with_change false (makes_change_for s.world (pos second) (asked request)) s.changes;
 }
 
 timely : (n : ℕ) → n ≤ last_moment → nat_lt last_moment n ≡ false

@@ -14,10 +14,10 @@ use Rattle.desk_line.specs.Exits.{failure_at}
 use Rattle.desk_line.specs.Lines.{AreEnrolments}
 use Rattle.desk_line.specs.declared.line.Enrolment.{Enrolment}
 use Rattle.desk_program.specs.Enrolling.{AreEnrolled, with_operators}
-use Rattle.desk_program.specs.Recorded.{AreNamed, Ended, IsAnswerRecorded, IsRecorded, Noted, Open, Recorded, RecordsAnswer, RecordsRequest, answer_entry, operator_entry, request_entry, with_answer, with_news, with_request}
+use Rattle.desk_program.specs.Recorded.{AreNamed, Ended, IsAnswerRecorded, IsOpen, IsRecorded, Noted, Open, Recorded, RecordsAnswer, RecordsRequest, answer_entry, operator_entry, request_entry, with_answer, with_news, with_request}
 use Rattle.desk_program.specs.Serving.{AreNoted, AreServed, AreTaken, Exchange, IsLast, Traffic, is_answered, outcome_of, passage_of}
 use Rattle.desk_replay.specs.Replaying.{State, played}
-use Rattle.desk_recording.specs.Played.{AddsPlayed, IsPlayedTo, entries_of, known, pair_of}
+use Rattle.desk_recording.specs.Played.{AddsOpen, AddsPlayed, IsPlayedTo, entries_of, known, pair_of}
 use Rattle.desk_recording.proofs.ExchangeLemmas.{AreAsked, are_asked, low_second, same_second, some_text}
 use Rattle.desk_recording.proofs.PlayedLemmas.{after, entries_then, news_played, pair_played, played_then}
 
@@ -121,6 +121,36 @@ not_opened text [] None m noted = cc
 not_opened text [] (Some news) m noted = noted.1
 not_opened text (x ∷ xs) last m noted = noted.3.news
 
+-- what was recorded stays known
+abbrev IsKnown : Option Recorded → Type 0
+IsKnown now = (r : Recorded) × (now ≡ Some r)
+
+stays_known : (xs : List Exchange) (r : Recorded) (now : Option Recorded) → AreNoted (Some r) xs None now
+    → IsKnown now
+stays_known [] (Ended text) now same = (Ended text, same)
+stays_known [] (Open n) now (inl same) = (Open n, same)
+stays_known [] (Open n) now (inr cut) =
+    (Ended (with_request (with_news n cut.news) cut.moment cut.request).text, cut.ended)
+stays_known (x ∷ xs) (Ended text) now noted = absurd noted.3.news
+stays_known (x ∷ xs) (Open n) now noted =
+    let asked : IsRecorded (with_news n x.news) noted.1 x.arrival.moment x.arrival.bytes =
+    subst (λ r. RecordsRequest r noted.1 x.arrival.moment x.arrival.bytes) noted.3.news.2 noted.3.request in
+    by (with_request (with_news n x.news) x.arrival.moment asked.request) (subst (λ r. RecordsAnswer r noted.2
+    x.parting.sent x.parting.outcome.is_answered) asked.added noted.3.answer)
+    (λ r is. stays_known xs r now (subst (λ v. AreNoted v xs None now) is noted.5)) where
+      by : (k : Noted) → IsAnswerRecorded k noted.2 x.parting.sent x.parting.outcome.is_answered
+          ⊎ (noted.2 ≡ Some (Ended k.text)) → ((r : Recorded) → noted.2 ≡ Some r → IsKnown now) → IsKnown now
+      by k (inl a) more = more (Open (with_answer k a.answer)) a.added
+      by k (inr ended) more = more (Ended k.text) ended
+
+-- and if the record hasn't ended, more is recorded
+stays_open : (xs : List Exchange) (r : Recorded) (now : Option Recorded) → AreNoted (Some r) xs None now
+    → IsOpen now → (m : Noted) × (now ≡ Some (Open m))
+stays_open xs r None noted is =
+    let known = (stays_known xs r None noted).1 in cc
+stays_open xs r (Some (Open m)) noted is = (m, refl)
+stays_open xs r (Some (Ended text)) noted is = absurd is
+
 pub told_whole : (x : Exchange) → x.parting.outcome ≡ outcome_of x.served
     → x.parting.outcome.is_answered ≡ true
     → is_answered x.served ≡ true
@@ -210,16 +240,19 @@ module _ (H : Type 0) (h : H) (Ends : (request rest : List ℕ) → IsRequest re
       (All-tail (λ x. x.parting.outcome ≡ outcome_of x.served) x xs told) at) now
 
   -- connections that were taken
-  pub taken_added : (count : ℕ) (old new : Traffic) (w left : DeskWorld) (n m : Noted) (s : State)
+  pub taken_added : (count : ℕ) (old new : Traffic) (w left : DeskWorld) (n : Noted) (s : State)
       → (taken : AreTaken {A = ⊤} H (Ok tt) count old new w left) → old.recorded ≡ Some (Open n)
-      → new.recorded ≡ Some (Open m) → IsPlayedTo s w
-      → AddsPlayed n m.text (entries_of taken.exchanges) s left
-  taken_added count old new w left n m s taken was is now =
+      → IsPlayedTo s w → AddsOpen n new.recorded (entries_of taken.exchanges) s left
+  taken_added count old new w left n s taken was now =
       let xs = taken.exchanges in
       let goes = none_last H taken.last taken.between left taken.untaken in
-      subst (AddsPlayed n m.text (entries_of xs) s) (sym goes.1)
-      (all_added xs n m s w taken.between
-      (subst (AreNoted (Some (Open n)) xs None) is
-      (subst (λ r. AreNoted r xs None new.recorded) was
-      (subst (λ l. AreNoted old.recorded xs l new.recorded) goes.0 taken.recorded)))
-      taken.served taken.ends.1 taken.told now)
+      let noted = subst (λ r. AreNoted r xs None new.recorded) was
+      (subst (λ l. AreNoted old.recorded xs l new.recorded) goes.0 taken.recorded) in
+      let here = stays_open xs (Open n) new.recorded noted (taken.stays_open (subst IsOpen (sym was) tt)) in
+      record {
+        m = here.0;
+        is = here.1;
+        adds = subst (AddsPlayed n here.0.text (entries_of xs) s) (sym goes.1)
+            (all_added xs n here.0 s w taken.between
+            (subst (AreNoted (Some (Open n)) xs None) here.1 noted) taken.served taken.ends.1 taken.told now);
+      }

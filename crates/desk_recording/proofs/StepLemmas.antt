@@ -6,7 +6,7 @@ use Rattle.desk_record.specs.Record.{entry}
 use Rattle.desk_wire.specs.Streams.{IsRequest}
 use Rattle.desk_line.specs.Lines.{AreEnrolments}
 use Rattle.desk_line.specs.declared.line.Enrolment.{Enrolment}
-use Rattle.desk_program.specs.Recorded.{AreNamed, Ended, Noted, Recorded, RecordsAnswer, RecordsNews, RecordsNone, RecordsRequest, request_entry, with_answer, with_news, with_request}
+use Rattle.desk_program.specs.Recorded.{AreNamed, Ended, IsOpen, Noted, Recorded, RecordsAnswer, RecordsNews, RecordsNone, RecordsRequest, request_entry, with_answer, with_news, with_request}
 use Rattle.desk_program.specs.Serving.{BringsNews, Closes, Denies, Parting, Takes, arrived}
 use Rattle.desk_recording.specs.Recording.{Adds, Answered, Asked, Enrolled, HasText, Lost, Notes, NotesOnDisk, SendsKept, Step, arrivals_in, news_in, partings_in, traffic_of}
 use Rattle.desk_recording.specs.Telling.{recorded_by}
@@ -125,6 +125,14 @@ records_answer (Some n) now true true is_answered answer is may =
 records_answer (Some n) now true false is_answered answer is may = ends_with now n.text is
 
 -- ---- what a port tells
+
+-- more is recorded if nothing was lost
+pub is_open : (steps : Option (List Step)) (noted : Option Noted)
+    → IsOpen (traffic_of steps (recorded_by false noted)).recorded
+is_open None None = tt
+is_open None (Some n) = tt
+is_open (Some steps) None = tt
+is_open (Some steps) (Some n) = tt
 
 -- enrolments are brought
 pub brings_news : (old new : Option (List Step)) (noted now : Option Noted) (news : List Enrolment)

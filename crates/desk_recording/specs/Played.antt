@@ -44,6 +44,13 @@ pub record AddsPlayed (n : Noted) (text : List ℕ) (added : List EntryParts) (s
   pub plays : played s added ≡ Ok left
   pub now : IsPlayedTo left after
 
+-- these entries are added to the text of a record that stays open, and so played
+pub record AddsOpen (n : Noted) (now : Option Recorded) (added : List EntryParts) (s : State)
+    (after : DeskWorld) : Type 0 where
+  pub m : Noted
+  pub is : now ≡ Some (Open m)
+  pub adds : AddsPlayed n m.text added s after
+
 -- the world in which operators are listed, and then a request is answered, if there is one
 abbrev pub caught_up : DeskWorld → List Enrolment → ℤ → List ℕ → DeskWorld
 caught_up w news moment [] = with_operators w news

@@ -1,7 +1,8 @@
 //! The requests of an input, handed out one after the other as connections of a port, so that they are
 //! recorded.
 
-ghost use Rattle.std.specs.Prelude.{◌≡◌, ◌≤◌, ⊤, Err, IfErr, IfOk, IsSome, OnErr, Option, Some, not};
+ghost use Rattle.std.specs.Prelude.{◌≡◌, ◌≤◌, ⊤, Err, IfErr, IfOk, IsSome, Ok, OnErr, OnOk, Option};
+ghost use Rattle.std.specs.Prelude.{Some, not};
 ghost use Rattle.std.specs.Option.{IsSomeAnd};
 ghost use Rattle.std.specs.Io.Cursor.{cursor_inner, cursor_remaining};
 ghost use Rattle.desk_ends.specs.Moments.{IsMoment};
@@ -15,6 +16,7 @@ ghost use Rattle.desk_wire.specs.Serving.{IsTaken};
 ghost use Rattle.desk_line.specs.Exits.{ending};
 ghost use Rattle.desk_line.specs.Lines.{IsPlay};
 ghost use Rattle.desk_program.specs.Outside.{ended};
+ghost use Rattle.desk_program.specs.Recorded.{IsOpen};
 ghost use Rattle.desk_program.specs.Serving.{Closes, Denies, IsDenied, IsFresh, Takes, arrived, parted, untold};
 ghost use Rattle.desk_recording.specs.Inputs as spec;
 ghost use Rattle.desk_recording.specs.Inputs.{HasStopped, IsPlayRecorded, IsRecordedCause, IsRecordedKept};
@@ -120,9 +122,17 @@ impl<R: Read + Drop, W: Write + Drop> Port for InputPort<R, W> {
         }
     }
 
-    fn close(&mut self, input: Cursor<Vec<u8>>, output: Vec<u8>, outcome: Outcome)
+    fn close(
+        &mut self,
+        input: Cursor<Vec<u8>>,
+        output: Vec<u8>,
+        outcome: Outcome,
+    ) -> Result<(), Failure>
         ensures closed { Closes untold untold (parted (cursor_remaining (λ v. Some v.items) input)
             (Some output.items) outcome) }
+        ensures recorded { OnOk result (IsOpen untold.recorded) }
+        ensures fault { IfErr result IsDenied }
+        ensures ok { result ≡ Ok (tt {0}) }
         ensures sent { Sends output.items (W.contents self.old.output) (W.contents self.new.output) }
         ensures framed { self.new.is_unframed ≡ not outcome.is_whole }
     {
@@ -130,6 +140,7 @@ impl<R: Read + Drop, W: Write + Drop> Port for InputPort<R, W> {
         if write_whole(&mut self.output, &output).is_err() {
             self.ended = Some(Err(Failure::Write));
         }
+        Ok(())
     }
 }
 

@@ -9,19 +9,19 @@ ghost use Rattle.desk_program.specs.Keeping.{IsFoundServed};
 ghost use Rattle.desk_program.specs.Recorded.{Noted, Open};
 ghost use Rattle.desk_program.specs.Serving.{AreTaken, Traffic};
 ghost use Rattle.desk_replay.specs.Replaying.{State};
-ghost use Rattle.desk_recording.specs.Played.{AddsPlayed, EndsFound, EndsPlayed, IsPlayedTo, entries_of};
+ghost use Rattle.desk_recording.specs.Played.{AddsOpen, EndsFound, EndsPlayed, IsPlayedTo, entries_of};
 
 use desk_wire::laws::request_ends;
 
 /// Recorded: what a port that records adds to its text while a desk takes connections from it (the clause
-/// `served` of `serve`), as many as it was to take, if its record is open before and after: just the entries
-/// of these connections, with each request and its answer. Played where the desk's world was as it began,
-/// they differ nowhere, and leave what the desk left.
+/// `served` of `serve`), as many as it was to take, if its record is open before: just the entries of these
+/// connections, with each request and its answer, and it stays open. Played where the desk's world was as it
+/// began, they differ nowhere, and leave what the desk left.
 pub fn recorded()
-    ensures { (doubt count : ℕ) (old new : Traffic) (w after : DeskWorld) (n m : Noted) (s : State) →
+    ensures { (doubt count : ℕ) (old new : Traffic) (w after : DeskWorld) (n : Noted) (s : State) →
         IsHonest doubt → (taken : AreTaken {A = ⊤} (IsHonest doubt) (Ok tt) count old new w after) →
-        old.recorded ≡ Some (Open n) → new.recorded ≡ Some (Open m) → IsPlayedTo s w →
-        AddsPlayed n m.text (entries_of taken.exchanges) s after }
+        old.recorded ≡ Some (Open n) → IsPlayedTo s w →
+        AddsOpen n new.recorded (entries_of taken.exchanges) s after }
 {
     request_ends();
 }

@@ -1,13 +1,14 @@
 //! A port whose connections are recorded.
 
-ghost use Rattle.std.specs.Prelude.{◌≡◌, ◌<◌, false, true, length, Err, Some, IfErr, IfOk, OnErr};
+ghost use Rattle.std.specs.Prelude.{◌≡◌, ◌<◌, false, true, if◌then◌else◌, length};
+ghost use Rattle.std.specs.Prelude.{Err, Some, IfErr, IfOk, OnErr, OnOk};
 ghost use Rattle.std.specs.Io.Cursor.{cursor_inner, cursor_remaining};
 ghost use Rattle.desk_ends.specs.Moments.{IsMoment};
 ghost use Rattle.desk_wire.specs.Refusals.{server_error_text};
 ghost use Rattle.desk_wire.specs.Serving.{IsTaken};
 ghost use Rattle.desk_wire.specs.declared.response.ServerError.TheVariants.{Store};
 ghost use Rattle.desk_line.specs.Lines.{AreEnrolments};
-ghost use Rattle.desk_program.specs.Recorded.{with_answer};
+ghost use Rattle.desk_program.specs.Recorded.{IsOpen, with_answer};
 ghost use Rattle.desk_program.specs.Serving.{BringsNews, Closes, Denies, IsDenied, IsFresh, Listens};
 ghost use Rattle.desk_program.specs.Serving.{Takes, arrived, parted};
 ghost use Rattle.desk_recording.specs.Recording.{Adds, Answered, IsClosedBy, IsTakenFrom, Notes, Sends};
@@ -117,7 +118,7 @@ impl<P: Port + Drop, R: Record + Drop> Port for RecordedPort<P, R> {
         }
         let mut taken = self.port.take(alloc)?;
         let Ok(request) = request_of(alloc, &mut taken.input) else {
-            self.port.close(taken.input, taken.output, UNANSWERED);
+            let _ = self.port.close(taken.input, taken.output, UNANSWERED);
             return Err(Failure::Memory);
         };
         if self.keeper.keep_request(taken.moment, &request) {
@@ -135,16 +136,25 @@ impl<P: Port + Drop, R: Record + Drop> Port for RecordedPort<P, R> {
         }
         self.is_broken = true;
         refuse(&mut taken.output);
-        self.port.close(taken.input, taken.output, UNANSWERED);
+        let _ = self.port.close(taken.input, taken.output, UNANSWERED);
         Err(Failure::Broken)
     }
 
-    #[tactic(auto, using(crate::proofs::StepLemmas::closes_so))]
-    fn close(&mut self, input: Given<P::Input>, output: Held<P::Output>, outcome: Outcome)
+    #[tactic(auto, using(crate::proofs::StepLemmas::closes_so, crate::proofs::StepLemmas::is_open))]
+    fn close(
+        &mut self,
+        input: Given<P::Input>,
+        output: Held<P::Output>,
+        outcome: Outcome,
+    ) -> Result<(), Failure>
         ensures closed { Closes (told_by R.Record self.old.keeper self.old.is_broken)
             (told_by R.Record self.new.keeper self.new.is_broken)
             (parted (cursor_remaining (λ v. Some v.items) input.request) (Some output.answer.items)
             outcome) }
+        ensures recorded { OnOk result
+            (IsOpen (told_by R.Record self.new.keeper self.new.is_broken).recorded) }
+        ensures fault { IfErr result IsDenied }
+        ensures told { self.new.is_broken ≡ true → result ≡ Err Failure.Broken }
         ensures kept { IsClosedBy (R.steps self.old.keeper) (R.steps self.new.keeper)
             (parted (cursor_remaining (λ v. Some v.items) input.request) (Some output.answer.items)
             outcome) output.answer.items (P.Output.contents output.to) (P.Input.remaining input.client)
@@ -163,8 +173,19 @@ impl<P: Port + Drop, R: Record + Drop> Port for RecordedPort<P, R> {
         };
         let is_kept = send_kept(&mut self.keeper, self.is_broken, connection, &mut to);
         self.is_broken = !is_kept;
-        self.port.close(client, to, outcome);
+        let closed = self.port.close(client, to, outcome);
+        closed_if(is_kept, closed)
     }
+}
+
+// How a connection was closed, by whether its answer is kept.
+fn closed_if(is_kept: bool, closed: Result<(), Failure>) -> Result<(), Failure>
+    ensures { result ≡ (if is_kept then closed else Err Failure.Broken) }
+{
+    if !is_kept {
+        return Err(Failure::Broken);
+    }
+    closed
 }
 
 // Keeps the answer of a connection, if it is whole and nothing was lost before, and then sends it; or else

@@ -7,8 +7,8 @@ use Rattle.std.proofs.lemmas.Bool.Decides.{nat_tests}
 use Rattle.std.proofs.lemmas.Slice.Eq.{bytes_eq-Decides}
 use Rattle.desk_reading.specs.Requests.{asked}
 use Rattle.desk_wire.specs.AllAnswers.{world_left}
-use Rattle.desk_wire.specs.Bytes.{text_for, world_after}
-use Rattle.desk_replay.specs.Replaying.{AskingParts, State, answered, asked_now, answered_by, counted, is_failure, is_first, last_moment, played, requested, taken, then_taken}
+use Rattle.desk_wire.specs.Bytes.{makes_change_for, text_for, world_after}
+use Rattle.desk_replay.specs.Replaying.{AskingParts, State, answered, asked_now, answered_by, counted, is_failure, is_first, last_moment, played, requested, taken, then_taken, with_change}
 use Rattle.desk_replay.specs.Written.{Heard, IsTimely, answer_entry, asking_entry, sent, written}
 
 -- the state in which a request waits for its answer, and the one after it
@@ -21,8 +21,10 @@ asked_of s r = record s {
     answer = text_for s.world (pos r.second) (asked r.request);
     before = None;
     reopened = false;
+    made_change = makes_change_for s.world (pos r.second) (asked r.request);
   });
   requests = counted None s.requests;
+  changes = with_change false (makes_change_for s.world (pos r.second) (asked r.request)) s.changes;
 }
 
 after : State → Heard → State
@@ -30,6 +32,7 @@ after s r = record s {
   world = world_after s.world (pos r.second) (asked r.request);
   asking = None;
   requests = counted None s.requests;
+  changes = with_change false (makes_change_for s.world (pos r.second) (asked r.request)) s.changes;
 }
 
 begun_is : (n : Option ℕ) → IsSome n → is_none n ≡ false

@@ -12,7 +12,7 @@ use Rattle.desk_record.specs.declared.kind.Kind.{Kind}
 use Rattle.desk_record.specs.declared.kind.Kind.TheVariants as kind
 use Rattle.desk_reading.specs.Requests.{asked}
 use Rattle.desk_run.specs.DeskWorld.{DeskWorld, enrolled}
-use Rattle.desk_wire.specs.Bytes.{text_for, world_after}
+use Rattle.desk_wire.specs.Bytes.{makes_change_for, text_for, world_after}
 use Rattle.desk_wire.specs.Refusals.{server_error_text}
 use Rattle.desk_wire.specs.declared.response.ServerError.TheVariants as error
 use Rattle.desk_replay.specs.declared.fault.ReplayFault.{ReplayFault}
@@ -27,6 +27,7 @@ pub record AskingParts : Type 0 where
   pub answer : List ℕ
   pub before : Option (List ℕ)
   pub reopened : Bool
+  pub made_change : Bool
 
 -- a desk's world at which records were played so far
 pub record State : Type 0 where
@@ -36,6 +37,7 @@ pub record State : Type 0 where
   pub terms : Terms
   pub asking : Option AskingParts
   pub requests : ℕ
+  pub changes : ℕ
 
 abbrev pub bytes_of : {V : Type 0} → (V → List ℕ) → Option V → Option (List ℕ)
 bytes_of items None = None
@@ -48,6 +50,7 @@ asking_shown a = record {
   answer = a.answer.items;
   before = bytes_of (λ v. v.items) a.before;
   reopened = a.reopened;
+  made_change = a.made_change;
 }
 
 abbrev pub asking_in : Option Asking → Option AskingParts
@@ -63,6 +66,7 @@ state_of w p = record {
   terms = p.terms;
   asking = asking_in p.asking;
   requests = p.requests;
+  changes = p.changes;
 }
 
 -- what comes of an entry: the state after it, or why it is not played
@@ -154,6 +158,17 @@ abbrev pub counted : Option (List ℕ) → ℕ → ℕ
 counted None n = min (n + 1) (2 ^ 64 - 1)
 counted (Some before) n = n
 
+-- whether the request that is asked made a change before
+abbrev pub has_changed : Option AskingParts → Bool
+has_changed None = false
+has_changed (Some a) = a.made_change
+
+-- one more that makes a change, unless it made one before; as many as 64 bits hold at most
+abbrev pub with_change : Bool → Bool → ℕ → ℕ
+with_change true now n = n
+with_change false false n = n
+with_change false true n = min (n + 1) (2 ^ 64 - 1)
+
 -- a request is asked at its moment
 abbrev pub asked_now : State → ℕ → List ℕ → Option (Option (List ℕ)) → Outcome
 asked_now s second request None = Err NoRecord
@@ -166,8 +181,11 @@ asked_now s second request (Some before) =
         answer = text_for s.world (pos second) (asked request);
         before = before;
         reopened = false;
+        made_change = has_changed s.asking || makes_change_for s.world (pos second) (asked request);
       });
       requests = counted before s.requests;
+      changes = with_change (has_changed s.asking) (makes_change_for s.world (pos second) (asked request))
+          s.changes;
     })
 
 unfoldable pub requested : State → ℕ → List ℕ → Outcome

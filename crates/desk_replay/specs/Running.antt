@@ -22,6 +22,7 @@ start w = record {
   terms = no_terms;
   asking = None;
   requests = 0;
+  changes = 0;
 }
 
 abbrev pub is_later : Option ℕ → Kind → ℕ → Bool

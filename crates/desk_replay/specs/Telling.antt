@@ -48,9 +48,11 @@ place_line requests place cause =
     codes "uss_desk: request " ++ (decimal requests ++ (codes ", at byte " ++ (decimal place ++ (codes ": "
     ++ (cause ++ codes "\n")))))
 
--- the line that tells that all was played
-unfoldable pub replayed_line : ℕ → List ℕ
-replayed_line requests = codes "replayed " ++ (decimal requests ++ codes " requests, all answers alike\n")
+-- the line that tells that all was played, how many requests, and how many of them made a change
+unfoldable pub replayed_line : ℕ → ℕ → List ℕ
+replayed_line requests changes =
+    codes "replayed " ++ (decimal requests ++ (codes " requests, " ++ (decimal changes
+    ++ codes " changes, all answers alike\n")))
 
 -- a line is printed; or a write of it failed, or memory ran out for it
 abbrev pub IsPrinted : Result ⊤ Failure → List ℕ → Option (List ℕ) → Option (List ℕ) → Type 0
@@ -84,9 +86,9 @@ abbrev pub IsToldBy :
 IsToldBy None line cause end writes = IsDone line end writes
 IsToldBy (Some f) line cause end writes = IsFailed f cause end writes
 
-abbrev pub IsTold : ReplayEnd → ℕ → ℕ → Ending → Course (Option (List ℕ)) → Type 0
-IsTold ended requests place end writes =
-    IsToldBy (failure_of_end ended) (replayed_line requests)
+abbrev pub IsTold : ReplayEnd → ℕ → ℕ → ℕ → Ending → Course (Option (List ℕ)) → Type 0
+IsTold ended requests changes place end writes =
+    IsToldBy (failure_of_end ended) (replayed_line requests changes)
     (place_line requests place (cause_of_end ended)) end writes
 
 -- the record of an input is played at a desk, up to where it ends, and what came of it is told
@@ -97,4 +99,4 @@ pub record IsReplayed (H : Type 0) (until : Option ℕ) (p : Passage) (end : End
   pub state : State
   pub replayed : HasReplayed H until ended place p.reads.before p.reads.after w state
   pub left : state.world ≡ after
-  pub told : IsTold ended state.requests place end p.writes
+  pub told : IsTold ended state.requests state.changes place end p.writes

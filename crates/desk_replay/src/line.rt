@@ -22,9 +22,9 @@ use std::alloc::{AllocError, Global};
 use std::io::{Read, Write};
 
 /// Plays the record of the input at the desk that was opened for it, up to the first request that is asked
-/// later than `until` (a Unix second), if that is given. Prints how many requests were played, and answers
-/// how it ended and the desk. If an entry is not played, then where and why goes to `errors`, and the word of
-/// that failure; if no desk was opened, the word alone.
+/// later than `until` (a Unix second), if that is given. Prints how many requests were played and how many of
+/// them made a change, and answers how it ended and the desk. If an entry is not played, then where and why
+/// goes to `errors`, and the word of that failure; if no desk was opened, the word alone.
 pub fn replay_opened<S: PlanStore + Drop, R: Read, W: Write, E: Write>(
     alloc: Global,
     until: Option<u64>,
@@ -70,33 +70,27 @@ fn replay_here<S: PlanStore, R: Read, W: Write, E: Write>(
     ensures remembered { Remembers S.doubt S.faults S.is_shielded desk.old.store desk.new.store }
 {
     let replayed = replay(alloc, desk, until, input);
-    let requests = replayed.progress.requests;
-    tell_end(
-        alloc,
-        replayed.ended,
-        requests,
-        replayed.place,
-        output,
-        errors,
-    )
+    tell_end(alloc, &replayed, output, errors)
 }
 
 // Tells what came of a replay, and answers how it ended.
 fn tell_end<W: Write, E: Write>(
     alloc: Global,
-    ended: ReplayEnd,
-    requests: u64,
-    place: u64,
+    replayed: &Replayed,
     output: &mut W,
     errors: &mut E,
 ) -> Exit<E>
-    ensures { IsTold ended requests place (ending result (E.contents errors.old) (E.contents errors.new))
+    ensures { IsTold replayed.now.ended replayed.now.progress.requests replayed.now.progress.changes
+        replayed.now.place (ending result (E.contents errors.old) (E.contents errors.new))
         (course (W.contents output.old) (W.contents output.new)) }
 {
-    match failure_of_end(ended) {
-        None => conclude(errors, print_replayed(alloc, requests, output)),
+    let requests = replayed.progress.requests;
+    let changes = replayed.progress.changes;
+    match failure_of_end(replayed.ended) {
+        None => conclude(errors, print_replayed(alloc, requests, changes, output)),
         Some(failure) => {
-            tell_place(alloc, requests, place, cause_of_end(ended), errors);
+            let cause = cause_of_end(replayed.ended);
+            tell_place(alloc, requests, replayed.place, cause, errors);
             conclude(errors, Err(failure))
         }
     }
@@ -140,20 +134,26 @@ fn cause_of_end(ended: ReplayEnd) -> &'static str
 
 // Prints that all was played.
 #[tactic(auto, using(crate::proofs::TellingLemmas::begun_part))]
-fn print_replayed<W: Write>(alloc: Global, requests: u64, output: &mut W) -> Result<(), Failure>
-    ensures { IsPrinted result (replayed_line requests) (W.contents output.old) (W.contents output.new) }
+fn print_replayed<W: Write>(
+    alloc: Global,
+    requests: u64,
+    changes: u64,
+    output: &mut W,
+) -> Result<(), Failure>
+    ensures { IsPrinted result (replayed_line requests changes) (W.contents output.old)
+        (W.contents output.new) }
 {
-    let text = replayed_text(alloc, requests)?;
+    let text = replayed_text(alloc, requests, changes)?;
     write_whole(output, text.as_bytes())?;
     Ok(())
 }
 
 // The line that tells that all was played.
 #[tactic(auto, unfolding(crate::specs::Telling::replayed_line))]
-fn replayed_text(alloc: Global, requests: u64) -> Result<String, AllocError>
-    ensures { IfOk result (λ text. string_bytes text ≡ replayed_line requests) }
+fn replayed_text(alloc: Global, requests: u64, changes: u64) -> Result<String, AllocError>
+    ensures { IfOk result (λ text. string_bytes text ≡ replayed_line requests changes) }
 {
-    format!(in alloc; "replayed {requests} requests, all answers alike\n")
+    format!(in alloc; "replayed {requests} requests, {changes} changes, all answers alike\n")
 }
 
 // Tells where and why a replay ended. A fault of the writer is passed over, and so is want of memory.

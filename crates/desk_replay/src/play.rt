@@ -6,7 +6,7 @@ ghost use Rattle.desk_store.specs.StoreFrames.{Remembers};
 ghost use Rattle.desk_reading.specs.Requests.{asked as asked_in};
 ghost use Rattle.desk_run.specs.DeskWorld.{DeskWorld, world_of};
 ghost use Rattle.desk_ends.specs.Moments.{IsMoment};
-ghost use Rattle.desk_wire.specs.Bytes.{text_for, world_after};
+ghost use Rattle.desk_wire.specs.Bytes.{makes_change_for, text_for, world_after};
 ghost use Rattle.desk_record.specs.Reading.{entry_shown};
 ghost use Rattle.desk_replay.specs.Replaying as spec;
 ghost use Rattle.desk_replay.specs.Replaying.{Gives, IsOwn, asking_in, asking_shown, bytes_of, is_failure, requested, answered, state_of, taken, turn_of};
@@ -18,10 +18,9 @@ use crate::terms::{begin, enrol, limit_spans, permit};
 use desk_record::{Entry, Kind};
 use desk_run::Desk;
 use desk_store::PlanStore;
-use desk_wire::{AnswersEnd, answer_all};
+use desk_wire::{Answer, ServerError, full_answer};
 use desk_writing::{out_of_memory_answer, store_answer};
 use std::alloc::{AllocError, Global};
-use std::slice;
 use volume4d::MAX_SECOND;
 
 /// Plays one entry at a desk.
@@ -104,19 +103,43 @@ fn ask<S: PlanStore>(
     }
     let before = turn(alloc, &progress.asking, second, &request)?;
     let sent = (second as i64, request);
-    let answer = answer_one(alloc, desk, &sent)?;
+    let answer = tell_one(alloc, desk, &sent)?;
     if before.is_none() {
         progress.requests = progress.requests.saturating_add(1);
     }
+    let had_changed = has_changed(&progress.asking);
+    progress.changes = with_change(had_changed, answer.made_change, progress.changes);
     let (_, request) = sent;
     progress.asking = Some(Asking {
         second,
         request,
-        answer,
+        answer: answer.bytes,
         before,
         reopened: false,
+        made_change: had_changed || answer.made_change,
     });
     Ok(())
+}
+
+// Whether the request that is asked made a change before.
+fn has_changed(asking: &Option<Asking>) -> bool
+    ensures { result ≡ spec.has_changed (asking_in asking.now) }
+{
+    match asking {
+        Some(asking) => asking.made_change,
+        None => false,
+    }
+}
+
+// How many requests made a change, with one that made one before or makes one now.
+fn with_change(before: bool, now: bool, changes: u64) -> u64
+    ensures { result ≡ spec.with_change before now changes }
+{
+    if now && !before {
+        changes.saturating_add(1)
+    } else {
+        changes
+    }
 }
 
 // The first answer to a request that is asked again, if it is.
@@ -164,14 +187,32 @@ pub fn answer_one<S: PlanStore>(
     ensures fault { IfErr result IsOwn }
     ensures remembered { Remembers S.doubt S.faults S.is_shielded desk.old.store desk.new.store }
 {
-    let mut answers = answer_all(alloc, desk, slice::from_ref(sent))?;
-    let answer = answers.answers.pop();
-    match (answers.ended, answer) {
-        (AnswersEnd::All, Some(answer)) => Ok(answer),
-        (AnswersEnd::Broken, Some(answer)) if answer.as_slice() == store_answer() => Err(
-            ReplayFault::Store,
-        ),
-        _ => Err(ReplayFault::OutOfMemory),
+    let answer = tell_one(alloc, desk, sent)?;
+    Ok(answer.bytes)
+}
+
+// The answer to one request, the bytes of a whole one with its moment, and whether a change was made.
+fn tell_one<S: PlanStore>(
+    alloc: Global,
+    desk: &mut Desk<S>,
+    sent: &(i64, Vec<u8>),
+) -> Result<Answer, ReplayFault>
+    requires { IsMoment sent.now.0 }
+    ensures ok { IsHonest (S.doubt desk.new.store) → IfOk result (λ answer. answer.bytes.items
+        ≡ text_for (world_of S.content desk.old) sent.now.0 (asked_in sent.now.1.items)) }
+    ensures change { IsHonest (S.doubt desk.new.store) → IfOk result (λ answer. answer.made_change
+        ≡ makes_change_for (world_of S.content desk.old) sent.now.0 (asked_in sent.now.1.items)) }
+    ensures left { IsHonest (S.doubt desk.new.store) → IfOk result (λ _. world_of S.content desk.new
+        ≡ world_after (world_of S.content desk.old) sent.now.0 (asked_in sent.now.1.items)) }
+    ensures err { OnErr result (world_of S.content desk.new ≡ world_of S.content desk.old) }
+    ensures fault { IfErr result IsOwn }
+    ensures remembered { Remembers S.doubt S.faults S.is_shielded desk.old.store desk.new.store }
+{
+    let answer = full_answer(alloc, desk, sent.0, &sent.1)?;
+    match answer.error {
+        None => Ok(answer),
+        Some(ServerError::Store) => Err(ReplayFault::Store),
+        Some(ServerError::OutOfMemory) => Err(ReplayFault::OutOfMemory),
     }
 }
 

@@ -21,6 +21,8 @@ pub struct Asking {
     pub before: Option<Vec<u8>>,
     /// A record has begun since, in which the request is to be asked again.
     pub reopened: bool,
+    /// It made a change, when it was asked now or before.
+    pub made_change: bool,
 }
 
 /// How far records were played.
@@ -35,6 +37,8 @@ pub struct Progress {
     pub asking: Option<Asking>,
     /// How many requests were played, those that are asked again once.
     pub requests: u64,
+    /// How many of them made a change.
+    pub changes: u64,
 }
 
 impl Progress {
@@ -48,6 +52,7 @@ impl Progress {
             terms: Terms::none(),
             asking: None,
             requests: 0,
+            changes: 0,
         }
     }
 }

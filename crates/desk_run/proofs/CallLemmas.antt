@@ -36,7 +36,7 @@ use Rattle.desk_rules.specs.Replies as said
 use Rattle.desk_rules.specs.declared.reply.PutReply.{PutReply}
 use Rattle.desk_run.specs.declared.pending.Pending.{Pending}
 use Rattle.desk_run.specs.DeskWorld.{DeskWorld, held_in}
-use Rattle.desk_run.specs.Verdicts.{Told, Ruling, replied, unknown_operator, no_such_plan, ruling_alone, put_outcome, put_ruling, plans_left, delete_ruling, shown_in, list_ruling, show_ruling, clear_ruling, enrolled_ruling, ruling_under, verdict, world_with_plans, ruling_in, told_to, step}
+use Rattle.desk_run.specs.Verdicts.{Told, Ruling, replied, unknown_operator, no_such_plan, ruling_alone, put_outcome, put_ruling, plans_left, delete_ruling, shown_in, list_ruling, show_ruling, clear_ruling, enrolled_ruling, ruling_under, verdict, world_with_plans, ruling_in, makes_change, told_to, step}
 use Rattle.desk_run.specs.Calls.{IsUnanswered, IsReady, Readies, IsPending, Prepares, change_after, world_with, world_committed}
 use Rattle.desk_run.proofs.OutcomeLemmas.{outcome_counts}
 use Rattle.desk_run.proofs.PutLemmas.{change_fits}
@@ -61,9 +61,10 @@ verdict_is terms w o put given moment stored standing meeting v e m s n over c =
 unanswered_by : (w : DeskWorld) (moment : ℤ) (asked : Asked) (reason : Told)
     → ruling_in w asked.operator moment asked.call ≡ ruling_alone reason
     → IsUnanswered w moment asked reason
-unfolding told_to step
+unfolding told_to makes_change step
 unanswered_by w moment asked reason e = record {
   told = ap (λ a. a.told) e;
+  change_is = ap (λ a. is_some a.plans) e;
   left = ap (λ a. record w { content = world_with_plans w.content asked.operator a.plans }) e;
 }
 
@@ -84,6 +85,13 @@ change_made w o put effect.Nothing = refl
 change_made w o put effect.Save = refl
 change_made w o put effect.Shut = refl
 
+-- and there is a change where the effect leaves others
+change_asked : (o : List ℕ) (put : PutCall) (rows : List PlanRow) (e : Effect)
+    → is_some (change_after e o put) ≡ is_some (plans_left e put rows)
+change_asked o put rows effect.Nothing = refl
+change_asked o put rows effect.Save = refl
+change_asked o put rows effect.Shut = refl
+
 -- the reply to a request to plan, and its change, are ready
 pub put_ready : (terms : Terms) (w : World) (o : List ℕ) (put : PutCall) (given moment : ℤ)
     (ceiling : ℕ) (v : Verdict)
@@ -101,6 +109,7 @@ put_ready terms w o put given moment ceiling v r c listed low is m change reply_
     record {
       told = ap (λ x. (put_ruling x put (plans_of o w)).told) (sym v_is)
           ∙ ap (λ q. replied (said.answered q)) (sym reply_is);
+      change_is = ap is_some c_is ∙ change_asked o put (plans_of o w) u.effect;
       left = ap (world_with w) c_is ∙ change_made w o put u.effect;
       fits = rw c_is (change_fits w o put moment terms.spans ceiling
           (conflict terms.permitted put.area (held_at (plans_of o w) (held w o) put.id) put.priority) listed
@@ -112,13 +121,14 @@ pending_from : (w : DeskWorld) (moment : ℤ) (asked : Asked) (ceiling : ℕ) (p
     → ceiling_of asked.operator w.content ≡ Some ceiling → IsReady w.content asked.operator
     (enrolled_ruling w.terms (own w.content asked.operator) (held_in w asked.operator) ceiling moment
     asked.call) p → IsPending w moment asked p
-unfolding told_to step verdict own world_committed
+unfolding told_to makes_change step verdict own world_committed
 pending_from w moment asked ceiling p listed h =
     let o = asked.operator in
     let under : Option ℕ → Ruling =
     λ c. ruling_under c w.terms (own w.content o) (held_in w o) moment asked.call in
     record {
       told = ap (λ c. (under c).told) listed ∙ h.told;
+      change_is = h.change_is ∙ sym (ap (λ c. is_some (under c).plans) listed);
       left = ap (λ v. record w { content = v })
           (h.left ∙ sym (ap (λ c. world_with_plans w.content o (under c).plans) listed));
       fits = h.fits;
@@ -142,7 +152,7 @@ prepares_from w moment asked ceiling (Err Ceiling) listed h = absurd h
 -- a reply that goes with no change is ready
 alone_ready : (w : World) (o : List ℕ) (told : ReplyParts) (r : Reply) → said_in r ≡ told
     → IsReady w o (ruling_alone (replied told)) (record { reply = r; change = None })
-alone_ready w o told r e = record { told = ap replied (sym e); left = refl; fits = tt }
+alone_ready w o told r e = record { told = ap replied (sym e); change_is = refl; left = refl; fits = tt }
 
 -- the list of an operator's plans is ready
 pub list_ready : (permitted : List ℕ) (w : World) (o : List ℕ) (shown : List Shown) (r : Reply)
@@ -172,7 +182,7 @@ status_ready w moment asked ceiling listed is =
     (subst (λ c. IsReady w.content asked.operator (enrolled_ruling w.terms
     (own w.content asked.operator) (held_in w asked.operator) ceiling moment c)
     (record { reply = reply.Ready; change = None })) (sym is)
-    (record { told = refl; left = refl; fits = tt }))
+    (record { told = refl; change_is = refl; left = refl; fits = tt }))
 
 -- the closing of a stored plan is ready
 pub delete_ready : (w : World) (o id : List ℕ) (found : Option States) → found
@@ -202,7 +212,8 @@ delete_ready w o id found e s listed = by_stored (stored_of id (plans_of o w)) r
         change = Some (change.Close o id);
       })
   by_stored None f g = cc
-  by_stored (Some row) f g = record { told = refl; left = refl; fits = (listed, ap is_some f) }
+  by_stored (Some row) f g =
+      record { told = refl; change_is = refl; left = refl; fits = (listed, ap is_some f) }
 
 -- the answers to a request to plan, and to close, are those to the call
 pub put_readies : (terms : Terms) (w before : World) (given moment : ℤ) (asked : Asked) (put : PutCall)

@@ -221,6 +221,7 @@ none_cleared w o extent ids is none =
     let any : list_any (is_in extent) rows ≡ false = none_taken (is_in extent) rows taken in
     record {
       told = ap (λ xs. replied (said.cleared (length xs))) taken;
+      change_is = rw any refl;
       left = rw any refl;
       fits = tt;
     }
@@ -261,6 +262,7 @@ some_cleared w o extent ids count c is some parts counted s few listed =
     let made = clear_made w o (is_in extent) c (parts ∙ ap (clear o) is) s listed in
     record {
       told = ap (λ n. replied (said.cleared n)) (sym (counted (omega (arith, size, less, few)) ∙ size));
+      change_is = rw any refl;
       left = rw any made.0;
       fits = made.1;
     }

@@ -1,5 +1,5 @@
 -- What the calls of a desk give, by the verdict.
-use Rattle.std.specs.Prelude.{◌≡◌, ◌<◌, ◌^◌, ℕ, ℤ, ⊤, List, [], length, map, Option, Some, None, MatchOption, Result, Ok, Err}
+use Rattle.std.specs.Prelude.{◌≡◌, ◌<◌, ◌^◌, ℕ, ℤ, ⊤, List, [], length, map, Bool, false, is_some, Option, Some, None, MatchOption, Result, Ok, Err}
 use Rattle.std.specs.List.{filter}
 use Rattle.volume4d.specs.Volume.{Block}
 use Rattle.desk_rules.specs.declared.plan.PlanRow.{PlanRow}
@@ -20,11 +20,12 @@ use Rattle.desk_run.specs.DeskWorld.{DeskWorld}
 use Rattle.desk_run.specs.declared.pending.Pending.{Pending}
 use Rattle.desk_run.specs.declared.fault.DeskFault.{DeskFault}
 use Rattle.desk_run.specs.declared.fault.DeskFault.TheVariants.{OutOfMemory, Store, UnknownOperator, NoSuchPlan, Ceiling}
-use Rattle.desk_run.specs.Verdicts.{Told, Ruling, replied, unknown_operator, no_such_plan, is_in, row_asked, ruling_alone, world_with_plans, told_to, step}
+use Rattle.desk_run.specs.Verdicts.{Told, Ruling, replied, unknown_operator, no_such_plan, is_in, row_asked, ruling_alone, world_with_plans, makes_change, told_to, step}
 
 -- a call without a reply: what the caller is told instead, and that the call leaves the world as it was
 pub record IsUnanswered (w : DeskWorld) (moment : ℤ) (asked : Asked) (reason : Told) : Type 0 where
   pub told : told_to w asked.operator moment asked.call ≡ reason
+  pub change_is : makes_change w asked.operator moment asked.call ≡ false
   pub left : step w asked.operator moment asked.call ≡ w
 
 -- a reply is told as it is, and so are an unknown operator and a plan that is not there; of want of
@@ -51,6 +52,10 @@ world_with w (Some change) = changed_by change w
 abbrev pub reply_in : Pending → Reply
 reply_in p = p.reply
 
+-- whether a change goes with it
+abbrev pub has_change : Pending → Bool
+has_change p = is_some p.change
+
 -- what is pending may be committed
 abbrev pub CanCommit : DeskWorld → Pending → Type 0
 CanCommit w p = Fits w.content p.change
@@ -67,6 +72,7 @@ pub record IsSamePending (p copy : Pending) : Type 0 where
 -- what is pending is what an answer to an operator says
 pub record IsReady (w : World) (operator : List ℕ) (a : Ruling) (p : Pending) : Type 0 where
   pub told : a.told ≡ replied (said_in (reply_in p))
+  pub change_is : has_change p ≡ is_some a.plans
   pub left : world_with w p.change ≡ world_with_plans w operator a.plans
   pub fits : Fits w p.change
 
@@ -97,6 +103,7 @@ pub record IsClearing (operator : List ℕ) (ids : List (List ℕ)) (p : Pending
 -- what is pending is the reply and the change of the call at the moment, and may be committed
 pub record IsPending (w : DeskWorld) (moment : ℤ) (asked : Asked) (p : Pending) : Type 0 where
   pub told : told_to w asked.operator moment asked.call ≡ replied (said_in (reply_in p))
+  pub change_is : has_change p ≡ makes_change w asked.operator moment asked.call
   pub left : world_committed w p ≡ step w asked.operator moment asked.call
   pub fits : CanCommit w p
 

@@ -1,6 +1,6 @@
 -- Verdicts: what a desk answers to a call, and what it leaves, by the desk's terms, what the operator owns
 -- and what others hold.
-use Rattle.std.specs.Prelude.{ℕ, ℤ, ◌+◌, length, List, [], ◌∷◌, map, Bool, not, cond, Option, Some, None}
+use Rattle.std.specs.Prelude.{ℕ, ℤ, ◌+◌, length, List, [], ◌∷◌, map, Bool, not, cond, is_some, Option, Some, None}
 use Rattle.std.specs.List.{filter, list_any}
 use Rattle.std.specs.Option.{unwrap_or}
 use Rattle.desk_rules.specs.declared.plan.PlanRow.{PlanRow}
@@ -204,6 +204,10 @@ ruling_in w operator moment asked =
 -- a call at a moment: what the caller is told, and the desk's world after it
 unfoldable pub told_to : DeskWorld → List ℕ → ℤ → Call → Told
 told_to w operator moment asked = (ruling_in w operator moment asked).told
+
+-- whether it makes a change: a plan is stored or closed, as it may be already, or some are taken out
+unfoldable pub makes_change : DeskWorld → List ℕ → ℤ → Call → Bool
+makes_change w operator moment asked = is_some (ruling_in w operator moment asked).plans
 
 unfoldable pub step : DeskWorld → List ℕ → ℤ → Call → DeskWorld
 step w operator moment asked =

@@ -10,7 +10,7 @@ ghost use Rattle.desk_rules.specs.declared.words.Usage.TheVariants as usage;
 ghost use Rattle.desk_run.specs.DeskWorld.{DeskWorld, enrolled, side, held_in};
 ghost use Rattle.desk_run.specs.Sides.{HoldAlike, OwnAlike};
 ghost use Rattle.desk_run.specs.TwoRuns.{IsSameFor, TimedCall, calls_of, met_by};
-ghost use Rattle.desk_run.specs.Verdicts.{side_left, step};
+ghost use Rattle.desk_run.specs.Verdicts.{makes_change, side_left, step};
 ghost use Rattle.desk_store.specs.World.{IsWorld, plans_of, stored_of, text_cmp};
 
 /// A request changes no other operator's plans or ceiling, and not the desk's terms.
@@ -33,6 +33,12 @@ pub fn closing_a_closed_plan_changes_nothing()
     ensures { (w : DeskWorld) (operator id : List ℕ) (moment : ℤ) (row : PlanRow) → IsWorld w.content →
         stored_of id (plans_of operator w.content) ≡ Some row → row.usage ≡ usage.Closed →
         step w operator moment (Delete id) ≡ w }
+{}
+
+/// A call that makes no change leaves the desk's world as it was.
+pub fn without_a_change_all_stays()
+    ensures { (w : DeskWorld) (operator : List ℕ) (moment : ℤ) (call : Call) →
+        makes_change w operator moment call ≡ false → step w operator moment call ≡ w }
 {}
 
 /// Repeated: a call, and an enrolment, made twice in a row leaves what it leaves once. (The second answer may

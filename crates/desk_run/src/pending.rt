@@ -5,7 +5,7 @@ ghost use Rattle.desk_store.specs.StoreFrames.{OnlyReads};
 ghost use Rattle.desk_store.specs.StoreFaults.{IsHonest};
 ghost use Rattle.desk_run.specs.CallFaults.{IsStoreCounted};
 ghost use Rattle.desk_run.specs.DeskWorld.{with_content};
-ghost use Rattle.desk_run.specs.Calls.{IsSamePending, Prepares, reply_in};
+ghost use Rattle.desk_run.specs.Calls.{IsSamePending, Prepares, has_change, reply_in};
 
 use crate::fault::DeskFault;
 use clear::ready_clear;
@@ -41,6 +41,13 @@ impl Pending {
         ensures { result.now ≡ reply_in self.now }
     {
         &self.reply
+    }
+
+    /// Whether a change goes with it: a plan is to be stored or closed, or some are to be taken out.
+    pub fn has_change(&self) -> bool
+        ensures { result ≡ has_change self.now }
+    {
+        self.change.is_some()
     }
 
     /// A reply that says the same, with a change that asks for the same.

@@ -1,5 +1,5 @@
 -- Bytes: what a desk answers, by what it prepared.
-use Rattle.std.proofs.Common.{◌≡◌, ℤ, List, ℕ, Result, Ok, Err, IfOk, OnOk, refl, sym, ap, ◌∙◌}
+use Rattle.std.proofs.Common.{◌≡◌, ℤ, false, List, ℕ, Result, Ok, Err, IfOk, OnOk, refl, sym, ap, ◌∙◌}
 use Rattle.desk_rules.specs.declared.call.Asked.{Asked}
 use Rattle.desk_run.specs.declared.pending.Pending.{Pending}
 use Rattle.desk_run.specs.DeskWorld.{DeskWorld}
@@ -10,7 +10,7 @@ use Rattle.desk_writing.specs.Replies.{reply_text}
 use Rattle.desk_reading.specs.Messages.{MessageParts, message_in}
 use Rattle.desk_reading.specs.Readings.{Reading, or_met}
 use Rattle.desk_reading.specs.Requests.{asked, asked_by}
-use Rattle.desk_wire.specs.Bytes.{IsDone, status, status_for, text, world_after}
+use Rattle.desk_wire.specs.Bytes.{IsDone, makes_change_for, status, status_for, text, world_after}
 
 -- the answer and the change of what was pending
 pub done_pending : (w after : DeskWorld) (moment : ℤ) (asked : Asked) (p : Pending) (answer : List ℕ)
@@ -51,6 +51,11 @@ status_pending w moment asked p h = sym (ap status h.told)
 pub status_unanswered : (w : DeskWorld) (moment : ℤ) (asked : Asked) (reason : Told)
     → IsUnanswered w moment asked reason → status reason ≡ status_for w moment (Ok asked)
 status_unanswered w moment asked reason h = sym (ap status h.told)
+
+-- what has no reply makes no change
+pub change_unanswered : (w : DeskWorld) (moment : ℤ) (asked : Asked) (reason : Told)
+    → IsUnanswered w moment asked reason → false ≡ makes_change_for w moment (Ok asked)
+change_unanswered w moment asked reason h = sym h.change_is
 
 -- what a request asks, by how it was read
 pub asked_read : (text request : List ℕ) (reading : Reading MessageParts) → reading ≡ message_in text

@@ -1,5 +1,5 @@
 -- Bytes: the text that a desk answers to the bytes of one request, and what the request leaves.
-use Rattle.std.specs.Prelude.{◌≡◌, ◌≢◌, ℕ, ℤ, List, Option, Some, None, IfSome, Ok, Err}
+use Rattle.std.specs.Prelude.{◌≡◌, ◌≢◌, ℕ, ℤ, List, Bool, false, Option, Some, None, IfSome, Ok, Err}
 use Rattle.desk_rules.specs.declared.call.Asked.{Asked}
 use Rattle.desk_reading.specs.FaultWords.{fault_status}
 use Rattle.desk_reading.specs.Readings.{Reading}
@@ -9,7 +9,7 @@ use Rattle.desk_wire.specs.declared.answering.Response.{Response}
 use Rattle.desk_wire.specs.declared.response.Answer.{Answer}
 use Rattle.desk_wire.specs.declared.response.ServerError.{ServerError}
 use Rattle.desk_wire.specs.Refusals.{refusal_status, refusal_text, server_error_text}
-use Rattle.desk_run.specs.Verdicts.{Told, replied, unknown_operator, no_such_plan, told_to, step}
+use Rattle.desk_run.specs.Verdicts.{Told, replied, unknown_operator, no_such_plan, makes_change, told_to, step}
 use Rattle.desk_run.specs.DeskWorld.{DeskWorld}
 
 -- the text of what a caller is told
@@ -39,6 +39,11 @@ abbrev pub world_after : DeskWorld → ℤ → Reading Asked → DeskWorld
 world_after w moment (Ok a) = step w a.operator moment a.call
 world_after w moment (Err fault) = w
 
+-- whether it makes a change: a fault makes none
+abbrev pub makes_change_for : DeskWorld → ℤ → Reading Asked → Bool
+makes_change_for w moment (Ok a) = makes_change w a.operator moment a.call
+makes_change_for w moment (Err fault) = false
+
 -- the answer, and what is left, are those of what is asked
 pub record IsDone (w : DeskWorld) (moment : ℤ) (reading : Reading Asked) (answer : List ℕ)
     (after : DeskWorld) : Type 0 where
@@ -61,11 +66,17 @@ abbrev pub status_so : Option ServerError → DeskWorld → ℤ → Reading Aske
 status_so None w moment reading = status_for w moment reading
 status_so (Some why) w moment reading = 500
 
+-- whether a change was made
+abbrev pub makes_change_so : Option ServerError → DeskWorld → ℤ → Reading Asked → Bool
+makes_change_so None w moment reading = makes_change_for w moment reading
+makes_change_so (Some why) w moment reading = false
+
 -- what was made of what is asked, where the desk didn't fail: the text and its status code, never 500
 pub record IsMade (H : Type 0) (w : DeskWorld) (moment : ℤ) (reading : Reading Asked) (after : DeskWorld)
     (made : Response) : Type 0 where
   pub bytes : H → IsDone w moment reading made.bytes.items after
   pub status : H → made.status ≡ status_for w moment reading
+  pub change : H → made.made_change ≡ makes_change_for w moment reading
   pub other : made.status ≢ 500
 
 -- the answer with its status code; why the desk failed is told whether the store is honest or not
@@ -73,5 +84,6 @@ pub record IsTold (H : Type 0) (w : DeskWorld) (moment : ℤ) (reading : Reading
     (answer : Answer) : Type 0 where
   pub bytes : H → IsAnsweredSo answer.error w moment reading answer.bytes.items after
   pub status : H → answer.status ≡ status_so answer.error w moment reading
+  pub change : H → answer.made_change ≡ makes_change_so answer.error w moment reading
   pub failed : IfSome answer.error (λ why. IsServerError why w answer.bytes.items after)
   pub gave_up : answer.status ≡ 500 → answer.error ≢ None

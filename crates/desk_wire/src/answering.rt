@@ -1,13 +1,13 @@
 //! Requests answered at a desk, from bytes to bytes.
 
-ghost use Rattle.std.specs.Prelude.{◌≡◌, ◌≢◌, IfErr, IfOk, OnOk, OnErr, Ok};
+ghost use Rattle.std.specs.Prelude.{◌≡◌, ◌≢◌, false, IfErr, IfOk, OnOk, OnErr, Ok};
 ghost use Rattle.desk_reading.specs.Messages.{message_read, message_shown};
 ghost use Rattle.desk_reading.specs.Readings.{or_met};
-ghost use Rattle.desk_reading.specs.Requests.{asked_by};
+ghost use Rattle.desk_reading.specs.Requests.{asked as asked_in, asked_by};
 ghost use Rattle.desk_store.specs.StoreFaults.{IsHonest};
 ghost use Rattle.desk_run.specs.DeskFrames.{Leaves};
 ghost use Rattle.desk_run.specs.DeskWorld.{world_of};
-ghost use Rattle.desk_run.specs.Calls.{CanCommit, reply_in, world_committed};
+ghost use Rattle.desk_run.specs.Calls.{CanCommit, has_change, reply_in, world_committed};
 ghost use Rattle.desk_rules.specs.Replies.{said_in};
 ghost use Rattle.desk_writing.specs.Replies.{reply_text};
 ghost use Rattle.desk_ends.specs.Moments.{IsMoment};
@@ -33,6 +33,7 @@ const ANSWER_ROOM: usize = 512;
 struct Response {
     status: u16,
     bytes: Vec<u8>,
+    made_change: bool,
 }
 
 /// Answers `text`, the bytes of one whole request, at a moment (a Unix second from 0 to
@@ -55,6 +56,28 @@ pub fn answer<S: PlanStore>(
 {
     let answer = answer_request(alloc, desk, moment, &read_message(text))?;
     Ok(answer.bytes)
+}
+
+/// Answers `text` as `answer` does, and tells all of the answer: its status code, why the desk failed, if it
+/// did, and whether a change was made.
+///
+/// # Errors
+///
+/// `AllocError` if the room for an answer was refused: nothing changed.
+pub fn full_answer<S: PlanStore>(
+    alloc: Global,
+    desk: &mut Desk<S>,
+    moment: i64,
+    text: &[u8],
+) -> Result<Answer, AllocError>
+    requires { IsMoment moment }
+    ensures told { IfOk result (IsTold (IsHonest (S.doubt desk.new.store)) (world_of S.content desk.old)
+        moment (asked_in text.now) (world_of S.content desk.new)) }
+    ensures leaves { Leaves S.PlanStore desk.old desk.new
+        (world_after (world_of S.content desk.old) moment (asked_in text.now)) (failure_told result) }
+    ensures err { OnErr result (desk.new ≡ desk.old) }
+{
+    answer_request(alloc, desk, moment, &read_message(text))
 }
 
 /// Answers the request that was read, or its fault, at a moment.
@@ -82,6 +105,7 @@ pub fn answer_request<S: PlanStore>(
             status: response.status,
             bytes: response.bytes,
             error: None,
+            made_change: response.made_change,
         }),
         Err(error) => {
             room.extend_from_slice(error.answer())?;
@@ -89,6 +113,7 @@ pub fn answer_request<S: PlanStore>(
                 status: StatusCode::INTERNAL_SERVER_ERROR.as_u16(),
                 bytes: room,
                 error: Some(error),
+                made_change: false,
             })
         }
     }
@@ -167,16 +192,19 @@ fn answer_pending<S: PlanStore>(
     ensures bytes { IfOk result (λ r. r.bytes.items
         ≡ reply_text (said_in (reply_in pending))) }
     ensures status { IfOk result (λ r. r.status ≡ 200) }
+    ensures change { IfOk result (λ r. r.made_change ≡ has_change pending) }
     ensures ok { IsHonest (S.doubt desk.new.store) → OnOk result
         (world_of S.content desk.new ≡ world_committed (world_of S.content desk.old) pending) }
     ensures leaves { Leaves S.PlanStore desk.old desk.new
         (world_committed (world_of S.content desk.old) pending) (failure_of result) }
 {
     let bytes = reply_answer(alloc, pending.reply())?;
+    let made_change = pending.has_change();
     match desk.commit(pending) {
         Ok(_) => Ok(Response {
             status: StatusCode::OK.as_u16(),
             bytes,
+            made_change,
         }),
         Err(DeskFault::Store) => Err(ServerError::Store),
         Err(_) => Err(ServerError::OutOfMemory),
@@ -189,11 +217,13 @@ fn refuse(alloc: Global, refusal: Refusal) -> Result<Response, ServerError>
     ensures bytes { IfOk result (λ r. r.bytes.items ≡ refusal_text refusal) }
     ensures status { IfOk result (λ r. r.status ≡ refusal_status refusal) }
     ensures other { IfOk result (λ r. r.status ≢ 500) }
+    ensures change { IfOk result (λ r. r.made_change ≡ false) }
     ensures error { IfErr result (λ e. e ≡ ServerError.OutOfMemory) }
 {
     let bytes = error_answer(alloc, refusal.status(), refusal.allow(), refusal.word())?;
     Ok(Response {
         status: refusal.status().as_u16(),
         bytes,
+        made_change: false,
     })
 }

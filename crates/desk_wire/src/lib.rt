@@ -9,10 +9,10 @@ mod refusal;
 mod response;
 mod stream;
 
-pub use answering::answer;
+pub use answering::{answer, full_answer};
 pub use batch::{Answers, AnswersEnd, answer_all};
 pub use desk_ends::{Cut, PlayEnd, ServeFault, Served, WriteEnd, WriteFault, write_whole};
 pub use desk_reading::{ReadError, Route, WireFault, read_request};
 pub use play::{Played, play_all};
-pub use response::ServerError;
+pub use response::{Answer, ServerError};
 pub use stream::{receive_request, serve_one};

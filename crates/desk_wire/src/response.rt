@@ -1,6 +1,6 @@
 //! Answers with their status codes, and why a desk failed to make one.
 
-ghost use Rattle.std.specs.Prelude.{◌≡◌, ◌≤◌, length};
+ghost use Rattle.std.specs.Prelude.{◌≡◌, ◌≤◌, IfOk, length};
 ghost use Rattle.desk_wire.specs.Refusals as spec;
 ghost use Rattle.desk_wire.specs.declared.response.ServerError.TheVariants as error;
 
@@ -16,6 +16,29 @@ pub struct Answer {
     pub bytes: Vec<u8>,
     /// Why the desk failed, if the status is 500.
     pub error: Option<ServerError>,
+    /// Whether a change was made: a plan was stored or closed, or some were taken out.
+    pub made_change: bool,
+}
+
+impl Answer {
+    /// An equal answer.
+    ///
+    /// # Errors
+    ///
+    /// `AllocError` for want of memory.
+    pub fn copy(&self) -> Result<Answer, AllocError>
+        ensures status { IfOk result (λ copy. copy.status ≡ self.now.status) }
+        ensures bytes { IfOk result (λ copy. copy.bytes.items ≡ self.now.bytes.items) }
+        ensures error { IfOk result (λ copy. copy.error ≡ self.now.error) }
+        ensures change { IfOk result (λ copy. copy.made_change ≡ self.now.made_change) }
+    {
+        Ok(Answer {
+            status: self.status,
+            bytes: Vec::from_slice(*self.bytes.allocator(), &self.bytes)?,
+            error: self.error,
+            made_change: self.made_change,
+        })
+    }
 }
 
 /// Why an answer has the status 500.

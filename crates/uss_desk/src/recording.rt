@@ -177,13 +177,23 @@ fn go_on<'s>(
 // What the last record of a folder says as it ends.
 fn read_last(rt: &HostRuntime, record: &FoundRecord) -> Result<(Tail, TailEnd), Unkept> {
     let (tail, ended) = tail_of(rt, record)?;
-    if tail.record != Some(record.number) {
-        return Err(Unkept::Cause("its last record has another number"));
+    match cause_of_tail(record.number, tail.record, ended) {
+        Some(cause) => Err(Unkept::Cause(cause)),
+        None => Ok((tail, ended)),
     }
-    if ended == TailEnd::Damaged {
-        return Err(Unkept::Cause("its last record is damaged"));
+}
+
+// Why nothing goes on from a last record, if so: by the number in its name, that of its first entry, if that
+// is whole, and what stands behind its last whole entry.
+fn cause_of_tail(number: u64, begun: Option<u64>, ended: TailEnd) -> Option<&'static str>
+    ensures { option_map (λ cause. cause.now) result ≡ spec.cause_of_tail number begun ended }
+{
+    match (begun, ended) {
+        (None, TailEnd::End) => Some("its last record is empty"),
+        (_, TailEnd::Damaged) | (None, TailEnd::Short) => Some("its last record is damaged"),
+        (Some(begun), _) if begun != number => Some("its last record has another number"),
+        (Some(_), _) => None,
     }
-    Ok((tail, ended))
 }
 
 // Opens the desk, does there what a record left undone, and closes it.

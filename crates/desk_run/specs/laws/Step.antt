@@ -1,5 +1,6 @@
 -- Laws of steps, with their proofs: what they leave each operator.
 use Rattle.std.proofs.Common.{◌≡◌, ℕ, ℤ, false, List, Option, Some, None, refl, ap, ◌∙◌}
+use Rattle.std.specs.Prelude.{is_some}
 use Rattle.std.specs.Option.{unwrap_or}
 use Rattle.std.specs.Ordering.{is_eq}
 use Rattle.desk_rules.specs.declared.plan.PlanRow.{PlanRow}
@@ -9,7 +10,7 @@ use Rattle.desk_rules.specs.declared.call.Call.TheVariants.{Delete}
 use Rattle.desk_store.specs.World.{World, IsWorld, Own, own, text_cmp, ceiling_of, plans_of, stored_of}
 use Rattle.desk_store.specs.Changes.{with_plans}
 use Rattle.desk_run.specs.DeskWorld.{DeskWorld, side, held_in}
-use Rattle.desk_run.specs.Verdicts.{delete_ruling, enrolled_ruling, ruling_under, ruling_in, world_with_plans, step, verdict, side_left}
+use Rattle.desk_run.specs.Verdicts.{delete_ruling, enrolled_ruling, ruling_under, ruling_in, world_with_plans, makes_change, step, verdict, side_left}
 use Rattle.desk_store.specs.laws.Order.{rows_sorted}
 use Rattle.desk_store.specs.laws.World.{own_replaced, others_kept, close_closed, replaced_by_own}
 
@@ -47,6 +48,21 @@ own_stays w o moment asked = λ i. record {
   own = own_changed w.content o (ruling_in w o moment asked).plans i;
   terms = w.terms;
 }
+
+-- a call that makes no change leaves the world as it is
+none_changed :
+    (w : World) (o : List ℕ) (rows : Option (List PlanRow)) → is_some rows ≡ false
+    → world_with_plans w o rows ≡ w
+none_changed w o None e = refl
+none_changed w o (Some rows) e = cc
+
+pub unchanged :
+    (w : DeskWorld) (o : List ℕ) (moment : ℤ) (asked : Call) → makes_change w o moment asked ≡ false
+    → step w o moment asked ≡ w
+unfolding makes_change step
+unchanged w o moment asked e =
+    ap (λ content. record w { content = content })
+    (none_changed w.content o (ruling_in w o moment asked).plans e)
 
 -- closing a closed plan leaves the world as it is
 pub closing_closed :

@@ -9,11 +9,12 @@ use Rattle.desk_wire.specs.Serving.{HasServed, IsTaken}
 use Rattle.desk_line.specs.Exits.{enrolment_failure, failure_at}
 use Rattle.desk_program.specs.Enrolling.{AreEnrolled, AreListedSoFar}
 use Rattle.desk_program.specs.Keeping.{FindsNews}
+use Rattle.desk_program.specs.Recorded.{IsOpen}
 use Rattle.desk_program.specs.Serving.{Grows, arrived, parted}
 use Rattle.desk_program.proofs.CauseLemmas.{denied_counted, news_counted, served_counted}
 use Rattle.desk_program.proofs.EndLemmas.{told_breakdown}
 use Rattle.desk_program.proofs.KeepingLemmas.{listed_found, news_kept, none_kept, one_kept, unlisted_found, untaken_found}
-use Rattle.desk_program.proofs.ServedLemmas.{enrolled_then, same_noted, stays, stays_noted, stops}
+use Rattle.desk_program.proofs.ServedLemmas.{enrolled_then, not_ok, same_noted, stays, stays_noted, stops}
 use Rattle.desk_program.proofs.server.serve_connection.Goals as goal
 
 -- no news are brought
@@ -23,7 +24,10 @@ returns-in_err-news-clause-kept g c =
     let before = g.S.PlanStore.may_leave c.args.desk.now.store in
     none_kept (IsHonest (g.S.PlanStore.doubt c.args.desk.now.store)) c.from_residual.result 1
     (g.P.Port.traffic c.args.port.now) (g.P.Port.traffic c.news.new.self) w w before before
-    c.in_err-news.ensures.same refl (stops c.from_residual.result c.in_err-news.field-0.0
+    c.in_err-news.ensures.same
+    (λ was. not_ok c.from_residual.result c.in_err-news.field-0.0
+    (IsOpen (g.P.Port.traffic c.news.new.self).recorded) c.from_residual.ensures.1)
+    refl (stops c.from_residual.result c.in_err-news.field-0.0
     c.from_residual.ensures.1 1 [] _ c.in_err-news.ensures.fault) (λ found may. may)
 
 pub returns-in_err-news-clause-served : goal.returns-in_err-news-clause-served
@@ -114,24 +118,26 @@ returns-clause-kept g c =
     let brings = c.in_ok-news.ensures.brings in
     let taken = c.in_ok-client.ensures.taken in
     let asked = (g.P.Port.traffic c.take.new.self).recorded in
-    let closed = (g.P.Port.traffic c.close.new.self).recorded in
+    let closed = (g.P.Port.traffic c.close-closed.new.self).recorded in
+    let closes = c.close-closed.ensures.closed in
     one_kept honest c.done_after.result (record {
       news = news;
       arrival = arrived client.moment bytes;
       out = out;
       served = c.serve_one-served.result;
       parting = parted unread now c.outcome_of.result;
-    }) _ _ w listed after before mid (g.S.PlanStore.may_leave c.serve_one-served.new.desk.store)
-    (c.close.ensures.2 ∙ taken.2 ∙ brings.3)
-    (subst (λ v. Grows v (g.P.Port.traffic c.close.new.self).taken (arrived client.moment bytes ∷ []))
+    }) c.close-closed.result _ _ w listed after before mid
+    (g.S.PlanStore.may_leave c.serve_one-served.new.desk.store)
+    (closes.2 ∙ taken.2 ∙ brings.3)
+    (subst (λ v. Grows v (g.P.Port.traffic c.close-closed.new.self).taken (arrived client.moment bytes ∷ []))
     brings.1 (subst (λ v. Grows (g.P.Port.traffic c.news.new.self).taken v (arrived client.moment bytes ∷ []))
-    (sym c.close.ensures.1) taken.0))
-    (subst (λ v. Grows v (g.P.Port.traffic c.close.new.self).closed
-    (parted unread now c.outcome_of.result ∷ [])) (taken.1 ∙ brings.2) c.close.ensures.0)
+    (sym closes.1) taken.0))
+    (subst (λ v. Grows v (g.P.Port.traffic c.close-closed.new.self).closed
+    (parted unread now c.outcome_of.result ∷ [])) (taken.1 ∙ brings.2) closes.0)
     (subst (λ v. IfSome v (λ partings. out ≡ Some [])) brings.2 c.in_ok-client.ensures.unsent.0)
     c.outcome_of.ensures
     (subst (λ v. Grows (g.P.Port.traffic c.args.port.now).news v (news ∷ []))
-    (sym (c.close.ensures.3 ∙ taken.3)) brings.0) (
+    (sym (closes.3 ∙ taken.3)) brings.0) (
       (g.P.Port.traffic c.news.new.self).recorded,
       asked,
       closed,
@@ -139,7 +145,7 @@ returns-clause-kept g c =
         news = brings.4;
         unsent = c.in_ok-client.ensures.unsent.1;
         request = taken.4;
-        answer = c.close.ensures.4;
+        answer = closes.4;
       },
       same_noted closed (failure_at c.serve_one-served.result ≢ None),
       stays_noted closed,
@@ -149,7 +155,7 @@ returns-clause-kept g c =
     c.deref.ensures.value c.in_ok-enrol_news.ensures.listed))
     (subst (λ m. HasServed honest c.serve_one-served.result (passed bytes unread out now) listed m after)
     (same_moment client.moment c.in_ok-client.ensures.moment) c.serve_one-served.ensures.served)
-    c.done_after.ensures
+    c.done_after.ensures c.close-closed.ensures.recorded c.close-closed.ensures.fault
     (λ p found may. listed_found c.enrol_news.result news w listed before mid
     (subst (λ es. FindsNews c.enrol_news.result es w listed before mid) c.deref.ensures.value
     (c.enrol_news.ensures.found (was p))) found c.in_ok-enrol_news.field-0 c.in_ok-enrol_news.was may)
@@ -162,4 +168,5 @@ returns-clause-served g c = (returns-clause-kept g c).taken
 
 pub returns-clause-cause : goal.returns-clause-cause
 returns-clause-cause g c =
-    served_counted c.done_after.result c.serve_one-served.result _ _ c.done_after.ensures
+    served_counted c.done_after.result c.serve_one-served.result c.close-closed.result _ _
+    c.close-closed.ensures.fault c.done_after.ensures

@@ -1,4 +1,5 @@
 use Rattle.std.proofs.Common.{◌≡◌, ◌+◌, None, Ok, arith, refl, subst}
+use Rattle.std.specs.Prelude.{OnOk}
 use Rattle.std.proofs.lemmas.List.Elements.{All-nil}
 use Rattle.desk_store.specs.StoreFaults.{IsHonest}
 use Rattle.desk_store.specs.laws.Fault.{was_honest}
@@ -7,7 +8,7 @@ use Rattle.desk_line.specs.Exits.{failure_at}
 use Rattle.desk_program.specs.Keeping.{AreKept}
 use Rattle.desk_program.proofs.CauseLemmas.{counted_on}
 use Rattle.desk_program.proofs.KeepingLemmas.{both_kept, none_kept}
-use Rattle.desk_program.proofs.ServedLemmas.{goes_on_by, last_goes_on, last_stops, stays, stops_by}
+use Rattle.desk_program.proofs.ServedLemmas.{goes_on_by, last_goes_on, last_stops, not_ok, stays, stops_by}
 use Rattle.desk_program.proofs.server.serve_connections.Goals as goal
 
 pub returns-in_err-serve_connection-clause-kept : goal.returns-in_err-serve_connection-clause-kept
@@ -24,6 +25,7 @@ returns-in_err-serve_connection-clause-kept g c =
     (last_stops (IsHonest (g.S.PlanStore.doubt c.serve_connection.new.desk.store)) c.from_residual.result
     c.in_err-serve_connection.field-0.0 c.serve_connection.result c.from_residual.ensures.1
     c.in_err-serve_connection.was)
+    (λ P well. not_ok c.from_residual.result c.in_err-serve_connection.field-0.0 P c.from_residual.ensures.1)
 
 pub returns-in_err-serve_connection-clause-served : goal.returns-in_err-serve_connection-clause-served
 returns-in_err-serve_connection-clause-served g c = (returns-in_err-serve_connection-clause-kept g c).taken
@@ -44,7 +46,8 @@ loop-before-preserved g c = record {
       (λ xs ys one last. goes_on_by (tt {0}) c.in_ok-serve_connection.field-0 (tt {0})
       c.serve_connection.result c.in_ok-serve_connection.was c.loop-before.before 1 xs ys one last)
       (last_goes_on (IsHonest (g.S.PlanStore.doubt c.serve_connection.new.desk.store))
-      c.serve_connection.result c.in_ok-serve_connection.field-0 (tt {0}) c.in_ok-serve_connection.was);
+      c.serve_connection.result c.in_ok-serve_connection.field-0 (tt {0}) c.in_ok-serve_connection.was)
+      (λ P well. subst (λ r. OnOk r P) c.in_ok-serve_connection.was well);
   doubt = omega (arith, c.loop-before.invariant.doubt, c.serve_connection.ensures.remembered.doubt);
   counted = omega (arith, c.loop-before.invariant.counted, c.serve_connection.ensures.remembered.counted);
   shield = λ s. c.serve_connection.ensures.remembered.shield (c.loop-before.invariant.shield s);
@@ -63,7 +66,8 @@ returns-clause-kept g c =
 pub loop-before-init : goal.loop-before-init
 loop-before-init g c = record {
   kept = none_kept {A = Unit {0}} (IsHonest (g.S.PlanStore.doubt c.args.desk.now.store)) (Ok tt) 0 _ _ _ _ _ _
-      (stays (g.P.Port.traffic c.args.port.now)) refl (refl, All-nil (λ x. failure_at x.served ≡ None))
+      (stays (g.P.Port.traffic c.args.port.now)) (λ was. was) refl
+      (refl, All-nil (λ x. failure_at x.served ≡ None))
       (λ found may. may);
   doubt = omega arith;
   counted = omega arith;

@@ -7,7 +7,7 @@ use Rattle.desk_run.specs.DeskWorld.{world_of}
 use Rattle.desk_run.specs.Calls.{IsPending, Prepares, world_committed}
 use Rattle.desk_run.specs.Verdicts.{unknown_operator, no_such_plan}
 use Rattle.desk_wire.specs.Bytes.{status, text}
-use Rattle.desk_wire.proofs.BytesLemmas.{done_if_ok, done_unanswered, status_pending, status_unanswered}
+use Rattle.desk_wire.proofs.BytesLemmas.{change_unanswered, done_if_ok, done_unanswered, status_pending, status_unanswered}
 use Rattle.desk_run.specs.laws.Crash.{leaves_after, leaves_read}
 use Rattle.desk_wire.specs.Failing.{failure_of}
 use Rattle.desk_wire.proofs.LeavingLemmas.{made_if, no_500, not_store}
@@ -31,6 +31,8 @@ returns-in-Ok-clause-made g c =
     ∙ status_pending w c.args.moment c.args.asked.now c.in-Ok.pending (pending honest))
     c.answer_pending.ensures.status)
     (no_500 c.answer_pending.result c.answer_pending.ensures.status)
+    (λ honest. IfOk-weaker c.answer_pending.result _ _ (λ r told. told ∙ (pending honest).change_is)
+    c.answer_pending.ensures.change)
 
 pub returns-in-Err-UnknownOperator-clause-made : goal.returns-in-Err-UnknownOperator-clause-made
 unfolding status text
@@ -50,6 +52,9 @@ returns-in-Err-UnknownOperator-clause-made g c =
     ∙ status_unanswered w c.args.moment c.args.asked.now unknown_operator
     (rw c.in-Err-UnknownOperator.field-0-is at fault honest)) c.refuse.ensures.status)
     c.refuse.ensures.other
+    (λ honest. IfOk-weaker c.refuse.result _ _ (λ r told. told
+    ∙ change_unanswered w c.args.moment c.args.asked.now unknown_operator
+    (rw c.in-Err-UnknownOperator.field-0-is at fault honest)) c.refuse.ensures.change)
 
 pub returns-in-Err-NoSuchPlan-clause-made : goal.returns-in-Err-NoSuchPlan-clause-made
 unfolding status text
@@ -69,6 +74,9 @@ returns-in-Err-NoSuchPlan-clause-made g c =
     ∙ status_unanswered w c.args.moment c.args.asked.now no_such_plan
     (rw c.in-Err-NoSuchPlan.field-0-is at fault honest)) c.refuse-in-Err-NoSuchPlan.ensures.status)
     c.refuse-in-Err-NoSuchPlan.ensures.other
+    (λ honest. IfOk-weaker c.refuse-in-Err-NoSuchPlan.result _ _ (λ r told. told
+    ∙ change_unanswered w c.args.moment c.args.asked.now no_such_plan
+    (rw c.in-Err-NoSuchPlan.field-0-is at fault honest)) c.refuse-in-Err-NoSuchPlan.ensures.change)
 
 -- nothing but the commit changes the content
 pub returns-in-Ok-clause-leaves : goal.returns-in-Ok-clause-leaves
