@@ -73,7 +73,8 @@ fn over_pair<D: Disk + Drop>(
     ensures found { IfOk result (Finds (image_of D.Disk files)) }
     ensures fresh { IfOk result IsNew }
     ensures unread { IfErr result (λ it. IsUnread it.fault) }
-    ensures left { IfErr result (λ it. IsSomeAnd it.left (λ s. IsCleanLeft s.value → LeavesFiles files s.value)) }
+    ensures left { IfErr result (λ it. IsSomeAnd it.left (λ s.
+        IsCleanLeft s.value → LeavesFiles files s.value)) }
 {
     match Connection::open_files_with(alloc, files, options, NEW_HAS_SUMS) {
         Ok(connection) => Ok(connection),
