@@ -1,5 +1,5 @@
 -- What a start finds in what is left of files that were not opened.
-use Rattle.std.proofs.Common.{◌⊎◌, ◌≡◌, ◌≤◌, ℕ, ◌+◌, ◌*◌, ◌%◌, eq-eqb, ne_eqb, Bool, true, false, cond, List, [], ◌∷◌, Option, Some, None, IsTrue, refl, sym, ap, ap₂, subst, ◌∙◌, inl, inr, arith}
+use Rattle.std.proofs.Common.{◌⊎◌, ◌≡◌, ◌≤◌, ℕ, ◌+◌, ◌*◌, ◌%◌, eq-eqb, ne_eqb, Bool, cond, List, [], ◌∷◌, Option, Some, None, IsTrue, refl, sym, ap, subst, ◌∙◌, inl, inr, arith}
 use Rattle.std.proofs.lemmas.Bool.{cases_eq}
 use Rattle.std.proofs.Math.Logic.{∥∥₁_elim, ∥∥₁_map}
 use Rattle.std.specs.Prelude.{IfErr, IfSome, Result, Ok, Err}
@@ -65,8 +65,9 @@ reserved_is size = elim (cases_eq (size % 16) 8) [
 ]
 
 -- files that were not opened are told so, with what is left of them
-pub unread_if : {D V : Type 0} {g : disk.Ghosts D} (image : Image) (files : Files D) → image_of g files ≡ image
-    → ((next : Image) → outcomes g files.log files.db next → next ≡ image) → (r : Result V (Unreached D g))
+pub unread_if : {D V : Type 0} {g : disk.Ghosts D} (image : Image) (files : Files D)
+    → image_of g files ≡ image → ((next : Image) → outcomes g files.log files.db next → next ≡ image)
+    → (r : Result V (Unreached D g))
     → IfErr r (λ it. IsUnread it.fault)
     → IfErr r (λ it. IsSomeAnd it.left (λ s. IsCleanLeft s.value → LeavesFiles files s.value))
     → IfErr r (IsUnreached image)
@@ -205,7 +206,8 @@ module _ {D : Type 0} {g : disk.Ghosts D} (files : Files D)
       | inr (inr made) ↦ inr (∥∥₁_map made (λ it. let r : (db : Trees) × HoldsDatabase next db
           × AreFoundIn (image_of g files) db = (it.0, it.1, inr (nothing, it.2)) in r))
     ]
-    none_held (left.Unopened now) (inr (some, names, begins, says, kept)) taken next may nothing = absurd (some nothing)
+    none_held (left.Unopened now) (inr (some, names, begins, says, kept)) taken next may nothing =
+        absurd (some nothing)
     none_held (left.Store now) leaves taken next may nothing =
         inr (∥∥₁_map (opens_again now taken.0 taken.1 next may) (λ it. let r : (db : Trees)
         × HoldsDatabase next db × AreFoundIn (image_of g files) db = (it.0, it.2, (leaves it.0 it.1).0) in r))
@@ -237,18 +239,19 @@ module _ {E : Type 0} {k : disk.Ghosts E} (image next : Image) (it : Leftover E 
         remains.left.held (none_held files synced it leaves taken next remains.may
         (subst IsNothing (sym remains.left.held) nothing))
 
-    module _ {D : Type 0} {g : disk.Ghosts D} (found : Held (FileStore D g)) (first : FindsFirst next found) where
-      pub finds_first : (db : Trees) → HoldsDatabase image db → ∥ FindsFirst image found ∥₁
-      finds_first db held =
-          let before : ∥ FindsIn image (file_state found) ∥₁ =
-          subst (λ i. ∥ FindsIn i (file_state found) ∥₁) remains.left.held
-          (found_again files synced it leaves taken next remains.may db
-          (subst (λ i. HoldsDatabase i db) (sym remains.left.held) held) (file_state found) first.1) in
-          ∥∥₁_map before (λ f. let r : FindsFirst image found = (first.0, f) in r)
+    module _ {D : Type 0} {g : disk.Ghosts D} (found : Held (FileStore D g)) (first : FindsFirst next found)
+      where
+        pub finds_first : (db : Trees) → HoldsDatabase image db → ∥ FindsFirst image found ∥₁
+        finds_first db held =
+            let before : ∥ FindsIn image (file_state found) ∥₁ =
+            subst (λ i. ∥ FindsIn i (file_state found) ∥₁) remains.left.held
+            (found_again files synced it leaves taken next remains.may db
+            (subst (λ i. HoldsDatabase i db) (sym remains.left.held) held) (file_state found) first.1) in
+            ∥∥₁_map before (λ f. let r : FindsFirst image found = (first.0, f) in r)
 
-      pub found_after : {F : Type 0} {f : disk.Ghosts F} (last : Held (FileStore F f)) → IsLeftBy last image
-          → ∥ IsFoundAfter last found ∥₁
-      found_after last by =
-          ∥∥₁_elim (opens_again last.store by.connected.numbered by.connected.sound image by.left) squash₁
-          (λ db. ∥∥₁_map (finds_first db.0 db.2)
-          (λ at. let r : IsFoundAfter last found = record { image = image; files = by; first = at } in r))
+        pub found_after : {F : Type 0} {f : disk.Ghosts F} (last : Held (FileStore F f)) → IsLeftBy last image
+            → ∥ IsFoundAfter last found ∥₁
+        found_after last by =
+            ∥∥₁_elim (opens_again last.store by.connected.numbered by.connected.sound image by.left) squash₁
+            (λ db. ∥∥₁_map (finds_first db.0 db.2)
+            (λ at. let r : IsFoundAfter last found = record { image = image; files = by; first = at } in r))

@@ -19,17 +19,16 @@ module _ {D : Type 0} {g : disk.Ghosts D} where
   MayRemain (left.Unopened now) = (state_of now).may_leave
   MayRemain (left.Store now) = (file.state now).may_leave
 
-  -- of files that the disk had whole, and that held this, no database was opened, and this is left: if the disk
-  -- returned what was written, it is what the crate sqlite leaves of files that it does not open
+  -- this is left of files that held this, all of it on the disk, and were not opened: if the disk returned
+  -- what was written, it is what the crate sqlite leaves of such files
   pub record IsLeftOf (image : Image) (it : Leftover D g) : Type 0 where
     pub files : Files D
     pub held : image_of g files ≡ image
     pub synced : (next : Image) → outcomes g files.log files.db next → next ≡ image
     pub left : IsCleanLeft it → LeavesFiles files it
 
-  -- what the crate sqlite keeps of what it leaves, and says in no clause: where the first page says that there
-  -- are sums, it takes them for such; and a store numbers its root pages, and all that a crash may leave of it
-  -- are databases
+  -- what the crate sqlite keeps of what it leaves, and says in no clause: it takes the pages for such with
+  -- sums where the first one says so; a store numbers its root pages, and a crash leaves only databases of it
   abbrev pub IsTaken : Image → Leftover D g → Type 0
   IsTaken image (left.Files now) = ⊤
   IsTaken image (left.Unopened now) =

@@ -162,10 +162,10 @@ pub fn a_start_after_one_cut_short_finds_the_content<D: Disk, E: Disk>()
     one_shape();
 }
 
-/// Wherever an opening of files fails or is cut short before there is a connection, and however often: what is
-/// left of them holds the database that they held. Where there was none, there is none, or one of what there
-/// was.
-pub fn an_opening_that_failed_leaves_the_database<D: Disk>()
+/// Wherever an opening of files fails or is cut short before it has a connection, and however often: what is
+/// left of them holds the database that they held. Where they held none, there is none, or one of what was
+/// found.
+pub fn a_failed_opening_leaves_the_database<D: Disk>()
     ensures held { (image next : Image) (it : Leftover D D.Disk) (db : Trees) → HoldsDatabase image db
         → RemainsOf image it next → ∥ HoldsDatabase next db ∥₁ }
     ensures none { (image next : Image) (it : Leftover D D.Disk) → IsNothing image
@@ -173,10 +173,9 @@ pub fn an_opening_that_failed_leaves_the_database<D: Disk>()
         → IsNothing next ⊎ ∥ ((db : Trees) × HoldsDatabase next db × AreFoundIn image db) ∥₁ }
 {}
 
-/// After an opening of files that failed, or was cut short before there was a connection, the next one finds
-/// what it would have found without it. So what is said of a start over what a connection left is said of this
-/// one too.
-pub fn a_start_after_an_opening_that_failed_finds_the_database<D: Disk, E: Disk, F: Disk>()
+/// After an opening of files that failed or was cut short before it had a connection, the next one finds what
+/// it would have found without it. So all that is said of a start over what a connection left is said of it.
+pub fn a_start_after_a_failed_opening_finds_the_database<D: Disk, E: Disk, F: Disk>()
     ensures found { (image next : Image) (it : Leftover E E.Disk) (found : Held (FileStore F F.Disk))
         (db : Trees) → HoldsDatabase image db → RemainsOf image it next → FindsFirst next found
         → ∥ FindsFirst image found ∥₁ }

@@ -1,5 +1,5 @@
 use Rattle.desk_tables.proofs.LeftoverLemmas.{finds_first, found_after}
-use Rattle.desk_tables.proofs.laws.a_start_after_an_opening_that_failed_finds_the_database.Goals as goal
+use Rattle.desk_tables.proofs.laws.a_start_after_a_failed_opening_finds_the_database.Goals as goal
 
 pub returns-clause-found : goal.returns-clause-found
 returns-clause-found g c = λ image next it found db held remains first.
