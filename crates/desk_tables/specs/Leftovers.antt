@@ -33,7 +33,8 @@ module _ {D : Type 0} {g : disk.Ghosts D} where
   IsTaken image (left.Files now) = ⊤
   IsTaken image (left.Unopened now) =
       SaysSums (stored_size (state_of now).page_size) image → IsTrue (is_summed (state_of now).page_size)
-  IsTaken image (left.Store now) = IsTrue (file.view now).is_numbered × AreDatabases (file.recovers now)
+  IsTaken image (left.Store now) =
+      IsTrue (file.view now).is_numbered × AreDatabases (file.recovers now)
 
   -- files hold what a crash may have left of files that held this, and were not opened
   pub record RemainsOf (image : Image) (it : Leftover D g) (next : Image) : Type 0 where
