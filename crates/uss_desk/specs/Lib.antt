@@ -15,3 +15,4 @@ pub mod Sums
 pub mod Orders
 pub mod Ways
 pub mod Twins
+pub mod Reordering

@@ -1,11 +1,11 @@
 //! How a new file gets its name, once it is whole.
 
 ghost use Rattle.std.specs.Prelude.{◌≡◌, ℕ, ◌++◌, [], List, Option, None, false, true, IfOk, string_bytes};
-ghost use Rattle.uss_desk.specs.Naming.{AreNames, ChangesOwn, Cleared, Follows, Free, HasFailed, IsUnnamed, Removed};
-ghost use Rattle.uss_desk.specs.Naming.{Renamed, Step, Synced, Takes, TakesAll, TakesIfNone, Tried, Twinned};
-ghost use Rattle.uss_desk.specs.Naming.{named_steps};
+ghost use Rattle.uss_desk.specs.Naming.{AreNames, ChangesOwn, Cleared, Follows, Free, HasFailed, IsUnnamed, Locked};
+ghost use Rattle.uss_desk.specs.Naming.{Removed, Renamed, Replaced, Step, Synced, Takes, TakesAll, TakesIfNone};
+ghost use Rattle.uss_desk.specs.Naming.{Tried, Twinned, named_steps};
 
-use crate::pairs::{TwinFault, write_twin};
+use crate::pairs::{LockedFile, TwinFault, lock_file, write_locked, write_twin};
 use sqlite::Unknown;
 use sqlite_std_file::OpenError;
 use std::alloc::{AllocError, Global};
@@ -61,18 +61,30 @@ pub trait Folder {
     /// Syncs the folder of a path, and answers whether that was done.
     fn sync(&mut self, path: &str) -> bool
         ensures { Takes (steps self.old) (steps self.new) result (Synced path.now) };
+
+    /// Locks the file at a path, so that no other program has it as long as the folders are there; and answers
+    /// why that could not be done, if so.
+    fn lock(&mut self, path: &str) -> Option<TwinFault>
+        ensures { TakesIfNone (steps self.old) (steps self.new) result (Locked path.now) };
+
+    /// Puts a file in the place of the one that is locked, if that is still at its path, in one step; and
+    /// answers whether that was done. It is on the disk before, has the same owner, and is its owner's alone.
+    fn replace(&mut self, from: &str, to: &str) -> bool
+        ensures { Takes (steps self.old) (steps self.new) result (Replaced from.now to.now) };
 }
 
 /// The folders of the operating system, of whose steps nothing is told.
 #[derive(Drop)]
 pub struct LocalFolder<'s> {
     rt: &'s HostRuntime,
+    // the file that is locked, if one is
+    locked: Option<LockedFile>,
 }
 
 impl<'s> LocalFolder<'s> {
     /// The folders of this run.
     pub fn new(rt: &'s HostRuntime) -> LocalFolder<'s> {
-        LocalFolder { rt }
+        LocalFolder { rt, locked: None }
     }
 }
 
@@ -104,7 +116,10 @@ impl<'s> Folder for LocalFolder<'s> {
     }
 
     fn twin(&mut self, source: &str, twin: &str, is_mended: bool) -> Option<TwinFault> {
-        write_twin(self.rt, source, twin, is_mended).err()
+        match self.locked {
+            Some(_) => write_locked(self.rt, source, twin, is_mended).err(),
+            None => write_twin(self.rt, source, twin, is_mended).err(),
+        }
     }
 
     fn remove(&mut self, path: &str) -> bool {
@@ -119,6 +134,23 @@ impl<'s> Folder for LocalFolder<'s> {
 
     fn sync(&mut self, path: &str) -> bool {
         sync_folder(self.rt, path).is_ok()
+    }
+
+    fn lock(&mut self, path: &str) -> Option<TwinFault> {
+        match lock_file(self.rt, path) {
+            Ok(locked) => {
+                self.locked = Some(locked);
+                None
+            }
+            Err(fault) => Some(fault),
+        }
+    }
+
+    fn replace(&mut self, from: &str, to: &str) -> bool {
+        match &self.locked {
+            Some(locked) => locked.give_way(self.rt, from, to).is_ok(),
+            None => false,
+        }
     }
 }
 
