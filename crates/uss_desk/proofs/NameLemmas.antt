@@ -154,7 +154,7 @@ module _ {to : List ℕ} {old new : Option (List Step)} (it : IsNotFree to old n
     names_none (Removed path) is = tt
     names_none (Renamed from into) is = is
     names_none (Synced path) is = tt
-    names_none (Locked path) is = is
+    names_none (Locked path) is = tt
     names_none (Replaced from into) is = is
     names_none Failed is = tt
 

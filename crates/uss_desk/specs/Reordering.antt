@@ -1,4 +1,4 @@
--- Reordering: the file that a line opens gets its tables in a desk's own order, by a twin that takes its place.
+-- Reordering: the file that a line opens is put in a desk's own order, by a twin that takes its place.
 use Rattle.std.specs.Prelude.{◌≡◌, ◌⊎◌, ⊤, Bool, true, false, List, ℕ, [], ◌∷◌, ◌++◌, codes}
 use Rattle.std.specs.Prelude.{Option, None, Some, Result, Ok, Err}
 use Rattle.sqlite_disk.specs.declared.Disk as disk
@@ -65,7 +65,7 @@ pub record TakesPlace (twin path : List ℕ) (old new : Option (List Step)) : Ty
   pub placed : Follows old between (placing twin path)
   pub synced : IsAsked (Synced path) between new
 
--- ---- a twin that was read as a desk's, whose rows are of schema 1 or not, and a line that takes these or not
+-- ---- a twin that was read as a desk's, in schema 1 or not, and a line that takes schema 1 or not
 
 -- it has taken the place of its file, which the line takes
 pub record IsPutInPlace (path : List ℕ) (takes is_old : Bool) (old new : Option (List Step)) : Type 0 where
@@ -83,7 +83,8 @@ pub record IsTooOld (takes is_old : Bool) (f : Failure) (old new : Option (List 
 pub record IsGivenUp (path : List ℕ) (takes is_old : Bool) (f : Failure) (old new : Option (List Step)) :
     Type 0 where
   pub until : Option (List Step)
-  pub why : ((f ≡ failure.Store) × IsUnplaced (ordered_twin path) old until) ⊎ IsTooOld takes is_old f old until
+  pub why : ((f ≡ failure.Store) × IsUnplaced (ordered_twin path) old until)
+      ⊎ IsTooOld takes is_old f old until
   pub removed : AreRemoved (ordered_twin path) until new
 
 abbrev pub IsPlacedOrGone :
@@ -93,18 +94,18 @@ IsPlacedOrGone path takes is_old (Err f) old new = IsGivenUp path takes is_old f
 
 module _ {D : Type 0} {g : disk.Ghosts D} (image : Image) (path : List ℕ) (takes : Bool) where
   -- a twin was read as a desk's
-  pub record IsReadTwin (left : Held (FileStore D g)) (done : Result ⊤ Failure) (old new : Option (List Step)) :
-      Type 0 where
+  pub record IsReadTwin (left : Held (FileStore D g)) (done : Result ⊤ Failure)
+      (old new : Option (List Step)) : Type 0 where
     pub file : CheckedFile
     pub read : IsReadAs image left file
     pub outcome : IsPlacedOrGone path takes file.is_old done old new
 
   -- it can't be read as one, and is removed
-  pub record IsUnreadTwin (it : Unopened (FileStore D g)) (f : Failure) (old new : Option (List Step)) : Type 0
-    where
-      pub look : FailsToRead image it
-      pub failure : f ≡ it.failure
-      pub removed : AreRemoved (ordered_twin path) old new
+  pub record IsUnreadTwin (it : Unopened (FileStore D g)) (f : Failure)
+      (old new : Option (List Step)) : Type 0 where
+    pub look : FailsToRead image it
+    pub failure : f ≡ it.failure
+    pub removed : AreRemoved (ordered_twin path) old new
 
   -- the one or the other, by what the twin showed
   abbrev pub IsJudgedTwin :
@@ -122,13 +123,14 @@ module _ {D : Type 0} {g : disk.Ghosts D} (image : Image) (path : List ℕ) (tak
     pub twinned : IsTwinned path old between
     pub outcome : IsJudgedTwin done judged between new
 
-  -- what is done of a disordered file: it is locked, and isn't disordered any more; it can't be locked, or has
-  -- no twin; or its twin takes its place, or is removed
+  -- what is done of a disordered file: it is locked, and isn't disordered any more; it can't be locked, or
+  -- has no twin; or its twin takes its place, or is removed
   abbrev pub IsReordered :
       Result ⊤ Failure → Option (Result (Held (FileStore D g)) (Unopened (FileStore D g)))
       → Option (List Step) → Option (List Step) → Type 0
   IsReordered (Ok done) None old new = Follows old new (Locked path ∷ [])
-  IsReordered (Err f) None old new = IsBreakdown f × (Follows old new (Failed ∷ []) ⊎ HasNoTwin path f old new)
+  IsReordered (Err f) None old new =
+      IsBreakdown f × (Follows old new (Failed ∷ []) ⊎ HasNoTwin path f old new)
   IsReordered done (Some judged) old new = WasTwinned done judged old new
 
   -- nothing is done of any other

@@ -62,8 +62,8 @@ pub trait Folder {
     fn sync(&mut self, path: &str) -> bool
         ensures { Takes (steps self.old) (steps self.new) result (Synced path.now) };
 
-    /// Locks the file at a path, so that no other program has it as long as the folders are there; and answers
-    /// why that could not be done, if so.
+    /// Locks the file at a path, so that no other program has it as long as the folders are there; and
+    /// answers why that could not be done, if so.
     fn lock(&mut self, path: &str) -> Option<TwinFault>
         ensures { TakesIfNone (steps self.old) (steps self.new) result (Locked path.now) };
 

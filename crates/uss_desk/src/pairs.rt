@@ -60,8 +60,8 @@ impl LockedFile {
     }
 }
 
-// Gives a file, which is its owner's alone, the owner of another, the group too where this process may, and no
-// right that the other's owner hasn't.
+// Gives a file, which is its owner's alone, the owner of another, the group too where this process may, and
+// no right that the other's owner hasn't.
 fn keep_owner(file: &File, other: &Metadata) -> io::Result<()> {
     let _ = fchown(file, None, Some(other.gid()));
     if file.metadata()?.uid() != other.uid() {
@@ -73,8 +73,7 @@ fn keep_owner(file: &File, other: &Metadata) -> io::Result<()> {
 }
 
 /// Makes the twin of a file, which no other program has meanwhile, where there is nothing: mended, or, with
-/// its log, as it is. The twin is its owner's alone. No log is left beside the file where
-/// there was none.
+/// its log, as it is. The twin is its owner's alone. No log is left beside the file where there was none.
 ///
 /// # Errors
 ///

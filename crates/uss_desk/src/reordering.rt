@@ -1,5 +1,5 @@
-//! The file that a line opens, put in order before that if its tables stand in another: a twin that was read as
-//! a desk's takes its place.
+//! The file that a line opens, put in order before that if its tables stand in another: a twin that was read
+//! as a desk's takes its place.
 
 ghost use Rattle.std.specs.Prelude.{◌≡◌, ℕ, IfErr, IfOk, List, OnErr, OnOk, false, true};
 ghost use Rattle.sqlite_wal.specs.Files.{image_at};
@@ -40,7 +40,8 @@ pub struct Incoming<'p> {
     pub takes_old: bool,
 }
 
-/// Puts the file of a line in order, if its tables stand in another, and tells that. Of files nothing is known.
+/// Puts the file of a line in order, if its tables stand in another, and tells that. Of files nothing is
+/// known.
 ///
 /// # Errors
 ///
@@ -94,10 +95,10 @@ pub fn done_of<D: Disk + Drop>(
     done
 }
 
-/// Puts a file in order, if its tables stand in another: a twin that lists them in a desk's own is made beside
-/// it, is read, and takes its place if it is a desk's that the line takes. Else the twin is removed. What is
-/// done goes to `errors`, or why not; a fault there is passed over. Answered with it is the connection to the
-/// twin, or why that can't be read; nothing if there was no twin.
+/// Puts a file in order, if its tables stand in another: a twin that lists them in a desk's own is made, is
+/// read, and takes its place if it is a desk's that the line takes; else the twin is removed. That it was put
+/// in order goes to `errors`, or why not; a fault there is passed over. Answered with it is the connection to
+/// the twin, or why that can't be read; nothing if there was no twin.
 ///
 /// # Errors
 ///
@@ -109,9 +110,9 @@ pub fn reorder<F: Start, P: Folder, E: Write>(
     start: F,
     errors: &mut E,
 ) -> (Result<(), Failure>, Option<Judged<FileFrom<F>>>)
-    ensures reordered { IsReorderedIf (image_at F.Start) file.path.now file.takes_old file.way
-        result.0 result.1 (P.steps folder.old) (P.steps folder.new) }
-    ensures told { IsReorderTold file.path.now result.0 result.1
+    ensures reordered { IsReorderedIf (image_at F.Start) file.entry.path.now file.entry.takes_old
+        file.entry.way result.0 result.1 (P.steps folder.old) (P.steps folder.new) }
+    ensures told { IsReorderTold file.entry.path.now result.0 result.1
         (E.contents errors.old) (E.contents errors.new) }
 {
     match file.way {
@@ -128,9 +129,9 @@ fn reorder_locked<F: Start, P: Folder, E: Write>(
     start: F,
     errors: &mut E,
 ) -> (Result<(), Failure>, Option<Judged<FileFrom<F>>>)
-    ensures reordered { IsReordered (image_at F.Start) file.path.now file.takes_old
+    ensures reordered { IsReordered (image_at F.Start) file.entry.path.now file.entry.takes_old
         result.0 result.1 (P.steps folder.old) (P.steps folder.new) }
-    ensures told { IsReorderTold file.path.now result.0 result.1
+    ensures told { IsReorderTold file.entry.path.now result.0 result.1
         (E.contents errors.old) (E.contents errors.new) }
 {
     if let Some(fault) = folder.lock(file.path) {
@@ -179,10 +180,10 @@ fn place_found<D: Disk + Drop, P: Folder, E: Write>(
     errors: &mut E,
 ) -> (Result<(), Failure>, Judged<D>)
     ensures judged { (image : Image) → IfOk found (λ it. IsReadAs image it.0 it.1)
-        → IfErr found (FailsToRead image) → AreTwins (beside file.path.now) twin.now
-        → IsJudgedTwin image file.path.now file.takes_old result.0 result.1
+        → IfErr found (FailsToRead image) → AreTwins (beside file.entry.path.now) twin.now
+        → IsJudgedTwin image file.entry.path.now file.entry.takes_old result.0 result.1
         (P.steps folder.old) (P.steps folder.new) }
-    ensures noted { OnOk result.0 (IsNoted (spec.reordered_line file.path.now)
+    ensures noted { OnOk result.0 (IsNoted (spec.reordered_line file.entry.path.now)
         (E.contents errors.old) (E.contents errors.new)) }
     ensures told { OnErr result.0 (Tells (E.contents errors.old) (E.contents errors.new)) }
 {
@@ -208,10 +209,10 @@ fn place_read<P: Folder, E: Write>(
     is_old: bool,
     errors: &mut E,
 ) -> Result<(), Failure>
-    ensures placed { AreTwins (beside file.path.now) twin.now
-        → IsPlacedOrGone file.path.now file.takes_old is_old result
+    ensures placed { AreTwins (beside file.entry.path.now) twin.now
+        → IsPlacedOrGone file.entry.path.now file.entry.takes_old is_old result
         (P.steps folder.old) (P.steps folder.new) }
-    ensures noted { OnOk result (IsNoted (spec.reordered_line file.path.now)
+    ensures noted { OnOk result (IsNoted (spec.reordered_line file.entry.path.now)
         (E.contents errors.old) (E.contents errors.new)) }
     ensures told { OnErr result (Tells (E.contents errors.old) (E.contents errors.new)) }
 {
@@ -220,7 +221,12 @@ fn place_read<P: Folder, E: Write>(
         return Err(Failure::OldSchema);
     }
     if !has_placed(folder, file.path, twin) {
-        tell_of(rt.alloc(), file.path, "its twin can't take its place", errors);
+        tell_of(
+            rt.alloc(),
+            file.path,
+            "its twin can't take its place",
+            errors,
+        );
         remove_twin(folder, twin);
         return Err(Failure::Store);
     }
