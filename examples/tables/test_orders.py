@@ -337,8 +337,19 @@ def test_by_a_link(room: pathlib.Path) -> None:
     assert names_beside(path) <= {"other.db", "other.db-wal"}
 
 
+def test_left_over(room: pathlib.Path) -> None:
+    """What a line that was cut off left of a twin and of its log doesn't come into the file, and is removed."""
+    path = stated_file(str(room / "other.db"), [*by_name(), PLAN[0]])
+    for end in ("", "-wal"):
+        pathlib.Path(f"{path}.order.twin{end}").write_bytes(bytes_of(path)[:5000])
+    ran = enrolled(path)
+    assert (ran.status, ran.errors) == (0, f"uss_desk: {path}: {ORDERED}\n")
+    assert rows_of(path)[0] == [("alfa", 100), ("bravo", 100)]
+    assert not names_beside(path + ".order")
+
+
 # calls that write, sync, remove and rename, and how often at least a line makes each that puts a file in order
-CALLS = [("write", 1), ("pwrite64", 1), ("fsync", 3), ("unlink", 1), ("rename", 1), ("fchmod", 1), ("openat", 10)]
+CALLS = [("pwrite64", 1), ("fsync", 3), ("unlink", 1), ("rename", 1), ("fchmod", 1), ("fchown", 1)]
 
 
 @pytest.mark.parametrize("call, least", [pytest.param(call, least, id=call) for call, least in CALLS])
