@@ -115,10 +115,10 @@ def assert_put_in_order(path: str, schema: int) -> None:
         before, ran = bytes_of(own), ran_at(own, line)
         if schema == 1 and line != "migrate":
             assert ran == (REFUSED, b"", told(own, MIGRATE, "old_schema"))
-            assert (bytes_of(own), stat.S_IMODE(os.stat(own).st_mode)) == (before, 0o644)
+            assert bytes_of(own) == before
         else:
             assert (ran.status, ran.errors.split("\n")[0]) == (0, f"uss_desk: {own}: {ORDERED}")
-            assert stat.S_IMODE(os.stat(own).st_mode) == 0o600
+            assert stat.S_IMODE(os.stat(own).st_mode) == 0o644
             again = ran_at(own, line)
             assert (again.status, ORDERED in again.errors, looked(own).errors) == (0, False, "")
             enrolled_now = [("bravo", 100)] if line == "enrol" else []
@@ -151,7 +151,7 @@ def assert_not_taken(path: str, cause: str) -> None:
         assert ran_at(path, line) == refused
         assert bytes_of(path) == before
     assert names_beside(new) == set()
-    assert not names_beside(path + ".twin") | names_beside(path + ".order")
+    assert not names_beside(path + ".twin")
 
 
 @pytest.mark.parametrize("statements", named(ORDERS))
@@ -269,10 +269,8 @@ def test_in_the_way(room: pathlib.Path) -> None:
     """What isn't a twin's is not taken for one."""
     path = stated_file(str(room / "other.db"), [*by_name(), *PLAN])
     before = bytes_of(path)
-    for name in (path + ".twin", path + ".order.twin"):
-        os.mkdir(name)
-    assert looked(path) == (REFUSED, b"", told(path + ".twin", TAKEN, "store"))
-    assert enrolled(path) == (REFUSED, b"", told(path + ".order.twin", TAKEN, "store"))
+    os.mkdir(path + ".twin")
+    assert [looked(path), enrolled(path)] == [(REFUSED, b"", told(path + ".twin", TAKEN, "store"))] * 2
     assert bytes_of(path) == before
 
 
@@ -280,11 +278,11 @@ def assert_left(path: str, ran: Ran, cause: str, before: bytes) -> None:
     """A line at a file in another order was refused with the cause, and the file stands as it was."""
     assert ran == (REFUSED, b"", told(path, cause, "store"))
     assert bytes_of(path) == before
-    assert not names_beside(path + ".order")
+    assert not names_beside(path + ".twin")
 
 
 def test_in_use(room: pathlib.Path) -> None:
-    """A file that sqlite3 has, in a transaction or with a log, isn't taken from it; what it then writes stays."""
+    """A file that sqlite3 has in a transaction isn't changed."""
     path = stated_file(str(room / "other.db"), [*by_name(), PLAN[0]])
     before = bytes_of(path)
     with contextlib.closing(sqlite3.connect(path, isolation_level=None)) as connection:
@@ -297,24 +295,16 @@ def test_in_use(room: pathlib.Path) -> None:
 
 
 def test_open_without_a_transaction(room: pathlib.Path) -> None:
-    """A sqlite3 that has a file open, and isn't in a transaction, can't write into what was put in its place."""
+    """A sqlite3 that has a file open, and is in no transaction, goes on with the file that was put in order."""
     path = stated_file(str(room / "other.db"), [*by_name(), PLAN[0]])
     with contextlib.closing(sqlite3.connect(path, isolation_level=None)) as connection:
         assert connection.execute("SELECT name FROM operator").fetchall() == [("alfa",)]
         ran = enrolled(path)
         assert (ran.status, ran.errors) == (0, f"uss_desk: {path}: {ORDERED}\n")
-        with pytest.raises(sqlite3.OperationalError):
-            connection.execute("UPDATE operator SET ceiling = 99")
-    assert rows_of(path)[0] == [("alfa", 100), ("bravo", 100)]
-
-
-def test_second_name(room: pathlib.Path) -> None:
-    """A file with a second name is refused, so that the two stay one."""
-    path = stated_file(str(room / "other.db"), [*by_name(), PLAN[0]])
-    os.link(path, room / "second.db")
-    cause = "no right to its log or folder, a second name, or a disk that fails"
-    assert_left(path, enrolled(path), cause, bytes_of(path))
-    assert os.path.samefile(path, room / "second.db")
+        connection.execute("UPDATE operator SET ceiling = 99 WHERE name = 'alfa'")
+    assert rows_of(path)[0] == [("alfa", 99), ("bravo", 100)]
+    look = looked(path)
+    assert (look.status, look.errors) == (0, "")
 
 
 def test_journal(room: pathlib.Path) -> None:
@@ -331,38 +321,29 @@ def test_by_a_link(room: pathlib.Path) -> None:
     link = room / "link.db"
     link.symlink_to(path)
     ran = enrolled(str(link))
-    assert (ran.status, ran.errors) == (0, f"uss_desk: {path}: {ORDERED}\n")
+    assert (ran.status, ran.errors) == (0, f"uss_desk: {link}: {ORDERED}\n")
     assert link.is_symlink()
     assert rows_of(path)[0] == [("alfa", 100), ("bravo", 100)]
     assert names_beside(path) <= {"other.db", "other.db-wal"}
+    assert names_beside(str(link)) == {"link.db"}
 
 
-def test_left_over(room: pathlib.Path) -> None:
-    """What a line that was cut off left of a twin and of its log doesn't come into the file, and is removed."""
-    path = stated_file(str(room / "other.db"), [*by_name(), PLAN[0]])
-    for end in ("", "-wal"):
-        pathlib.Path(f"{path}.order.twin{end}").write_bytes(bytes_of(path)[:5000])
-    ran = enrolled(path)
-    assert (ran.status, ran.errors) == (0, f"uss_desk: {path}: {ORDERED}\n")
-    assert rows_of(path)[0] == [("alfa", 100), ("bravo", 100)]
-    assert not names_beside(path + ".order")
-
-
-# calls that write, sync, remove and rename, and how often at least a line makes each that puts a file in order
-CALLS = [("pwrite64", 1), ("fsync", 3), ("unlink", 1), ("rename", 1), ("fchmod", 1), ("fchown", 1)]
+# calls that write, sync and remove, and how often at least a line makes each that puts a file in order
+CALLS = [("pwrite64", 5), ("ftruncate", 1), ("fdatasync", 3), ("fsync", 5), ("unlink", 2)]
 
 
 @pytest.mark.parametrize("call, least", [pytest.param(call, least, id=call) for call, least in CALLS])
 def test_killed(call: str, least: int, room: pathlib.Path) -> None:
-    """A line that is killed at each of these calls leaves the file as it was or in order, whole, and the next one puts
-    it in order, whatever is left beside it."""
+    """A line that is killed at each of these calls leaves the file with its rows, as it was or in order, and the next
+    one opens it, whatever is left beside it."""
     path = dumped(made_file(str(room / "desk.db"), PLAN), str(room / "dumped.db"))
-    before, rows = bytes_of(path), rows_of(path)
+    rows = rows_of(path)
     for number in range(1, 1_000):
         new = f"{path}.{number}"
         shutil.copyfile(path, new)
         ran = run("play", "--db", new, "--at", "0", under=killed_at(call, number))
-        assert bytes_of(new) == before or looked(new).errors == ""
+        look = looked(new)
+        assert (look.status, look.errors in ("", f"uss_desk: {new}: {ORDER}\n")) == (0, True)
         assert rows_of(new) == rows
         assert run("play", "--db", new, "--at", "0").status == 0
         assert_in_schema_2(rows, new)

@@ -1,11 +1,12 @@
 //! How a new file gets its name, once it is whole.
 
 ghost use Rattle.std.specs.Prelude.{◌≡◌, ℕ, ◌++◌, [], List, Option, None, false, true, IfOk, string_bytes};
-ghost use Rattle.uss_desk.specs.Naming.{AreNames, ChangesOwn, Cleared, Follows, Free, HasFailed, IsUnnamed, Locked};
-ghost use Rattle.uss_desk.specs.Naming.{Removed, Renamed, Replaced, Step, Synced, Takes, TakesAll, TakesIfNone};
-ghost use Rattle.uss_desk.specs.Naming.{Tried, Twinned, named_steps};
+ghost use Rattle.uss_desk.specs.Naming.{AreNames, ChangesOwn, Cleared, Follows, Free, HasFailed, IsUnnamed, Ordered};
+ghost use Rattle.uss_desk.specs.Naming.{Removed, Renamed, Step, Synced, Takes, TakesAll, TakesIfNone, Tried, Twinned};
+ghost use Rattle.uss_desk.specs.Naming.{named_steps};
 
-use crate::pairs::{LockedFile, TwinFault, lock_file, write_locked, write_twin};
+use crate::committing::put_in_order;
+use crate::pairs::{TwinFault, write_twin};
 use sqlite::Unknown;
 use sqlite_std_file::OpenError;
 use std::alloc::{AllocError, Global};
@@ -62,29 +63,22 @@ pub trait Folder {
     fn sync(&mut self, path: &str) -> bool
         ensures { Takes (steps self.old) (steps self.new) result (Synced path.now) };
 
-    /// Locks the file at a path, so that no other program has it as long as the folders are there; and
-    /// answers why that could not be done, if so.
-    fn lock(&mut self, path: &str) -> Option<TwinFault>
-        ensures { TakesIfNone (steps self.old) (steps self.new) result (Locked path.now) };
-
-    /// Puts a file in the place of the one that is locked, if that is still at its path, in one step; and
-    /// answers whether that was done. It is on the disk before, has the same owner, and is its owner's alone.
-    fn replace(&mut self, from: &str, to: &str) -> bool
-        ensures { Takes (steps self.old) (steps self.new) result (Replaced from.now to.now) };
+    /// Puts the first page of the file at a path into a desk's own order, in one commit, and answers whether
+    /// that was done.
+    fn order(&mut self, path: &str) -> bool
+        ensures { Takes (steps self.old) (steps self.new) result (Ordered path.now) };
 }
 
 /// The folders of the operating system, of whose steps nothing is told.
 #[derive(Drop)]
 pub struct LocalFolder<'s> {
     rt: &'s HostRuntime,
-    // the file that is locked, if one is
-    locked: Option<LockedFile>,
 }
 
 impl<'s> LocalFolder<'s> {
     /// The folders of this run.
     pub fn new(rt: &'s HostRuntime) -> LocalFolder<'s> {
-        LocalFolder { rt, locked: None }
+        LocalFolder { rt }
     }
 }
 
@@ -116,10 +110,7 @@ impl<'s> Folder for LocalFolder<'s> {
     }
 
     fn twin(&mut self, source: &str, twin: &str, is_mended: bool) -> Option<TwinFault> {
-        match self.locked {
-            Some(_) => write_locked(self.rt, source, twin, is_mended).err(),
-            None => write_twin(self.rt, source, twin, is_mended).err(),
-        }
+        write_twin(self.rt, source, twin, is_mended).err()
     }
 
     fn remove(&mut self, path: &str) -> bool {
@@ -136,21 +127,8 @@ impl<'s> Folder for LocalFolder<'s> {
         sync_folder(self.rt, path).is_ok()
     }
 
-    fn lock(&mut self, path: &str) -> Option<TwinFault> {
-        match lock_file(self.rt, path) {
-            Ok(locked) => {
-                self.locked = Some(locked);
-                None
-            }
-            Err(fault) => Some(fault),
-        }
-    }
-
-    fn replace(&mut self, from: &str, to: &str) -> bool {
-        match &self.locked {
-            Some(locked) => locked.give_way(self.rt, from, to).is_ok(),
-            None => false,
-        }
+    fn order(&mut self, path: &str) -> bool {
+        put_in_order(self.rt, path).is_ok()
     }
 }
 

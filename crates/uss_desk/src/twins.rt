@@ -304,8 +304,8 @@ pub fn make_twin<P: Folder, E: Write>(
     }
 }
 
-/// Tells why a file has no twin, and answers the failure.
-pub fn tell_fault<E: Write>(
+// Tells why a file has no twin, and answers the failure.
+fn tell_fault<E: Write>(
     alloc: Global,
     source: &str,
     twin: &str,
