@@ -328,6 +328,17 @@ def test_by_a_link(room: pathlib.Path) -> None:
     assert names_beside(str(link)) == {"link.db"}
 
 
+def test_left_over(room: pathlib.Path) -> None:
+    """What a line that was cut off left of a twin and of its log doesn't come into the file, and is removed."""
+    path = stated_file(str(room / "other.db"), [*by_name(), PLAN[0]])
+    for end in ("", "-wal"):
+        pathlib.Path(f"{path}.twin{end}").write_bytes(bytes_of(path)[:5000])
+    ran = enrolled(path)
+    assert (ran.status, ran.errors) == (0, f"uss_desk: {path}: {ORDERED}\n")
+    assert rows_of(path)[0] == [("alfa", 100), ("bravo", 100)]
+    assert not names_beside(path + ".twin")
+
+
 # calls that write, sync and remove, and how often at least a line makes each that puts a file in order
 CALLS = [("pwrite64", 5), ("ftruncate", 1), ("fdatasync", 3), ("fsync", 5), ("unlink", 2)]
 

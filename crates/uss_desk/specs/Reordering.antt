@@ -31,59 +31,53 @@ takes_old (line.Migrate words) = true
 abbrev pub reordered_text : List ℕ
 reordered_text = codes "its tables are put in a desk's own order"
 
--- ---- a twin that was read as a desk's, in schema 1 or not, and a line that takes schema 1 or not
-
--- the line takes it, and the file is put in order
-pub record IsPutInOrder (path : List ℕ) (takes is_old : Bool) (old new : Option (List Step)) : Type 0 where
-  pub taken : takes ≡ false → is_old ≡ false
-  pub ordered : Follows old new (Ordered path ∷ [])
-
--- it has rows of schema 1, and the line doesn't take these
-pub record IsTooOld (takes is_old : Bool) (f : Failure) (old new : Option (List Step)) : Type 0 where
-  pub untaken : takes ≡ false
-  pub is : is_old ≡ true
-  pub failure : f ≡ failure.OldSchema
-  pub undone : new ≡ old
-
--- the line doesn't take it, or the file can't be put in order
+-- a file is put in order, or that can't be done
 abbrev pub IsOrderedOr :
-    List ℕ → Bool → Bool → Result ⊤ Failure → Option (List Step) → Option (List Step) → Type 0
-IsOrderedOr path takes is_old (Ok done) old new = IsPutInOrder path takes is_old old new
-IsOrderedOr path takes is_old (Err f) old new =
-    ((f ≡ failure.Store) × Follows old new (Failed ∷ [])) ⊎ IsTooOld takes is_old f old new
+    List ℕ → Result ⊤ Failure → Option (List Step) → Option (List Step) → Type 0
+IsOrderedOr path (Ok done) old new = Follows old new (Ordered path ∷ [])
+IsOrderedOr path (Err f) old new = (f ≡ failure.Store) × Follows old new (Failed ∷ [])
 
-module _ {D : Type 0} {g : disk.Ghosts D} (image : Image) (path : List ℕ) (takes : Bool) where
-  -- a twin was read as a desk's
-  pub record IsReadTwin (left : Held (FileStore D g)) (done : Result ⊤ Failure)
-      (old new : Option (List Step)) : Type 0 where
+-- so, if its twin was admitted; else nothing is asked of it, and this is the failure
+abbrev pub IsOrderedIf :
+    List ℕ → Result ⊤ Failure → Result ⊤ Failure → Option (List Step) → Option (List Step) → Type 0
+IsOrderedIf path (Ok it) done old new = IsOrderedOr path done old new
+IsOrderedIf path (Err f) done old new = (done ≡ Err f) × (new ≡ old)
+
+module _ {D : Type 0} {g : disk.Ghosts D} (image : Image) (takes : Bool) where
+  -- a twin was read as a desk's that the line takes
+  pub record IsTaken (left : Held (FileStore D g)) : Type 0 where
     pub file : CheckedFile
     pub read : IsReadAs image left file
-    pub outcome : IsOrderedOr path takes file.is_old done old new
+    pub taken : takes ≡ false → file.is_old ≡ false
 
-  -- it can't be read as one, and nothing is asked of its file
-  pub record IsUnreadTwin (it : Unopened (FileStore D g)) (f : Failure)
-      (old new : Option (List Step)) : Type 0 where
-    pub look : FailsToRead image it
-    pub failure : f ≡ it.failure
-    pub undone : new ≡ old
+  -- it was read as a desk's, and the line doesn't take it, as it has rows of schema 1
+  pub record IsTooOld (left : Held (FileStore D g)) (f : Failure) : Type 0 where
+    pub file : CheckedFile
+    pub read : IsReadAs image left file
+    pub untaken : takes ≡ false
+    pub old : file.is_old ≡ true
+    pub failure : f ≡ failure.OldSchema
 
-  -- the one or the other, by what the twin showed
-  abbrev pub IsJudgedTwin :
-      Result ⊤ Failure → Result (Held (FileStore D g)) (Unopened (FileStore D g)) → Option (List Step)
-      → Option (List Step) → Type 0
-  IsJudgedTwin done (Ok left) old new = IsReadTwin left done old new
-  IsJudgedTwin (Ok done) (Err it) old new = ⊥
-  IsJudgedTwin (Err f) (Err it) old new = IsUnreadTwin it f old new
+  -- a twin is admitted, or not, by what it showed
+  abbrev pub IsAdmitted :
+      Result ⊤ Failure → Result (Held (FileStore D g)) (Unopened (FileStore D g)) → Type 0
+  IsAdmitted (Ok it) (Ok left) = IsTaken left
+  IsAdmitted (Err f) (Ok left) = IsTooOld left f
+  IsAdmitted (Ok it) (Err unread) = ⊥
+  IsAdmitted (Err f) (Err unread) = FailsToRead image unread × (f ≡ unread.failure)
 
-  -- a twin is made of a file, is judged, and is removed
+module _ {D : Type 0} {g : disk.Ghosts D} (image : Image) (path : List ℕ) (takes : Bool) where
+  -- a twin is made of a file, is admitted or not, and is removed; then the file is put in order, if it was
   pub record WasJudged (done : Result ⊤ Failure)
       (judged : Result (Held (FileStore D g)) (Unopened (FileStore D g)))
       (old new : Option (List Step)) : Type 0 where
+    pub admitted : Result ⊤ Failure
     pub from : Option (List Step)
     pub until : Option (List Step)
     pub made : Follows old from (making path (twin_of path) true)
-    pub outcome : IsJudgedTwin done judged from until
-    pub removed : AreRemoved (twin_of path) until new
+    pub is : IsAdmitted image takes admitted judged
+    pub removed : AreRemoved (twin_of path) from until
+    pub ordered : IsOrderedIf path admitted done until new
 
   -- what is done of a disordered file: so, or there is no twin
   abbrev pub IsReordered :

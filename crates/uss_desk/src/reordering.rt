@@ -6,7 +6,7 @@ ghost use Rattle.sqlite_wal.specs.Files.{image_at};
 ghost use Rattle.sqlite_wal.specs.Recovery.{Image};
 ghost use Rattle.uss_desk.specs.Keeping.{FailsToRead, IsReadAs, Tells};
 ghost use Rattle.uss_desk.specs.Reordering as spec;
-ghost use Rattle.uss_desk.specs.Reordering.{IsJudgedTwin, IsOrderedOr, IsReorderTold, IsReordered, IsReorderedIf};
+ghost use Rattle.uss_desk.specs.Reordering.{IsAdmitted, IsOrderedOr, IsReorderTold, IsReordered, IsReorderedIf};
 ghost use Rattle.uss_desk.specs.Twins.{IsNoted};
 
 use crate::causes::{access_cause, tell, tell_of};
@@ -81,8 +81,8 @@ pub fn done_of<D: Disk + Drop>(
     done
 }
 
-/// Puts a file in order, if its tables stand in another: a twin that lists them in a desk's own is made and
-/// read, and if it is a desk's that the line takes, the file is put in the same order. The twin is removed.
+/// Puts a file in order, if its tables stand in another: a twin that lists them in a desk's own is made, read
+/// and removed, and if it is a desk's that the line takes, the file is put in the same order.
 /// That the file was put in order goes to `errors`, or why not; a fault there is passed over. Answered with
 /// it is the connection to the twin, or why that can't be read; nothing if there was no twin.
 ///
@@ -107,7 +107,8 @@ pub fn reorder<F: Start, P: Folder, E: Write>(
     }
 }
 
-// Makes the twin of a file that is disordered, puts the file in order by what it shows, and removes it.
+// Makes the twin of a file that is disordered, and puts the file in order once the twin is gone, if it was read
+// as a desk's that the line takes.
 fn reorder_by_twin<F: Start, P: Folder, E: Write>(
     rt: &HostRuntime,
     folder: &mut P,
@@ -125,33 +126,35 @@ fn reorder_by_twin<F: Start, P: Folder, E: Write>(
         Err(failure) => return (Err(failure), None),
     };
     let found = look_in(rt, &twin.path, start);
-    let (done, judged) = order_found(rt, folder, file, &twin.path, found, errors);
+    let (admitted, judged) = judge(rt, file, &twin.path, found, errors);
     remove_twin(folder, &twin);
-    (done, Some(judged))
+    match admitted {
+        Ok(()) => (order(rt, folder, file.path, errors), Some(judged)),
+        Err(failure) => (Err(failure), Some(judged)),
+    }
 }
 
-// Puts a file in order, if its twin, at another path, was read as a desk's that the line takes; or tells why
-// not. The twin is still there.
-fn order_found<D: Disk + Drop, P: Folder, E: Write>(
+// Whether the twin of a file, at another path, was read as a desk's that the line takes; or tells why not. The
+// twin is still there.
+fn judge<D: Disk + Drop, E: Write>(
     rt: &HostRuntime,
-    folder: &mut P,
     file: Incoming<'_>,
     twin: &str,
     found: Result<(Connection<FileStore<D>>, CheckedFile), Unopened<FileStore<D>>>,
     errors: &mut E,
 ) -> (Result<(), Failure>, Judged<D>)
-    ensures judged { (image : Image) → IfOk found (λ it. IsReadAs image it.0 it.1)
-        → IfErr found (FailsToRead image)
-        → IsJudgedTwin image file.entry.path.now file.entry.takes_old result.0 result.1
-        (P.steps folder.old) (P.steps folder.new) }
-    ensures noted { OnOk result.0 (IsNoted (spec.reordered_line file.entry.path.now)
-        (E.contents errors.old) (E.contents errors.new)) }
+    ensures admitted { (image : Image) → IfOk found (λ it. IsReadAs image it.0 it.1)
+        → IfErr found (FailsToRead image) → IsAdmitted image file.entry.takes_old result.0 result.1 }
+    ensures quiet { OnOk result.0 (E.contents errors.new ≡ E.contents errors.old) }
     ensures told { OnErr result.0 (Tells (E.contents errors.old) (E.contents errors.new)) }
 {
     match found {
         Ok((connection, read)) => {
-            let done = order_read(rt, folder, file, read.is_old, errors);
-            (done, Ok(connection))
+            if is_too_old(file.takes_old, read.is_old) {
+                tell(rt, twin, file.path, Failure::OldSchema, errors);
+                return (Err(Failure::OldSchema), Ok(connection));
+            }
+            (Ok(()), Ok(connection))
         }
         Err(unread) => {
             tell(rt, twin, file.path, unread.failure, errors);
@@ -160,31 +163,24 @@ fn order_found<D: Disk + Drop, P: Folder, E: Write>(
     }
 }
 
-// Puts a file in order whose twin was read as a desk's, in schema 1 or not, if the line takes it; or tells
-// why not.
-fn order_read<P: Folder, E: Write>(
+// Puts a file in order, and tells that; or tells why not.
+fn order<P: Folder, E: Write>(
     rt: &HostRuntime,
     folder: &mut P,
-    file: Incoming<'_>,
-    is_old: bool,
+    path: &str,
     errors: &mut E,
 ) -> Result<(), Failure>
-    ensures ordered { IsOrderedOr file.entry.path.now file.entry.takes_old is_old result
-        (P.steps folder.old) (P.steps folder.new) }
-    ensures noted { OnOk result (IsNoted (spec.reordered_line file.entry.path.now)
+    ensures ordered { IsOrderedOr path.now result (P.steps folder.old) (P.steps folder.new) }
+    ensures noted { OnOk result (IsNoted (spec.reordered_line path.now)
         (E.contents errors.old) (E.contents errors.new)) }
     ensures told { OnErr result (Tells (E.contents errors.old) (E.contents errors.new)) }
 {
-    if is_too_old(file.takes_old, is_old) {
-        tell(rt, file.path, file.path, Failure::OldSchema, errors);
-        return Err(Failure::OldSchema);
-    }
-    if !folder.order(file.path) {
-        let cause = access_cause(rt, file.path).unwrap_or(UNWRITTEN);
-        tell_of(rt.alloc(), file.path, cause, errors);
+    if !folder.order(path) {
+        let cause = access_cause(rt, path).unwrap_or(UNWRITTEN);
+        tell_of(rt.alloc(), path, cause, errors);
         return Err(Failure::Store);
     }
-    tell_reordered(rt.alloc(), file.path, errors);
+    tell_reordered(rt.alloc(), path, errors);
     Ok(())
 }
 
