@@ -67,17 +67,23 @@ module _ {D : Type 0} {g : disk.Ghosts D} (image : Image) (takes : Bool) where
   IsAdmitted (Err f) (Err unread) = FailsToRead image unread × (f ≡ unread.failure)
 
 module _ {D : Type 0} {g : disk.Ghosts D} (image : Image) (path : List ℕ) (takes : Bool) where
-  -- a twin is made of a file, is admitted or not, and is removed; then the file is put in order, if it was
-  pub record WasJudged (done : Result ⊤ Failure)
+  -- a twin is admitted or not, and is removed; then the file is put in order, if it was
+  pub record IsOrderedByTwin (done : Result ⊤ Failure)
       (judged : Result (Held (FileStore D g)) (Unopened (FileStore D g)))
       (old new : Option (List Step)) : Type 0 where
     pub admitted : Result ⊤ Failure
-    pub from : Option (List Step)
-    pub until : Option (List Step)
-    pub made : Follows old from (making path (twin_of path) true)
+    pub between : Option (List Step)
     pub is : IsAdmitted image takes admitted judged
-    pub removed : AreRemoved (twin_of path) from until
-    pub ordered : IsOrderedIf path admitted done until new
+    pub removed : AreRemoved (twin_of path) old between
+    pub ordered : IsOrderedIf path admitted done between new
+
+  -- so, once it was made of the file
+  pub record WasJudged (done : Result ⊤ Failure)
+      (judged : Result (Held (FileStore D g)) (Unopened (FileStore D g)))
+      (old new : Option (List Step)) : Type 0 where
+    pub from : Option (List Step)
+    pub made : Follows old from (making path (twin_of path) true)
+    pub ordered : IsOrderedByTwin done judged from new
 
   -- what is done of a disordered file: so, or there is no twin
   abbrev pub IsReordered :

@@ -11,7 +11,7 @@ use crate::sums::{MAX_PAGE, give_sum};
 use sqlite::{Files, Unknown};
 use sqlite_disk::Disk;
 use sqlite_pager::{Error, Options, Pager};
-use sqlite_wal::{PageSize, probe_page_size};
+use sqlite_wal::{PageSize, probe_frames, probe_page_size};
 use std::alloc::{AllocError, AllocFailed, Global};
 use std::hash::{BuildHasher, RandomState};
 
@@ -37,6 +37,29 @@ pub fn put_in_order(rt: &HostRuntime, path: &str) -> Result<(), Unordered> {
     match sqlite_std_file::open(rt, path, Unknown) {
         Ok(files) => commit_in_order(rt.alloc(), state.hash_one(&0u8), files),
         Err(_) => Err(Unordered),
+    }
+}
+
+/// Whether the log of the file at a path has a commit, or that can't be known. One that was cut off in the
+/// midst of its first has none.
+pub fn has_frames(rt: &HostRuntime, path: &str) -> bool {
+    match sqlite_std_file::open(rt, path, Unknown) {
+        Ok(files) => has_commit(rt.alloc(), files),
+        Err(_) => true,
+    }
+}
+
+// Whether the log of a database in files has a commit, or that can't be known.
+fn has_commit<D: Disk + Drop>(alloc: Global, mut files: Files<D>) -> bool
+    requires log { IsTrue (D.Disk.is_usable files.log) }
+    requires db { IsTrue (D.Disk.is_usable files.db) }
+{
+    let Ok(Some(size)) = probe_page_size(&mut files) else {
+        return true;
+    };
+    match probe_frames(alloc, &mut files.log, size) {
+        Ok(pages) => !pages.is_empty(),
+        Err(_) => true,
     }
 }
 

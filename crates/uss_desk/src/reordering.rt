@@ -6,8 +6,9 @@ ghost use Rattle.sqlite_wal.specs.Files.{image_at};
 ghost use Rattle.sqlite_wal.specs.Recovery.{Image};
 ghost use Rattle.uss_desk.specs.Keeping.{FailsToRead, IsReadAs, Tells};
 ghost use Rattle.uss_desk.specs.Reordering as spec;
-ghost use Rattle.uss_desk.specs.Reordering.{IsAdmitted, IsOrderedOr, IsReorderTold, IsReordered, IsReorderedIf};
-ghost use Rattle.uss_desk.specs.Twins.{IsNoted};
+ghost use Rattle.uss_desk.specs.Reordering.{IsAdmitted, IsOrderedByTwin, IsOrderedOr, IsReorderTold, IsReordered};
+ghost use Rattle.uss_desk.specs.Reordering.{IsReorderedIf};
+ghost use Rattle.uss_desk.specs.Twins.{AreTwins, IsNoted};
 
 use crate::causes::{access_cause, tell, tell_of};
 use crate::damage::file_of_line;
@@ -15,7 +16,7 @@ use crate::keeping::look_in;
 use crate::naming::{Folder, LocalFolder};
 use crate::opening::Unopened;
 use crate::orders::has_other_order;
-use crate::twins::{Judged, line_of, make_twin, remove_twin};
+use crate::twins::{Judged, Twin, line_of, make_twin, remove_twin};
 use crate::ways::{Way, way_to};
 use desk_ends::write_whole;
 use desk_line::{Failure, Line};
@@ -107,8 +108,7 @@ pub fn reorder<F: Start, P: Folder, E: Write>(
     }
 }
 
-// Makes the twin of a file that is disordered, and puts the file in order once the twin is gone, if it was read
-// as a desk's that the line takes.
+// Makes the twin of a file that is disordered, and puts the file in order by what that shows.
 fn reorder_by_twin<F: Start, P: Folder, E: Write>(
     rt: &HostRuntime,
     folder: &mut P,
@@ -126,16 +126,38 @@ fn reorder_by_twin<F: Start, P: Folder, E: Write>(
         Err(failure) => return (Err(failure), None),
     };
     let found = look_in(rt, &twin.path, start);
+    let (done, judged) = order_by_twin(rt, folder, file, &twin, found, errors);
+    (done, Some(judged))
+}
+
+// Removes the twin of a file, and puts the file in order, if the twin was read as a desk's that the line
+// takes.
+fn order_by_twin<D: Disk + Drop, P: Folder, E: Write>(
+    rt: &HostRuntime,
+    folder: &mut P,
+    file: Incoming<'_>,
+    twin: &Twin,
+    found: Result<(Connection<FileStore<D>>, CheckedFile), Unopened<FileStore<D>>>,
+    errors: &mut E,
+) -> (Result<(), Failure>, Judged<D>)
+    ensures ordered { (image : Image) → IfOk found (λ it. IsReadAs image it.0 it.1)
+        → IfErr found (FailsToRead image) → AreTwins file.entry.path.now twin.now
+        → IsOrderedByTwin image file.entry.path.now file.entry.takes_old result.0 result.1
+        (P.steps folder.old) (P.steps folder.new) }
+    ensures noted { OnOk result.0 (IsNoted (spec.reordered_line file.entry.path.now)
+        (E.contents errors.old) (E.contents errors.new)) }
+    ensures told { OnErr result.0 (Tells (E.contents errors.old) (E.contents errors.new)) }
+{
     let (admitted, judged) = judge(rt, file, &twin.path, found, errors);
-    remove_twin(folder, &twin);
+    remove_twin(folder, twin);
     match admitted {
-        Ok(()) => (order(rt, folder, file.path, errors), Some(judged)),
-        Err(failure) => (Err(failure), Some(judged)),
+        Ok(()) => (order(rt, folder, file.path, errors), judged),
+        Err(failure) => (Err(failure), judged),
     }
 }
 
-// Whether the twin of a file, at another path, was read as a desk's that the line takes; or tells why not. The
-// twin is still there.
+// Whether the twin of a file, at another path, was read as a desk's that the line takes; or tells why not.
+// The twin is still there.
 fn judge<D: Disk + Drop, E: Write>(
     rt: &HostRuntime,
     file: Incoming<'_>,
