@@ -1,5 +1,6 @@
 """Files that list a desk's tables and indexes in another order than a desk's own and a packed file's: `check` tells
-what they hold, `copy` makes a desk of them, both leave them alone, and the other lines refuse them with the cause."""
+what they hold and `copy` makes a desk of them, and both leave them alone; the lines that open a file put them in order,
+or refuse them with the cause and leave them as they are."""
 
 from __future__ import annotations
 
@@ -7,15 +8,21 @@ import contextlib
 import os
 import pathlib
 import random
+import shutil
 import sqlite3
+import stat
 
 import pytest
+from harness.program import Ran, run
+from harness.requests import request
 from harness.rows import named
+from harness.serving import Served
 from harness.sums import count_unsummed, sum_anew
-from tables.causes import ORDER, OTHER, SPAN, TAKEN
+from harness.tracing import killed_at, was_killed
+from tables.causes import IN_USE, JOURNAL, MIGRATE, ORDER, ORDERED, OTHER, SPAN, TAKEN
 from tables.files import bytes_of, made_file, names_beside, old_file, rows_of, stated_file
-from tables.judging import REFUSED, assert_in_schema_2, copied, enrolled, looked, moved, told
-from tables.statements import CLOSED, PACKED, PLAN, SCHEMA, many
+from tables.judging import REFUSED, assert_in_schema_2, copied, enrolled, looked, told
+from tables.statements import CLOSED, ID, PACKED, PLAN, SCHEMA, many
 
 SPAN_TABLES = {SCHEMA[4]: SCHEMA[3], SCHEMA[7]: SCHEMA[6]}
 """The table of each index."""
@@ -80,30 +87,70 @@ def dumped(path: str, new: str) -> str:
     return new
 
 
+LINES = ["enrol", "play", "serve", "migrate"]
+"""The lines that open a file."""
+
+
+def ran_at(path: str, line: str) -> Ran:
+    """The end of a line that opens a file; `serve` doesn't come to listen, or ends at once as its port is taken."""
+    words = {"enrol": ["bravo", "100"], "play": ["--at", "0"], "serve": ["--port", "1", "--requests", "1"]}
+    return run(line, "--db", path, *words.get(line, []))
+
+
+def copy_of(path: str, name: str) -> str:
+    """A copy of a file, byte for byte, which anybody may read, in a folder of its own; its path."""
+    folder = pathlib.Path(path).parent / name
+    folder.mkdir()
+    shutil.copyfile(path, folder / "own.db")
+    os.chmod(folder / "own.db", 0o644)
+    return str(folder / "own.db")
+
+
+def assert_put_in_order(path: str, schema: int) -> None:
+    """Each line that opens a file puts a copy of it in order, tells that, and then does what it does at the original:
+    all but `migrate` refuse one of schema 1, and leave it as it is."""
+    rows = rows_of(path)
+    for line in LINES[:2] + LINES[3:]:
+        own = copy_of(path, line)
+        before, ran = bytes_of(own), ran_at(own, line)
+        if schema == 1 and line != "migrate":
+            assert ran == (REFUSED, b"", told(own, MIGRATE, "old_schema"))
+            assert bytes_of(own) == before
+        else:
+            assert (ran.status, ran.errors.split("\n")[0]) == (0, f"uss_desk: {own}: {ORDERED}")
+            assert stat.S_IMODE(os.stat(own).st_mode) == 0o644
+            again = ran_at(own, line)
+            assert (again.status, ORDERED in again.errors, looked(own).errors) == (0, False, "")
+            enrolled_now = [("bravo", 100)] if line == "enrol" else []
+            assert_in_schema_2([sorted([*rows[0], *enrolled_now]), *rows[1:]], own)
+        assert names_beside(own) <= {"own.db", "own.db-wal"}
+
+
 def assert_taken(path: str, counts: str, copy: str, sums: str = "no", schema: int = 2) -> None:
-    """`check` tells a file's order and what it holds, and `copy` makes a desk of it; the others refuse it. It is left
-    as it is, and the two leave nothing beside it."""
+    """`check` tells a file's order and what it holds, and `copy` makes a desk of it; both leave it as it is, and
+    nothing beside it. The others put it in order."""
     before, beside, rows, new = bytes_of(path), names_beside(path), rows_of(path), path + ".new"
     look = looked(path)
     assert (look.status, look.errors) == (0, f"uss_desk: {path}: {ORDER}\n")
     assert look.output.decode().startswith(f"schema {schema}, sums {sums}, {counts},")
     assert copied(path, new) == (0, f"copied {copy}\n".encode(), "")
     assert names_beside(path) - names_beside(new) == beside
-    refused = (REFUSED, b"", told(path, ORDER, "not_a_desk"))
-    assert [enrolled(path), moved(path)] == [refused] * 2
     assert bytes_of(path) == before
     assert_in_schema_2(rows, new)
     ran = enrolled(new)
     assert (ran.status, ran.errors) == (0, "")
+    assert_put_in_order(path, schema)
 
 
-def assert_not_taken(path: str, cause: str, serving: str = "") -> None:
-    """A file is refused by all lines, and is left as it is; `serving` is what those tell that would serve it, if that
-    is something else."""
+def assert_not_taken(path: str, cause: str) -> None:
+    """A file is refused by all lines, and is left as it is, with nothing of a twin beside it."""
     before, new = bytes_of(path), path + ".new"
-    assert [looked(path), copied(path, new)] == [(REFUSED, b"", told(path, cause, "not_a_desk"))] * 2
-    assert [enrolled(path), moved(path)] == [(REFUSED, b"", told(path, serving or cause, "not_a_desk"))] * 2
-    assert (bytes_of(path), names_beside(new)) == (before, set())
+    refused = (REFUSED, b"", told(path, cause, "not_a_desk"))
+    assert [looked(path), copied(path, new)] == [refused] * 2
+    for line in LINES:
+        assert ran_at(path, line) == refused
+        assert bytes_of(path) == before
+    assert names_beside(new) == set()
     assert not names_beside(path + ".twin")
 
 
@@ -133,6 +180,17 @@ def test_dumped_of_schema_1(room: pathlib.Path) -> None:
     """What Python dumps of a file of schema 1: the copy is of schema 2."""
     path = dumped(old_file(str(room / "old.db"), []), str(room / "dumped.db"))
     assert_taken(path, "2 operators, 3 plans, 2 live", "2 operators, 3 plans", schema=1)
+
+
+def test_served(room: pathlib.Path) -> None:
+    """A desk over what Python made of a dump answers as one over the original."""
+    path = made_file(str(room / "desk.db"), PLAN)
+    other = dumped(path, str(room / "dumped.db"))
+    with Served("--db", path) as desk, Served("--db", other) as its:
+        for target in ("/flight_plans", f"/flight_plans/{ID}"):
+            asked = request("GET", target, "alfa")
+            assert its.ask(asked) == desk.ask(asked)
+    assert looked(other).errors == ""
 
 
 def test_with_sums(room: pathlib.Path) -> None:
@@ -179,13 +237,13 @@ def test_nearly(statements: list[str], room: pathlib.Path) -> None:
 @pytest.mark.parametrize("statements", named(CHANGED))
 def test_changed(statements: list[str], room: pathlib.Path) -> None:
     """A file of a desk's names, one of whose texts is another."""
-    assert_not_taken(stated_file(str(room / "changed.db"), statements), OTHER, ORDER)
+    assert_not_taken(stated_file(str(room / "changed.db"), statements), OTHER)
 
 
 def test_no_content(room: pathlib.Path) -> None:
     """Rows that are no desk's."""
     rows = [*by_name(), *PLAN, "UPDATE span2 SET last = last - 1"]
-    assert_not_taken(stated_file(str(room / "rows.db"), rows), SPAN, ORDER)
+    assert_not_taken(stated_file(str(room / "rows.db"), rows), SPAN)
 
 
 def test_with_a_log(room: pathlib.Path) -> None:
@@ -210,5 +268,98 @@ def test_with_a_log(room: pathlib.Path) -> None:
 def test_in_the_way(room: pathlib.Path) -> None:
     """What isn't a twin's is not taken for one."""
     path = stated_file(str(room / "other.db"), [*by_name(), *PLAN])
+    before = bytes_of(path)
     os.mkdir(path + ".twin")
-    assert looked(path) == (REFUSED, b"", told(path + ".twin", TAKEN, "store"))
+    assert [looked(path), enrolled(path)] == [(REFUSED, b"", told(path + ".twin", TAKEN, "store"))] * 2
+    assert bytes_of(path) == before
+
+
+def assert_left(path: str, ran: Ran, cause: str, before: bytes) -> None:
+    """A line at a file in another order was refused with the cause, and the file stands as it was."""
+    assert ran == (REFUSED, b"", told(path, cause, "store"))
+    assert bytes_of(path) == before
+    assert not names_beside(path + ".twin")
+
+
+def test_in_use(room: pathlib.Path) -> None:
+    """A file that sqlite3 has in a transaction isn't changed."""
+    path = stated_file(str(room / "other.db"), [*by_name(), PLAN[0]])
+    before = bytes_of(path)
+    with contextlib.closing(sqlite3.connect(path, isolation_level=None)) as connection:
+        connection.execute("BEGIN IMMEDIATE")
+        connection.execute("UPDATE operator SET ceiling = 99")
+        assert_left(path, enrolled(path), IN_USE, before)
+        connection.execute("COMMIT")
+    assert enrolled(path).status == 0
+    assert rows_of(path)[0] == [("alfa", 99), ("bravo", 100)]
+
+
+def test_open_without_a_transaction(room: pathlib.Path) -> None:
+    """A sqlite3 that has a file open, and is in no transaction, goes on with the file that was put in order."""
+    path = stated_file(str(room / "other.db"), [*by_name(), PLAN[0]])
+    with contextlib.closing(sqlite3.connect(path, isolation_level=None)) as connection:
+        assert connection.execute("SELECT name FROM operator").fetchall() == [("alfa",)]
+        ran = enrolled(path)
+        assert (ran.status, ran.errors) == (0, f"uss_desk: {path}: {ORDERED}\n")
+        connection.execute("UPDATE operator SET ceiling = 99 WHERE name = 'alfa'")
+    assert rows_of(path)[0] == [("alfa", 99), ("bravo", 100)]
+    look = looked(path)
+    assert (look.status, look.errors) == (0, "")
+
+
+def test_journal(room: pathlib.Path) -> None:
+    """A file beside which SQLite left a journal is refused."""
+    path = stated_file(str(room / "other.db"), [*by_name(), PLAN[0]])
+    pathlib.Path(path + "-journal").write_bytes(b"\xd9\xd5\x05\xf9\x20\xa1\x63\xd7")
+    assert_left(path, enrolled(path), JOURNAL, bytes_of(path))
+
+
+def test_by_a_link(room: pathlib.Path) -> None:
+    """A link stays one: the file to which it leads is put in order."""
+    (room / "away").mkdir()
+    path = stated_file(str(room / "away" / "other.db"), [*by_name(), PLAN[0]])
+    link = room / "link.db"
+    link.symlink_to(path)
+    ran = enrolled(str(link))
+    assert (ran.status, ran.errors) == (0, f"uss_desk: {link}: {ORDERED}\n")
+    assert link.is_symlink()
+    assert rows_of(path)[0] == [("alfa", 100), ("bravo", 100)]
+    assert names_beside(path) <= {"other.db", "other.db-wal"}
+    assert names_beside(str(link)) == {"link.db"}
+
+
+def test_left_over(room: pathlib.Path) -> None:
+    """What a line that was cut off left of a twin and of its log doesn't come into the file, and is removed."""
+    path = stated_file(str(room / "other.db"), [*by_name(), PLAN[0]])
+    for end in ("", "-wal"):
+        pathlib.Path(f"{path}.twin{end}").write_bytes(bytes_of(path)[:5000])
+    ran = enrolled(path)
+    assert (ran.status, ran.errors) == (0, f"uss_desk: {path}: {ORDERED}\n")
+    assert rows_of(path)[0] == [("alfa", 100), ("bravo", 100)]
+    assert not names_beside(path + ".twin")
+
+
+# calls that write, sync and remove, and how often at least a line makes each that puts a file in order
+CALLS = [("pwrite64", 5), ("ftruncate", 1), ("fdatasync", 3), ("fsync", 5), ("unlink", 2)]
+
+
+@pytest.mark.parametrize("call, least", [pytest.param(call, least, id=call) for call, least in CALLS])
+def test_killed(call: str, least: int, room: pathlib.Path) -> None:
+    """A line that is killed at each of these calls leaves the file with its rows, as it was or in order, and the next
+    one opens it, whatever is left beside it."""
+    path = dumped(made_file(str(room / "desk.db"), PLAN), str(room / "dumped.db"))
+    rows = rows_of(path)
+    for number in range(1, 1_000):
+        new = f"{path}.{number}"
+        shutil.copyfile(path, new)
+        ran = run("play", "--db", new, "--at", "0", under=killed_at(call, number))
+        look = looked(new)
+        assert (look.status, look.errors in ("", f"uss_desk: {new}: {ORDER}\n")) == (0, True)
+        assert rows_of(new) == rows
+        assert run("play", "--db", new, "--at", "0").status == 0
+        assert_in_schema_2(rows, new)
+        assert names_beside(new) <= {os.path.basename(new), os.path.basename(new) + "-wal"}
+        if not was_killed(ran.status):
+            break
+    assert ran.status == 0
+    assert number - 1 >= least

@@ -2,7 +2,7 @@
 use Rattle.std.proofs.Common.{◌≡◌, ℕ, Bool, true, false, not, List, [], ◌∷◌, ◌++◌, Option, None, Some, append-nil, append_assoc, ap, inl, inr, subst, sym, ◌∙◌}
 use Rattle.std.proofs.lemmas.List.Elements.{All-append, All-cons, All-nil, All-weaker}
 use Rattle.std.specs.Prelude.{All, MatchOption}
-use Rattle.uss_desk.specs.Naming.{ChangesFound, ChangesOwn, Cleared, ClearsOwn, Failed, Follows, Free, GivesNoName, GivesUp, HasFailed, IsNotFree, IsUnnamed, LeavesNames, LeavesOthers, Removed, Renamed, Step, Synced, Takes, TakesAll, TakesIfNone, Tried, Twinned, clearing, free_steps, log_of, named_steps, part_of}
+use Rattle.uss_desk.specs.Naming.{ChangesFound, ChangesOwn, Cleared, ClearsOwn, Failed, Follows, Free, GivesNoName, GivesUp, HasFailed, IsNotFree, IsUnnamed, LeavesNames, LeavesOthers, Ordered, Removed, Renamed, Step, Synced, Takes, TakesAll, TakesIfNone, Tried, Twinned, clearing, free_steps, log_of, named_steps, part_of}
 
 -- steps after steps
 pub follows_both : (old mid new : Option (List Step)) (xs ys : List Step) → Follows old mid xs
@@ -154,6 +154,7 @@ module _ {to : List ℕ} {old new : Option (List Step)} (it : IsNotFree to old n
     names_none (Removed path) is = tt
     names_none (Renamed from into) is = is
     names_none (Synced path) is = tt
+    names_none (Ordered path) is = tt
     names_none Failed is = tt
 
   pub not_free_others : LeavesOthers to old new

@@ -1,4 +1,4 @@
--- Read first: Running, Opening, Guarding, Closing, Keeping; Damage, Sums and Orders stand alone.
+-- Read first: Running, Opening, Guarding, Closing, Keeping; Damage, Sums, Orders and Committing stand alone.
 pub mod Opening
 pub mod Operators
 pub mod Recording
@@ -13,5 +13,7 @@ pub mod Keeping
 pub mod Damage
 pub mod Sums
 pub mod Orders
+pub mod Committing
 pub mod Ways
 pub mod Twins
+pub mod Reordering

@@ -5,7 +5,8 @@ use Rattle.uss_desk.specs.declared.naming.Names.{Names}
 -- a step: a path is looked at, and there is nothing; what a copy that was cut off left at two paths, a file
 -- and its log, is gone; a file is made there for a trial, and is gone again; a file is read, and its twin
 -- made at another path, either mended or, with its log, byte for byte; a file is removed; one
--- gets another name; the folder of a path is synced; or what was asked is not so, or can't be done
+-- gets another name; the folder of a path is synced; the first page of a file is put in a desk's own order,
+-- in one commit; or what was asked is not so, or can't be done
 pub data Step : Type 0 where
   Free : List ℕ → Step
   Cleared : List ℕ → List ℕ → Step
@@ -14,6 +15,7 @@ pub data Step : Type 0 where
   Removed : List ℕ → Step
   Renamed : List ℕ → List ℕ → Step
   Synced : List ℕ → Step
+  Ordered : List ℕ → Step
   Failed : Step
 
 -- known steps are followed by these
@@ -70,6 +72,7 @@ GivesNoName (Twinned source twin mended) = ⊥
 GivesNoName (Removed path) = ⊤
 GivesNoName (Renamed from to) = ⊥
 GivesNoName (Synced path) = ⊤
+GivesNoName (Ordered path) = ⊤
 GivesNoName Failed = ⊤
 
 -- steps are made by which no file gets a name
@@ -87,6 +90,7 @@ ClearsOwn to (Twinned source twin mended) = ⊥
 ClearsOwn to (Removed path) = ⊥
 ClearsOwn to (Renamed from into) = ⊥
 ClearsOwn to (Synced path) = ⊤
+ClearsOwn to (Ordered path) = ⊥
 ClearsOwn to Failed = ⊤
 
 -- a step that changes nothing but the new file, or its log, under the names that they have first
@@ -98,6 +102,7 @@ ChangesOwn to (Twinned source twin mended) = ⊥
 ChangesOwn to (Removed path) = (path ≡ part_of to) ⊎ (path ≡ log_of (part_of to))
 ChangesOwn to (Renamed from into) = (from ≡ part_of to) × (into ≡ to)
 ChangesOwn to (Synced path) = ⊤
+ChangesOwn to (Ordered path) = ⊥
 ChangesOwn to Failed = ⊤
 
 -- steps of which each is so

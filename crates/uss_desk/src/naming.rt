@@ -1,10 +1,11 @@
 //! How a new file gets its name, once it is whole.
 
 ghost use Rattle.std.specs.Prelude.{◌≡◌, ℕ, ◌++◌, [], List, Option, None, false, true, IfOk, string_bytes};
-ghost use Rattle.uss_desk.specs.Naming.{AreNames, ChangesOwn, Cleared, Follows, Free, HasFailed, IsUnnamed, Removed};
-ghost use Rattle.uss_desk.specs.Naming.{Renamed, Step, Synced, Takes, TakesAll, TakesIfNone, Tried, Twinned};
+ghost use Rattle.uss_desk.specs.Naming.{AreNames, ChangesOwn, Cleared, Follows, Free, HasFailed, IsUnnamed, Ordered};
+ghost use Rattle.uss_desk.specs.Naming.{Removed, Renamed, Step, Synced, Takes, TakesAll, TakesIfNone, Tried, Twinned};
 ghost use Rattle.uss_desk.specs.Naming.{named_steps};
 
+use crate::committing::put_in_order;
 use crate::pairs::{TwinFault, write_twin};
 use sqlite::Unknown;
 use sqlite_std_file::OpenError;
@@ -61,6 +62,11 @@ pub trait Folder {
     /// Syncs the folder of a path, and answers whether that was done.
     fn sync(&mut self, path: &str) -> bool
         ensures { Takes (steps self.old) (steps self.new) result (Synced path.now) };
+
+    /// Puts the first page of the file at a path into a desk's own order, in one commit, and answers whether
+    /// that was done.
+    fn order(&mut self, path: &str) -> bool
+        ensures { Takes (steps self.old) (steps self.new) result (Ordered path.now) };
 }
 
 /// The folders of the operating system, of whose steps nothing is told.
@@ -119,6 +125,10 @@ impl<'s> Folder for LocalFolder<'s> {
 
     fn sync(&mut self, path: &str) -> bool {
         sync_folder(self.rt, path).is_ok()
+    }
+
+    fn order(&mut self, path: &str) -> bool {
+        put_in_order(self.rt, path).is_ok()
     }
 }
 

@@ -74,8 +74,8 @@ fn name_at(is_packed: bool, place: u16) -> &'static [u8]
     })
 }
 
-// The byte at a place; 0 past the end.
-fn byte(page: &[u8], at: usize) -> u8
+/// The byte at a place; 0 past the end.
+pub fn byte(page: &[u8], at: usize) -> u8
     ensures { result ≡ spec.byte page.now at }
 {
     match page.get(at) {
@@ -338,8 +338,8 @@ fn is_disordered(page: &[u8]) -> bool
     put_in_order(page, other)
 }
 
-// Puts the rows of a file's first page into a desk's own order, if they are those of a desk in another.
-fn order_page(page: &mut [u8])
+/// Puts the rows of a file's first page into a desk's own order, if they are those of a desk in another.
+pub fn order_page(page: &mut [u8])
     requires room { 136 ≤ length page.old }
     requires fits { length page.old ≤ 65536 }
     ensures { page.new ≡ spec.ordered_page page.old }

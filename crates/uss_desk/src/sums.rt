@@ -185,8 +185,8 @@ fn has_its_sum(page: &[u8]) -> bool
     sum == &sum_of(bytes)[..]
 }
 
-// Writes the sum of a page in the place of its last bytes.
-fn give_sum(page: &mut [u8])
+/// Writes the sum of a page in the place of its last bytes.
+pub fn give_sum(page: &mut [u8])
     requires { 8 ≤ length page.old }
     ensures { page.new ≡ spec.summed page.old }
 {

@@ -269,8 +269,12 @@ fn tell_tested<E: Write>(alloc: Global, path: &str, way: Way, status: u8, errors
     }
 }
 
-// Makes the twin of a file beside a path, where an earlier one may be left, or tells why not.
-fn make_twin<P: Folder, E: Write>(
+/// Makes the twin of a file beside a path, where an earlier one may be left, or tells why not.
+///
+/// # Errors
+///
+/// `Memory` if memory runs out; else `Store`.
+pub fn make_twin<P: Folder, E: Write>(
     alloc: Global,
     folder: &mut P,
     source: &str,
@@ -319,8 +323,8 @@ fn tell_fault<E: Write>(
     Failure::Store
 }
 
-// Removes a twin and its log, as far as they are there.
-fn remove_twin<P: Folder>(folder: &mut P, twin: &Twin)
+/// Removes a twin and its log, as far as they are there.
+pub fn remove_twin<P: Folder>(folder: &mut P, twin: &Twin)
     ensures { (path : List ℕ) → AreTwins path twin.now
         → AreRemoved (twin_of path) (P.steps folder.old) (P.steps folder.new) }
 {
@@ -349,9 +353,13 @@ fn tell_order<E: Write>(alloc: Global, path: &str, errors: &mut E)
     }
 }
 
-// The line that tells this text of a file.
+/// The line that tells this text of a file.
+///
+/// # Errors
+///
+/// `AllocError` if memory runs out.
 #[tactic(auto, unfolding(crate::specs::Twins::line_of))]
-fn line_of(alloc: Global, path: &str, text: &str) -> Result<String, AllocError>
+pub fn line_of(alloc: Global, path: &str, text: &str) -> Result<String, AllocError>
     ensures { IfOk result (λ line. string_bytes line ≡ spec.line_of path.now text.now) }
 {
     format!(in alloc; "uss_desk: {path}: {text}\n")

@@ -4,6 +4,7 @@
 ghost use Rattle.std.specs.Prelude.{◌≡◌};
 ghost use Rattle.uss_desk.specs.Ways as spec;
 
+use crate::committing::has_frames;
 use crate::damage::has_commit;
 use crate::naming::is_no_path;
 use crate::orders::has_other_order;
@@ -77,7 +78,7 @@ fn way_for(is_damaged: bool, unsummed: Option<u64>, is_disordered: bool) -> Way
 // Whether the log of a file may have a commit, or that can't be known.
 fn has_changes(rt: &HostRuntime, path: &str) -> bool {
     match fs::canonicalize(rt, path) {
-        Ok(real) => has_commit(rt, real.as_str()).unwrap_or(true),
+        Ok(real) => has_commit(rt, real.as_str()).unwrap_or(true) && has_frames(rt, path),
         Err(_) => true,
     }
 }

@@ -1,0 +1,121 @@
+-- Reordering: the file that a line opens is put in a desk's own order, once its twin was read as a desk's.
+use Rattle.std.specs.Prelude.{◌≡◌, ◌⊎◌, ⊤, Bool, true, false, List, ℕ, [], ◌∷◌, codes}
+use Rattle.std.specs.Prelude.{Option, None, Some, Result, Ok, Err}
+use Rattle.sqlite_disk.specs.declared.Disk as disk
+use Rattle.sqlite_wal.specs.Recovery.{Image}
+use Rattle.sqlite_store.specs.declared.store.FileStore.{FileStore}
+use Rattle.sqlite.specs.Held.{Held}
+use Rattle.desk_line.specs.declared.failure.Failure.{Failure}
+use Rattle.desk_line.specs.declared.failure.Failure.TheVariants as failure
+use Rattle.desk_line.specs.declared.line.Line.{Line}
+use Rattle.desk_line.specs.declared.line.Line.TheVariants as line
+use Rattle.desk_line.specs.Exits.{IsBreakdown}
+use Rattle.desk_program.specs.declared.looking.CheckedFile.{CheckedFile}
+use Rattle.uss_desk.specs.declared.opening.Unopened.{Unopened}
+use Rattle.uss_desk.specs.declared.ways.Way.{Way}
+use Rattle.uss_desk.specs.declared.ways.Way.TheVariants as way
+use Rattle.uss_desk.specs.Keeping.{FailsToRead, IsReadAs, Tells}
+use Rattle.uss_desk.specs.Naming.{Failed, Follows, Ordered, Step}
+use Rattle.uss_desk.specs.Twins.{AreRemoved, IsNoted, IsUntwinned, line_of, making, twin_of}
+
+-- a line takes files of schema 1
+abbrev pub takes_old : Line → Bool
+takes_old (line.Play words) = false
+takes_old (line.Token text) = false
+takes_old (line.Serve words) = false
+takes_old (line.Cover words) = false
+takes_old (line.Enrol words) = false
+takes_old (line.Migrate words) = true
+
+-- what is told of a file that is put in order
+abbrev pub reordered_text : List ℕ
+reordered_text = codes "its tables are put in a desk's own order"
+
+-- a file is put in order, or that can't be done
+abbrev pub IsOrderedOr :
+    List ℕ → Result ⊤ Failure → Option (List Step) → Option (List Step) → Type 0
+IsOrderedOr path (Ok done) old new = Follows old new (Ordered path ∷ [])
+IsOrderedOr path (Err f) old new = (f ≡ failure.Store) × Follows old new (Failed ∷ [])
+
+-- so, if its twin was admitted; else nothing is asked of it, and this is the failure
+abbrev pub IsOrderedIf :
+    List ℕ → Result ⊤ Failure → Result ⊤ Failure → Option (List Step) → Option (List Step) → Type 0
+IsOrderedIf path (Ok it) done old new = IsOrderedOr path done old new
+IsOrderedIf path (Err f) done old new = (done ≡ Err f) × (new ≡ old)
+
+module _ {D : Type 0} {g : disk.Ghosts D} (image : Image) (takes : Bool) where
+  -- a twin was read as a desk's that the line takes
+  pub record IsTaken (left : Held (FileStore D g)) : Type 0 where
+    pub file : CheckedFile
+    pub read : IsReadAs image left file
+    pub taken : takes ≡ false → file.is_old ≡ false
+
+  -- it was read as a desk's, and the line doesn't take it, as it has rows of schema 1
+  pub record IsTooOld (left : Held (FileStore D g)) (f : Failure) : Type 0 where
+    pub file : CheckedFile
+    pub read : IsReadAs image left file
+    pub untaken : takes ≡ false
+    pub old : file.is_old ≡ true
+    pub failure : f ≡ failure.OldSchema
+
+  -- a twin is admitted, or not, by what it showed
+  abbrev pub IsAdmitted :
+      Result ⊤ Failure → Result (Held (FileStore D g)) (Unopened (FileStore D g)) → Type 0
+  IsAdmitted (Ok it) (Ok left) = IsTaken left
+  IsAdmitted (Err f) (Ok left) = IsTooOld left f
+  IsAdmitted (Ok it) (Err unread) = ⊥
+  IsAdmitted (Err f) (Err unread) = FailsToRead image unread × (f ≡ unread.failure)
+
+module _ {D : Type 0} {g : disk.Ghosts D} (image : Image) (path : List ℕ) (takes : Bool) where
+  -- a twin is admitted or not, and is removed; then the file is put in order, if it was
+  pub record IsOrderedByTwin (done : Result ⊤ Failure)
+      (judged : Result (Held (FileStore D g)) (Unopened (FileStore D g)))
+      (old new : Option (List Step)) : Type 0 where
+    pub admitted : Result ⊤ Failure
+    pub between : Option (List Step)
+    pub is : IsAdmitted image takes admitted judged
+    pub removed : AreRemoved (twin_of path) old between
+    pub ordered : IsOrderedIf path admitted done between new
+
+  -- so, once it was made of the file
+  pub record WasJudged (done : Result ⊤ Failure)
+      (judged : Result (Held (FileStore D g)) (Unopened (FileStore D g)))
+      (old new : Option (List Step)) : Type 0 where
+    pub from : Option (List Step)
+    pub made : Follows old from (making path (twin_of path) true)
+    pub ordered : IsOrderedByTwin done judged from new
+
+  -- what is done of a disordered file: so, or there is no twin
+  abbrev pub IsReordered :
+      Result ⊤ Failure → Option (Result (Held (FileStore D g)) (Unopened (FileStore D g)))
+      → Option (List Step) → Option (List Step) → Type 0
+  IsReordered done (Some judged) old new = WasJudged done judged old new
+  IsReordered (Ok done) None old new = ⊥
+  IsReordered (Err f) None old new = IsBreakdown f × IsUntwinned (twin_of path) old new f
+
+  -- nothing is done of any other
+  abbrev pub IsLeftAlone :
+      Result ⊤ Failure → Option (Result (Held (FileStore D g)) (Unopened (FileStore D g)))
+      → Option (List Step) → Option (List Step) → Type 0
+  IsLeftAlone (Ok done) None old new = new ≡ old
+  IsLeftAlone (Ok done) (Some judged) old new = ⊥
+  IsLeftAlone (Err f) judged old new = ⊥
+
+  abbrev pub IsReorderedIf :
+      Way → Result ⊤ Failure → Option (Result (Held (FileStore D g)) (Unopened (FileStore D g)))
+      → Option (List Step) → Option (List Step) → Type 0
+  IsReorderedIf way.Itself done judged old new = IsLeftAlone done judged old new
+  IsReorderedIf way.Damaged done judged old new = IsLeftAlone done judged old new
+  IsReorderedIf (way.Unsummed pages) done judged old new = IsLeftAlone done judged old new
+  IsReorderedIf way.Disordered done judged old new = IsReordered done judged old new
+
+-- the line that tells that a file was put in order
+abbrev pub reordered_line : List ℕ → List ℕ
+reordered_line path = line_of path reordered_text
+
+-- of a file that was put in order that is told, of one that is left nothing, and else why
+abbrev pub IsReorderTold :
+    {X : Type 0} → List ℕ → Result ⊤ Failure → Option X → Option (List ℕ) → Option (List ℕ) → Type 0
+IsReorderTold path (Ok done) None out now = now ≡ out
+IsReorderTold path (Ok done) (Some judged) out now = IsNoted (reordered_line path) out now
+IsReorderTold path (Err f) judged out now = Tells out now
