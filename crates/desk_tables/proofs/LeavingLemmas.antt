@@ -266,7 +266,7 @@ module _ {D E : Type 0} {g : disk.Ghosts D} {k : disk.Ghosts E} (last : Held (Fi
 
     -- of such files neither is told, by a connection that can be read or by none
     pub not_told : (image : Image) → IsLeftBy last image → (e : OpenFault)
-        → (connection : Result (Held (FileStore E k)) Unreached) → AreRefused image e connection
+        → (connection : Result (Held (FileStore E k)) (Unreached E k)) → AreRefused image e connection
         → IfOk connection IsLegible → IsUnread e
     not_told image files e (Err it) unread legible = unread.unread
     not_told image files e (Ok left) refused legible =

@@ -39,6 +39,7 @@ pub mod AskingLemmas
 pub mod KeyLemmas
 pub mod OtherLemmas
 pub mod LeavingLemmas
+pub mod LeftoverLemmas
 pub mod CollectorLemmas
 pub mod CauseLemmas
 pub mod SlabLemmas

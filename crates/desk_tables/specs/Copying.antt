@@ -127,9 +127,9 @@ module _ {D : Type 0} {g : disk.Ghosts D} (image : Image) (e : OpenFault) where
 
   -- files of which no content is told were read so; or they were not opened, and it isn't said of them that
   -- they have none
-  abbrev pub AreNotRead : Result (Held (FileStore D g)) Unreached → Type 0
+  abbrev pub AreNotRead : Result (Held (FileStore D g)) (Unreached D g) → Type 0
   AreNotRead (Ok left) = IsUnreadIn left
-  AreNotRead (Err it) = IsOfUnreached e it
+  AreNotRead (Err it) = IsOfUnreached image e it
 
   -- the connection that is left had found the database of new files, and no store was made there, since they
   -- had a table, or the disk failed
@@ -140,21 +140,21 @@ module _ {D : Type 0} {g : disk.Ghosts D} (image : Image) (e : OpenFault) where
     pub unmade : IsUnmade (over_files {D = D} {g = g}) found left e
 
   -- new files in which no store was made; or they were not opened
-  abbrev pub AreNotMade : Result (Held (FileStore D g)) Unreached → Type 0
+  abbrev pub AreNotMade : Result (Held (FileStore D g)) (Unreached D g) → Type 0
   AreNotMade (Ok left) = IsUnmadeIn left
-  AreNotMade (Err it) = IsOfUnreached e it
+  AreNotMade (Err it) = IsOfUnreached image e it
 
 -- no store was made in new files that held this
 abbrev pub IsUnmadeOf :
     {D E : Type 0} {g : disk.Ghosts D} {k : disk.Ghosts E} → Image
-    → CopyFault (FileStore D g) (FileStore E k) → Type 0
+    → CopyFault D E g k → Type 0
 IsUnmadeOf other (copy.Unread it) = ⊥
 IsUnmadeOf other (copy.Unmade it) = AreNotMade other it.fault it.connection
 
 -- nothing was copied from files that held this: they were not read, or nothing was made in the new ones
 abbrev pub AreNotCopied :
     {D E : Type 0} {g : disk.Ghosts D} {k : disk.Ghosts E} → Image → Image
-    → CopyFault (FileStore D g) (FileStore E k) → Type 0
+    → CopyFault D E g k → Type 0
 AreNotCopied image other (copy.Unread it) = AreNotRead image it.fault it.connection
 AreNotCopied image other (copy.Unmade it) = AreNotMade other it.fault it.connection
 

@@ -1,5 +1,5 @@
 -- What a store over files begins with, and why files are refused.
-use Rattle.std.specs.Prelude.{◌≡◌, ◌≢◌, ◌≤◌, ℕ, true, [], Result, Ok, Err}
+use Rattle.std.specs.Prelude.{◌≡◌, ◌≢◌, ◌≤◌, ℕ, true, [], Result, Ok, Err, IfSome}
 use Rattle.sqlite_disk.specs.declared.Disk as disk
 use Rattle.sqlite_wal.specs.Recovery.{Image}
 use Rattle.sqlite_trees.specs.View.{doubt as doubt_of}
@@ -15,6 +15,7 @@ use Rattle.desk_tables.specs.declared.opening.open.OpenFault.{OpenFault}
 use Rattle.desk_tables.specs.declared.opening.open.OpenFault.TheVariants.{NotADesk, OldSchema}
 use Rattle.desk_tables.specs.declared.opening.path.Unreached.{Unreached}
 use Rattle.desk_tables.specs.Guarding.{IsGuarded}
+use Rattle.desk_tables.specs.Leftovers.{IsLeftOf}
 use Rattle.desk_tables.specs.Opening.{BeginsWith, ShowsNoDesk, ShowsOldRows, BlamesDisk}
 use Rattle.desk_tables.specs.Moving.{BeginsMoved, KeepsRows, ShowsNoContent}
 
@@ -60,14 +61,18 @@ module _ {D : Type 0} {g : disk.Ghosts D} where
 abbrev pub IsUnread : OpenFault → Type 0
 IsUnread e = (e ≢ NotADesk) × (e ≢ OldSchema)
 
--- files that were not opened are told so
-abbrev pub IsUnreached : Unreached → Type 0
-IsUnreached it = IsUnread it.fault
+module _ {D : Type 0} {g : disk.Ghosts D} (image : Image) where
+  -- files that held this were not opened, and are told so; and if they were both there, what is left of them
+  -- is told
+  pub record IsUnreached (it : Unreached D g) : Type 0 where
+    pub unread : IsUnread it.fault
+    pub left : IfSome it.left (λ s. IsLeftOf image s.value)
 
--- a fault is that of files that were not opened
-pub record IsOfUnreached (e : OpenFault) (it : Unreached) : Type 0 where
-  pub same : e ≡ it.fault
-  pub unread : IsUnread e
+  -- a fault is that of files that were not opened
+  pub record IsOfUnreached (e : OpenFault) (it : Unreached D g) : Type 0 where
+    pub same : e ≡ it.fault
+    pub unread : IsUnread e
+    pub left : IfSome it.left (λ s. IsLeftOf image s.value)
 
 module _ {D : Type 0} {g : disk.Ghosts D} (image : Image) (e : OpenFault) where
   -- the connection that is left had found the database of the files, and what it showed says why it is no
@@ -83,9 +88,9 @@ module _ {D : Type 0} {g : disk.Ghosts D} (image : Image) (e : OpenFault) where
 
   -- files of which no store comes are refused by the connection that is left; or they were not opened, and
   -- nothing in them was read
-  abbrev pub AreRefused : Result (Held (FileStore D g)) Unreached → Type 0
+  abbrev pub AreRefused : Result (Held (FileStore D g)) (Unreached D g) → Type 0
   AreRefused (Ok left) = IsRefusedIn left
-  AreRefused (Err it) = IsOfUnreached e it
+  AreRefused (Err it) = IsOfUnreached image e it
 
 -- ---- files that may hold rows of schema 1
 
@@ -113,6 +118,6 @@ module _ {D : Type 0} {g : disk.Ghosts D} (image : Image) (e : OpenFault) where
     pub kept : KeepsRows (over_files {D = D} {g = g}) found left
 
   -- files that may hold rows of schema 1 are refused so; or they were not opened
-  abbrev pub AreNotMoved : Result (Held (FileStore D g)) Unreached → Type 0
+  abbrev pub AreNotMoved : Result (Held (FileStore D g)) (Unreached D g) → Type 0
   AreNotMoved (Ok left) = IsMoveRefusedIn left
-  AreNotMoved (Err it) = IsOfUnreached e it
+  AreNotMoved (Err it) = IsOfUnreached image e it

@@ -18,6 +18,7 @@ pub mod Writing
 pub mod Counting
 pub mod Copying
 pub mod Causes
+pub mod Leftovers
 pub mod Files
 pub mod Leaving
 pub mod CutShort

@@ -6,7 +6,9 @@ ghost use Rattle.sqlite_value.specs.Order.{Row};
 ghost use Rattle.sqlite_store.specs.declared.store.FileStore.{FileStore};
 ghost use Rattle.sqlite.specs.Held.{Held, state};
 ghost use Rattle.sqlite.specs.State.{HasCleanDisk};
-ghost use Rattle.sqlite.specs.Files.{over_files};
+ghost use Rattle.sqlite.specs.Files.{over_files, AreFoundIn, HoldsDatabase, IsNothing};
+ghost use Rattle.sqlite.specs.Tree.{Trees};
+ghost use Rattle.sqlite.specs.declared.file.Leftover.{Leftover};
 ghost use Rattle.desk_sql.specs.Rows.{Tables, PutsOperator, ClosesPlan};
 ghost use Rattle.desk_sql.specs.Batches.{PutsPlan, RemovesPlans};
 ghost use Rattle.desk_store.specs.World.{Filed, World, text_cmp};
@@ -38,6 +40,7 @@ ghost use Rattle.desk_tables.specs.Files.{OpensMoved};
 ghost use Rattle.desk_tables.specs.declared.opening.open.OpenFault.{OpenFault};
 ghost use Rattle.desk_tables.specs.Leaving.{MayLeave, IsFoundAfter, BeginsAfter, IsLeftBy, IsLegible};
 ghost use Rattle.desk_tables.specs.Leaving.{IsRefusedAtRest};
+ghost use Rattle.desk_tables.specs.Leftovers.{RemainsOf};
 
 use crate::opening::files::FilesFault;
 use crate::store::SqliteStore;
@@ -159,6 +162,28 @@ pub fn a_start_after_one_cut_short_finds_the_content<D: Disk, E: Disk>()
     one_shape();
 }
 
+/// Wherever an opening of files fails or is cut short before it has a connection, and however often: what is
+/// left of them holds the database that they held. Where they held none, there is none, or one of what was
+/// found.
+pub fn a_failed_opening_leaves_the_database<D: Disk>()
+    ensures held { (image next : Image) (it : Leftover D D.Disk) (db : Trees) → HoldsDatabase image db
+        → RemainsOf image it next → ∥ HoldsDatabase next db ∥₁ }
+    ensures none { (image next : Image) (it : Leftover D D.Disk) → IsNothing image
+        → RemainsOf image it next
+        → IsNothing next ⊎ ∥ ((db : Trees) × HoldsDatabase next db × AreFoundIn image db) ∥₁ }
+{}
+
+/// After an opening of files that failed or was cut short before it had a connection, the next one finds what
+/// it would have found without it. So all that is said of a start over what a connection left is said of it.
+pub fn a_start_after_a_failed_opening_finds_the_database<D: Disk, E: Disk, F: Disk>()
+    ensures found { (image next : Image) (it : Leftover E E.Disk) (found : Held (FileStore F F.Disk))
+        (db : Trees) → HoldsDatabase image db → RemainsOf image it next → FindsFirst next found
+        → ∥ FindsFirst image found ∥₁ }
+    ensures after { (last : Held (FileStore D D.Disk)) (image next : Image) (it : Leftover E E.Disk)
+        (found : Held (FileStore F F.Disk)) → IsLeftBy last image → RemainsOf image it next
+        → FindsFirst next found → ∥ IsFoundAfter last found ∥₁ }
+{}
+
 /// Files that are looked into, or copied, are left as they were, wherever that is cut short.
 pub fn a_look_leaves_the_database<D: Disk>()
     ensures read { (image : Image) (left : Held (FileStore D D.Disk)) (old : Bool) (w : World)
@@ -184,7 +209,7 @@ pub fn a_close_leaves_the_content<D: Disk, E: Disk>()
 /// What is told of files in which a connection left one content is never that they hold no desk, or rows of
 /// schema 1: `refused` is what an opening of them told, with its connection open and its disk clean, if it
 /// had one.
-pub fn a_desk_is_not_told_as_none<D: Disk, E: Disk>(refused: &FilesFault<FileStore<E>>)
+pub fn a_desk_is_not_told_as_none<D: Disk, E: Disk>(refused: &FilesFault<E>)
     ensures { (last : Held (FileStore D D.Disk)) (image : Image) (w : World)
         → LeavesOnly w (MayLeave over_files last) → IsLeftBy last image
         → AreRefused image refused.now.fault refused.now.connection

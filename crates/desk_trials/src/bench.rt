@@ -34,7 +34,7 @@ fn time_at(rt: &HostRuntime, keeping: &Keeping, requests: &Requests) -> anyhow::
 // Times the requests at a desk over files, on whatever disk they were opened.
 fn time_files<D: Disk + Drop>(
     rt: &HostRuntime,
-    opened: Result<SqliteStore<FileStore<D>>, FilesFault<FileStore<D>>>,
+    opened: Result<SqliteStore<FileStore<D>>, FilesFault<D>>,
     requests: &Requests,
 ) -> anyhow::Result<Times> {
     match opened {

@@ -45,7 +45,7 @@ pub fn play<D: Fused, W: Write>(
 // What a desk over files answers to a stream, on whatever disk they were opened.
 fn answers_in_files<E: Disk + Drop>(
     alloc: Global,
-    opened: Result<SqliteStore<FileStore<E>>, FilesFault<FileStore<E>>>,
+    opened: Result<SqliteStore<FileStore<E>>, FilesFault<E>>,
     names: &[String],
     stream: &[u8],
 ) -> anyhow::Result<Vec<u8>> {

@@ -41,20 +41,20 @@ pub type Copied<D, E> = (
 
 /// Why files were refused, with the connection that read them, or that they were not opened.
 #[derive(Drop)]
-pub struct FilesFault<S: Alter> {
+pub struct FilesFault<D: Disk> {
     /// What was found in them, or what kept them from being opened.
     pub fault: OpenFault,
     /// The connection, with the rows that it had; or that nothing in the files was read.
-    pub connection: Result<Connection<S>, Unreached>,
+    pub connection: Result<Connection<FileStore<D>>, Unreached<D>>,
 }
 
 /// Why nothing was copied.
 #[derive(Drop)]
-pub enum CopyFault<S: Alter, N: Alter> {
+pub enum CopyFault<D: Disk, E: Disk> {
     /// What was to be copied was not read.
-    Unread(FilesFault<S>),
+    Unread(FilesFault<D>),
     /// In the new files no store was made.
-    Unmade(FilesFault<N>),
+    Unmade(FilesFault<E>),
 }
 
 impl<S: Start> SqliteStore<FileStore<FileFrom<S>>> {
@@ -70,7 +70,7 @@ impl<S: Start> SqliteStore<FileStore<FileFrom<S>>> {
         rt: &HostRuntime,
         path: &str,
         start: S,
-    ) -> Result<SqliteStore<FileStore<FileFrom<S>>>, FilesFault<FileStore<FileFrom<S>>>>
+    ) -> Result<SqliteStore<FileStore<FileFrom<S>>>, FilesFault<FileFrom<S>>>
         ensures begins { IfOk result (λ store.
             OpensIn (image_at S.Start) store.held store.world) }
         ensures left { IfOk result (λ store. IsSettledAt over_files store.held store.world) }
@@ -101,7 +101,7 @@ impl<S: Start> SqliteStore<FileStore<FileFrom<S>>> {
         rt: &HostRuntime,
         path: &str,
         start: S,
-    ) -> Result<(SqliteStore<FileStore<FileFrom<S>>>, u32), FilesFault<FileStore<FileFrom<S>>>>
+    ) -> Result<(SqliteStore<FileStore<FileFrom<S>>>, u32), FilesFault<FileFrom<S>>>
         ensures begins { IfOk result (λ moved.
             OpensMoved (image_at S.Start) moved.0.held moved.0.world moved.1) }
         ensures left { IfOk result (λ moved. IsSettledAt over_files moved.0.held moved.0.world) }
@@ -130,7 +130,7 @@ impl SqliteStore<FileStore<FileFrom<Unknown>>> {
     pub fn open(
         rt: &HostRuntime,
         path: &str,
-    ) -> Result<SqliteStore<FileStore<FileFrom<Unknown>>>, FilesFault<FileStore<FileFrom<Unknown>>>>
+    ) -> Result<SqliteStore<FileStore<FileFrom<Unknown>>>, FilesFault<FileFrom<Unknown>>>
         ensures begins { IfOk result (λ store. OpensIn no_files store.held store.world) }
         ensures left { IfOk result (λ store. IsSettledAt over_files store.held store.world) }
         ensures fault { IfErr result (λ e. AreRefused no_files e.fault e.connection) }
@@ -149,10 +149,7 @@ impl SqliteStore<FileStore<FileFrom<Unknown>>> {
     pub fn migrate(
         rt: &HostRuntime,
         path: &str,
-    ) -> Result<
-        (SqliteStore<FileStore<FileFrom<Unknown>>>, u32),
-        FilesFault<FileStore<FileFrom<Unknown>>>,
-    >
+    ) -> Result<(SqliteStore<FileStore<FileFrom<Unknown>>>, u32), FilesFault<FileFrom<Unknown>>>
         ensures begins { IfOk result (λ moved.
             OpensMoved no_files moved.0.held moved.0.world moved.1) }
         ensures left { IfOk result (λ moved. IsSettledAt over_files moved.0.held moved.0.world) }
@@ -176,7 +173,7 @@ pub fn look_at<S: Start>(
     rt: &HostRuntime,
     path: &str,
     start: S,
-) -> Result<(Connection<FileStore<FileFrom<S>>>, Holdings), FilesFault<FileStore<FileFrom<S>>>>
+) -> Result<(Connection<FileStore<FileFrom<S>>>, Holdings), FilesFault<FileFrom<S>>>
     ensures looks { IfOk result (λ found. (w : World) × AreCounted found.1 w
         × LooksIn (image_at S.Start) found.0 found.1.is_old w) }
     ensures fault { IfErr result (λ e. AreNotRead (image_at S.Start) e.fault e.connection) }
@@ -199,10 +196,7 @@ pub fn copy_from<S: Start, N: Start>(
     start: S,
     to: &str,
     other: N,
-) -> Result<
-    Copied<FileFrom<S>, FileFrom<N>>,
-    CopyFault<FileStore<FileFrom<S>>, FileStore<FileFrom<N>>>,
->
+) -> Result<Copied<FileFrom<S>, FileFrom<N>>, CopyFault<FileFrom<S>, FileFrom<N>>>
     ensures looks { IfOk result (λ copied. AreCounted copied.1.1 copied.1.0.world
         × LooksIn (image_at S.Start) copied.0 copied.1.1.is_old copied.1.0.world) }
     ensures made { IfOk result (λ copied. IsMadeIn (image_at N.Start) copied.1.0.held) }
@@ -221,7 +215,7 @@ fn copy_read<D: Disk + Drop, N: Start>(
     found: ReadFiles<FileStore<D>>,
     to: &str,
     other: N,
-) -> Result<Copied<D, FileFrom<N>>, CopyFault<FileStore<D>, FileStore<FileFrom<N>>>>
+) -> Result<Copied<D, FileFrom<N>>, CopyFault<D, FileFrom<N>>>
     requires content { IsContent found.1 }
     requires few { HaveFewRows found.1.plans }
     requires bounded { Knows found.2 found.1 }
@@ -245,7 +239,7 @@ fn read_there<S: Start>(
     rt: &HostRuntime,
     path: &str,
     start: S,
-) -> Result<ReadFiles<FileStore<FileFrom<S>>>, FilesFault<FileStore<FileFrom<S>>>>
+) -> Result<ReadFiles<FileStore<FileFrom<S>>>, FilesFault<FileFrom<S>>>
     ensures looks { IfOk result (λ found. LooksIn (image_at S.Start) found.0 found.3 found.1) }
     ensures content { IfOk result (λ found. IsContent found.1) }
     ensures few { IfOk result (λ found. HaveFewRows found.1.plans) }
@@ -265,7 +259,7 @@ fn read_there<S: Start>(
 fn read_files<D: Disk + Drop>(
     alloc: Global,
     mut connection: Connection<FileStore<D>>,
-) -> Result<ReadFiles<FileStore<D>>, FilesFault<FileStore<D>>>
+) -> Result<ReadFiles<FileStore<D>>, FilesFault<D>>
     requires fresh { IsNew connection }
     ensures looks { (image : Image) → Finds image connection → IfOk result (λ found.
         LooksIn image found.0 found.3 found.1) }
@@ -291,7 +285,7 @@ fn store_at<S: Start>(
     start: S,
     content: &Content,
     known: Known,
-) -> Result<SqliteStore<FileStore<FileFrom<S>>>, FilesFault<FileStore<FileFrom<S>>>>
+) -> Result<SqliteStore<FileStore<FileFrom<S>>>, FilesFault<FileFrom<S>>>
     requires content { IsContent content.now }
     requires few { HaveFewRows content.now.plans }
     requires bounded { Knows known content.now }
@@ -315,7 +309,7 @@ fn store_files<D: Disk + Drop>(
     connection: Connection<FileStore<D>>,
     content: &Content,
     known: Known,
-) -> Result<SqliteStore<FileStore<D>>, FilesFault<FileStore<D>>>
+) -> Result<SqliteStore<FileStore<D>>, FilesFault<D>>
     requires fresh { IsNew connection }
     requires content { IsContent content.now }
     requires few { HaveFewRows content.now.plans }
@@ -341,7 +335,7 @@ fn store_files<D: Disk + Drop>(
 fn adopt_files<D: Disk + Drop>(
     alloc: Global,
     connection: Connection<FileStore<D>>,
-) -> Result<SqliteStore<FileStore<D>>, FilesFault<FileStore<D>>>
+) -> Result<SqliteStore<FileStore<D>>, FilesFault<D>>
     requires fresh { IsNew connection }
     ensures begins { (image : Image) → Finds image connection → IfOk result (λ store.
         OpensIn image store.held store.world) }
@@ -366,7 +360,7 @@ fn adopt_files<D: Disk + Drop>(
 fn adopt_old_files<D: Disk + Drop>(
     alloc: Global,
     connection: Connection<FileStore<D>>,
-) -> Result<(SqliteStore<FileStore<D>>, u32), FilesFault<FileStore<D>>>
+) -> Result<(SqliteStore<FileStore<D>>, u32), FilesFault<D>>
     requires fresh { IsNew connection }
     ensures begins { (image : Image) → Finds image connection → IfOk result (λ moved.
         OpensMoved image moved.0.held moved.0.world moved.1) }

@@ -1,17 +1,22 @@
 //! A connection to the files at a path, with the options of a desk.
 
-ghost use Rattle.std.specs.Prelude.{◌≡◌, IfErr, IfOk, IsTrue, true, false};
+ghost use Rattle.std.specs.Prelude.{◌≡◌, IfErr, IfOk, IsTrue, None, true, false};
+ghost use Rattle.std.specs.Option.{IsSomeAnd};
 ghost use Rattle.sqlite_wal.specs.Files.{image_at};
 ghost use Rattle.sqlite_std_file.specs.File.{file_is_usable, IsFresh};
+ghost use Rattle.sqlite.specs.Files.{image_of, IsCleanLeft, LeavesFiles};
 ghost use Rattle.sqlite.specs.Held.{IsNew};
-ghost use Rattle.desk_tables.specs.Files.{Finds, IsUnreached};
+ghost use Rattle.desk_tables.specs.Files.{Finds, IsUnread, IsUnreached};
 
 use crate::opening::open::OpenFault;
-use sqlite::{Connection, FileFrom, FileStore, Files, Options, Start};
+use sqlite::{Connection, FileFrom, FileStore, Files, Leftover, Options, Start};
+use sqlite_disk::Disk;
 use sqlite_std_file::OpenError;
+use std::alloc::Global;
 use std::fs::{exists, metadata};
 use std::hash::{BuildHasher, RandomState};
 use std::io::ErrorKind;
+use std::snapshot::Snapshot;
 
 // Whether a new file gets the sums of SQLite's cksumvfs at the ends of its pages.
 const NEW_HAS_SUMS: bool = true;
@@ -21,15 +26,17 @@ const LOG_FRAMES: usize = 320;
 
 /// Files that were not opened, so that nothing in them was read. Only what opens files makes one, so what has
 /// one has tried.
-#[derive(Clone, Copy, Debug, PartialEq, Eq)]
-pub struct Unreached {
+#[derive(Drop)]
+pub struct Unreached<D: Disk> {
     fault: OpenFault,
+    // What is left of the files, if both were there. They are closed, and clauses alone read what it was.
+    left: Option<Snapshot<Leftover<D>>>,
 }
 
-impl Unreached {
+impl<D: Disk> Unreached<D> {
     /// Why they were not opened.
-    pub fn fault(self) -> OpenFault
-        ensures { result ≡ self.fault }
+    pub fn fault(&self) -> OpenFault
+        ensures { result ≡ self.now.fault }
     {
         self.fault
     }
@@ -45,16 +52,36 @@ pub(crate) fn connect<S: Start>(
     rt: &HostRuntime,
     path: &str,
     start: S,
-) -> Result<Connection<FileStore<FileFrom<S>>>, Unreached>
+) -> Result<Connection<FileStore<FileFrom<S>>>, Unreached<FileFrom<S>>>
     ensures found { IfOk result (Finds (image_at S.Start)) }
     ensures fresh { IfOk result IsNew }
-    ensures unread { IfErr result IsUnreached }
+    ensures unread { IfErr result (IsUnreached (image_at S.Start)) }
 {
     let files = open_pair(rt, path, start)?;
     let options = options(rt)?;
-    match Connection::open_files_with(rt.alloc(), files, options, NEW_HAS_SUMS) {
+    over_pair(rt.alloc(), files, options)
+}
+
+// A connection to the database in two files. If there is none, what is left of the files is told.
+fn over_pair<D: Disk + Drop>(
+    alloc: Global,
+    files: Files<D>,
+    options: Options,
+) -> Result<Connection<FileStore<D>>, Unreached<D>>
+    requires log { IsTrue (D.Disk.is_usable files.log) }
+    requires db { IsTrue (D.Disk.is_usable files.db) }
+    ensures found { IfOk result (Finds (image_of D.Disk files)) }
+    ensures fresh { IfOk result IsNew }
+    ensures unread { IfErr result (λ it. IsUnread it.fault) }
+    ensures left { IfErr result (λ it. IsSomeAnd it.left (λ s.
+        IsCleanLeft s.value → LeavesFiles files s.value)) }
+{
+    match Connection::open_files_with(alloc, files, options, NEW_HAS_SUMS) {
         Ok(connection) => Ok(connection),
-        Err((error, _)) => Err(unopened(OpenFault::from(error))),
+        Err((error, left)) => Err(Unreached {
+            fault: OpenFault::from(error),
+            left: Some(Snapshot::of(&left)),
+        }),
     }
 }
 
@@ -67,10 +94,10 @@ pub(crate) fn connect_there<S: Start>(
     rt: &HostRuntime,
     path: &str,
     start: S,
-) -> Result<Connection<FileStore<FileFrom<S>>>, Unreached>
+) -> Result<Connection<FileStore<FileFrom<S>>>, Unreached<FileFrom<S>>>
     ensures found { IfOk result (Finds (image_at S.Start)) }
     ensures fresh { IfOk result IsNew }
-    ensures unread { IfErr result IsUnreached }
+    ensures unread { IfErr result (IsUnreached (image_at S.Start)) }
 {
     match metadata(rt, path) {
         Ok(found) if found.len() > 0 => connect(rt, path, start),
@@ -87,10 +114,10 @@ pub(crate) fn connect_new<S: Start>(
     rt: &HostRuntime,
     path: &str,
     start: S,
-) -> Result<Connection<FileStore<FileFrom<S>>>, Unreached>
+) -> Result<Connection<FileStore<FileFrom<S>>>, Unreached<FileFrom<S>>>
     ensures found { IfOk result (Finds (image_at S.Start)) }
     ensures fresh { IfOk result IsNew }
-    ensures unread { IfErr result IsUnreached }
+    ensures unread { IfErr result (IsUnreached (image_at S.Start)) }
 {
     match exists(rt, path) {
         Ok(false) => connect(rt, path, start),
@@ -103,11 +130,11 @@ fn open_pair<S: Start>(
     rt: &HostRuntime,
     path: &str,
     start: S,
-) -> Result<Files<FileFrom<S>>, Unreached>
+) -> Result<Files<FileFrom<S>>, Unreached<FileFrom<S>>>
     ensures log { IfOk result (λ files. IsTrue (file_is_usable S.Start files.log)) }
     ensures db { IfOk result (λ files. IsTrue (file_is_usable S.Start files.db)) }
     ensures fresh { IfOk result (λ files. IsFresh true files.log × IsFresh false files.db) }
-    ensures unread { IfErr result IsUnreached }
+    ensures unread { IfErr result (IsUnreached (image_at S.Start)) }
 {
     if path == ":memory:" || path.starts_with("file:") {
         return Err(unopened(OpenFault::Store));
@@ -123,8 +150,9 @@ fn open_pair<S: Start>(
 }
 
 // The options of a desk's files: the seed of the log's salts is drawn by the operating system.
-fn options(rt: &HostRuntime) -> Result<Options, Unreached>
-    ensures { IfErr result IsUnreached }
+fn options<D: Disk>(rt: &HostRuntime) -> Result<Options, Unreached<D>>
+    ensures fault { IfErr result (λ it. IsUnread it.fault) }
+    ensures left { IfErr result (λ it. it.left ≡ None) }
 {
     match RandomState::new(rt) {
         Ok(random) => {
@@ -138,9 +166,10 @@ fn options(rt: &HostRuntime) -> Result<Options, Unreached>
     }
 }
 
-// Files that were not opened, for this cause.
-fn unopened(fault: OpenFault) -> Unreached
-    ensures { result.fault ≡ fault }
+// Files that were not opened, for this cause, since they were not both there.
+fn unopened<D: Disk>(fault: OpenFault) -> Unreached<D>
+    ensures fault { result.fault ≡ fault }
+    ensures left { result.left ≡ None }
 {
-    Unreached { fault }
+    Unreached { fault, left: None }
 }

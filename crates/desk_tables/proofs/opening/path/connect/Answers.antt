@@ -1,8 +1,9 @@
-use Rattle.std.proofs.Common.{ℕ, Bool, cond, List, true, sym, ap₂, subst}
+use Rattle.std.proofs.Common.{IfOk, ℕ, Bool, cond, List, ap₂, subst}
 use Rattle.sqlite_disk.specs.Events.{Event, replay}
+use Rattle.sqlite_wal.specs.Files.{image_at}
 use Rattle.sqlite_wal.specs.Recovery.{Image}
-use Rattle.sqlite.specs.Files.{file_state, IsBlankAs}
-use Rattle.sqlite.specs.Start.{FindsIn}
+use Rattle.desk_tables.specs.Files.{Finds}
+use Rattle.desk_tables.proofs.LeftoverLemmas.{stays_as_is, unread_if}
 use Rattle.desk_tables.proofs.opening.path.connect.Goals as goal
 
 abbrev image : List ℕ → List ℕ → Image
@@ -12,16 +13,20 @@ image log db = record { log = log; db = db }
 abbrev seen : List ℕ → List ℕ → Bool → List Event → List ℕ
 seen log db is_log calls = (replay (cond is_log log db) calls).seen
 
-pub returns-in-Ok-clause-found : goal.returns-in-Ok-clause-found
-returns-in-Ok-clause-found g c =
+pub returns-clause-found : goal.returns-clause-found
+returns-clause-found g c =
     let (log, db) = c.in_ok-files.ensures.fresh in
     let same = ap₂ image (ap₂ (seen g.S.Start.log g.S.Start.db) log.0 log.1)
-    (ap₂ (seen g.S.Start.log g.S.Start.db) db.0 db.1) in record {
-      first = λ clean. let found = c.in-Ok.ensures.found clean in (
-        c.in-Ok.ensures.opened clean,
-        subst (λ i. FindsIn i (file_state c.in-Ok.connection)) same
-            (record { holds = found.holds; reads = found.reads }),
-      );
-      guarded = c.in-Ok.ensures.guarded;
-      summed = λ clean blank. c.in-Ok.ensures.sums clean (subst (IsBlankAs true) (sym same) blank);
-    }
+    (ap₂ (seen g.S.Start.log g.S.Start.db) db.0 db.1) in
+    subst (λ i. IfOk c.over_pair.result (Finds i)) same c.over_pair.ensures.found
+
+pub returns-clause-unread : goal.returns-clause-unread
+returns-clause-unread g c =
+    let start = g.S.Start in
+    let (log, db) = c.in_ok-files.ensures.fresh in
+    let same = ap₂ image (ap₂ (seen start.log start.db) log.0 log.1)
+    (ap₂ (seen start.log start.db) db.0 db.1) in
+    let stays = stays_as_is start.is_mixing start.log start.db in
+    unread_if (image_at start) c.in_ok-files.files same
+    (λ next may. ap₂ image (stays _ _ _ _ log.0 log.1 next.log may.0) (stays _ _ _ _ db.0 db.1 next.db may.1))
+    c.over_pair.result c.over_pair.ensures.unread c.over_pair.ensures.left
