@@ -54,8 +54,8 @@ tells_written line old now (Err cut) whole off =
     record { text = take cut.fault.sent line; told = off.written }
 
 -- what refused the files refuses them in the program
-pub refused_fails : {D : Type 0} {g : disk.Ghosts D} (image : Image) (it : Unopened (FileStore D g))
-    (refused : FilesFault (FileStore D g)) → it.failure ≡ open_failure refused.fault
+pub refused_fails : {D : Type 0} {g : disk.Ghosts D} (image : Image) (it : Unopened D g)
+    (refused : FilesFault D g) → it.failure ≡ open_failure refused.fault
     → IsSomeAnd it.refused (λ s. s.value ≡ refused)
     → AreNotRead image refused.fault refused.connection → FailsToRead image it
 refused_fails image it refused failure same says =
@@ -63,13 +63,13 @@ refused_fails image it refused failure same says =
 
 -- what is not read in a file is not told of a database
 pub look_fails : {D V : Type 0} {g : disk.Ghosts D} (image : Image) (database : Database)
-    (r : Result V (Unopened (FileStore D g))) → IfErr r (FailsToRead image)
+    (r : Result V (Unopened D g)) → IfErr r (FailsToRead image)
     → IfErr r (FailsToLook image database)
 look_fails image database (Ok v) fails = tt
 look_fails image database (Err it) fails = inr fails
 
 module _ {D : Type 0} {g : disk.Ghosts D} (image : Image) (database : Database)
-    (it : Unopened (FileStore D g))
+    (it : Unopened D g)
   where
     -- a failure is told after its cause, and nothing is printed
     pub untold : (end : Ending) (between out : Option (List ℕ)) → FailsToLook image database it
@@ -83,7 +83,7 @@ module _ {D : Type 0} {g : disk.Ghosts D} (image : Image) (database : Database)
 
 module _ {D E : Type 0} {g : disk.Ghosts D} {k : disk.Ghosts E} (image other : Image) where
   -- files that are refused are not copied
-  pub refused_copy : (it : CopyEnd g k) (fault : CopyFault (FileStore D g) (FileStore E k))
+  pub refused_copy : (it : CopyEnd g k) (fault : CopyFault D E g k)
       → FailsBy fault it → AreNotCopied image other fault → FailsAtFiles {g = g} {k = k} image other it
   refused_copy it fault by are = inl (record { fault = fault; by = by; are = are })
 

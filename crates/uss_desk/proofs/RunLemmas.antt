@@ -136,7 +136,8 @@ is_closed {D} {g} desk store closed status end same ended copied left = (
 )
 
 -- what refused files refuses them in the program
-pub fails_over : {S : Type 0} (Refused : FilesFault S → Type 0) (it : Unopened S) (refused : FilesFault S)
+pub fails_over : {D : Type 0} {g : disk.Ghosts D} (Refused : FilesFault D g → Type 0) (it : Unopened D g)
+    (refused : FilesFault D g)
     → it.failure ≡ open_failure refused.fault → IsSomeAnd it.refused (λ s. s.value ≡ refused)
     → Refused refused → FailsOver Refused it
 fails_over Refused it refused failure same says = record {

@@ -71,16 +71,16 @@ module _ {D : Type 0} {g : disk.Ghosts D} (image : Image) where
 
   -- why files are not read: memory ran out; or what the connection showed that read them, or that they were
   -- not opened
-  abbrev pub FailsToRead : Unopened (FileStore D g) → Type 0
+  abbrev pub FailsToRead : Unopened D g → Type 0
   FailsToRead it = IsUnreadFor it opening.OutOfMemory
       ⊎ FailsOver (λ files. AreNotRead image files.fault files.connection) it
 
   -- why no content is told of a database: it is in memory, or its files are not read
-  abbrev pub FailsToLook : Database → Unopened (FileStore D g) → Type 0
+  abbrev pub FailsToLook : Database → Unopened D g → Type 0
   FailsToLook database it = (IsInMemory database × IsUnreadFor it opening.Store) ⊎ FailsToRead it
 
   -- a failure is told, and nothing is printed
-  pub record IsUntold (database : Database) (end : Ending) (it : Unopened (FileStore D g))
+  pub record IsUntold (database : Database) (end : Ending) (it : Unopened D g)
       (out now : Option (List ℕ)) : Type 0 where
     pub look : FailsToLook database it
     pub told : FailsTelling it.failure end
@@ -94,7 +94,7 @@ module _ {D : Type 0} {g : disk.Ghosts D} (image : Image) where
 
   -- what they hold is told, or a failure is
   abbrev pub IsChecked :
-      Database → Ending → Result (Held (FileStore D g)) (Unopened (FileStore D g)) → Option (List ℕ)
+      Database → Ending → Result (Held (FileStore D g)) (Unopened D g) → Option (List ℕ)
       → Option (List ℕ) → Type 0
   IsChecked database end (Ok left) out now = IsTold end left out now
   IsChecked database end (Err it) out now = IsUntold database end it out now
@@ -110,10 +110,12 @@ pub record FailsUntried {R M U : Type 0} (f : Failure) (it : Uncopied R M U) : T
 
 -- why files were not copied
 abbrev pub CopyEnd : {D E : Type 0} → disk.Ghosts D → disk.Ghosts E → Type 0
-CopyEnd {D} {E} g k = Uncopied (FilesFault (FileStore D g)) (FilesFault (FileStore E k)) (Unclosed E k)
+CopyEnd {D} {E} g k = Uncopied (FilesFault D g) (FilesFault E k) (Unclosed E k)
 
 -- this fault of files is the failure
-abbrev pub FailsBy : {S N U : Type 0} → CopyFault S N → Uncopied (FilesFault S) (FilesFault N) U → Type 0
+abbrev pub FailsBy :
+    {D E U : Type 0} {g : disk.Ghosts D} {k : disk.Ghosts E} → CopyFault D E g k
+    → Uncopied (FilesFault D g) (FilesFault E k) U → Type 0
 FailsBy (copy.Unread files) it =
     (it.failure ≡ open_failure files.fault) × IsSomeAnd it.unread (λ s. s.value ≡ files)
 FailsBy (copy.Unmade files) it =
@@ -122,7 +124,7 @@ FailsBy (copy.Unmade files) it =
 module _ {D E : Type 0} {g : disk.Ghosts D} {k : disk.Ghosts E} (image other : Image) where
   -- the files refuse it
   pub record FailsRefused (it : CopyEnd g k) : Type 0 where
-    pub fault : CopyFault (FileStore D g) (FileStore E k)
+    pub fault : CopyFault D E g k
     pub by : FailsBy fault it
     pub are : AreNotCopied image other fault
 

@@ -34,13 +34,14 @@ open_failure opening.NotADesk = failure.NotADesk
 open_failure opening.OldSchema = failure.OldSchema
 
 -- the failure is that of this fault, and no files were asked for
-pub record IsUnreadFor {S : Type 0} (it : Unopened S) (fault : OpenFault) : Type 0 where
+pub record IsUnreadFor {D : Type 0} {g : disk.Ghosts D} (it : Unopened D g) (fault : OpenFault) : Type 0 where
   pub failure : it.failure ≡ open_failure fault
   pub refused : it.refused ≡ None
 
 -- the failure is that of files that were refused, of which this is so
-pub record FailsOver {S : Type 0} (Refused : FilesFault S → Type 0) (it : Unopened S) : Type 0 where
-  pub files : FilesFault S
+pub record FailsOver {D : Type 0} {g : disk.Ghosts D} (Refused : FilesFault D g → Type 0) (it : Unopened D g)
+    : Type 0 where
+  pub files : FilesFault D g
   pub are : IsSomeAnd it.refused (λ s. s.value ≡ files)
   pub failure : it.failure ≡ open_failure files.fault
   pub refused : Refused files
@@ -70,20 +71,20 @@ module _ {D : Type 0} (g : disk.Ghosts D) (image : Image) where
 
   -- the failure is that of files that the connection refused: their database is no desk's, has rows of
   -- schema 1, or can't be read; or of files that were not opened
-  abbrev pub FailsAt : Unopened (FileStore D g) → Type 0
+  abbrev pub FailsAt : Unopened D g → Type 0
   FailsAt = FailsOver (λ files. AreRefused image files.fault files.connection)
 
   -- the same of files whose plans of schema 1 are to be moved
-  abbrev pub FailsMovingAt : Unopened (FileStore D g) → Type 0
+  abbrev pub FailsMovingAt : Unopened D g → Type 0
   FailsMovingAt = FailsOver (λ files. AreNotMoved image files.fault files.connection)
 
 -- a desk over files, or why there is none
 abbrev pub FileDesk : {D : Type 0} → disk.Ghosts D → Type 0
-FileDesk {D} g = Result (Parts (Shown (FileStore D g))) (Unopened (FileStore D g))
+FileDesk {D} g = Result (Parts (Shown (FileStore D g))) (Unopened D g)
 
 -- a desk over files to which so many plans were moved, or why there is none
 abbrev pub MovedDesk : {D : Type 0} → disk.Ghosts D → Type 0
-MovedDesk {D} g = Result (Parts (Shown (FileStore D g)) × ℕ) (Unopened (FileStore D g))
+MovedDesk {D} g = Result (Parts (Shown (FileStore D g)) × ℕ) (Unopened D g)
 
 module _ {D : Type 0} {g : disk.Ghosts D} (image : Image) where
   -- a desk over files that held this, or why there is none
@@ -102,7 +103,7 @@ module _ {D : Type 0} {g : disk.Ghosts D} (image : Image) where
   IsMovedAt (File path) moved = IsMovedIn moved
 
 -- what was opened, or the failure alone
-abbrev pub or_failure : {S T : Type 0} → Result T (Unopened S) → Result T Failure
+abbrev pub or_failure : {D T : Type 0} {g : disk.Ghosts D} → Result T (Unopened D g) → Result T Failure
 or_failure (Ok it) = Ok it
 or_failure (Err unread) = Err unread.failure
 

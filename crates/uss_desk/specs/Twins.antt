@@ -145,19 +145,19 @@ module _ {D : Type 0} {g : disk.Ghosts D} (image : Image) (path : List ℕ) (way
     pub printed : IsTextPrinted (checked_line file) (record end { before = between }) out now
 
   -- they can't be read as a desk's, and nothing is printed
-  pub record IsRefusedByRows (it : Unopened (FileStore D g)) (out now : Option (List ℕ)) : Type 0 where
+  pub record IsRefusedByRows (it : Unopened D g) (out now : Option (List ℕ)) : Type 0 where
     pub look : FailsToRead image it
     pub told : IsRefused path way it.failure end
     pub unprinted : now ≡ out
 
   -- the one or the other, by what the twin showed
   abbrev pub IsJudged :
-      Result (Held (FileStore D g)) (Unopened (FileStore D g)) → Option (List ℕ) → Option (List ℕ) → Type 0
+      Result (Held (FileStore D g)) (Unopened D g) → Option (List ℕ) → Option (List ℕ) → Type 0
   IsJudged (Ok left) out now = IsTakenByRows left out now
   IsJudged (Err it) out now = IsRefusedByRows it out now
 
   abbrev pub IsJudgedIf :
-      Option (Result (Held (FileStore D g)) (Unopened (FileStore D g))) → Option (List Step)
+      Option (Result (Held (FileStore D g)) (Unopened D g)) → Option (List Step)
       → Option (List Step) → Option (List ℕ) → Option (List ℕ) → Type 0
   IsJudgedIf None old new out now = FailsUntwinned (twin_of path) old new end out now
   IsJudgedIf (Some judged) old new out now = IsJudged judged out now

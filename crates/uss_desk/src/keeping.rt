@@ -54,13 +54,9 @@ pub struct Uncopied<R, M, U: Drop> {
 }
 
 /// Why files of a disk `D` were not copied to files of `N`.
-pub type CopyEnd<D, N> = Uncopied<FilesFault<FileStore<D>>, FilesFault<FileStore<N>>, Unclosed<N>>;
+pub type CopyEnd<D, N> = Uncopied<FilesFault<D>, FilesFault<N>, Unclosed<N>>;
 
-impl<D: Disk + Drop, N: Disk + Drop> Uncopied<
-    FilesFault<FileStore<D>>,
-    FilesFault<FileStore<N>>,
-    Unclosed<N>,
-> {
+impl<D: Disk + Drop, N: Disk + Drop> Uncopied<FilesFault<D>, FilesFault<N>, Unclosed<N>> {
     // No files were asked for, or their names failed.
     fn untried(failure: Failure) -> CopyEnd<D, N>
         ensures { FailsUntried failure result }
@@ -75,7 +71,7 @@ impl<D: Disk + Drop, N: Disk + Drop> Uncopied<
 }
 
 impl<D: Disk + Drop, N: Disk + Drop> From<AllocError>
-    for Uncopied<FilesFault<FileStore<D>>, FilesFault<FileStore<N>>, Unclosed<N>> {
+    for Uncopied<FilesFault<D>, FilesFault<N>, Unclosed<N>> {
     ghost use Rattle.desk_line.specs.declared.failure.Failure.TheVariants.{Memory};
     ghost use Rattle.uss_desk.specs.Keeping.{FailsUntried};
 
@@ -87,9 +83,7 @@ impl<D: Disk + Drop, N: Disk + Drop> From<AllocError>
 }
 
 // Files were refused, on whatever disks they lie.
-fn refused_copy<D: Disk + Drop, N: Disk + Drop>(
-    refused: &CopyFault<FileStore<D>, FileStore<N>>,
-) -> CopyEnd<D, N>
+fn refused_copy<D: Disk + Drop, N: Disk + Drop>(refused: &CopyFault<D, N>) -> CopyEnd<D, N>
     ensures { FailsBy refused.now result }
 {
     match refused {
@@ -144,10 +138,7 @@ pub fn check_file<F: Start, W: Write, E: Write>(
 
 /// The exit status of a look. What was looked at, on whatever disk it is, is closed.
 pub fn status_checked<D: Disk + Drop, E>(
-    checked: (
-        Exit<E>,
-        Result<Connection<FileStore<D>>, Unopened<FileStore<D>>>,
-    ),
+    checked: (Exit<E>, Result<Connection<FileStore<D>>, Unopened<D>>),
 ) -> u8
     ensures { result ≡ checked.0.status }
 {

@@ -18,7 +18,6 @@ use desk_tables::{FilesFault, OpenFault, SqliteStore};
 use ram_disk::Ram;
 use sqlite::{FileFrom, FileStore, Start};
 use sqlite_disk::Disk;
-use sqlite_trees::store::Alter;
 use std::alloc::{AllocError, Global};
 use std::snapshot::Snapshot;
 
@@ -30,16 +29,16 @@ pub type FileDesk<F, N> = Desk<Watched<FileStore<FileFrom<F>>, N>>;
 
 /// Why a database was not opened. What refused it is closed, and clauses alone read what it was.
 #[derive(Drop)]
-pub struct Unopened<S: Alter> {
+pub struct Unopened<D: Disk> {
     /// The failure with which the line ends.
     pub failure: Failure,
     /// What refused the files, if files were asked for.
-    pub refused: Option<Snapshot<FilesFault<S>>>,
+    pub refused: Option<Snapshot<FilesFault<D>>>,
 }
 
-impl<D: Disk + Drop> Unopened<FileStore<D>> {
+impl<D: Disk + Drop> Unopened<D> {
     /// Files were refused. Their connection is closed, so that they can be looked at again.
-    pub fn of(refused: FilesFault<FileStore<D>>) -> Unopened<FileStore<D>>
+    pub fn of(refused: FilesFault<D>) -> Unopened<D>
         ensures failure { result.failure ≡ spec.open_failure refused.fault }
         ensures refused { IsSomeAnd result.refused (λ s. s.value ≡ refused) }
     {
@@ -50,7 +49,7 @@ impl<D: Disk + Drop> Unopened<FileStore<D>> {
     }
 
     /// No files were asked for.
-    pub fn unread(fault: OpenFault) -> Unopened<FileStore<D>>
+    pub fn unread(fault: OpenFault) -> Unopened<D>
         ensures { IsUnreadFor result fault }
     {
         Unopened {
@@ -60,19 +59,19 @@ impl<D: Disk + Drop> Unopened<FileStore<D>> {
     }
 }
 
-impl<D: Disk + Drop> From<AllocError> for Unopened<FileStore<D>> {
+impl<D: Disk + Drop> From<AllocError> for Unopened<D> {
     ghost use Rattle.desk_tables.specs.declared.opening.open.OpenFault.TheVariants.{OutOfMemory};
     ghost use Rattle.uss_desk.specs.Opening.{IsUnreadFor};
 
     ghost from_gives = { λ _ it. IsUnreadFor it OutOfMemory };
 
-    fn from(_error: AllocError) -> Unopened<FileStore<D>> {
+    fn from(_error: AllocError) -> Unopened<D> {
         Unopened::unread(OpenFault::OutOfMemory)
     }
 }
 
 /// Why files were not opened, where `F` stands for what they held.
-pub type Unread<F> = Unopened<FileStore<FileFrom<F>>>;
+pub type Unread<F> = Unopened<FileFrom<F>>;
 
 /// What was opened for a line: a desk in memory (`M`), one over files (`D`), or one over files to which plans
 /// were moved (`V`).
@@ -154,9 +153,7 @@ pub fn open_database<F: Start, N: Paths + Drop>(
 }
 
 /// What was opened over files, on whatever disk they are, or the failure alone.
-pub fn or_failure<D: Disk + Drop, T>(
-    opened: Result<T, Unopened<FileStore<D>>>,
-) -> Result<T, Failure>
+pub fn or_failure<D: Disk + Drop, T>(opened: Result<T, Unopened<D>>) -> Result<T, Failure>
     ensures { result ≡ spec.or_failure opened }
 {
     match opened {

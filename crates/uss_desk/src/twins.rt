@@ -75,7 +75,7 @@ impl Twin {
 }
 
 /// A connection with which the files of a disk `D` were looked at, or what refused them.
-pub type Judged<D> = Result<Connection<FileStore<D>>, Unopened<FileStore<D>>>;
+pub type Judged<D> = Result<Connection<FileStore<D>>, Unopened<D>>;
 
 /// Prints what a file holds, read in its way by a twin beside it, and answers how that ended and the
 /// connection to the twin, or why it can't be read; nothing if there is no twin. What its rows are, if its
@@ -120,7 +120,7 @@ fn tell_found<D: Disk + Drop, W: Write, E: Write>(
     path: &str,
     twin: &str,
     way: Way,
-    found: Result<(Connection<FileStore<D>>, CheckedFile), Unopened<FileStore<D>>>,
+    found: Result<(Connection<FileStore<D>>, CheckedFile), Unopened<D>>,
     output: &mut W,
     errors: &mut E,
 ) -> (Exit<E>, Judged<D>)
