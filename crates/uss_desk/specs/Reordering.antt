@@ -60,7 +60,7 @@ module _ {D : Type 0} {g : disk.Ghosts D} (image : Image) (takes : Bool) where
 
   -- a twin is admitted, or not, by what it showed
   abbrev pub IsAdmitted :
-      Result ⊤ Failure → Result (Held (FileStore D g)) (Unopened (FileStore D g)) → Type 0
+      Result ⊤ Failure → Result (Held (FileStore D g)) (Unopened D g) → Type 0
   IsAdmitted (Ok it) (Ok left) = IsTaken left
   IsAdmitted (Err f) (Ok left) = IsTooOld left f
   IsAdmitted (Ok it) (Err unread) = ⊥
@@ -69,7 +69,7 @@ module _ {D : Type 0} {g : disk.Ghosts D} (image : Image) (takes : Bool) where
 module _ {D : Type 0} {g : disk.Ghosts D} (image : Image) (path : List ℕ) (takes : Bool) where
   -- a twin is admitted or not, and is removed; then the file is put in order, if it was
   pub record IsOrderedByTwin (done : Result ⊤ Failure)
-      (judged : Result (Held (FileStore D g)) (Unopened (FileStore D g)))
+      (judged : Result (Held (FileStore D g)) (Unopened D g))
       (old new : Option (List Step)) : Type 0 where
     pub admitted : Result ⊤ Failure
     pub between : Option (List Step)
@@ -79,7 +79,7 @@ module _ {D : Type 0} {g : disk.Ghosts D} (image : Image) (path : List ℕ) (tak
 
   -- so, once it was made of the file
   pub record WasJudged (done : Result ⊤ Failure)
-      (judged : Result (Held (FileStore D g)) (Unopened (FileStore D g)))
+      (judged : Result (Held (FileStore D g)) (Unopened D g))
       (old new : Option (List Step)) : Type 0 where
     pub from : Option (List Step)
     pub made : Follows old from (making path (twin_of path) true)
@@ -87,7 +87,7 @@ module _ {D : Type 0} {g : disk.Ghosts D} (image : Image) (path : List ℕ) (tak
 
   -- what is done of a disordered file: so, or there is no twin
   abbrev pub IsReordered :
-      Result ⊤ Failure → Option (Result (Held (FileStore D g)) (Unopened (FileStore D g)))
+      Result ⊤ Failure → Option (Result (Held (FileStore D g)) (Unopened D g))
       → Option (List Step) → Option (List Step) → Type 0
   IsReordered done (Some judged) old new = WasJudged done judged old new
   IsReordered (Ok done) None old new = ⊥
@@ -95,14 +95,14 @@ module _ {D : Type 0} {g : disk.Ghosts D} (image : Image) (path : List ℕ) (tak
 
   -- nothing is done of any other
   abbrev pub IsLeftAlone :
-      Result ⊤ Failure → Option (Result (Held (FileStore D g)) (Unopened (FileStore D g)))
+      Result ⊤ Failure → Option (Result (Held (FileStore D g)) (Unopened D g))
       → Option (List Step) → Option (List Step) → Type 0
   IsLeftAlone (Ok done) None old new = new ≡ old
   IsLeftAlone (Ok done) (Some judged) old new = ⊥
   IsLeftAlone (Err f) judged old new = ⊥
 
   abbrev pub IsReorderedIf :
-      Way → Result ⊤ Failure → Option (Result (Held (FileStore D g)) (Unopened (FileStore D g)))
+      Way → Result ⊤ Failure → Option (Result (Held (FileStore D g)) (Unopened D g))
       → Option (List Step) → Option (List Step) → Type 0
   IsReorderedIf way.Itself done judged old new = IsLeftAlone done judged old new
   IsReorderedIf way.Damaged done judged old new = IsLeftAlone done judged old new

@@ -137,7 +137,7 @@ fn order_by_twin<D: Disk + Drop, P: Folder, E: Write>(
     folder: &mut P,
     file: Incoming<'_>,
     twin: &Twin,
-    found: Result<(Connection<FileStore<D>>, CheckedFile), Unopened<FileStore<D>>>,
+    found: Result<(Connection<FileStore<D>>, CheckedFile), Unopened<D>>,
     errors: &mut E,
 ) -> (Result<(), Failure>, Judged<D>)
     ensures ordered { (image : Image) → IfOk found (λ it. IsReadAs image it.0 it.1)
@@ -162,7 +162,7 @@ fn judge<D: Disk + Drop, E: Write>(
     rt: &HostRuntime,
     file: Incoming<'_>,
     twin: &str,
-    found: Result<(Connection<FileStore<D>>, CheckedFile), Unopened<FileStore<D>>>,
+    found: Result<(Connection<FileStore<D>>, CheckedFile), Unopened<D>>,
     errors: &mut E,
 ) -> (Result<(), Failure>, Judged<D>)
     ensures admitted { (image : Image) → IfOk found (λ it. IsReadAs image it.0 it.1)
