@@ -3,6 +3,7 @@ mod NameLemmas
 mod RunLemmas
 mod SumLemmas
 mod OrderLemmas
+mod CommitLemmas
 mod TwinLemmas
 mod OperatorLemmas
 mod WatchLemmas
