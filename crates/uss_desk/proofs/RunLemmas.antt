@@ -92,6 +92,17 @@ replay_guarded account fair clean image until p end (Ok desk) (Some left) opens 
 replay_guarded account fair clean image until p end (Ok desk) None opens done = done
 replay_guarded account fair clean image until p end (Err unread) left opens done = tt
 
+-- what follows of what holds of a value, if there is one
+pub ok_then : {A B : Type 0} {P Q : A → Type 0} (r : Result A B) → IfOk r P → ((a : A) → P a → Q a)
+    → IfOk r Q
+ok_then (Ok a) h then = then a h
+ok_then (Err e) h then = tt
+
+pub some_then : {A : Type 0} {P Q : A → Type 0} (o : Option A) → IsSomeAnd o P → ((a : A) → P a → Q a)
+    → IsSomeAnd o Q
+some_then (Some a) h then = then a h
+some_then None h then = h
+
 -- what is played at what was opened, by another name
 pub played_at : {S : Type 0} (g : Ghosts S) (one other : Result (Parts (Shown S)) Failure) → one ≡ other
     → {until : Option ℕ} {p : Passage} {end : Ending} {left : Option (Parts (Shown S))}
