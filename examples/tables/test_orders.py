@@ -193,6 +193,17 @@ def test_served(room: pathlib.Path) -> None:
     assert looked(other).errors == ""
 
 
+def test_replayed(room: pathlib.Path) -> None:
+    """No record is played at a file in another order; it is left as it is, with nothing of a twin beside it."""
+    path = stated_file(str(room / "other.db"), [*by_name(), *PLAN])
+    before = bytes_of(path)
+    assert run("replay", "--db", path) == (REFUSED, b"", told(path, ORDER, "not_a_desk"))
+    assert bytes_of(path) == before
+    assert not names_beside(path + ".twin")
+    assert copied(path, path + ".new").status == 0
+    assert run("replay", "--db", path + ".new").status == 0
+
+
 def test_with_sums(room: pathlib.Path) -> None:
     """A file whose pages have their sums, in another order; and so the twin has."""
     path = room / "summed.db"
