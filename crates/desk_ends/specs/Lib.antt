@@ -2,5 +2,5 @@
 pub mod Moments
 pub mod Writes
 pub mod Writing
-pub mod Serving
+pub mod EndWords
 pub mod laws

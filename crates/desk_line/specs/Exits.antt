@@ -127,8 +127,8 @@ IsAnnounced (Err f) line out now =
     Appends out now line ⊎ (now ≡ out) ⊎ ((f ≡ failure.Write) × HasBegun line out now)
 
 -- what a line ends with if an enrolment isn't made and was not refused: memory ran out, or the store failed
-abbrev pub IsBreakdown : Failure → Type 0
-IsBreakdown f = (f ≡ failure.Memory) ⊎ (f ≡ failure.Store)
+abbrev pub IsLineBreakdown : Failure → Type 0
+IsLineBreakdown f = (f ≡ failure.Memory) ⊎ (f ≡ failure.Store)
 
 -- a line ended so
 abbrev pub IsBrokenDown : Ending → Type 0

@@ -19,7 +19,7 @@ use Rattle.clap.specs.declared.builder.value_parser.ValueParser.TheVariants.{Sig
 use Rattle.desk_rules.specs.Limits.{max_spans}
 use Rattle.desk_rules.specs.Name.{is_operator_name}
 use Rattle.desk_rules.specs.declared.terms.Terms.{Terms}
-use Rattle.volume4d.specs.Limits.{max_second}
+use Rattle.volume4d.specs.VolumeLimits.{max_second}
 use Rattle.desk_line.specs.Equal.{ArePermittedBy, priority_in}
 use Rattle.desk_line.specs.Lines.{IsLine, IsPlay, IsReplay, IsServe, IsTask}
 use Rattle.desk_line.specs.Lines.{file_of, max_connections, max_port}
@@ -54,8 +54,8 @@ abbrev pub needed : Rule → Rule
 needed rule = record rule { required = true }
 
 -- one whose value is a number from `least` to `most`
-abbrev pub number : ℕ → ℤ → Rule → Rule
-number least most rule = record rule { parser = Some (Signed (pos least) most) }
+abbrev pub number_between : ℕ → ℤ → Rule → Rule
+number_between least most rule = record rule { parser = Some (Signed (pos least) most) }
 
 -- one of any number of values
 abbrev pub values : Text → Rule
@@ -73,20 +73,21 @@ abbrev pub new_file : Rule
 new_file = needed (option (codes "to") (codes "to"))
 
 abbrev pub moment : Rule
-moment = needed (number 0 max_second (option (codes "moment") (codes "at")))
+moment = needed (number_between 0 max_second (option (codes "moment") (codes "at")))
 
 abbrev pub port : Rule
-port = needed (number min_port (pos max_port) (option (codes "port") (codes "port")))
+port = needed (number_between min_port (pos max_port) (option (codes "port") (codes "port")))
 
 abbrev pub connections : Rule
 connections =
-    needed (number min_connections (pos max_connections) (option (codes "connections") (codes "requests")))
+    needed (number_between min_connections (pos max_connections)
+    (option (codes "connections") (codes "requests")))
 
 abbrev pub equal : Rule
 equal = option (codes "equal") (codes "equal")
 
 abbrev pub spans : Rule
-spans = number min_spans (pos max_spans) (option (codes "spans") (codes "spans"))
+spans = number_between min_spans (pos max_spans) (option (codes "spans") (codes "spans"))
 
 -- the file of enrolments
 abbrev pub operators : Rule
@@ -98,7 +99,7 @@ record_folder = option (codes "record") (codes "record")
 
 -- the last second that is played
 abbrev pub until : Rule
-until = number 0 max_second (option (codes "until") (codes "until"))
+until = number_between 0 max_second (option (codes "until") (codes "until"))
 
 abbrev pub enrolments : Rule
 enrolments = values (codes "enrolments")
@@ -108,10 +109,10 @@ token = needed (value (codes "token"))
 
 -- a number of 8 bits, and one of 32
 abbrev pub small : Text → Rule
-small id = number 0 (pos 255) (needed (value id))
+small id = number_between 0 (pos 255) (needed (value id))
 
 abbrev pub coordinate : Text → Rule
-coordinate id = number 0 (pos 4294967295) (needed (value id))
+coordinate id = number_between 0 (pos 4294967295) (needed (value id))
 
 abbrev pub picture : Rule
 picture = flag (codes "picture") (codes "svg")
@@ -365,7 +366,7 @@ IsUntaken words (fault.Words error) = (takes program words ≢ true) × (kind_of
 IsUntaken words fault.Value = ⊥
 
 -- `clap` doesn't take them; or, if it does, they are no task whose numbers are in range
-abbrev pub IsRefused : List Text → WordsFault → Type 0
-IsRefused words fault.OutOfMemory = ⊤
-IsRefused words (fault.Words error) = IsUntaken words (fault.Words error)
-IsRefused words fault.Value = (it : Task) → IsTask it → IsGiven words it → ⊥
+abbrev pub AreWordsRefused : List Text → WordsFault → Type 0
+AreWordsRefused words fault.OutOfMemory = ⊤
+AreWordsRefused words (fault.Words error) = IsUntaken words (fault.Words error)
+AreWordsRefused words fault.Value = (it : Task) → IsTask it → IsGiven words it → ⊥

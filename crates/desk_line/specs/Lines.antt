@@ -79,12 +79,12 @@ pub record IsCover (cover : CoverWords) : Type 0 where
   pub level : cover.level ≤ max_small
 
 -- the last second that is played
-abbrev pub IsLast : Option ℕ → Type 0
-IsLast until = IfSome until (λ n. IsMoment (pos n))
+abbrev pub IsLastSecond : Option ℕ → Type 0
+IsLastSecond until = IfSome until (λ n. IsMoment (pos n))
 
 -- the words of `replay`
 abbrev pub IsReplay : ReplayWords → Type 0
-IsReplay replay = IsLast replay.until
+IsReplay replay = IsLastSecond replay.until
 
 -- each number of a line is in its range
 abbrev pub IsLine : Line → Type 0

@@ -10,7 +10,7 @@ use Rattle.s2_cover.specs.Ranges.{IsRanges}
 use Rattle.s2_cover.specs.Rectangles.{RectParts, rect_leaves, rect_or_fault}
 use Rattle.s2_cover.specs.declared.rect.RectFault.{RectFault}
 use Rattle.s2_cover.specs.declared.spans.Span.{Span}
-use Rattle.volume4d.specs.Limits.{max_cover}
+use Rattle.volume4d.specs.VolumeLimits.{max_cover}
 use Rattle.desk_line.specs.declared.failure.Failure.{Failure}
 use Rattle.desk_line.specs.declared.failure.Failure.TheVariants as failure
 use Rattle.desk_line.specs.declared.line.Cover.{Cover as CoverWords}
@@ -82,15 +82,15 @@ IsTold (line.Enrol enrol) told = ⊥
 IsTold (line.Migrate migrate) told = ⊥
 
 -- memory ran out and nothing is printed, or a write failed after a beginning of what is told
-abbrev pub IsGivenUp : Line → Failure → Option (List ℕ) → Option (List ℕ) → Type 0
-IsGivenUp line f out now = ((f ≡ failure.Memory) × (now ≡ out))
+abbrev pub IsPrintingGivenUp : Line → Failure → Option (List ℕ) → Option (List ℕ) → Type 0
+IsPrintingGivenUp line f out now = ((f ≡ failure.Memory) × (now ≡ out))
     ⊎ ((f ≡ failure.Write) × ((text : List ℕ) × IsTold line (Ok text) × HasBegun text out now))
 
 -- what came of a line: what is told of it is printed, or it has a failure and nothing is printed, or it is
 -- given up
 abbrev pub IsShown : Line → Result ⊤ Failure → Option (List ℕ) → Option (List ℕ) → Type 0
 IsShown line (Ok done) out now = (text : List ℕ) × IsTold line (Ok text) × Appends out now text
-IsShown line (Err f) out now = IsGivenUp line f out now ⊎ (IsTold line (Err f) × (now ≡ out))
+IsShown line (Err f) out now = IsPrintingGivenUp line f out now ⊎ (IsTold line (Err f) × (now ≡ out))
 
 -- what a line prints, and how it ends
 pub record IsPrinted (line : Line) (end : Ending) (out now : Option (List ℕ)) : Type 0 where

@@ -15,12 +15,12 @@ ghost use Rattle.desk_line.specs.Grammar as spec;
 ghost use Rattle.desk_line.specs.Grammar.{AreTermsOf, IsMostOf, IsNumberOrNone};
 ghost use Rattle.desk_line.specs.Grammar.{AreEnrolmentsGiven, HasGiven, HasTaskGiven, IsCopyGiven};
 ghost use Rattle.desk_line.specs.Grammar.{IsCoverGiven, IsEnrolGiven, IsGiven, IsLineOf, IsMigrateGiven};
-ghost use Rattle.desk_line.specs.Grammar.{IsNumberGiven, IsPlayGiven, IsPlayOf, IsRefused, IsSecondGiven};
+ghost use Rattle.desk_line.specs.Grammar.{AreWordsRefused, IsNumberGiven, IsPlayGiven, IsPlayOf, IsSecondGiven};
 ghost use Rattle.desk_line.specs.Grammar.{IsReplayGiven, IsReplayOf};
 ghost use Rattle.desk_line.specs.Grammar.{IsServeGiven, IsServeOf, IsTaskOf, IsTextGiven, IsUntaken, Lacks};
 ghost use Rattle.desk_line.specs.Grammar.{enrolment_given, enrolment_in, file_given, name_of};
 ghost use Rattle.desk_line.specs.Grammar.{program, word_of};
-ghost use Rattle.desk_line.specs.Lines.{AreEnrolments, IsCover, IsEnrol, IsLast, IsLine, IsPlay, IsReplay};
+ghost use Rattle.desk_line.specs.Lines.{AreEnrolments, IsCover, IsEnrol, IsLastSecond, IsLine, IsPlay, IsReplay};
 ghost use Rattle.desk_line.specs.Lines.{IsServe, IsTask};
 ghost use Rattle.desk_line.specs.Lines.{file_of, max_connections, max_port, min_connections, min_port, min_spans};
 ghost use Rattle.desk_line.specs.Lines.{named_file};
@@ -237,7 +237,7 @@ impl From<clap::Error> for WordsFault {
 pub fn read_words(alloc: Global, words: Vec<String>) -> Result<Task, WordsFault>
     ensures valid { IfOk result IsTask }
     ensures given { IfOk result (IsGiven (map string_bytes words.items)) }
-    ensures refused { IfErr result (IsRefused (map string_bytes words.items)) }
+    ensures refused { IfErr result (AreWordsRefused (map string_bytes words.items)) }
 {
     read_slice(alloc, &words)
 }
@@ -246,7 +246,7 @@ pub fn read_words(alloc: Global, words: Vec<String>) -> Result<Task, WordsFault>
 fn read_slice(alloc: Global, words: &[String]) -> Result<Task, WordsFault>
     ensures valid { IfOk result IsTask }
     ensures given { IfOk result (IsGiven (map string_bytes words.now)) }
-    ensures refused { IfErr result (IsRefused (map string_bytes words.now)) }
+    ensures refused { IfErr result (AreWordsRefused (map string_bytes words.now)) }
 {
     let matches = matches_of(alloc, words)?;
     match matches.subcommand() {
@@ -548,9 +548,9 @@ fn read_replay(alloc: Global, given: &ArgMatches<'_>) -> Result<Replaying, Words
 
 // The last second that is played, or that there is none; none if there is something else.
 fn read_until(given: &ArgMatches<'_>) -> Option<Option<u64>>
-    ensures valid { IfSome result IsLast }
+    ensures valid { IfSome result IsLastSecond }
     ensures given { IfSome result (IsNumberOrNone (codes "until") (rows_of (found_of given.now))) }
-    ensures none { result ≡ None → (found : Option ℕ) → IsLast found
+    ensures none { result ≡ None → (found : Option ℕ) → IsLastSecond found
         → IsNumberOrNone (codes "until") (rows_of (found_of given.now)) found → ⊥ }
 {
     let until = read_long_if_given(given, "until")?;

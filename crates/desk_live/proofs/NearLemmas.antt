@@ -19,8 +19,8 @@ use Rattle.volume4d.specs.Volume.{Block, block_has, area_has}
 use Rattle.desk_rules.specs.Conflict.{at_least}
 use Rattle.desk_rules.specs.Plan.{is_live, row_holds}
 use Rattle.desk_store.specs.World.{Filed, World, has_id, is_by, text_cmp}
-use Rattle.desk_store.specs.Rows as rows
-use Rattle.desk_store.specs.Rows.{other_level, others_top, rival_level, rivals_top}
+use Rattle.desk_store.specs.OwnRows as rows
+use Rattle.desk_store.specs.OwnRows.{other_level, others_top, rival_level, rivals_top}
 use Rattle.desk_store.specs.laws.Order.{all_append, is_equal}
 use Rattle.desk_store.specs.laws.Rival.{at_least_greater, others_top-cons, others_top-nil, held_by_others, rivals_top-cons, rivals_top-nil, held_by_rivals}
 use Rattle.desk_live.specs.declared.chunk.Chunk.{Chunk}
@@ -29,8 +29,8 @@ use Rattle.desk_live.specs.declared.near.NearPlans.{NearPlans}
 use Rattle.desk_live.specs.declared.near.PlanKey.{PlanKey}
 use Rattle.desk_live.specs.declared.near.Wanted.{Wanted}
 use Rattle.desk_live.specs.declared.volume.LiveVolume.{LiveVolume}
-use Rattle.desk_live.specs.Live.{AreFenced, AreLive, AreVolumes, AreVolumesOf, IsFenced, IsLiveVolume, is_of, may_meet, overlap, volumes_in}
-use Rattle.desk_live.specs.Near.{AddsPlans, AreNearPlans, AreWantedPlans, IsAnothers, TakesPlan, is_among, is_id, is_listed, is_missed_at, is_near_to, is_own, is_wanted, key_of, listed_level, listed_top}
+use Rattle.desk_live.specs.Live.{AreFenced, AreLive, AreVolumes, AreVolumesOf, IsFenced, IsLiveVolume, is_volume_of, may_meet, overlap, volumes_in}
+use Rattle.desk_live.specs.Near.{AddsPlans, AreNearPlans, AreWantedPlans, IsAnothers, TakesPlan, is_among, is_id, is_listed, is_missed_at, is_near_to, is_own_volume, is_wanted_volume, key_of, listed_level, listed_top}
 use Rattle.desk_live.proofs.ChunkLemmas.{gathered_more}
 use Rattle.desk_live.specs.laws.Live.{and_turned, same_key}
 use Rattle.desk_live.specs.laws.Near.{both, last_still, overlapping, overlaps_round}
@@ -61,8 +61,8 @@ takes_one live old new k is pushed same = record {
   still = λ e. sym same ∙ e;
   listed = λ e.
       ap (λ ks. is_among ks live) pushed
-      ∙ list_any-append (λ j. is_of j.operator j.id live) old.keys.items (k ∷ [])
-      ∙ ap (λ b. is_among old.keys.items live || b) (ap (λ j. is_of j.operator j.id live || false) is
+      ∙ list_any-append (λ j. is_volume_of j.operator j.id live) old.keys.items (k ∷ [])
+      ∙ ap (λ b. is_among old.keys.items live || b) (ap (λ j. is_volume_of j.operator j.id live || false) is
       ∙ ap (λ b. b || false) (both (is_eq (text_cmp live.id live.id))
       (is_eq (text_cmp live.operator live.operator)) (itself live.id) (itself live.operator)))
       ∙ last (is_among old.keys.items live);
@@ -101,8 +101,9 @@ module _ (s : Wanted) where
       → AddsPlans s (slab_has extent) (live ∷ []) a a
   adds_far extent live a far = adds_nothing (slab_has extent) (live ∷ []) a (λ e x here.
       or_false (is_missed_at s a.keys.items x live)
-      ∙ go (slab_has live.bounds x) (is_wanted s live) (not (is_among a.keys.items live))
-      (λ has. ap (λ b. b && is_wanted s live) (sym (overlapping live.bounds extent x has here)) ∙ far)) where
+      ∙ go (slab_has live.bounds x) (is_wanted_volume s live) (not (is_among a.keys.items live))
+      (λ has. ap (λ b. b && is_wanted_volume s live) (sym (overlapping live.bounds extent x has here))
+      ∙ far)) where
         go : (b c d : Bool) → (b ≡ true → c ≡ false) → ((b && c) && d) ≡ false
         go true c d f = ap (λ t. t && d) (f refl)
         go false c d f = refl
@@ -112,8 +113,8 @@ module _ (s : Wanted) where
       → is_among a.keys.items live ≡ true → AddsPlans s inside (live ∷ []) a a
   adds_listed inside live a there = adds_nothing inside (live ∷ []) a (λ e x here.
       or_false (is_missed_at s a.keys.items x live)
-      ∙ ap (λ b. (slab_has live.bounds x && is_wanted s live) && not b) there
-      ∙ none (slab_has live.bounds x && is_wanted s live)) where
+      ∙ ap (λ b. (slab_has live.bounds x && is_wanted_volume s live) && not b) there
+      ∙ none (slab_has live.bounds x && is_wanted_volume s live)) where
         none : (b : Bool) → (b && false) ≡ false
         none true = refl
         none false = refl
@@ -127,8 +128,8 @@ module _ (s : Wanted) where
     still = t.still;
     whole = λ e x here.
         or_false (is_missed_at s b.keys.items x live)
-        ∙ ap (λ c. (slab_has live.bounds x && is_wanted s live) && not c) (t.listed e)
-        ∙ none (slab_has live.bounds x && is_wanted s live);
+        ∙ ap (λ c. (slab_has live.bounds x && is_wanted_volume s live) && not c) (t.listed e)
+        ∙ none (slab_has live.bounds x && is_wanted_volume s live);
     another = each t.more t.mine;
   } where
     none : (c : Bool) → (c && false) ≡ false
@@ -139,8 +140,8 @@ module _ (s : Wanted) where
     turned true h = sym h
     turned false h = refl
 
-    wanted : is_own s live ≡ false
-    wanted = turned (is_own s live) (and_parts (nat_le s.least live.priority) _
+    wanted : is_own_volume s live ≡ false
+    wanted = turned (is_own_volume s live) (and_parts (nat_le s.least live.priority) _
         (and_parts (overlap live.bounds extent) _ near).1).1
 
     each : (ks : List PlanKey) → AllByRecursion (λ k. k ≡ key_of live) ks → AllByRecursion (IsAnothers s) ks
@@ -153,9 +154,9 @@ module _ (s : Wanted) where
   fewer_missed ks more x [] h = refl
   fewer_missed ks more x (l ∷ lives) h =
       let parts = either (is_missed_at s ks x l) (list_any (is_missed_at s ks x) lives) h in
-      λ i. (ap (λ b. (slab_has l.bounds x && is_wanted s l) && not b)
-      (list_any-append (λ k. is_of k.operator k.id l) ks more)
-      ∙ go (slab_has l.bounds x && is_wanted s l) (is_among ks l) (is_among more l) parts.0) i
+      λ i. (ap (λ b. (slab_has l.bounds x && is_wanted_volume s l) && not b)
+      (list_any-append (λ k. is_volume_of k.operator k.id l) ks more)
+      ∙ go (slab_has l.bounds x && is_wanted_volume s l) (is_among ks l) (is_among more l) parts.0) i
       || fewer_missed ks more x lives parts.1 i where
         go : (c a b : Bool) → (c && not a) ≡ false → (c && not (a || b)) ≡ false
         go false a b k = refl
@@ -222,7 +223,7 @@ module _ (s : Wanted) where
       → IsFenced fence live → may_meet s.least extent fence ≡ false → slab_has extent x ≡ true
       → is_missed_at s ks x live ≡ false
   apart extent fence live ks x h far here =
-      go (slab_has live.bounds x) (nat_le s.least live.priority) (not (is_own s live))
+      go (slab_has live.bounds x) (nat_le s.least live.priority) (not (is_own_volume s live))
       (not (is_among ks live)) refl refl where
         go : (b c d e : Bool) → slab_has live.bounds x ≡ b → nat_le s.least live.priority ≡ c
             → ((b && (c && d)) && e) ≡ false

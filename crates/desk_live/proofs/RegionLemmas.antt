@@ -20,7 +20,7 @@ use Rattle.volume4d.specs.laws.Level.{greater_assoc, greater_none, top_held-nil,
 use Rattle.volume4d.specs.Volume.{Block, block_has, area_has}
 use Rattle.desk_rules.specs.Plan.{is_live, row_holds}
 use Rattle.desk_store.specs.World.{Filed, World, held, is_by, text_cmp}
-use Rattle.desk_store.specs.Rows.{other_level, others_top}
+use Rattle.desk_store.specs.OwnRows.{other_level, others_top}
 use Rattle.desk_store.specs.laws.Rival.{others_top-cons, others_top-nil, held_by_others}
 use Rattle.desk_live.specs.declared.volume.LiveVolume.{LiveVolume}
 use Rattle.desk_live.specs.Live.{AreLive, AreVolumes, AreVolumesOf, IsLiveVolume, overlap}

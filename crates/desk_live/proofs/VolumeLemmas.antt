@@ -9,7 +9,7 @@ use Rattle.volume4d.specs.Bounds.{IsBounds}
 use Rattle.volume4d.specs.Volume.{Block}
 use Rattle.desk_store.specs.World.{Filed}
 use Rattle.desk_live.specs.declared.volume.LiveVolume.{LiveVolume}
-use Rattle.desk_live.specs.Live.{IsLiveVolume, AddsVolumes, AddsPlan, AreVolumes}
+use Rattle.desk_live.specs.Live.{IsLiveVolume, AddsLiveVolumes, AddsLivePlan, AreVolumes}
 use Rattle.desk_live.specs.laws.Live.{one_more}
 
 -- tests that agree at each point have the same bounds
@@ -19,8 +19,8 @@ bounds_alike f g slab same = subst (λ test. IsBounds test slab) (fun_ext same)
 
 -- a volume more of an area is appended
 pub one_added : (p : Filed) (vs : List Block) (i : ℕ) (v : Block) (old now next : List LiveVolume)
-    (live : LiveVolume) → i < length vs → v ≡ get_or vs i v → AddsVolumes p (take i vs) old now
-    → next ≡ now ++ live ∷ [] → IsLiveVolume p v live → AddsVolumes p (take (i + 1) vs) old next
+    (live : LiveVolume) → i < length vs → v ≡ get_or vs i v → AddsLiveVolumes p (take i vs) old now
+    → next ≡ now ++ live ∷ [] → IsLiveVolume p v live → AddsLiveVolumes p (take (i + 1) vs) old next
 one_added p vs i v old now next live below is (more, are, each) then one = (
   more ++ live ∷ [],
   then ∙ ap (λ xs. xs ++ live ∷ []) are ∙ append_assoc old more (live ∷ []),
@@ -36,7 +36,7 @@ one_added p vs i v old now next live below is (more, are, each) then one = (
   one_zipped (u ∷ us) (l ∷ lives) h = (h.0, one_zipped us lives h.1)
 
 -- a plan more is appended to those of others
-pub plan_added : (p : Filed) (ps : List Filed) (old new : List LiveVolume) → AddsPlan p old new
+pub plan_added : (p : Filed) (ps : List Filed) (old new : List LiveVolume) → AddsLivePlan p old new
     → AreVolumes ps old → AreVolumes (ps ++ p ∷ []) new
 plan_added p ps old new (more, are, mine) h =
     subst (AreVolumes (ps ++ p ∷ [])) (sym are) (one_more p ps old more h mine)

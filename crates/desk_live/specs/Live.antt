@@ -42,12 +42,12 @@ pub record AreLive (w : World) (lives : List LiveVolume) : Type 0 where
   pub same : IsPermutation listed lives
 
 -- the volumes of some of a plan's area are added, or those of a plan
-abbrev pub AddsVolumes : Filed → List Block → List LiveVolume → List LiveVolume → Type 0
-AddsVolumes p area old new =
+abbrev pub AddsLiveVolumes : Filed → List Block → List LiveVolume → List LiveVolume → Type 0
+AddsLiveVolumes p area old new =
     (more : List LiveVolume) × (new ≡ old ++ more) × AllZip (IsLiveVolume p) area more
 
-abbrev pub AddsPlan : Filed → List LiveVolume → List LiveVolume → Type 0
-AddsPlan p old new = (more : List LiveVolume) × (new ≡ old ++ more) × AreVolumesOf p more
+abbrev pub AddsLivePlan : Filed → List LiveVolume → List LiveVolume → Type 0
+AddsLivePlan p old new = (more : List LiveVolume) × (new ≡ old ++ more) × AreVolumesOf p more
 
 -- ---- what is kept
 
@@ -69,7 +69,7 @@ abbrev pub volumes_of : LiveVolumes → List LiveVolume
 volumes_of kept = volumes_in kept.chunks.items ++ kept.young.items
 
 -- each live volume of a world is kept once, within the fence of its chunk if it is in one
-pub record AreKept (kept : LiveVolumes) (w : World) : Type 0 where
+pub record AreKeptOnce (kept : LiveVolumes) (w : World) : Type 0 where
   pub live : AreLive w (volumes_of kept)
   pub fenced : AreFenced kept.chunks.items
 
@@ -78,23 +78,23 @@ abbrev pub gathered_in : Gathering → List LiveVolume
 gathered_in gathering = gathering.volumes.items
 
 -- there is room for so many more
-abbrev pub HasRoomFor : LiveVolumes → ℕ → Type 0
-HasRoomFor kept count = length kept.young.items + count ≤ kept.young.cap
+abbrev pub HasRoomForVolumes : LiveVolumes → ℕ → Type 0
+HasRoomForVolumes kept count = length kept.young.items + count ≤ kept.young.cap
 
 -- ---- changes
 
 -- it is of the operator's plan of the id
-abbrev pub is_of : List ℕ → List ℕ → LiveVolume → Bool
-is_of operator id live = is_eq (text_cmp id live.id) && is_eq (text_cmp operator live.operator)
+abbrev pub is_volume_of : List ℕ → List ℕ → LiveVolume → Bool
+is_volume_of operator id live = is_eq (text_cmp id live.id) && is_eq (text_cmp operator live.operator)
 
 abbrev pub is_of_any : List ℕ → List (List ℕ) → LiveVolume → Bool
-is_of_any operator ids live = list_any (λ id. is_of operator id live) ids
+is_of_any operator ids live = list_any (λ id. is_volume_of operator id live) ids
 
 -- a change takes out the volumes of the plans that it names
 abbrev pub stays_at : Change → LiveVolume → Bool
 stays_at (Enrol operator ceiling) live = true
-stays_at (Put operator row) live = not (is_of operator row.id live)
-stays_at (Close operator id) live = not (is_of operator id live)
+stays_at (Put operator row) live = not (is_volume_of operator row.id live)
+stays_at (Close operator id) live = not (is_volume_of operator id live)
 stays_at (Clear operator ids) live = not (is_of_any operator ids.items live)
 
 -- and a put brings those of its plan

@@ -9,12 +9,12 @@ use Rattle.volume4d.specs.Slab.{slab_has, slabs_have}
 use Rattle.desk_rules.specs.Conflict.{at_least}
 use Rattle.desk_rules.specs.Plan.{row_holds}
 use Rattle.desk_store.specs.World.{Filed, World, held, held_at, plans_of, text_cmp}
-use Rattle.desk_store.specs.Rows as rows
+use Rattle.desk_store.specs.OwnRows as rows
 use Rattle.desk_live.specs.declared.volume.LiveVolume.{LiveVolume}
 use Rattle.desk_live.specs.declared.near.NearPlans.{NearPlans}
 use Rattle.desk_live.specs.declared.near.PlanKey.{PlanKey}
 use Rattle.desk_live.specs.declared.near.Wanted.{Wanted}
-use Rattle.desk_live.specs.Live.{is_of, overlap}
+use Rattle.desk_live.specs.Live.{is_volume_of, overlap}
 
 -- ---- what plans that are listed hold
 
@@ -54,25 +54,25 @@ is_id None id = true
 is_id (Some own) id = is_eq (text_cmp own id)
 
 -- it is of the operator's plan of the id, or of any of its plans
-abbrev pub is_own : Wanted → LiveVolume → Bool
-is_own wanted live = is_id wanted.id live.id && is_eq (text_cmp wanted.operator live.operator)
+abbrev pub is_own_volume : Wanted → LiveVolume → Bool
+is_own_volume wanted live = is_id wanted.id live.id && is_eq (text_cmp wanted.operator live.operator)
 
 -- it is another's, of a priority at least
-abbrev pub is_wanted : Wanted → LiveVolume → Bool
-is_wanted wanted live = nat_le wanted.least live.priority && not (is_own wanted live)
+abbrev pub is_wanted_volume : Wanted → LiveVolume → Bool
+is_wanted_volume wanted live = nat_le wanted.least live.priority && not (is_own_volume wanted live)
 
 -- and its bounds meet an extent
 abbrev pub is_near_to : Wanted → Slab → LiveVolume → Bool
-is_near_to wanted extent live = overlap live.bounds extent && is_wanted wanted live
+is_near_to wanted extent live = overlap live.bounds extent && is_wanted_volume wanted live
 
 -- its plan is listed
 abbrev pub is_among : List PlanKey → LiveVolume → Bool
-is_among keys live = list_any (λ k. is_of k.operator k.id live) keys
+is_among keys live = list_any (λ k. is_volume_of k.operator k.id live) keys
 
 -- it is wanted, its bounds have a point, and its plan isn't listed
 abbrev pub is_missed_at : Wanted → List PlanKey → Point → LiveVolume → Bool
 is_missed_at wanted keys x live =
-    (slab_has live.bounds x && is_wanted wanted live) && not (is_among keys live)
+    (slab_has live.bounds x && is_wanted_volume wanted live) && not (is_among keys live)
 
 -- a plan is none of the operator's own
 abbrev pub IsAnothers : Wanted → PlanKey → Type 0

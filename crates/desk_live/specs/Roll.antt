@@ -25,15 +25,15 @@ Accounts = List (List ℕ × Account)
 abbrev pub state_of : PlanRow → PlanState
 state_of row = record { id = row.id; states = states_in row; spans = row_spans row }
 
-abbrev pub has_id : List ℕ → PlanState → Bool
-has_id id s = is_eq (text_cmp id s.id)
+abbrev pub state_has_id : List ℕ → PlanState → Bool
+state_has_id id s = is_eq (text_cmp id s.id)
 
 -- the spans of a plan, if it isn't the one with the id, and those of all such plans
-abbrev pub spans_unless : List ℕ → PlanState → ℕ
-spans_unless id s = cond (has_id id s) 0 s.spans
+abbrev pub kept_spans_unless : List ℕ → PlanState → ℕ
+kept_spans_unless id s = cond (state_has_id id s) 0 s.spans
 
-abbrev pub spans_beside : List ℕ → List PlanState → ℕ
-spans_beside id plans = sum_by (spans_unless id) plans
+abbrev pub kept_spans_beside : List ℕ → List PlanState → ℕ
+kept_spans_beside id plans = sum_by (kept_spans_unless id) plans
 
 -- the account of an operator, its ceiling, and what is kept of its plans
 abbrev pub account_in : List ℕ → Accounts → Option Account
@@ -85,13 +85,13 @@ named_by (Close operator id) = operator
 named_by (Clear operator ids) = operator
 
 -- there is room for one plan more
-abbrev pub HasRoom : Account → Type 0
-HasRoom a = length a.plans.items + 1 ≤ a.plans.cap
+abbrev pub HasRoomForOne : Account → Type 0
+HasRoomForOne a = length a.plans.items + 1 ≤ a.plans.cap
 
 -- the operator that a change names has an account, with room
 abbrev pub HasRoomIn : Option Account → Type 0
 HasRoomIn None = ⊥
-HasRoomIn (Some a) = HasRoom a
+HasRoomIn (Some a) = HasRoomForOne a
 
 abbrev pub IsReadyFor : Change → Roll → Type 0
 IsReadyFor change roll = HasRoomIn (account_in (named_by change) (accounts_of roll))
@@ -105,10 +105,10 @@ abbrev pub closed_states : States → States
 closed_states states = record states { usage = usage.Closed }
 
 abbrev pub close_if : List ℕ → PlanState → PlanState
-close_if id s = cond (has_id id s) (record { id = s.id; states = closed_states s.states; spans = 0 }) s
+close_if id s = cond (state_has_id id s) (record { id = s.id; states = closed_states s.states; spans = 0 }) s
 
-abbrev pub is_named : List (List ℕ) → PlanState → Bool
-is_named ids s = list_any (λ id. has_id id s) ids
+abbrev pub is_state_named : List (List ℕ) → PlanState → Bool
+is_state_named ids s = list_any (λ id. state_has_id id s) ids
 
 abbrev pub ceiling_after : Change → Option ℕ → Option ℕ
 ceiling_after (Enrol operator ceiling) old = Some ceiling
@@ -120,13 +120,13 @@ abbrev pub plans_after : Change → List PlanState → List PlanState
 plans_after (Enrol operator ceiling) plans = plans
 plans_after (Put operator row) plans = put_state (state_of row) plans
 plans_after (Close operator id) plans = map (close_if id) plans
-plans_after (Clear operator ids) plans = filter (λ s. not (is_named ids.items s)) plans
+plans_after (Clear operator ids) plans = filter (λ s. not (is_state_named ids.items s)) plans
 
 -- the first of some plans, if there is one, has the id, or a later one
 abbrev pub begins_with : PlanState → List PlanState → Bool
 begins_with s [] = false
-begins_with s (p ∷ ps) = has_id s.id p
+begins_with s (p ∷ ps) = state_has_id s.id p
 
-abbrev pub IsBefore : PlanState → List PlanState → Type 0
-IsBefore s [] = ⊤
-IsBefore s (p ∷ ps) = text_cmp s.id p.id ≢ Greater
+abbrev pub IsBeforeFirst : PlanState → List PlanState → Type 0
+IsBeforeFirst s [] = ⊤
+IsBeforeFirst s (p ∷ ps) = text_cmp s.id p.id ≢ Greater

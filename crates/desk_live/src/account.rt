@@ -4,7 +4,7 @@ ghost use Rattle.std.specs.Prelude.{◌≡◌, ◌<◌, ◌≤◌, ◌+◌, ◌^
 ghost use Rattle.std.specs.List.{filter, find};
 ghost use Rattle.std.specs.Option.{option_map};
 ghost use Rattle.desk_live.specs.Roll as spec;
-ghost use Rattle.desk_live.specs.Roll.{HasRoom, ceiling_after, close_if, has_id, is_named, or_else, plans_after, put_state, spans_beside, state_of};
+ghost use Rattle.desk_live.specs.Roll.{HasRoomForOne, ceiling_after, close_if, is_state_named, kept_spans_beside, or_else, plans_after, put_state, state_has_id, state_of};
 
 use desk_rules::plan::{PlanRow, States};
 use desk_rules::plan_id::PlanId;
@@ -35,14 +35,14 @@ impl PlanState {
 
     // Whether the plan has this id.
     fn has_id(&self, id: &PlanId) -> bool
-        ensures { result ≡ spec.has_id id.now self.now }
+        ensures { result ≡ spec.state_has_id id.now self.now }
     {
         id.cmp(&self.id).is_eq()
     }
 
     // Whether the plan has one of these ids.
     fn is_named(&self, ids: &[PlanId]) -> bool
-        ensures { result ≡ spec.is_named ids.now self.now }
+        ensures { result ≡ spec.is_state_named ids.now self.now }
     {
         ids.iter().any(|id| self.has_id(id))
     }
@@ -66,7 +66,7 @@ impl PlanState {
 
     // How many spans it takes, if it hasn't this id.
     fn spans_unless(&self, id: &PlanId) -> u32
-        ensures { result ≡ spec.spans_unless id.now self.now }
+        ensures { result ≡ spec.kept_spans_unless id.now self.now }
     {
         if self.has_id(id) {
             return 0;
@@ -86,7 +86,7 @@ pub(crate) struct Account {
 impl Account {
     /// The states of the plan of the id.
     pub(crate) fn states(&self, id: &PlanId) -> Option<States>
-        ensures { result ≡ option_map (λ s. s.states) (find (has_id id.now) self.now.plans.items) }
+        ensures { result ≡ option_map (λ s. s.states) (find (state_has_id id.now) self.now.plans.items) }
     {
         let found = self.plans.iter().find(|plan| plan.has_id(id))?;
         Some(found.states)
@@ -94,8 +94,8 @@ impl Account {
 
     /// How many spans its plans take but for that of the id, where 32 bits can say it.
     pub(crate) fn spans_beside(&self, id: &PlanId) -> u32
-        ensures { spans_beside id.now self.now.plans.items < 2 ^ 32
-            → result ≡ spans_beside id.now self.now.plans.items }
+        ensures { kept_spans_beside id.now self.now.plans.items < 2 ^ 32
+            → result ≡ kept_spans_beside id.now self.now.plans.items }
     {
         spans_of(&self.plans, id)
     }
@@ -132,14 +132,14 @@ impl Account {
     pub(crate) fn make_room(&mut self) -> Result<(), AllocError>
         ensures ceiling { self.new.ceiling ≡ self.old.ceiling }
         ensures plans { self.new.plans.items ≡ self.old.plans.items }
-        ensures room { OnOk result (HasRoom self.new) }
+        ensures room { OnOk result (HasRoomForOne self.new) }
     {
         self.plans.reserve(1)
     }
 
     /// Follows a change of the operator's plans or ceiling, for which there is room.
     pub(crate) fn follow(&mut self, change: &Change)
-        requires { HasRoom self.old }
+        requires { HasRoomForOne self.old }
         ensures ceiling { self.new.ceiling ≡ ceiling_after change.now self.old.ceiling }
         ensures plans { self.new.plans.items ≡ plans_after change.now self.old.plans.items }
     {
@@ -154,7 +154,7 @@ impl Account {
 
 // How many spans plans take but for that of the id, where 32 bits can say it.
 fn spans_of(plans: &[PlanState], id: &PlanId) -> u32
-    ensures { spans_beside id.now plans.now < 2 ^ 32 → result ≡ spans_beside id.now plans.now }
+    ensures { kept_spans_beside id.now plans.now < 2 ^ 32 → result ≡ kept_spans_beside id.now plans.now }
 {
     let mut spans: u32 = 0;
     for plan in plans {
@@ -183,7 +183,7 @@ fn place_of(plans: &[PlanState], state: &PlanState) -> usize
     ensures within { result ≤ length plans.now }
     ensures place { put_state state.now plans.now
         ≡ take result plans.now ++ put_state state.now (drop result plans.now) }
-    ensures next { spec.IsBefore state.now (drop result plans.now) }
+    ensures next { spec.IsBeforeFirst state.now (drop result plans.now) }
 {
     let mut at = 0;
     while at < plans.len() && state.id.cmp(&plans[at].id) == Ordering::Greater {
@@ -215,7 +215,7 @@ fn close(plans: &mut Vec<PlanState>, id: &PlanId)
 
 // Takes the plans of these ids out.
 fn clear(plans: &mut Vec<PlanState>, ids: &[PlanId])
-    ensures { plans.new.items ≡ filter (λ s. not (is_named ids.now s)) plans.old.items }
+    ensures { plans.new.items ≡ filter (λ s. not (is_state_named ids.now s)) plans.old.items }
 {
     plans.retain(|plan| !plan.is_named(ids));
 }

@@ -3,7 +3,7 @@
 ghost use Rattle.std.specs.Prelude.{◌≡◌, ◌≤◌, ◌+◌, ◌++◌, length, IfOk, OnOk};
 ghost use Rattle.std.specs.List.{filter};
 ghost use Rattle.desk_store.specs.Changes.{filed_by};
-ghost use Rattle.desk_live.specs.Live.{AddsPlan, AreBrought, stays_at};
+ghost use Rattle.desk_live.specs.Live.{AddsLivePlan, AreBrought, stays_at};
 ghost use Rattle.desk_live.specs.Live as spec;
 
 use crate::volume::LiveVolume;
@@ -23,7 +23,7 @@ pub(crate) fn push_plan(
     operator: &Operator,
     row: &PlanRow,
 ) -> Result<(), AllocError>
-    ensures { OnOk result (AddsPlan (filed_by operator.now row.now) volumes.old.items
+    ensures { OnOk result (AddsLivePlan (filed_by operator.now row.now) volumes.old.items
         volumes.new.items) }
 {
     if row.usage.is_live() {
@@ -39,7 +39,7 @@ fn push_area(
     operator: &Operator,
     row: &PlanRow,
 ) -> Result<(), AllocError>
-    ensures { OnOk result (spec.AddsVolumes (filed_by operator.now row.now) row.now.area
+    ensures { OnOk result (spec.AddsLiveVolumes (filed_by operator.now row.now) row.now.area
         volumes.old.items volumes.new.items) }
 {
     for volume in row.area.volumes() {

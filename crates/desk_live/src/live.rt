@@ -6,7 +6,7 @@ ghost use Rattle.std.specs.List.Sorted.{IsStrictlySortedBy};
 ghost use Rattle.desk_store.specs.World.{Filed, World, filed_cmp};
 ghost use Rattle.desk_store.specs.Changes.{filed_by};
 ghost use Rattle.desk_store.specs.StoreChange.{changed_by};
-ghost use Rattle.desk_live.specs.Live.{AreBrought, AreFenced, AreKept, AreVolumes, HasRoomFor};
+ghost use Rattle.desk_live.specs.Live.{AreBrought, AreFenced, AreKeptOnce, AreVolumes, HasRoomForVolumes};
 ghost use Rattle.desk_live.specs.Live.{gathered_in, stays_at, volumes_of};
 ghost use Rattle.desk_live.specs.Regions.{AddTheirs, HoldNothingBeside};
 ghost use Rattle.desk_live.specs.Near.{AddsPlans, AreNearPlans, AreWantedPlans};
@@ -43,7 +43,7 @@ pub struct LiveVolumes {
 impl LiveVolumes {
     /// Of no plan.
     pub fn new(alloc: Global) -> LiveVolumes
-        ensures { AreKept result (record { operators = []; plans = [] }) }
+        ensures { AreKeptOnce result (record { operators = []; plans = [] }) }
     {
         LiveVolumes {
             chunks: Vec::new(alloc),
@@ -63,7 +63,7 @@ impl LiveVolumes {
         operator: &Operator,
         extents: &[Slab],
     ) -> Result<Vec<Slab>, AllocError>
-        ensures { IfOk result (λ regions. (w : World) → AreKept self.now w
+        ensures { IfOk result (λ regions. (w : World) → AreKeptOnce self.now w
             → HoldNothingBeside w operator.now extents.now regions.items) }
     {
         let Some((first, others)) = extents.split_first() else {
@@ -101,7 +101,7 @@ impl LiveVolumes {
         wanted: &Wanted,
         extents: &[Slab],
     ) -> Result<Option<Vec<PlanKey>>, AllocError>
-        ensures { IfOk result (λ found. IfSome found (λ keys. (w : World) → AreKept self.now w
+        ensures { IfOk result (λ found. IfSome found (λ keys. (w : World) → AreKeptOnce self.now w
             → AreWantedPlans w wanted.now extents.now keys.items)) }
     {
         self.near_plans(alloc, wanted, extents)
@@ -158,9 +158,9 @@ impl LiveVolumes {
     ///
     /// `AllocError` if memory runs out.
     pub fn prepare(&mut self, alloc: Global, change: &Change) -> Result<Vec<LiveVolume>, AllocError>
-        ensures kept { (w : World) → AreKept self.old w → AreKept self.new w }
+        ensures kept { (w : World) → AreKeptOnce self.old w → AreKeptOnce self.new w }
         ensures brought { IfOk result (λ fresh. AreBrought change.now fresh.items) }
-        ensures room { IfOk result (λ fresh. HasRoomFor self.new (length fresh.items)) }
+        ensures room { IfOk result (λ fresh. HasRoomForVolumes self.new (length fresh.items)) }
     {
         self.settle(alloc)?;
         let fresh = brought_by(alloc, change)?;
@@ -171,11 +171,11 @@ impl LiveVolumes {
     /// Takes out the volumes of the plans that a change names, and adds those that it brings, for which there
     /// is room.
     pub fn follow(&mut self, change: &Change, fresh: &[LiveVolume])
-        requires room { HasRoomFor self.old (length fresh.now) }
+        requires room { HasRoomForVolumes self.old (length fresh.now) }
         requires brought { AreBrought change.now fresh.now }
         ensures same { volumes_of self.new
             ≡ filter (stays_at change.now) (volumes_of self.old) ++ fresh.now }
-        ensures kept { (w : World) → AreKept self.old w → AreKept self.new (changed_by change.now w) }
+        ensures kept { (w : World) → AreKeptOnce self.old w → AreKeptOnce self.new (changed_by change.now w) }
     {
         leave_each(&mut self.chunks, change);
         leave(&mut self.young, change);
@@ -184,7 +184,7 @@ impl LiveVolumes {
 
     // Puts all volumes into chunks anew, if many are in none.
     fn settle(&mut self, alloc: Global) -> Result<(), AllocError>
-        ensures { (w : World) → AreKept self.old w → AreKept self.new w }
+        ensures { (w : World) → AreKeptOnce self.old w → AreKeptOnce self.new w }
     {
         let few = self.chunks.len().saturating_mul(2).saturating_add(YOUNG);
         if self.young.len() <= few {
@@ -231,7 +231,7 @@ impl Gathering {
     /// `AllocError` if memory runs out.
     pub fn finish(self, alloc: Global) -> Result<LiveVolumes, AllocError>
         ensures { IfOk result (λ kept. (w : World) → IsStrictlySortedBy filed_cmp w.plans
-            → AreVolumes w.plans (gathered_in self) → AreKept kept w) }
+            → AreVolumes w.plans (gathered_in self) → AreKeptOnce kept w) }
     {
         Ok(LiveVolumes {
             chunks: rechunked(alloc, &[], &self.volumes)?,

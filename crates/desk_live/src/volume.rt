@@ -52,7 +52,7 @@ impl LiveVolume {
 
     /// Whether it is of the operator's plan of the id.
     pub(crate) fn is_of(&self, operator: &Operator, id: &PlanId) -> bool
-        ensures { result ≡ spec.is_of operator.now id.now self.now }
+        ensures { result ≡ spec.is_volume_of operator.now id.now self.now }
     {
         if !id.cmp(&self.id).is_eq() {
             return false;
@@ -72,7 +72,7 @@ impl LiveVolume {
 
     // Whether it is of the operator's plan of the id, or if there is no id, of one of its plans.
     fn is_own(&self, wanted: &Wanted) -> bool
-        ensures { result ≡ near.is_own wanted.now self.now }
+        ensures { result ≡ near.is_own_volume wanted.now self.now }
     {
         match wanted.id {
             Some(id) => self.is_of(&wanted.operator, &id),

@@ -2,8 +2,8 @@
 use Rattle.std.proofs.Common.{◌≡◌, inl, inr, ℕ, suc, ◌+◌, ◌<◌, ◌≤◌, ◌&&◌, if◌then◌else◌, Bool, true, false, List, refl, sym, ap, ap₂, ◌∙◌, subst, arith, add-one, add-zero, Option}
 use Rattle.std.proofs.lemmas.Bool.Decides.{leb_tells}
 use Rattle.sqlite_wal.specs.Recovery.{frame, header}
-use Rattle.desk_log.specs.Damage.{ends_commit, ends_in, has_salts, is_salted, is_whole}
-use Rattle.desk_log.specs.Walks.{HasFrame, IsBefore, IsCounted}
+use Rattle.desk_log.specs.Damage.{ends_commit, ends_in, has_salts, is_frame_whole, is_salted}
+use Rattle.desk_log.specs.Walks.{HasFrame, IsBefore, LosesCommits}
 
 abbrev pub one_if : Bool → ℕ
 one_if b = if b then 1 else 0
@@ -46,7 +46,7 @@ module _ (page stop n count : ℕ) (log head room : List ℕ) (left : Option (Li
       subst (λ k. IsBefore page log k left) further here.next.behind
 
   -- a frame without the salts ends the run
-  pub ends_here : has_salts head room ≡ false → IsCounted page log stop count
+  pub ends_here : has_salts head room ≡ false → LosesCommits page log stop count
   ends_here unsalted =
       record {
         frames = n;
@@ -81,7 +81,8 @@ module _ (page stop n count : ℕ) (log head room : List ℕ) (left : Option (Li
     goes_on next behind found = record { salted = salted_on; so_far = one_more; next = found }
 
     -- and ends at one that is not
-    pub ends_behind : is_whole page log (stop + (n + 1)) ≡ false → IsCounted page log stop (count + one)
+    pub ends_behind : is_frame_whole page log (stop + (n + 1)) ≡ false
+        → LosesCommits page log stop (count + one)
     ends_behind cut =
         let there = stop + (n + 1) in
         record {

@@ -5,12 +5,12 @@ use Rattle.std.proofs.lemmas.Bool.Decides.{leb_tells}
 use Rattle.std.proofs.lemmas.Slice.Eq.{bytes_eq-Decides}
 use Rattle.sqlite_wal.specs.Recovery.{Passes, frame, frame_at}
 use Rattle.sqlite_wal.proofs.PartLemmas.{frames_len-le, frames_len-suc, frames_len-zero}
-use Rattle.desk_log.specs.Damage.{IsDamaged, IsDamagedAt, IsRun, ends_commit, ends_in, is_salted, is_whole}
+use Rattle.desk_log.specs.Damage.{IsDamaged, IsDamagedAt, IsRunOfFrames, ends_commit, ends_in, is_frame_whole, is_salted}
 use Rattle.desk_log.proofs.CountLemmas.{one_at_most, one_if}
 
 module _ (page : ℕ) (log : List ℕ) where
   -- a frame before one that is whole is whole
-  pub whole_before : (i j : ℕ) → i ≤ j → is_whole page log j ≡ true → is_whole page log i ≡ true
+  pub whole_before : (i j : ℕ) → i ≤ j → is_frame_whole page log j ≡ true → is_frame_whole page log i ≡ true
   whole_before i j before whole =
       le-leb _ _ (omega (arith, leb-true _ _ whole, frames_len-le page i j before))
 
@@ -20,7 +20,7 @@ module _ (page : ℕ) (log : List ℕ) where
       ((bytes_eq-Decides _ _).1 passes.passes.salt)
 
   -- a run in which a commit ends is not empty
-  some_frames : (stop frames commits : ℕ) → IsRun page log stop frames
+  some_frames : (stop frames commits : ℕ) → IsRunOfFrames page log stop frames
       → commits ≡ ends_in page log stop frames → 2 ≤ commits
       → is_salted page log stop ≡ true
   unfolding ends_in
@@ -31,11 +31,12 @@ module _ (page : ℕ) (log : List ℕ) where
   pub first_salted : (stop commits : ℕ) → IsDamagedAt page log stop commits → is_salted page log stop ≡ true
   first_salted stop commits damaged = some_frames stop _ commits damaged.run damaged.lost damaged.several
 
-  pub first_whole : (stop commits : ℕ) → IsDamagedAt page log stop commits → is_whole page log stop ≡ true
+  pub first_whole : (stop commits : ℕ) → IsDamagedAt page log stop commits → is_frame_whole page log stop
+      ≡ true
   first_whole stop commits damaged = (and_parts _ _ (first_salted stop commits damaged)).0
 
   -- a run has one length
-  pub one_run : (stop n m : ℕ) → IsRun page log stop n → IsRun page log stop m → n ≡ m
+  pub one_run : (stop n m : ℕ) → IsRunOfFrames page log stop n → IsRunOfFrames page log stop m → n ≡ m
   one_run stop n m run other =
       elim (leb_tells (suc n) m) [
         | inl h ↦ absurd (true≢false (sym (other.salted n h.1) ∙ run.ended))
@@ -46,7 +47,8 @@ module _ (page : ℕ) (log : List ℕ) where
       ]
 
   -- and ends at a frame without the salts
-  run_within : (stop last n : ℕ) → IsRun page log stop n → stop < last → is_salted page log last ≡ false
+  run_within : (stop last n : ℕ) → IsRunOfFrames page log stop n → stop < last → is_salted page log last
+      ≡ false
       → stop + n ≤ last
   run_within stop last n run before unsalted =
       elim (leb_tells (stop + n) last) [
@@ -155,7 +157,7 @@ pub empty : (stop commits : ℕ) → ¬ IsDamaged [] stop commits
 empty stop commits damaged = absurd (omega (arith, leb-true _ _ (first_whole _ [] stop commits damaged)))
 
 pub good : (page : ℕ) (log : List ℕ) (stop commits : ℕ)
-    → ((i : ℕ) → is_whole page log i ≡ true → Passes page log i)
+    → ((i : ℕ) → is_frame_whole page log i ≡ true → Passes page log i)
     → ¬ IsDamagedAt page log stop commits
 good page log stop commits taken damaged = damaged.refused
     (taken stop (first_whole page log stop commits damaged))

@@ -11,7 +11,7 @@ use Rattle.sqlite_wal.proofs.PartLemmas.{frames_len-zero}
 use Rattle.desk_log.specs.declared.judging.Verdict.{Verdict}
 use Rattle.desk_log.specs.declared.judging.Verdict.TheVariants.{Damaged, Sound}
 use Rattle.desk_log.specs.Damage.{IsDamaged, IsDamagedAt, IsVerdict, ends_in}
-use Rattle.desk_log.specs.Walks.{IsAllTaken, IsBefore, IsCounted, IsStop, IsTold}
+use Rattle.desk_log.specs.Walks.{IsAllTaken, IsBefore, IsStop, IsVerdictAt, LosesCommits}
 use Rattle.desk_log.proofs.DamageLemmas.{first_whole, is_at_stop, one_run, whole_before}
 
 -- the header and what follows it
@@ -71,7 +71,7 @@ module _ (page : ℕ) (log head : List ℕ) (same : header log ≡ head) (is_hea
         | inr h ↦ true≢false (sym (whole_before page log taken.0 stop (omega (arith, h.1)) whole) ∙ taken.1)
       ]
 
-  counted_once : (n commits others : ℕ) → IsDamagedAt page log n commits → IsCounted page log n others
+  counted_once : (n commits others : ℕ) → IsDamagedAt page log n commits → LosesCommits page log n others
       → commits ≡ others
   counted_once n commits others damaged counted =
       let run = one_run page log n damaged.frames counted.frames damaged.run counted.run in
@@ -80,7 +80,7 @@ module _ (page : ℕ) (log head : List ℕ) (same : header log ≡ head) (is_hea
   -- what is told of a log in which recovery stops at frame n
   pub told_at : {E : Type 0} (n : ℕ) (room : List ℕ) (left : Option (List ℕ)) (r : Result Verdict E)
       → IsStop page log n room left
-      → IfOk r (IsTold page log n) → IfOk r (IsVerdict log)
+      → IfOk r (IsVerdictAt page log n) → IfOk r (IsVerdict log)
   told_at n room left (Err e) at told = tt
   told_at n room left (Ok Sound) at told =
       λ stop commits damaged.

@@ -3,7 +3,7 @@ use Rattle.std.proofs.Common.{◌≡◌, ℕ, ◌+◌, ◌-◌, ◌*◌, ◌≤�
 use Rattle.std.proofs.lemmas.Slice.{take-put_mid_below}
 use Rattle.std.specs.Io.KnownBytes.{Consumes, Keeps}
 use Rattle.std.proofs.KnownBytes.{Consumes-trans, Consumes-kept}
-use Rattle.desk_log.specs.Reads.{IsLast}
+use Rattle.desk_log.specs.Reads.{IsLastRead}
 use Rattle.desk_log.specs.Walks.{HasRead}
 use Rattle.desk_log.specs.declared.reads.LastRead.{LastRead}
 use Rattle.desk_log.specs.declared.reads.LastRead.TheVariants.{Failed, Passed}
@@ -60,7 +60,7 @@ module _ (from : ℕ) (old part : List ℕ) (a b c : Option (List ℕ)) (before 
       }
 
 -- a read that answered a number passed
-pub passed_if_ok : (count : ℕ) (last : LastRead) → IsLast (Ok count) last → last ≡ Passed
+pub passed_if_ok : (count : ℕ) (last : LastRead) → IsLastRead (Ok count) last → last ≡ Passed
 passed_if_ok count Passed is = refl
 passed_if_ok count Failed is = absurd is
 

@@ -7,7 +7,7 @@ use Rattle.std.specs.Io.KnownBytes.{Consumes}
 use Rattle.sqlite_wal.specs.Format.{part, stored_sum, IsFrame}
 use Rattle.sqlite_wal.specs.Recovery.{Passes, frame_at, header, sum_before}
 use Rattle.sqlite_wal.proofs.PartLemmas.{frames_len-suc}
-use Rattle.desk_log.specs.Damage.{is_whole}
+use Rattle.desk_log.specs.Damage.{is_frame_whole}
 use Rattle.desk_log.specs.Walks.{HasFrame, IsBefore, IsFollowed, IsNext}
 
 module _ (page n : ℕ) (log room : List ℕ) (len : length room ≡ 24 + page) where
@@ -39,7 +39,7 @@ module _ (page n : ℕ) (log room : List ℕ) (len : length room ≡ 24 + page) 
   frame_read (Some rest) taken = frame_there rest taken
 
   -- too few bytes are left for frame n
-  too_short : length (drop (frame_at page n) log) < length room → is_whole page log n ≡ false
+  too_short : length (drop (frame_at page n) log) < length room → is_frame_whole page log n ≡ false
   too_short short =
       let left = length-drop (frame_at page n) log in
       elim (leb_tells (frame_at page n + (24 + page)) (length log)) [

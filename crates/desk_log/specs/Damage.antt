@@ -13,8 +13,8 @@ use Rattle.desk_log.specs.declared.judging.Verdict.{Verdict}
 use Rattle.desk_log.specs.declared.judging.Verdict.TheVariants.{Damaged, Sound}
 
 -- frame i, counted from 0, is whole
-abbrev pub is_whole : ℕ → List ℕ → ℕ → Bool
-is_whole page log i = nat_le (frame_at page i + (24 + page)) (length log)
+abbrev pub is_frame_whole : ℕ → List ℕ → ℕ → Bool
+is_frame_whole page log i = nat_le (frame_at page i + (24 + page)) (length log)
 
 -- a frame has the salts of this header
 abbrev pub has_salts : List ℕ → List ℕ → Bool
@@ -22,7 +22,7 @@ has_salts head frame = bytes_eq (part frame 8 8) (part head 16 8)
 
 -- frame i is whole, and has the log's salts: it was written since the log was last emptied
 abbrev pub is_salted : ℕ → List ℕ → ℕ → Bool
-is_salted page log i = is_whole page log i && has_salts (header log) (frame page log i)
+is_salted page log i = is_frame_whole page log i && has_salts (header log) (frame page log i)
 
 -- a frame ends a commit
 abbrev pub ends_commit : List ℕ → Bool
@@ -35,7 +35,7 @@ ends_in page log from (suc n) =
     ends_in page log from n + (if ends_commit (frame page log (from + n)) then 1 else 0)
 
 -- from frame `from` on n frames have the log's salts, and no more
-pub record IsRun (page : ℕ) (log : List ℕ) (from n : ℕ) : Type 0 where
+pub record IsRunOfFrames (page : ℕ) (log : List ℕ) (from n : ℕ) : Type 0 where
   pub salted : (i : ℕ) → i < n → is_salted page log (from + i) ≡ true
   pub ended : is_salted page log (from + n) ≡ false
 
@@ -47,7 +47,7 @@ pub record IsDamagedAt (page : ℕ) (log : List ℕ) (stop commits : ℕ) : Type
   pub taken : (i : ℕ) → i < stop → Passes page log i
   pub refused : ¬ Passes page log stop
   pub frames : ℕ
-  pub run : IsRun page log stop frames
+  pub run : IsRunOfFrames page log stop frames
   pub lost : commits ≡ ends_in page log stop frames
   pub several : 2 ≤ commits
 

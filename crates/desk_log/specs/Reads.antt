@@ -10,11 +10,11 @@ use Rattle.desk_log.specs.declared.reads.LastRead.TheVariants.{Failed, Passed}
 use Rattle.desk_log.specs.declared.reads.Reads.{Reads}
 
 -- how a read came out, by what it answered
-abbrev pub IsLast : Result ℕ Error → LastRead → Type 0
-IsLast (Ok count) Passed = ⊤
-IsLast (Ok count) Failed = ⊥
-IsLast (Err error) Passed = error_kind error ≡ Interrupted
-IsLast (Err error) Failed = error_kind error ≢ Interrupted
+abbrev pub IsLastRead : Result ℕ Error → LastRead → Type 0
+IsLastRead (Ok count) Passed = ⊤
+IsLastRead (Ok count) Failed = ⊥
+IsLastRead (Err error) Passed = error_kind error ≡ Interrupted
+IsLastRead (Err error) Failed = error_kind error ≢ Interrupted
 
 -- how many reads a frame may take: this desk's own limit
 abbrev pub most_reads : ℕ

@@ -7,7 +7,7 @@ ghost use Rattle.sqlite_wal.specs.PageSize.{IsPageSize};
 ghost use Rattle.sqlite_wal.specs.Recovery.{header};
 ghost use Rattle.desk_log.specs.Damage.{IsVerdict};
 ghost use Rattle.desk_log.specs.Reads.{HaveBrokenOff, IsUnjudged};
-ghost use Rattle.desk_log.specs.Walks.{HasFrame, HasRead, IsBefore, IsCounted, IsNext, IsTold, StopsAt};
+ghost use Rattle.desk_log.specs.Walks.{HasFrame, HasRead, IsBefore, IsNext, IsVerdictAt, LosesCommits, StopsAt};
 
 use crate::frames::{FRAME_HEADER, ends_of, has_salts, is_taken};
 use crate::header::{HEADER, page_size_in};
@@ -105,7 +105,7 @@ fn judge_rest<R: Read>(
     requires { 24 ≤ length frame.old }
     ensures value { (page : ℕ) (bytes : List ℕ) → length frame.old ≡ 24 + page → header bytes ≡ head.now
         → HasFrame page bytes stop frame.old (R.remaining log.old)
-        → IfOk result (IsTold page bytes stop) }
+        → IfOk result (IsVerdictAt page bytes stop) }
     ensures fault { IfErr result (IsUnjudged (R.remaining log.old)) }
 {
     let commits = count_commits(log, head, frame)?;
@@ -156,7 +156,7 @@ fn count_commits<R: Read>(
     requires { 24 ≤ length frame.old }
     ensures value { (page stop : ℕ) (bytes : List ℕ) → length frame.old ≡ 24 + page → header bytes ≡ head.now
         → HasFrame page bytes stop frame.old (R.remaining log.old)
-        → IfOk result (IsCounted page bytes stop) }
+        → IfOk result (LosesCommits page bytes stop) }
     ensures fault { IfErr result (IsUnjudged (R.remaining log.old)) }
 {
     let mut commits = 0;

@@ -3,7 +3,7 @@
 ghost use Rattle.std.specs.Prelude.{◌≡◌, ◌<◌, ◌≤◌, ◌+◌, ℕ, suc, List, [], length, true, false};
 ghost use Rattle.sqlite_wal.specs.Format.{be32};
 ghost use Rattle.sqlite_wal.specs.Recovery.{Passes, frame, header};
-ghost use Rattle.desk_log.specs.Damage.{IsDamaged, ends_commit, is_salted, is_whole, least_damaged};
+ghost use Rattle.desk_log.specs.Damage.{IsDamaged, ends_commit, is_frame_whole, is_salted, least_damaged};
 
 /// An empty log is not damaged.
 pub fn empty_is_sound()
@@ -13,7 +13,7 @@ pub fn empty_is_sound()
 /// A log of which recovery takes each whole frame is not damaged.
 pub fn good_is_sound()
     ensures { (log : List ℕ) → let page = be32 (header log) 8 in
-        ((i : ℕ) → is_whole page log i ≡ true → Passes page log i)
+        ((i : ℕ) → is_frame_whole page log i ≡ true → Passes page log i)
         → (stop commits : ℕ) → ¬ IsDamaged log stop commits }
 {}
 

@@ -3,7 +3,7 @@
 ghost use Rattle.std.specs.Prelude.{◌≡◌, ◌↔◌, ◌+◌, ◌<◌, ◌^◌, ◌-◌, IsTrue};
 ghost use Rattle.std.specs.Io.{ReadsAtMost};
 ghost use Rattle.std.specs.Io.KnownBytes.{ReadConsumes};
-ghost use Rattle.desk_log.specs.Reads.{IsLast};
+ghost use Rattle.desk_log.specs.Reads.{IsLastRead};
 
 use std::io::{self, ErrorKind, Read};
 
@@ -54,7 +54,7 @@ pub(crate) fn read_counted<R: Read>(
     ensures bound { ReadsAtMost result room.new }
     ensures taken { ReadConsumes (R.remaining input.old) (R.remaining input.new) result room.new }
     ensures counted { reads.new.count ≡ reads.old.count + 1 }
-    ensures last { IsLast result reads.new.last }
+    ensures last { IsLastRead result reads.new.last }
 {
     let read = input.read(room);
     reads.count += 1;
@@ -64,7 +64,7 @@ pub(crate) fn read_counted<R: Read>(
 
 // How a read came out.
 fn last_of(read: &io::Result<usize>) -> LastRead
-    ensures { IsLast read.now result }
+    ensures { IsLastRead read.now result }
 {
     match read {
         Ok(_) => LastRead::Passed,

@@ -13,7 +13,7 @@ use Rattle.desk_line.specs.declared.failure.Failure.{Failure}
 use Rattle.desk_line.specs.declared.failure.Failure.TheVariants.{Store, Broken, Memory}
 use Rattle.desk_line.specs.declared.failure.Failure.TheVariants as failure
 use Rattle.desk_line.specs.Exits.{Ending, EndsWith, enrolment_failure, failure_at}
-use Rattle.desk_program.specs.Causes.{HasCause, IsCounted}
+use Rattle.desk_program.specs.EndCauses.{HasCause, IsEndCounted}
 use Rattle.desk_store.specs.World.{World}
 use Rattle.desk_run.specs.DeskWorld.{DeskWorld, Parts}
 use Rattle.desk_wire.specs.Passage.{Passage}
@@ -21,8 +21,8 @@ use Rattle.desk_line.specs.declared.line.Line.{Line}
 use Rattle.desk_line.specs.declared.line.Line.TheVariants as line
 use Rattle.desk_program.specs.Keeping.{IsLineKept, IsLinePlayKept}
 use Rattle.desk_program.specs.Outside.{outside}
-use Rattle.desk_program.specs.Playing.{IsLinePlayed}
-use Rattle.desk_program.specs.Running.{IsCarriedOut}
+use Rattle.desk_program.specs.PlayLines.{IsLinePlayed}
+use Rattle.desk_program.specs.CarryingOut.{IsCarriedOut}
 use Rattle.std.specs.Result.{IsErrAnd}
 use Rattle.desk_program.specs.Serving.{IsDenied, Traffic, failing, first_failure}
 
@@ -36,7 +36,7 @@ store_told desk.Ceiling is = cc
 
 pub enrolment_counted : {A : Type 0} (fault : DeskFault) (f : Failure) (old new : ℕ)
     → f ≡ enrolment_failure fault → (fault ≡ desk.Store → HasRisen old new)
-    → IsCounted {A = A} (Err f) old new
+    → IsEndCounted {A = A} (Err f) old new
 enrolment_counted {A} fault f old new is cause store =
     cause (store_told fault (sym is ∙ same_failure store)) where
       same_failure : ◌≡◌ {A = Result A Failure} (Err f) (Err Store) → f ≡ Store
@@ -88,7 +88,7 @@ same_failure f e = cc
 -- nor does the close of one
 pub served_counted : {A : Type 0} (done : Result A Failure) (served : Result Served ServeFault)
     (closed : Result ⊤ Failure) (old new : ℕ) → IfErr closed IsDenied
-    → failing done ≡ first_failure (failure_at served) (failing closed) → IsCounted done old new
+    → failing done ≡ first_failure (failure_at served) (failing closed) → IsEndCounted done old new
 served_counted (Ok d) served closed old new denied is store = cc
 served_counted (Err f) served closed old new denied is store =
     absurd (by (failure_at served) closed refl denied (ap Some (sym (same_failure f store)) ∙ is)) where
@@ -103,7 +103,7 @@ served_counted (Err f) served closed old new denied is store =
 
 -- nor does the machine
 pub denied_counted : {A : Type 0} (done : Result A Failure) (f : Failure) (old new : ℕ)
-    → IsErrAnd done (λ e. e ≡ f) → IsDenied f → IsCounted done old new
+    → IsErrAnd done (λ e. e ≡ f) → IsDenied f → IsEndCounted done old new
 denied_counted (Ok d) f old new is denied store = cc
 denied_counted (Err e) f old new is denied store =
     absurd (denied_no_store (subst IsDenied (sym is ∙ same_failure e store) denied))
@@ -111,18 +111,18 @@ denied_counted (Err e) f old new is denied store =
 -- an operator of news that could not be listed
 pub news_counted : {A : Type 0} (done : Result A Failure) (fault : DeskFault) (old new : ℕ)
     → IsErrAnd done (λ e. e ≡ enrolment_failure fault) → (fault ≡ desk.Store → HasRisen old new)
-    → IsCounted done old new
+    → IsEndCounted done old new
 news_counted (Ok d) fault old new is cause store = cc
 news_counted (Err f) fault old new is cause store = enrolment_counted fault f old new is cause store
 
 -- what was counted later was counted
 pub counted_later : {A : Type 0} (done : Result A Failure) (old mid new : ℕ) → old ≤ mid
-    → IsCounted done mid new → IsCounted done old new
+    → IsEndCounted done mid new → IsEndCounted done old new
 counted_later done old mid new more h store few = omega (arith, more, h store few)
 
 pub counted_on : {A B : Type 0} (one : Result A Failure) (whole : Result B Failure) (f : Failure)
-    (old mid new : ℕ) → one ≡ Err f → IsErrAnd whole (λ e. e ≡ f) → old ≤ mid → IsCounted one mid new
-    → IsCounted whole old new
+    (old mid new : ℕ) → one ≡ Err f → IsErrAnd whole (λ e. e ≡ f) → old ≤ mid → IsEndCounted one mid new
+    → IsEndCounted whole old new
 counted_on one (Ok d) f old mid new was is more h store = cc
 counted_on {A} one (Err e) f old mid new was is more h store =
     counted_later {A = A} one old mid new more h (was ∙ ap Err (sym is ∙ same_failure e store))

@@ -9,18 +9,18 @@ use Rattle.desk_wire.specs.Passage.{course, passed}
 use Rattle.desk_line.specs.declared.failure.Failure.{Failure}
 use Rattle.desk_line.specs.declared.line.Enrolment.{Enrolment}
 use Rattle.desk_line.specs.declared.line.Play.{Play as PlayWords}
-use Rattle.desk_line.specs.Exits.{Ending, EndsWith, FailsWith, IsBreakdown, IsBrokenDown, enrolment_failure}
+use Rattle.desk_line.specs.Exits.{Ending, EndsWith, FailsWith, IsBrokenDown, IsLineBreakdown, enrolment_failure}
 use Rattle.desk_program.specs.Enrolling.{AreListedSoFar, on_terms}
 use Rattle.desk_program.specs.Keeping.{FindsEnrolled}
-use Rattle.desk_program.specs.Playing.{IsNotPlayed}
+use Rattle.desk_program.specs.PlayLines.{IsNotPlayed}
 
 -- what it is told as
 pub told_breakdown : (fault : DeskFault) (f : Failure) → f ≡ enrolment_failure fault → IsDeskBreakdown fault
-    → IsBreakdown f
+    → IsLineBreakdown f
 told_breakdown fault f is (inl memory) = inl (is ∙ ap enrolment_failure memory)
 told_breakdown fault f is (inr store) = inr (is ∙ ap enrolment_failure store)
 
-ends_broken : (f : Failure) (end : Ending) → IsBreakdown f → EndsWith {A = ⊤} (Err f) end
+ends_broken : (f : Failure) (end : Ending) → IsLineBreakdown f → EndsWith {A = ⊤} (Err f) end
     → IsBrokenDown end
 ends_broken f end (inl memory) ends = inl (subst (λ v. FailsWith v end) memory ends)
 ends_broken f end (inr store) ends = inr (subst (λ v. FailsWith v end) store ends)

@@ -9,10 +9,10 @@ use Rattle.desk_store.specs.Crashes.{LeavesNoMore, LeavesOldOr, LeavesOnly}
 use Rattle.desk_run.specs.DeskWorld.{DeskWorld, enrolled}
 use Rattle.desk_ends.specs.declared.playing.PlayEnd.{PlayEnd}
 use Rattle.desk_wire.specs.Given.{told_in_play}
-use Rattle.desk_wire.specs.Crashes.{IsCertain, IsFoundNow, IsKept, IsLeftBy}
+use Rattle.desk_wire.specs.RequestsKept.{IsCertain, IsFoundNow, IsKept, IsLeftBy}
 use Rattle.desk_wire.specs.Passage.{Passage, course}
 use Rattle.desk_wire.specs.Playing.{HasPlayed}
-use Rattle.desk_wire.specs.Serving.{HasServed, IsTaken}
+use Rattle.desk_wire.specs.OneRequest.{HasServed, IsTaken}
 use Rattle.desk_line.specs.declared.failure.Failure.{Failure}
 use Rattle.desk_line.specs.declared.line.Enrolment.{Enrolment}
 use Rattle.desk_line.specs.declared.line.Play.{Play as PlayWords}
@@ -20,9 +20,9 @@ use Rattle.desk_line.specs.declared.line.Serve.{Serve as ServeWords}
 use Rattle.desk_line.specs.Exits.{Ending, EndsWith, failure_after, failure_at}
 use Rattle.desk_program.specs.Enrolling.{AreEnrolled, HasListed, on_terms, with_operators}
 use Rattle.desk_program.specs.Keeping.{AreKept, AreKeptSoFar, FindsListed, FindsNews, IsFoundServed, IsLeftByOne, IsPlayKept, IsPortKept}
-use Rattle.desk_program.specs.Playing.{done_unless}
+use Rattle.desk_program.specs.PlayLines.{done_unless}
 use Rattle.desk_program.specs.Recorded.{IsOpen}
-use Rattle.desk_program.specs.Serving.{AreNoted, AreServed, BringsNews, Denies, EndsAfter, EndsAtNews, Exchange, Grows, IsDenied, IsLast, IsUnsent, Listens, Traffic, failing, first_failure, news_of, outcome_of, passage_of}
+use Rattle.desk_program.specs.Serving.{AreNoted, AreServed, BringsNews, Denies, EndsAfter, EndsAtNews, Exchange, Grows, IsDenied, IsLastNews, IsUnsent, Listens, Traffic, failing, first_failure, news_of, outcome_of, passage_of}
 use Rattle.desk_program.proofs.ServedLemmas.{all_then, all_unsent, both_more, both_news, both_noted, both_served, none, none_last, none_more, not_ok, one_closed, one_ends, served_then, stays, stops}
 
 -- ---- enrolments
@@ -146,8 +146,8 @@ module _ {A B C : Type 0} where
       → AreKept K then k b c v w mid now → m + k ≤ n
       → ((xs ys : List Exchange) (one last : Option (List Enrolment)) → EndsAfter {A = A} (Ok d) m xs one
       → EndsAfter then k ys last → EndsAfter whole n (xs ++ ys) last)
-      → ((last : Option (List Enrolment)) (x y : DeskWorld) → IsLast K last then x y
-      → IsLast K last whole x y) → ((P : Type 0) → OnOk then P → OnOk whole P)
+      → ((last : Option (List Enrolment)) (x y : DeskWorld) → IsLastNews K last then x y
+      → IsLastNews K last whole x y) → ((P : Type 0) → OnOk then P → OnOk whole P)
       → AreKept K whole n a c u w before now
   both_kept H K by d then whole m k n a b c u v w before mid now h t few ends lasts well =
       let xs = h.taken.exchanges in
@@ -200,7 +200,7 @@ none_kept H done count old new w after before now denies still left ends no_more
 -- news are brought, and no connection is taken then
 last_news : {A : Type 0} (H : Type 0) (done : Result A Failure) (f : Failure) (news : List Enrolment)
     (w after : DeskWorld) → IsErrAnd done (λ e. e ≡ f) → EndsAtNews H f news w after
-    → IsLast H (Some news) done w after
+    → IsLastNews H (Some news) done w after
 last_news H (Ok d) f news w after is ends = absurd is
 last_news H (Err e) f news w after is ends = subst (λ v. EndsAtNews H v news w after) (sym is) ends
 

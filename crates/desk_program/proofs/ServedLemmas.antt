@@ -10,7 +10,7 @@ use Rattle.desk_ends.specs.declared.serving.Served.TheVariants.{Answered, End}
 use Rattle.desk_ends.specs.declared.serving.ServeFault.{ServeFault}
 use Rattle.desk_ends.specs.declared.serving.ServeFault.TheVariants.{Read, Write, CutShort, OutOfMemory}
 use Rattle.desk_wire.specs.Passage.{Passage}
-use Rattle.desk_wire.specs.Serving.{HasServed, IsReplied}
+use Rattle.desk_wire.specs.OneRequest.{HasServed, IsReplied}
 use Rattle.desk_wire.specs.declared.response.ServerError.{ServerError}
 use Rattle.desk_line.specs.declared.failure.Failure.{Failure}
 use Rattle.desk_line.specs.Exits.{failure_at}
@@ -18,7 +18,7 @@ use Rattle.desk_line.specs.declared.line.Serve.{Serve as ServeWords}
 use Rattle.desk_line.specs.declared.line.Enrolment.{Enrolment}
 use Rattle.desk_program.specs.Enrolling.{AreEnrolled, on_terms, with_operators}
 use Rattle.desk_program.specs.Recorded.{IsCutOff, IsOpen, Noted, Recorded, Ended, Open, RecordsNone, with_news, with_request}
-use Rattle.desk_program.specs.Serving.{AreNoted, AreServed, AreTaken, Denies, EndsAfter, EndsAtNews, EndsBy, Exchange, Grows, IsAtPort, IsDenied, IsLast, IsUnsent, Listens, Parting, Traffic, failing, first_failure, news_of, outcome_of, passage_of}
+use Rattle.desk_program.specs.Serving.{AreNoted, AreServed, AreTaken, Denies, EndsAfter, EndsAtNews, EndsDeskBy, Exchange, Grows, IsAtPort, IsDenied, IsLastNews, IsUnsent, Listens, Parting, Traffic, failing, first_failure, news_of, outcome_of, passage_of}
 
 -- ---- the connections that are taken
 
@@ -185,7 +185,7 @@ both_news (x ∷ xs) ys last = ap (λ rest. x.news ∷ rest) (both_news xs ys la
 
 -- a desk that goes on has listed the operators of all news
 pub none_last : {A : Type 0} (H : Type 0) (last : Option (List Enrolment)) (d : A) (w after : DeskWorld)
-    → IsLast H last (Ok d) w after → (last ≡ None) × (after ≡ w)
+    → IsLastNews H last (Ok d) w after → (last ≡ None) × (after ≡ w)
 none_last H None d w after h = (refl, h)
 none_last H (Some news) d w after h = absurd h
 
@@ -266,14 +266,14 @@ goes_on_by d e whole then is m k xs ys one last first ends =
 
 -- a failure is handed on
 pub stops : {A : Type 0} (whole : Result A Failure) (f : Failure) → IsErrAnd whole (λ e. e ≡ f)
-    → (count : ℕ) (xs : List Exchange) (last : Option (List Enrolment)) → EndsBy f xs last
+    → (count : ℕ) (xs : List Exchange) (last : Option (List Enrolment)) → EndsDeskBy f xs last
     → EndsAfter whole count xs last
 stops (Ok d) f is count xs last ends = absurd is
-stops (Err e) f is count xs last ends = subst (λ v. EndsBy v xs last) (sym is) ends
+stops (Err e) f is count xs last ends = subst (λ v. EndsDeskBy v xs last) (sym is) ends
 
 -- a failure comes after connections that the desk went on after
 ends_more : (f : Failure) (xs ys : List Exchange) (last : Option (List Enrolment))
-    → All (λ x. failure_at x.served ≡ None) xs → EndsBy f ys last → EndsBy f (xs ++ ys) last
+    → All (λ x. failure_at x.served ≡ None) xs → EndsDeskBy f ys last → EndsDeskBy f (xs ++ ys) last
 ends_more f [] ys last on ends = ends
 ends_more f (x ∷ xs) ys last on ends = inl (
   All-head (λ z. failure_at z.served ≡ None) x xs on,
@@ -289,20 +289,20 @@ stops_by d whole f then is was m n k xs ys one last first ends = stops whole f i
 
 -- so are the last news
 pub last_goes_on : {B C : Type 0} (H : Type 0) (then : Result B Failure) (e : B) (whole : C) → then ≡ Ok e
-    → (last : Option (List Enrolment)) (w after : DeskWorld) → IsLast H last then w after
-    → IsLast {A = C} H last (Ok whole) w after
+    → (last : Option (List Enrolment)) (w after : DeskWorld) → IsLastNews H last then w after
+    → IsLastNews {A = C} H last (Ok whole) w after
 last_goes_on H then e whole is None w after h = h
 last_goes_on H then e whole is (Some news) w after h =
-    absurd (subst (λ r. IsLast H (Some news) r w after) is h)
+    absurd (subst (λ r. IsLastNews H (Some news) r w after) is h)
 
 pub last_stops : {A B : Type 0} (H : Type 0) (whole : Result A Failure) (f : Failure)
     (then : Result B Failure) → IsErrAnd whole (λ e. e ≡ f) → then ≡ Err f
-    → (last : Option (List Enrolment)) (w after : DeskWorld) → IsLast H last then w after
-    → IsLast H last whole w after
+    → (last : Option (List Enrolment)) (w after : DeskWorld) → IsLastNews H last then w after
+    → IsLastNews H last whole w after
 last_stops H whole f then is was None w after h = h
 last_stops H (Ok d) f then is was (Some news) w after h = absurd is
 last_stops H (Err e) f then is was (Some news) w after h = subst (λ v. EndsAtNews H v news w after) (sym is)
-    (subst (λ r. IsLast H (Some news) r w after) was h)
+    (subst (λ r. IsLastNews H (Some news) r w after) was h)
 
 -- the operators are listed, and no connection is taken
 pub unserved : {A : Type 0} (H : Type 0) (done : Result A Failure) (f : Failure) (serve : ServeWords)

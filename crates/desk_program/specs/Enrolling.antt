@@ -38,8 +38,8 @@ HasListedNews H (Ok done) es w after = AreEnrolled H es w after
 HasListedNews H (Err fault) es w after = AreListedSoFar H es w after
 
 -- if the store is honest, the operator is listed under its ceiling, and nothing else is changed
-abbrev pub Lists : Type 0 → Enrolment → DeskWorld → DeskWorld → Type 0
-Lists H e w after = H → after ≡ enrolled w e.operator e.ceiling
+abbrev pub ListsOperator : Type 0 → Enrolment → DeskWorld → DeskWorld → Type 0
+ListsOperator H e w after = H → after ≡ enrolled w e.operator e.ceiling
 
 -- the line that is printed of it
 unfoldable pub enrolled_line : Enrolment → List ℕ

@@ -4,9 +4,9 @@ use Rattle.std.specs.Prelude.{◌≡◌, ◌⊎◌, ◌+◌, ⊤, ℕ, List, [],
 use Rattle.desk_store.specs.World.{World}
 use Rattle.desk_run.specs.DeskWorld.{DeskWorld, enrolled}
 use Rattle.desk_wire.specs.Given.{told_in_play}
-use Rattle.desk_wire.specs.Crashes.{IsCertain, IsKept, IsLeftBy}
+use Rattle.desk_wire.specs.RequestsKept.{IsCertain, IsKept, IsLeftBy}
 use Rattle.desk_wire.specs.Passage.{Course, Passage}
-use Rattle.desk_wire.specs.Serving.{HasServed, IsTaken}
+use Rattle.desk_wire.specs.OneRequest.{HasServed, IsTaken}
 use Rattle.desk_line.specs.declared.failure.Failure.{Failure}
 use Rattle.desk_line.specs.declared.line.Enrolment.{Enrolment}
 use Rattle.desk_line.specs.declared.line.Line.{Line}
@@ -16,8 +16,8 @@ use Rattle.desk_line.specs.declared.line.Serve.{Serve as ServeWords}
 use Rattle.desk_line.specs.Exits.{Ending, EndsWith, IsBrokenDown}
 use Rattle.desk_program.specs.Enrolling.{AreListedSoFar, on_terms, with_operators}
 use Rattle.desk_program.specs.Outside.{Outside}
-use Rattle.desk_program.specs.Playing.{IsNotPlayed, IsPlayed}
-use Rattle.desk_program.specs.Serving.{AreTaken, Exchange, HasBegun, IsNotBegun, Traffic, passage_of}
+use Rattle.desk_program.specs.PlayLines.{IsNotPlayed, IsPlayed}
+use Rattle.desk_program.specs.Serving.{AreTaken, Exchange, HasBegunServing, IsNotBegun, Traffic, passage_of}
 
 -- the first operators are listed, and not all of them; what is found has these, or these and the next one
 pub record AreKeptSoFar (H : Type 0) (es : List Enrolment) (w after : DeskWorld) (found : Option World) :
@@ -107,7 +107,7 @@ abbrev pub IsPortKept :
     {A : Type 0} → Type 0 → Result A Failure → ServeWords → Course Traffic → DeskWorld → DeskWorld
     → Option World → Type 0
 IsPortKept H done serve port w after found =
-    ((begun : HasBegun H done serve port.before port.after w after)
+    ((begun : HasBegunServing H done serve port.before port.after w after)
     × IsFoundServed begun.taken.exchanges begun.taken.last after found)
     ⊎ (IsNotBegun H done serve port.before port.after w after
     × AreKeptSoFar H serve.enrolments.items (on_terms w serve.terms) after found)

@@ -1,13 +1,13 @@
 -- Read first: Playing, Serving.
-pub mod Causes
+pub mod EndCauses
 pub mod Enrolling
 pub mod Serving
 pub mod Outside
-pub mod Playing
+pub mod PlayLines
 pub mod Waiting
 pub mod Keeping
-pub mod Inputs
+pub mod PortPlays
 pub mod Recorded
-pub mod Running
-pub mod Moving
+pub mod CarryingOut
+pub mod MovedLine
 pub mod Looking

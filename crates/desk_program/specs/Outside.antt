@@ -16,8 +16,8 @@ abbrev pub outside : Passage → Traffic → Traffic → Ending → Outside
 outside bytes from to end = record { bytes = bytes; port = course from to; end = end }
 
 -- the bytes that a writer has
-abbrev pub written : {W : Type 0} → write.Ghosts W → W → W → Course (Option (List ℕ))
-written w before after = course (w.contents before) (w.contents after)
+abbrev pub bytes_written : {W : Type 0} → write.Ghosts W → W → W → Course (Option (List ℕ))
+bytes_written w before after = course (w.contents before) (w.contents after)
 
 -- how a line ended, by its error writer
 abbrev pub ended : {E : Type 0} → write.Ghosts E → Exit E → E → E → Ending

@@ -6,11 +6,11 @@ use Rattle.desk_ends.specs.declared.serving.Served.{Served}
 use Rattle.desk_ends.specs.declared.serving.Served.TheVariants.{Answered, End}
 use Rattle.desk_ends.specs.declared.serving.ServeFault.{ServeFault}
 use Rattle.desk_wire.specs.Passage.{Course, Passage, passed}
-use Rattle.desk_wire.specs.Serving.{HasServed}
+use Rattle.desk_wire.specs.OneRequest.{HasServed}
 use Rattle.desk_line.specs.declared.failure.Failure.{Failure}
 use Rattle.desk_line.specs.declared.line.Serve.{Serve as ServeWords}
 use Rattle.desk_line.specs.declared.failure.Failure.TheVariants as failure
-use Rattle.desk_line.specs.Exits.{Ending, EndsWith, IsAnnounced, IsBreakdown, failure_at}
+use Rattle.desk_line.specs.Exits.{Ending, EndsWith, IsAnnounced, IsLineBreakdown, failure_at}
 use Rattle.desk_line.specs.declared.line.Enrolment.{Enrolment}
 use Rattle.desk_program.specs.declared.port.Outcome.{Outcome}
 use Rattle.desk_program.specs.Enrolling.{AreEnrolled, AreListedSoFar, on_terms, with_operators}
@@ -69,8 +69,8 @@ abbrev pub Listens : Traffic → Traffic → ℕ → Type 0
 Listens old new number = Grows old.listened new.listened (number ∷ []) × (new.taken ≡ old.taken)
     × (new.closed ≡ old.closed) × (new.news ≡ old.news) × (new.recorded ≡ old.recorded)
 
-abbrev pub Takes : Traffic → Traffic → Arrival → Type 0
-Takes old new arrival = Grows old.taken new.taken (arrival ∷ []) × (new.closed ≡ old.closed)
+abbrev pub TakesArrival : Traffic → Traffic → Arrival → Type 0
+TakesArrival old new arrival = Grows old.taken new.taken (arrival ∷ []) × (new.closed ≡ old.closed)
     × (new.listened ≡ old.listened) × (new.news ≡ old.news)
     × RecordsRequest old.recorded new.recorded arrival.moment arrival.bytes
 
@@ -175,14 +175,14 @@ IsDenied f =
 -- or all are listed, and the machine denied something
 abbrev pub EndsAtNews : Type 0 → Failure → List Enrolment → DeskWorld → DeskWorld → Type 0
 EndsAtNews H f news w after =
-    (IsBreakdown f × AreListedSoFar H news w after) ⊎ (IsDenied f × AreEnrolled H news w after)
+    (IsLineBreakdown f × AreListedSoFar H news w after) ⊎ (IsDenied f × AreEnrolled H news w after)
 
 -- what was told after the last connection that was taken is listed, as far as it could be, if the desk ended
-abbrev pub IsLast :
+abbrev pub IsLastNews :
     {A : Type 0} → Type 0 → Option (List Enrolment) → Result A Failure → DeskWorld → DeskWorld → Type 0
-IsLast H None done w after = after ≡ w
-IsLast H (Some news) (Ok done) w after = ⊥
-IsLast H (Some news) (Err failure) w after = EndsAtNews H failure news w after
+IsLastNews H None done w after = after ≡ w
+IsLastNews H (Some news) (Ok done) w after = ⊥
+IsLastNews H (Some news) (Err failure) w after = EndsAtNews H failure news w after
 
 -- the news of connections, and the last of them
 abbrev pub news_of : List Exchange → Option (List Enrolment) → List (List Enrolment)
@@ -190,10 +190,10 @@ news_of xs last = map (λ x. x.news) xs ++ option_to_list last
 
 -- the failure is what the last of these connections ended the desk with, or came as that was closed or after
 -- it, with the news for which no connection was taken; none before ended the desk
-abbrev pub EndsBy : Failure → List Exchange → Option (List Enrolment) → Type 0
-EndsBy f [] None = IsDenied f
-EndsBy f [] (Some news) = ⊤
-EndsBy f (x ∷ xs) last = ((failure_at x.served ≡ None) × EndsBy f xs last)
+abbrev pub EndsDeskBy : Failure → List Exchange → Option (List Enrolment) → Type 0
+EndsDeskBy f [] None = IsDenied f
+EndsDeskBy f [] (Some news) = ⊤
+EndsDeskBy f (x ∷ xs) last = ((failure_at x.served ≡ None) × EndsDeskBy f xs last)
     ⊎ ((failure_at x.served ≡ Some f) × (xs ≡ []) × (last ≡ None))
 
 -- no more connections are taken, since they are as many as were asked for, and the desk failed at none; or
@@ -201,7 +201,7 @@ EndsBy f (x ∷ xs) last = ((failure_at x.served ≡ None) × EndsBy f xs last)
 abbrev pub EndsAfter : {A : Type 0} → Result A Failure → ℕ → List Exchange → Option (List Enrolment) → Type 0
 EndsAfter (Ok done) count exchanges last =
     (length exchanges ≡ count) × All (λ x. failure_at x.served ≡ None) exchanges
-EndsAfter (Err failure) count exchanges last = EndsBy failure exchanges last
+EndsAfter (Err failure) count exchanges last = EndsDeskBy failure exchanges last
 
 -- connections are taken, at most so many, and what is left is what their requests and the news leave. If that
 -- ended well, all that was to be recorded is
@@ -220,12 +220,12 @@ pub record AreTaken {A : Type 0} (H : Type 0) (done : Result A Failure) (count :
   pub recorded : AreNoted old.recorded exchanges last new.recorded
   pub stays_open : IsOpen old.recorded → OnOk done (IsOpen new.recorded)
   pub served : AreServed H exchanges w between
-  pub untaken : IsLast H last done between after
+  pub untaken : IsLastNews H last done between after
   pub ends : EndsAfter done count exchanges last
 
 -- the desk plans on the line's terms and its operators are listed, the port is asked to listen at the line's
 -- number, and then connections are taken
-pub record HasBegun {A : Type 0} (H : Type 0) (done : Result A Failure) (serve : ServeWords)
+pub record HasBegunServing {A : Type 0} (H : Type 0) (done : Result A Failure) (serve : ServeWords)
     (old new : Traffic) (w after : DeskWorld) : Type 0 where
   pub begun : DeskWorld
   pub listed : H → begun ≡ with_operators (on_terms w serve.terms) serve.enrolments.items
@@ -236,7 +236,7 @@ pub record HasBegun {A : Type 0} (H : Type 0) (done : Result A Failure) (serve :
 -- an operator could not be listed: those before it are, and no connection is taken
 pub record IsNotBegun {A : Type 0} (H : Type 0) (done : Result A Failure) (serve : ServeWords)
     (old new : Traffic) (w after : DeskWorld) : Type 0 where
-  pub broken : IsErrAnd done IsBreakdown
+  pub broken : IsErrAnd done IsLineBreakdown
   pub untaken : new ≡ old
   pub listed : AreListedSoFar H serve.enrolments.items (on_terms w serve.terms) after
 
@@ -244,7 +244,7 @@ abbrev pub IsAtPort :
     {A : Type 0} → Type 0 → Result A Failure → ServeWords → Traffic → Traffic
     → DeskWorld → DeskWorld → Type 0
 IsAtPort H done serve old new w after =
-    HasBegun H done serve old new w after ⊎ IsNotBegun H done serve old new w after
+    HasBegunServing H done serve old new w after ⊎ IsNotBegun H done serve old new w after
 
 -- a line of `serve` is carried out, prints that it listens, and ends as that does
 pub record IsLineServed (H : Type 0) (serve : ServeWords) (end : Ending) (port : Course Traffic)

@@ -1,6 +1,6 @@
 -- Waiting: how long a client is waited for, and the moment that a clock tells.
 use Rattle.std.specs.Prelude.{ℕ, ◌+◌, ◌*◌, ◌/◌, ℤ, pos, int_le, Option, Some, None, if◌then◌else◌}
-use Rattle.volume4d.specs.Limits.{max_second}
+use Rattle.volume4d.specs.VolumeLimits.{max_second}
 
 -- the nanoseconds of a second
 abbrev pub second : ℕ
@@ -12,9 +12,9 @@ patience = 10 * second
 
 -- when the time ends that all reads of a connection have together, or all its writes: that of the first of
 -- them, which is now, if there is no end yet
-abbrev pub end_of : Option ℕ → ℕ → ℕ
-end_of None now = now + patience
-end_of (Some last) now = last
+abbrev pub patience_end : Option ℕ → ℕ → ℕ
+patience_end None now = now + patience
+patience_end (Some last) now = last
 
 -- the moment so many nanoseconds after 1970: the second that has begun, if it is in range
 abbrev pub moment_at : ℕ → Option ℤ

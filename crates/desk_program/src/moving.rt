@@ -2,8 +2,8 @@
 
 ghost use Rattle.std.specs.Prelude.{◌≡◌, IfOk, string_bytes};
 ghost use Rattle.desk_line.specs.Exits.{ending};
-ghost use Rattle.desk_program.specs.Moving as spec;
-ghost use Rattle.desk_program.specs.Moving.{IsCountPrinted};
+ghost use Rattle.desk_program.specs.MovedLine as spec;
+ghost use Rattle.desk_program.specs.MovedLine.{IsCountPrinted};
 
 use desk_ends::write_whole;
 use desk_line::{Exit, Failure, conclude};
@@ -31,7 +31,7 @@ pub fn print_migrated<W: Write, E: Write>(
 }
 
 // The line that tells how many plans were moved.
-#[tactic(auto, unfolding(crate::specs::Moving::migrated_line))]
+#[tactic(auto, unfolding(crate::specs::MovedLine::migrated_line))]
 fn migrated_text(alloc: Global, count: u32) -> Result<String, AllocError>
     ensures { IfOk result (λ text. string_bytes text ≡ spec.migrated_line count) }
 {

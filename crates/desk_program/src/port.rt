@@ -5,7 +5,7 @@ ghost use Rattle.desk_ends.specs.Moments.{IsMoment};
 ghost use Rattle.desk_line.specs.Lines.{AreEnrolments};
 ghost use Rattle.desk_program.specs.Recorded.{IsOpen};
 ghost use Rattle.desk_program.specs.Serving.{BringsNews, Closes, Denies, IsDenied, IsFresh, Listens};
-ghost use Rattle.desk_program.specs.Serving.{Takes, Traffic};
+ghost use Rattle.desk_program.specs.Serving.{TakesArrival, Traffic};
 ghost use Rattle.desk_program.specs.Serving.{arrived, parted, untold};
 
 use desk_line::{Enrolment, Failure};
@@ -83,7 +83,7 @@ pub trait Port {
     /// the request can't be recorded: the client was told that the desk failed.
     fn take(&mut self, alloc: Global) -> Result<Connection<Self::Input, Self::Output>, Failure>
         ensures moment { IfOk result (λ c. IsMoment c.moment) }
-        ensures taken { IfOk result (λ c. Takes (traffic self.old) (traffic self.new)
+        ensures taken { IfOk result (λ c. TakesArrival (traffic self.old) (traffic self.new)
             (arrived c.moment (Self.Input.remaining c.input))) }
         ensures unsent { IfOk result (λ c. IsFresh (traffic self.old) (Self.Output.contents c.output)) }
         ensures same { OnErr result (Denies (traffic self.old) (traffic self.new)) }

@@ -10,12 +10,12 @@ ghost use Rattle.desk_wire.specs.Passage.{passage};
 ghost use Rattle.desk_line.specs.Exits as spec;
 ghost use Rattle.desk_rules.specs.Limits.{max_priority};
 ghost use Rattle.desk_line.specs.Lines.{AreEnrolments, HasDesk, IsLine, IsPlay};
-ghost use Rattle.desk_program.specs.Causes.{HasCause};
+ghost use Rattle.desk_program.specs.EndCauses.{HasCause};
 ghost use Rattle.desk_program.specs.Enrolling as enrolling;
 ghost use Rattle.desk_program.specs.Enrolling.{HasListed, HasListedNews, on_terms};
 ghost use Rattle.desk_program.specs.Keeping.{FindsEnrolled, FindsListed, FindsNews, IsLinePlayKept, IsPlayKept};
-ghost use Rattle.desk_program.specs.Outside.{ended, written};
-ghost use Rattle.desk_program.specs.Playing.{IsEnrolled, IsLinePlayed, IsPlayDone, done_unless};
+ghost use Rattle.desk_program.specs.Outside.{bytes_written, ended};
+ghost use Rattle.desk_program.specs.PlayLines.{IsEnrolled, IsLinePlayed, IsPlayDone, done_unless};
 
 use desk_ends::{PlayEnd, write_whole};
 use desk_line::{Enrolment, Exit, Failure, Line, Play, conclude};
@@ -103,10 +103,10 @@ fn enrol_line<S: PlanStore, W: Write, E: Write>(
 ) -> Exit<E>
     requires { enrolment.now.ceiling ≤ max_priority }
     ensures enrolled { IsEnrolled (IsHonest (S.doubt desk.new.store)) enrolment.now
-        (ended E.Write result errors.old errors.new) (written W.Write output.old output.new)
+        (ended E.Write result errors.old errors.new) (bytes_written W.Write output.old output.new)
         (world_of S.content desk.old) (world_of S.content desk.new) }
     ensures kept { FindsOnly S.PlanStore desk.old desk.new (FindsEnrolled enrolment.now
-        (ended E.Write result errors.old errors.new) (written W.Write output.old output.new)
+        (ended E.Write result errors.old errors.new) (bytes_written W.Write output.old output.new)
         (world_of S.content desk.old)) }
     ensures remembered { Remembers S.doubt S.faults S.is_shielded desk.old.store desk.new.store }
     ensures cause { HasCause S.PlanStore desk.old desk.new (ended E.Write result errors.old errors.new) }

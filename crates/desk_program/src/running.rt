@@ -5,7 +5,7 @@ ghost use Rattle.std.specs.Option.{IsSomeAnd};
 ghost use Rattle.desk_line.specs.Lines.{HasDatabase, IsLine};
 ghost use Rattle.desk_wire.specs.Passage.{passage};
 ghost use Rattle.desk_program.specs.Outside.{ended, outside};
-ghost use Rattle.desk_program.specs.Running.{CarriesOut, IsUnopened};
+ghost use Rattle.desk_program.specs.CarryingOut.{CarriesOut, IsUnopened};
 
 use crate::port::Port;
 use crate::program::with_desk;

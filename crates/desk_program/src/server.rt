@@ -10,10 +10,10 @@ ghost use Rattle.desk_line.specs.Written.{HasBegun};
 ghost use Rattle.desk_run.specs.DeskFrames.{FindsOnly};
 ghost use Rattle.desk_run.specs.DeskWorld.{world_of};
 ghost use Rattle.desk_wire.specs.Passage.{course};
-ghost use Rattle.desk_program.specs.Causes.{HasCause, IsCounted};
-ghost use Rattle.desk_program.specs.Inputs.{IsInputKept, IsInputPlayed};
+ghost use Rattle.desk_program.specs.EndCauses.{HasCause, IsEndCounted};
+ghost use Rattle.desk_program.specs.PortPlays.{IsInputKept, IsInputPlayed};
 ghost use Rattle.desk_program.specs.Keeping.{AreKept, IsPortKept, IsServeKept};
-ghost use Rattle.desk_program.specs.Outside.{ended, written};
+ghost use Rattle.desk_program.specs.Outside.{bytes_written, ended};
 ghost use Rattle.desk_program.specs.Serving as spec;
 ghost use Rattle.desk_program.specs.Serving.{AreTaken, IsAtPort, IsDenied, IsLineServed, Listens, failing};
 ghost use Rattle.desk_program.specs.Serving.{first_failure, listening_line};
@@ -47,7 +47,8 @@ pub fn serve<S: PlanStore, P: Port, W: Write, E: Write>(
     requires { IsServe line.now }
     ensures served { IsLineServed (IsHonest (S.doubt desk.new.store)) line.now
         (ended E.Write result errors.old errors.new) (course (P.traffic port.old) (P.traffic port.new))
-        (written W.Write output.old output.new) (world_of S.content desk.old) (world_of S.content desk.new) }
+        (bytes_written W.Write output.old output.new) (world_of S.content desk.old)
+        (world_of S.content desk.new) }
     ensures kept { FindsOnly S.PlanStore desk.old desk.new (IsServeKept (IsHonest (S.doubt desk.new.store))
         line.now (ended E.Write result errors.old errors.new) (course (P.traffic port.old)
         (P.traffic port.new)) (world_of S.content desk.old) (world_of S.content desk.new)) }
@@ -74,7 +75,7 @@ fn serve_line<S: PlanStore, P: Port, W: Write>(
     ensures printed { IsAnnounced result (listening_line line.now.port) (W.contents output.old)
         (W.contents output.new) }
     ensures remembered { Remembers S.doubt S.faults S.is_shielded desk.old.store desk.new.store }
-    ensures cause { IsCounted result (S.faults desk.old.store) (S.faults desk.new.store) }
+    ensures cause { IsEndCounted result (S.faults desk.old.store) (S.faults desk.new.store) }
 {
     set_up(desk, &line.terms, &line.enrolments)?;
     listen(alloc, port, line.port, output)?;
@@ -136,7 +137,7 @@ pub fn play_port<S: PlanStore, P: Port>(
         result play.now (course (P.traffic port.old) (P.traffic port.new)) (world_of S.content desk.old)
         (world_of S.content desk.new)) }
     ensures remembered { Remembers S.doubt S.faults S.is_shielded desk.old.store desk.new.store }
-    ensures cause { IsCounted result (S.faults desk.old.store) (S.faults desk.new.store) }
+    ensures cause { IsEndCounted result (S.faults desk.old.store) (S.faults desk.new.store) }
 {
     set_up(desk, &play.terms, &play.enrolments)?;
     serve_connections(alloc, port, MAX_ANSWERED, desk)
@@ -156,7 +157,7 @@ fn serve_connections<S: PlanStore, P: Port>(
         (P.traffic port.old) (P.traffic port.new) (world_of S.content desk.old)
         (world_of S.content desk.new) (S.may_leave desk.old.store) (S.may_leave desk.new.store) }
     ensures remembered { Remembers S.doubt S.faults S.is_shielded desk.old.store desk.new.store }
-    ensures cause { IsCounted result (S.faults desk.old.store) (S.faults desk.new.store) }
+    ensures cause { IsEndCounted result (S.faults desk.old.store) (S.faults desk.new.store) }
 {
     for before in 0..count {
         serve_connection(alloc, port, desk)?;
@@ -178,7 +179,7 @@ fn serve_connection<S: PlanStore, P: Port>(
         (P.traffic port.old) (P.traffic port.new) (world_of S.content desk.old)
         (world_of S.content desk.new) (S.may_leave desk.old.store) (S.may_leave desk.new.store) }
     ensures remembered { Remembers S.doubt S.faults S.is_shielded desk.old.store desk.new.store }
-    ensures cause { IsCounted result (S.faults desk.old.store) (S.faults desk.new.store) }
+    ensures cause { IsEndCounted result (S.faults desk.old.store) (S.faults desk.new.store) }
 {
     let news = port.news(alloc)?;
     enrol_news(desk, &news)?;

@@ -5,7 +5,7 @@ ghost use Rattle.std.specs.Duration.{as_nanos};
 ghost use Rattle.std.specs.Io.{ReadsAtMost, WritesAtMost};
 ghost use Rattle.std.specs.Io.KnownBytes.{ReadConsumes, WriteAppends};
 ghost use Rattle.std.specs.Time.{instant_nanos};
-ghost use Rattle.desk_program.specs.Waiting.{end_of, patience};
+ghost use Rattle.desk_program.specs.Waiting.{patience, patience_end};
 
 use std::io::{self, ErrorKind, Read, Write};
 use std::net::{OpenStream, Shutdown};
@@ -132,7 +132,7 @@ fn time_left(now: Instant, end: &mut Option<Instant>) -> io::Result<Duration>
     ensures left { IfOk result (λ left. IsSomeAnd end.new (λ last.
         instant_nanos now + as_nanos left ≡ instant_nanos last)) }
     ensures whole { IfOk result (λ left. instant_nanos now + as_nanos left
-        ≡ end_of (option_map instant_nanos end.old) (instant_nanos now)) }
+        ≡ patience_end (option_map instant_nanos end.old) (instant_nanos now)) }
 {
     let last = match *end {
         Some(last) => last,

@@ -1,7 +1,7 @@
 -- The volumes of an area, and their number.
 use Rattle.std.proofs.Common.{◌≡◌, ◌∙◌, List, true, false, length, Ok, Err, ap}
 use Rattle.std.specs.Int.{is_in_range}
-use Rattle.volume4d.specs.Limits.{max_volumes}
+use Rattle.volume4d.specs.VolumeLimits.{max_volumes}
 use Rattle.volume4d.specs.Volume.{Block, is_area}
 use Rattle.serde_json.proofs.Views.{items_len-items_view}
 use Rattle.serde_json.specs.View.{items_view}

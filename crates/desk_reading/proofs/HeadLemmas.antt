@@ -21,7 +21,7 @@ use Rattle.httparse.specs.declared.Status.TheVariants.{Complete, Partial}
 use Rattle.httparse.specs.declared.spans.HeaderSpan.{HeaderSpan}
 use Rattle.httparse.specs.declared.spans.RequestSpans.{RequestSpans}
 use Rattle.httparse.specs.Spans.{IsRequestOf, IsRequestAt, FindsRequest}
-use Rattle.desk_reading.specs.Heads.{head_within, parts_of, parts_at, Line, line, with_front, lines, before, after, field_of, fields_of, last_of, head_at, head_of, is_field, is_request_head, checked_head, head_in}
+use Rattle.desk_reading.specs.Heads.{head_within, head_parts, parts_at, Line, line, with_front, lines, before, after, field_of, fields_of, last_of, head_at, head_of, is_field, is_request_head, checked_head, head_in}
 
 -- ---- classes of bytes
 
@@ -398,7 +398,7 @@ head_within-none room text none = by (head_in text) refl
 pub parts_at-whole : (text : List ℕ) (headers : List HeaderSpan) (r : RequestSpans)
     → IsRequestOf text headers r
     → length headers ≡ 64 → r.len ≡ length text
-    → Some (parts_at text r headers) ≡ option_map parts_of (head_within 64 text)
+    → Some (parts_at text r headers) ≡ option_map head_parts (head_within 64 text)
 parts_at-whole text headers r (h, at) room all =
     let rest : drop r.len text ≡ [] = drop_all r.len text (omega arith) in
     let whole : ReadsRequest text h [] =
@@ -412,7 +412,7 @@ parts_at-whole text headers r (h, at) room all =
 pub no_parts : (text : List ℕ) (headers : List HeaderSpan) (r : Result (Status RequestSpans) Error)
     → FindsRequest text 64 headers r → ((spans : RequestSpans) → r ≡ Ok (Complete spans)
     → spans.len ≢ length text)
-    → None ≡ option_map parts_of (head_within 64 text)
+    → None ≡ option_map head_parts (head_within 64 text)
 no_parts text headers r finds short =
     rw (head_within-none 64 text (λ h reads fits. clash h r short (finds h [] reads fits) reads.1)) refl
   where

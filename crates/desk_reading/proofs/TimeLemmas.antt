@@ -12,7 +12,7 @@ use Rattle.jiff_core.specs.Time.{IsTime}
 use Rattle.jiff_core.specs.Timestamp.{IsTimestampNanos}
 use Rattle.desk_reading.specs.declared.times.CivilTime.{CivilTime}
 use Rattle.desk_reading.specs.declared.times.WrittenTime.{WrittenTime}
-use Rattle.desk_reading.specs.Times.{is_civil, is_instant, civil_second, utc_second, second_of, IsShort, IsShown, IsOffset}
+use Rattle.desk_reading.specs.Times.{is_civil, is_instant, civil_second, utc_second, second_of, IsInDigits, IsShownBy, IsOffset}
 
 abbrev Tests : ℕ → ℕ → ℕ → ℕ → ℕ → ℕ → Bool
 Tests m limit d h i s =
@@ -42,7 +42,7 @@ ranges_from_tests m limit d h i s r =
     )
 
 -- the library's constructor takes just the dates and times that there are
-pub civil_test : (w : CivilTime) → IsShort w
+pub civil_test : (w : CivilTime) → IsInDigits w
     → (IsDate (pos w.year) (pos w.month) (pos w.day)
     × IsTime (pos w.hour) (pos w.minute) (pos w.second) (pos 0)) ↔ (is_civil w ≡ true)
 unfolding is_civil
@@ -90,7 +90,7 @@ pub same_when_ok : {T E P : Type 0} (r : Result T E) (b : Bool) → (IsOk r ↔ 
 same_when_ok r b ok test = same_from_decides (is_ok r) b ok (test.1, test.0)
 
 -- the library's nanoseconds of a time
-pub nanos_shown : (t : WrittenTime) (shown : DateTime) (o : ℤ) → IsShown t.civil shown → o ≡ t.offset
+pub nanos_shown : (t : WrittenTime) (shown : DateTime) (o : ℤ) → IsShownBy t.civil shown → o ≡ t.offset
     → civil_nanos shown -ℤ o *ℤ pos 1_000_000_000 ≡ utc_second t *ℤ pos 1_000_000_000
 unfolding civil_nanos civil_second
 nanos_shown t shown o is offset =

@@ -99,8 +99,8 @@ pub record HeadParts : Type 0 where
   pub target : List ℕ
   pub fields : List (List ℕ × List ℕ)
 
-abbrev pub parts_of : RequestHead → HeadParts
-parts_of h = record { method = h.method; target = h.target; fields = map name_and_value h.fields }
+abbrev pub head_parts : RequestHead → HeadParts
+head_parts h = record { method = h.method; target = h.target; fields = map name_and_value h.fields }
 
 -- the same, of what a parser's spans cover
 abbrev pub parts_at : List ℕ → RequestSpans → List HeaderSpan → HeadParts

@@ -9,7 +9,7 @@ use Rattle.desk_reading.specs.declared.message.Message.{Message}
 use Rattle.desk_reading.specs.Readings.{Reading, guard, or_fault, or_met}
 use Rattle.desk_reading.specs.Fields.{Count, absent, once, more, count_in, length_of}
 use Rattle.desk_reading.specs.Framing.{head_len}
-use Rattle.desk_reading.specs.Heads.{HeadParts, parts_of, head_within}
+use Rattle.desk_reading.specs.Heads.{HeadParts, head_parts, head_within}
 
 -- a request: its head's parts and the bytes of its body
 pub record MessageParts : Type 0 where
@@ -54,8 +54,8 @@ unended text = if nat_lt (length text) head_room then BadHead else HeadTooLarge
 unfoldable pub front_in : List ℕ → Reading FrontParts
 front_in text =
     or_fault (head_within field_room text) BadHead λ head.
-    or_met (body_len (parts_of head).fields) λ size.
-    Ok (record { head = parts_of head; size = size })
+    or_met (body_len (head_parts head).fields) λ size.
+    Ok (record { head = head_parts head; size = size })
 
 -- the one request that the text is, or the first fault of its framing
 unfoldable pub message_in : List ℕ → Reading MessageParts

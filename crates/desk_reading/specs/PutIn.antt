@@ -12,7 +12,7 @@ use Rattle.desk_rules.specs.declared.words.Aircraft.TheVariants.{Nominal, OffNom
 use Rattle.serde_json.specs.Data.{Data}
 use Rattle.serde_json.specs.Find.{get, as_object}
 use Rattle.desk_reading.specs.Readings.{Reading, or_fault, or_met}
-use Rattle.desk_reading.specs.Words.{beside}
+use Rattle.desk_reading.specs.Words.{value_beside}
 use Rattle.desk_reading.specs.JsonIn.{array_at, body_value, present, text_at, whole_of}
 use Rattle.desk_reading.specs.VolumeIn.{area_of}
 use Rattle.desk_reading.specs.declared.wire_fault.WireFault.TheVariants.{BadMember}
@@ -42,13 +42,13 @@ aircraft_words =
     ∷ []
 
 unfoldable pub style_of : List ℕ → Option Style
-style_of word = beside style_words word
+style_of word = value_beside style_words word
 
 unfoldable pub usage_of : List ℕ → Option Usage
-usage_of word = beside usage_words word
+usage_of word = value_beside usage_words word
 
 unfoldable pub aircraft_of : List ℕ → Option Aircraft
-aircraft_of word = beside aircraft_words word
+aircraft_of word = value_beside aircraft_words word
 
 -- the members that hold them
 abbrev pub style_at : Data → Option Style

@@ -5,7 +5,7 @@ use Rattle.desk_reading.specs.declared.resource.Action.{Action}
 use Rattle.desk_reading.specs.declared.resource.Action.TheVariants as action
 use Rattle.desk_reading.specs.declared.resource.Route.{Route}
 use Rattle.desk_reading.specs.declared.resource.Route.TheVariants.{Status, FlightPlans, FlightPlan, ClearAreaRequests}
-use Rattle.desk_reading.specs.Words.{beside}
+use Rattle.desk_reading.specs.Words.{value_beside}
 
 -- the methods that a resource has, each with what it does, in the order of `allow`
 abbrev pub methods_of : Route → List (List ℕ × Action)
@@ -17,7 +17,7 @@ methods_of ClearAreaRequests = (codes "POST", action.Clear) ∷ []
 
 -- what a method does at a resource, if the resource has it
 unfoldable pub action_of : Route → List ℕ → Option Action
-action_of route method = beside (methods_of route) method
+action_of route method = value_beside (methods_of route) method
 
 -- these methods, as the field `allow` of an answer lists them
 abbrev pub allow_text : Route → List ℕ

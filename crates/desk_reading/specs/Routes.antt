@@ -40,18 +40,18 @@ unfoldable pub plan_id_in : List ℕ → Option (List ℕ)
 plan_id_in path = option_and_then (λ id. if is_segment id then Some id else None) (rest_in path)
 
 -- a resource, with the id of a flight plan that its path names: empty if it names none
-pub record Place : Type 0 where
+pub record ResourcePlace : Type 0 where
   pub route : Route
   pub id : List ℕ
 
-abbrev pub whole : Route → Place
+abbrev pub whole : Route → ResourcePlace
 whole route = record { route = route; id = [] }
 
-abbrev pub plan_at : List ℕ → Place
+abbrev pub plan_at : List ℕ → ResourcePlace
 plan_at id = record { route = FlightPlan; id = id }
 
 -- the resource that a path names
-unfoldable pub route_of : List ℕ → Option Place
+unfoldable pub route_of : List ℕ → Option ResourcePlace
 route_of path =
     if bytes_eq path (codes "/clear_area_requests") then Some (whole ClearAreaRequests)
     else if bytes_eq path (codes "/flight_plans") then Some (whole FlightPlans)
@@ -59,9 +59,9 @@ route_of path =
     else option_map plan_at (plan_id_in path)
 
 -- the same for a request target: one that isn't UTF-8 names no resource
-unfoldable pub route_in : List ℕ → Option Place
+unfoldable pub route_in : List ℕ → Option ResourcePlace
 route_in target = if is_utf8 target then route_of (path_of target) else None
 
 -- what the code's answer says
-abbrev pub target_shown : Target → Place
+abbrev pub target_shown : Target → ResourcePlace
 target_shown target = record { route = target.route; id = target.id.now }

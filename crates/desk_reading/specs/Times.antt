@@ -28,8 +28,8 @@ abbrev ◌>>=◌ : {A B : Type 0} → Option A → (A → Option B) → Option B
 o >>= f = option_and_then f o
 
 -- the number that decimal digits write
-unfoldable pub number_of : List ℕ → Option ℕ
-number_of digits = if list_all is_ascii_digit digits then Some (digits_value 10 digits) else None
+unfoldable pub number_written : List ℕ → Option ℕ
+number_written digits = if list_all is_ascii_digit digits then Some (digits_value 10 digits) else None
 
 -- the marks from `full-date` to `time-second` are at their places
 unfoldable pub has_marks : List ℕ → Bool
@@ -41,12 +41,12 @@ has_marks text =
 -- the digits between these marks
 unfoldable pub civil_of : List ℕ → Option CivilTime
 civil_of text = do
-  year ← number_of (slice_range text 0 4)
-  month ← number_of (slice_range text 5 7)
-  day ← number_of (slice_range text 8 10)
-  hour ← number_of (slice_range text 11 13)
-  minute ← number_of (slice_range text 14 16)
-  second ← number_of (slice_range text 17 19)
+  year ← number_written (slice_range text 0 4)
+  month ← number_written (slice_range text 5 7)
+  day ← number_written (slice_range text 8 10)
+  hour ← number_written (slice_range text 11 13)
+  minute ← number_written (slice_range text 14 16)
+  second ← number_written (slice_range text 17 19)
   Some (record {
     year = year;
     month = month;
@@ -91,8 +91,8 @@ offset_by is_behind hour minute =
 unfoldable pub numoffset_of : List ℕ → Option ℤ
 numoffset_of text =
     if has_offset_marks text
-    then (number_of (slice_range text 1 3) >>= λ hour.
-    number_of (slice_range text 4 6) >>= λ minute.
+    then (number_written (slice_range text 1 3) >>= λ hour.
+    number_written (slice_range text 4 6) >>= λ minute.
     offset_by (slice_index text 0 == byte "-") hour minute) else None
 
 -- a `time-offset`
@@ -114,7 +114,7 @@ time_of text =
     then (civil_of text >>= λ civil. time_with civil (drop 19 text)) else None
 
 -- what four digits and five times two digits can write
-pub record IsShort (w : CivilTime) : Type 0 where
+pub record IsInDigits (w : CivilTime) : Type 0 where
   pub year : w.year < 10_000
   pub month : w.month < 100
   pub day : w.day < 100
@@ -129,7 +129,7 @@ pub record IsOffset (offset : ℤ) : Type 0 where
 
 -- what a text can write
 pub record IsWritten (t : WrittenTime) : Type 0 where
-  pub civil : IsShort t.civil
+  pub civil : IsInDigits t.civil
   pub offset : IsOffset t.offset
 
 -- the calendar has the date and a clock shows the time (section 5.7)
@@ -145,7 +145,7 @@ civil_second w =
     +ℤ pos (w.hour * 3600 + w.minute * 60 + w.second)
 
 -- the date and time that `jiff` holds is this one, with no fraction
-pub record IsShown (w : CivilTime) (shown : DateTime) : Type 0 where
+pub record IsShownBy (w : CivilTime) (shown : DateTime) : Type 0 where
   pub year : shown.date.year ≡ pos w.year
   pub month : shown.date.month ≡ w.month
   pub day : shown.date.day ≡ w.day

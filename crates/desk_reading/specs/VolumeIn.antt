@@ -9,7 +9,7 @@ use Rattle.s2_cover.specs.Rectangles.{RectParts, rect_or_fault}
 use Rattle.serde_json.specs.Data.{Data, Items}
 use Rattle.serde_json.specs.Events.{items_len}
 use Rattle.serde_json.specs.Find.{get, as_str, as_array}
-use Rattle.volume4d.specs.Limits.{max_volumes}
+use Rattle.volume4d.specs.VolumeLimits.{max_volumes}
 use Rattle.volume4d.specs.Windows.{WindowParts, window_or_fault}
 use Rattle.volume4d.specs.Shape.{Shape, cells, rectangle, is_footprint}
 use Rattle.volume4d.specs.Volume.{Block}

@@ -4,7 +4,7 @@ ghost use Rattle.std.specs.Prelude.{◌≡◌, option_map};
 ghost use Rattle.httparse.specs.Spans.{IsRequestWithin};
 ghost use Rattle.desk_reading.specs.Fields.{count_in, count_shown};
 ghost use Rattle.desk_reading.specs.WireLimits.{field_room};
-ghost use Rattle.desk_reading.specs.Heads.{HeadParts, head_within, parts_at, parts_of};
+ghost use Rattle.desk_reading.specs.Heads.{HeadParts, head_parts, head_within, parts_at};
 
 use crate::fields::{Occurrence, find_single};
 use httparse::Status;
@@ -56,7 +56,7 @@ impl<'t> Head<'t> {
 /// The head that the whole text is. None if the text is not a head, or has more than `FIELD_ROOM`
 /// fields.
 pub fn read_head(text: &[u8]) -> Option<Head<'_>>
-    ensures { result ≡ option_map parts_of (head_within field_room text.now) }
+    ensures { result ≡ option_map head_parts (head_within field_room text.now) }
 {
     let mut headers = [EMPTY_HEADER_SPAN; FIELD_ROOM];
     let Ok(Status::Complete(spans)) = parse_request(text, &mut headers) else {

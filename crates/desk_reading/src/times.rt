@@ -1,7 +1,7 @@
 //! The seconds that time texts name.
 ghost use Rattle.std.specs.Prelude.{◌≡◌, ◌+◌, ◌≤◌, ◌<◌, ◌^◌, length, IsTrue, IfSome, is_some, option_and_then};
 ghost use Rattle.desk_reading.specs.Times as spec;
-ghost use Rattle.desk_reading.specs.Times.{IsShort, IsOffset, IsWritten, IsShown, is_civil, is_instant};
+ghost use Rattle.desk_reading.specs.Times.{IsInDigits, IsOffset, IsWritten, IsShownBy, is_civil, is_instant};
 
 use jiff::civil::DateTime;
 use jiff::tz::Offset;
@@ -74,7 +74,7 @@ fn time_of(text: &[u8]) -> Option<WrittenTime>
 // The date and time of day, with the fraction and the offset that follow it.
 #[tactic(auto, unfolding(crate::specs::Times::time_with))]
 fn time_with(civil: CivilTime, rest: &[u8]) -> Option<WrittenTime>
-    requires short { IsShort civil }
+    requires short { IsInDigits civil }
     requires some { 0 < length rest.now }
     ensures value { result ≡ spec.time_with civil rest.now }
     ensures written { IfSome result IsWritten }
@@ -106,7 +106,7 @@ fn has_marks(text: &[u8]) -> bool
 fn civil_of(text: &[u8]) -> Option<CivilTime>
     requires { 19 ≤ length text.now }
     ensures value { result ≡ spec.civil_of text.now }
-    ensures short { IfSome result IsShort }
+    ensures short { IfSome result IsInDigits }
 {
     Some(CivilTime {
         year: number(&text[..4])?,
@@ -119,10 +119,10 @@ fn civil_of(text: &[u8]) -> Option<CivilTime>
 }
 
 // The number that up to four decimal digits write.
-#[tactic(auto, unfolding(crate::specs::Times::number_of))]
+#[tactic(auto, unfolding(crate::specs::Times::number_written))]
 fn number(digits: &[u8]) -> Option<u16>
     requires { length digits.now ≤ 4 }
-    ensures value { result ≡ spec.number_of digits.now }
+    ensures value { result ≡ spec.number_written digits.now }
     ensures small { IfSome result (λ n. n < 10 ^ length digits.now) }
 {
     let mut number = 0;
@@ -230,9 +230,9 @@ fn second_of(time: WrittenTime) -> Option<i64>
 
 // The date and time, if the calendar and a clock have them.
 fn shown(civil: CivilTime) -> Option<DateTime>
-    requires { IsShort civil }
+    requires { IsInDigits civil }
     ensures there { is_some result ≡ is_civil civil }
-    ensures value { IfSome result (IsShown civil) }
+    ensures value { IfSome result (IsShownBy civil) }
 {
     DateTime::new(
         civil.year as i16,

@@ -3,7 +3,7 @@ ghost use Rattle.std.specs.Prelude.{◌≡◌, option_map};
 ghost use Rattle.std.specs.Int.{is_in_range};
 ghost use Rattle.std.specs.Result.{result_ok};
 ghost use Rattle.s2_cover.specs.Rectangles.{rect_or_fault};
-ghost use Rattle.volume4d.specs.Limits.{max_volumes};
+ghost use Rattle.volume4d.specs.VolumeLimits.{max_volumes};
 ghost use Rattle.volume4d.specs.Windows.{window_or_fault};
 ghost use Rattle.volume4d.specs.Footprint.{shape_of};
 ghost use Rattle.serde_json.specs.View.{view, items_view};

@@ -4,8 +4,8 @@ use Rattle.std.specs.List.{AllByRecursion}
 use Rattle.std.proofs.lemmas.List.{take_at, append_cancel_left, take-take, length-take-le}
 use Rattle.std.proofs.lemmas.Bool.{cases_lt}
 use Rattle.desk_record.specs.Record.{EntryParts, Fits, entries, entry}
-use Rattle.desk_record.specs.Lines.{IsLine, line_in}
-use Rattle.desk_record.specs.Reading.{IsShort}
+use Rattle.desk_record.specs.EntryLines.{IsEntryLine, line_in}
+use Rattle.desk_record.specs.Reading.{IsTooShort}
 use Rattle.desk_record.proofs.LineLemmas.{line_read}
 use Rattle.desk_record.proofs.ReadLemmas.{entry_length, is_its_line, its_bytes, line_is_read, line_of, some_same}
 
@@ -51,7 +51,7 @@ one_list (e ∷ es) (o ∷ os) fits other_fits same =
     let rest = one_list es os fits.1 other_fits.1 one.1 in
     (λ i. one.0 i ∷ rest i)
 
-pub no_short : (e : EntryParts) (rest : List ℕ) → Fits e → IsShort (entry e ++ rest) → ⊥
+pub no_short : (e : EntryParts) (rest : List ℕ) → Fits e → IsTooShort (entry e ++ rest) → ⊥
 no_short e rest fits h =
     let long = entry_length e rest in
     elim h.short [
@@ -69,7 +69,7 @@ length_of e =
     omega (arith, long)
 
 pub short_beginning : (e : EntryParts) (n : ℕ) → Fits e → 0 < n → n < length (entry e)
-    → IsShort (take n (entry e))
+    → IsTooShort (take n (entry e))
 short_beginning e n fits some low =
     let whole = length_of e in
     let part = length-take-le n (entry e) (omega arith) in
@@ -79,7 +79,7 @@ short_beginning e n fits some low =
         | inl less ↦ inl (omega (arith, part, less))
         | inr more ↦ inr (record {
           line = line_of e;
-          first = subst (λ x. IsLine x (line_of e))
+          first = subst (λ x. IsEntryLine x (line_of e))
               (ap (take 86) (append-nil (entry e)) ∙ sym (take-take 86 n (entry e) more))
               (is_its_line e [] fits);
           lacks = omega (arith, part, whole, low);

@@ -10,7 +10,7 @@ use Rattle.hex.proofs.HexLemmas.{length-encode_with}
 use Rattle.desk_record.specs.declared.kind.Kind.{Kind}
 use Rattle.desk_record.specs.declared.kind.Kind.TheVariants as kind
 use Rattle.desk_record.specs.Record.{word, number, sum, front, line}
-use Rattle.desk_record.specs.Lines.{IsLine, LineParts, kind_of, line_in, line_said, number_from, said_in}
+use Rattle.desk_record.specs.EntryLines.{IsEntryLine, LineParts, kind_of, line_in, line_parts_in, line_said, number_from}
 use Rattle.desk_record.proofs.DigitLemmas.{length_number, read_number}
 
 pub length_word : (k : Kind) → length (word k) ≡ 9
@@ -112,18 +112,18 @@ module _ (l : LineParts) where
 
 -- what stands at the places of a line is what it says
 said_of : (l : LineParts) → l.number < 2 ^ 64 → l.size < 2 ^ 64 → length l.sum ≡ 16
-    → said_in (line_said l) ≡ Some l
-unfolding said_in
+    → line_parts_in (line_said l) ≡ Some l
+unfolding line_parts_in
 said_of l number size sum =
     rw (the_word l, the_number l number, the_size l size, the_sum l sum) refl
 
 -- a line says what is read of it
-pub line_read : (bytes : List ℕ) (l : LineParts) → IsLine bytes l → line_in bytes ≡ Some l
+pub line_read : (bytes : List ℕ) (l : LineParts) → IsEntryLine bytes l → line_in bytes ≡ Some l
 unfolding line_in
 line_read bytes l is =
     let same : bytes_eq (line_said l) bytes ≡ true = (bytes_eq-Decides (line_said l) bytes).1 (sym is.text) in
     ap (option_and_then (λ k. if bytes_eq (line_said k) bytes then Some k else None))
-    (ap said_in is.text ∙ said_of l is.number is.size is.sum)
+    (ap line_parts_in is.text ∙ said_of l is.number is.size is.sum)
     ∙ ap (λ b. if b then Some l else None) same
 
 -- what is written before a line's own sum, part by part

@@ -8,8 +8,8 @@ use Rattle.std.specs.Io.KnownBytes.{Consumes, IsAtEnd}
 use Rattle.std.proofs.lemmas.Slice.Eq.{bytes_eq-Decides}
 use Rattle.std.proofs.lemmas.List.{take_at, drop_at, length-take-le, length-drop, append_cancel_left}
 use Rattle.desk_record.specs.Record.{EntryParts, Fits, entry, line, sum}
-use Rattle.desk_record.specs.Lines.{IsLine, LineParts, kind_of, line_in, line_said, number_from, said_in}
-use Rattle.desk_record.specs.Reading.{IsDamaged, IsShort, has_bytes}
+use Rattle.desk_record.specs.EntryLines.{IsEntryLine, LineParts, kind_of, line_in, line_parts_in, line_said, number_from}
+use Rattle.desk_record.specs.Reading.{IsDamagedRecord, IsTooShort, has_bytes}
 use Rattle.desk_record.proofs.DigitLemmas.{read_fits}
 use Rattle.desk_record.proofs.LineLemmas.{length_line, length_sum, line_read}
 
@@ -33,7 +33,7 @@ module _ (e : EntryParts) (rest : List ℕ) where
   its_bytes = ap (drop 86) behind_line
       ∙ drop_at (line_said (line_of e)) (e.bytes ++ (10 ∷ rest)) 86 line_length
 
-  pub is_its_line : Fits e → IsLine (take 86 (entry e ++ rest)) (line_of e)
+  pub is_its_line : Fits e → IsEntryLine (take 86 (entry e ++ rest)) (line_of e)
   is_its_line fits = record {
     text = its_line;
     number = fits.number;
@@ -50,8 +50,9 @@ module _ (e : EntryParts) (rest : List ℕ) where
   line_is_read fits = line_read _ (line_of e) (is_its_line fits)
 
 -- what is read as a line is one
-pub is_line : (bytes : List ℕ) (l : LineParts) → length bytes ≡ 86 → line_in bytes ≡ Some l → IsLine bytes l
-unfolding line_in said_in
+pub is_line : (bytes : List ℕ) (l : LineParts) → length bytes ≡ 86 → line_in bytes ≡ Some l
+    → IsEntryLine bytes l
+unfolding line_in line_parts_in
 is_line bytes l long e =
     by_kind (kind_of (take 9 bytes)) (number_from 0 (take 20 (drop 10 bytes)))
     (number_from 0 (take 20 (drop 31 bytes))) refl refl e where
@@ -60,7 +61,7 @@ is_line bytes l long e =
           → option_and_then (λ l. if bytes_eq (line_said l) bytes then Some l else None)
           (option_and_then (λ told. option_and_then (λ n. option_and_then (λ size.
           Some (record { kind = told; number = n; size = size; sum = take 16 (drop 52 bytes) })) size) n) k)
-          ≡ Some l → IsLine bytes l
+          ≡ Some l → IsEntryLine bytes l
       by_kind None n size is_n is_size f = cc
       by_kind (Some k) None size is_n is_size f = cc
       by_kind (Some k) (Some n) None is_n is_size f = cc
@@ -73,11 +74,11 @@ is_line bytes l long e =
           (length-take-le 16 (drop 52 bytes) (omega (arith, length-drop 52 bytes, long))) where
             by_text : (m : LineParts) (same : Bool) → bytes_eq (line_said m) bytes ≡ same
                 → (if same then Some m else None) ≡ Some l
-                → m.number < 2 ^ 64 → m.size < 2 ^ 64 → length m.sum ≡ 16 → IsLine bytes l
+                → m.number < 2 ^ 64 → m.size < 2 ^ 64 → length m.sum ≡ 16 → IsEntryLine bytes l
             by_text m false same f number size sum = cc
             by_text m true same f number size sum =
                 let is : m ≡ l = cc in
-                subst (IsLine bytes) is (record {
+                subst (IsEntryLine bytes) is (record {
                   text = sym ((bytes_eq-Decides (line_said m) bytes).0 same);
                   number = number;
                   size = size;
@@ -99,9 +100,9 @@ all_of false b c e = cc
 -- 86 bytes were taken
 module _ (old mid : Option (List ℕ)) (text : List ℕ) (first : Consumes old mid text)
     (long : length text ≡ 86) where
-  pub not_line : line_in text ≡ None → IfSome old IsDamaged
+  pub not_line : line_in text ≡ None → IfSome old IsDamagedRecord
   not_line none = by_known old mid first where
-    by_known : (old mid : Option (List ℕ)) → Consumes old mid text → IfSome old IsDamaged
+    by_known : (old mid : Option (List ℕ)) → Consumes old mid text → IfSome old IsDamagedRecord
     by_known None mid first = tt
     by_known (Some s) None first = absurd first
     by_known (Some s) (Some r) first =
@@ -140,11 +141,11 @@ module _ (old mid : Option (List ℕ)) (text : List ℕ) (first : Consumes old m
         ≡ 86 + length bytes + length last + length rest
     all_length rest = simp length-append (omega (arith, long))
 
-    pub lacks_bytes : length last ≡ 0 → IsAtEnd new → IfSome old IsShort
+    pub lacks_bytes : length last ≡ 0 → IsAtEnd new → IfSome old IsTooShort
     lacks_bytes none at_end =
-        all_taken old mid m2 new first then_ end IsShort
+        all_taken old mid m2 new first then_ end IsTooShort
         (λ rest is ends. short rest (ap length (subst IsAtEnd ends at_end))) where
-          short : (rest : List ℕ) → length rest ≡ 0 → IsShort (text ++ (bytes ++ (last ++ rest)))
+          short : (rest : List ℕ) → length rest ≡ 0 → IsTooShort (text ++ (bytes ++ (last ++ rest)))
           short rest no_more =
               let len = all_length rest in
               let front = the_line (bytes ++ (last ++ rest)) in
@@ -152,7 +153,7 @@ module _ (old mid : Option (List ℕ)) (text : List ℕ) (first : Consumes old m
                 some = omega (arith, len);
                 short = inr (record {
                   line = l;
-                  first = subst (λ x. IsLine x l) (sym front) (is_line text l long read);
+                  first = subst (λ x. IsEntryLine x l) (sym front) (is_line text l long read);
                   lacks = omega (arith, len, within, none, no_more);
                 });
               }
@@ -181,9 +182,9 @@ module _ (old mid : Option (List ℕ)) (text : List ℕ) (first : Consumes old m
         ((bytes_eq-Decides (sum bytes) l.sum).1 sums) ((bytes_eq-Decides last (10 ∷ [])).1 feed)
 
     pub unsound : has_bytes l bytes last ≡ false → (length last ≡ 0 → ⊥) → length last ≤ 1
-        → (length bytes < l.size → IsAtEnd m2) → IfSome old IsDamaged
+        → (length bytes < l.size → IsAtEnd m2) → IfSome old IsDamagedRecord
     unsound wrong some low at_end =
-        all_taken old mid m2 new first then_ end IsDamaged (λ rest is ends. damaged rest is) where
+        all_taken old mid m2 new first then_ end IsDamagedRecord (λ rest is ends. damaged rest is) where
           all_there : (rest : List ℕ) → m2 ≡ Some (last ++ rest) → length bytes ≡ l.size
           all_there rest is = elim (cases_lt (length bytes) l.size) [
             | inl less ↦ (let none : last ++ rest ≡ [] = subst IsAtEnd is (at_end less) in
@@ -193,7 +194,8 @@ module _ (old mid : Option (List ℕ)) (text : List ℕ) (first : Consumes old m
             | inr more ↦ omega (arith, more, within)
           ]
 
-          damaged : (rest : List ℕ) → m2 ≡ Some (last ++ rest) → IsDamaged (text ++ (bytes ++ (last ++ rest)))
+          damaged : (rest : List ℕ) → m2 ≡ Some (last ++ rest)
+              → IsDamagedRecord (text ++ (bytes ++ (last ++ rest)))
           damaged rest is =
               let whole = all_there rest is in
               let len = all_length rest in

@@ -1,3 +1,3 @@
-pub mod Lines
+pub mod EntryLines
 pub mod Reading
 pub mod Record

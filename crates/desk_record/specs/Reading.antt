@@ -4,7 +4,7 @@ use Rattle.std.specs.Str.{bytes_eq}
 use Rattle.desk_record.specs.declared.entry.Entry.{Entry}
 use Rattle.desk_record.specs.declared.reading.ReadFault.{ReadFault}
 use Rattle.desk_record.specs.declared.reading.ReadFault.TheVariants.{Read, OutOfMemory, CutShort, NoRecord}
-use Rattle.desk_record.specs.Lines.{IsLine, LineParts}
+use Rattle.desk_record.specs.EntryLines.{IsEntryLine, LineParts}
 use Rattle.desk_record.specs.Record.{EntryParts, Fits, entry, sum}
 
 abbrev pub entry_shown : Entry → EntryParts
@@ -13,18 +13,18 @@ entry_shown e = record { kind = e.kind; number = e.number; bytes = e.bytes.items
 -- a text begins with a whole line, and has fewer bytes behind it than the line counts, and the line feed
 pub record LacksBytes (text : List ℕ) : Type 0 where
   pub line : LineParts
-  pub first : IsLine (take 86 text) line
+  pub first : IsEntryLine (take 86 text) line
   pub lacks : length text < 86 + line.size + 1
 
 -- a text that is too short to say more: it has some bytes, but no whole line, or a line and not all its bytes
-pub record IsShort (text : List ℕ) : Type 0 where
+pub record IsTooShort (text : List ℕ) : Type 0 where
   pub some : 0 < length text
   pub short : (length text < 86) ⊎ LacksBytes text
 
 -- a text is neither too short nor begins with an entry
-pub record IsDamaged (text : List ℕ) : Type 0 where
+pub record IsDamagedRecord (text : List ℕ) : Type 0 where
   pub some : 0 < length text
-  pub whole : ¬ IsShort text
+  pub whole : ¬ IsTooShort text
   pub none : (e : EntryParts) (rest : List ℕ) → Fits e → text ≢ entry e ++ rest
 
 -- the bytes behind a line are those that it counts, and a line feed
@@ -40,8 +40,8 @@ IsFailure CutShort = ⊥
 IsFailure NoRecord = ⊥
 
 -- why no entry was read of what was left
-abbrev pub Stops : Option (List ℕ) → ReadFault → Type 0
-Stops left Read = ⊤
-Stops left OutOfMemory = ⊤
-Stops left CutShort = IfSome left IsShort
-Stops left NoRecord = IfSome left IsDamaged
+abbrev pub LacksEntry : Option (List ℕ) → ReadFault → Type 0
+LacksEntry left Read = ⊤
+LacksEntry left OutOfMemory = ⊤
+LacksEntry left CutShort = IfSome left IsTooShort
+LacksEntry left NoRecord = IfSome left IsDamagedRecord

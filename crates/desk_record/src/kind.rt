@@ -2,7 +2,7 @@
 
 ghost use Rattle.std.specs.Prelude.{◌≡◌};
 ghost use Rattle.desk_record.specs.Record.{word};
-ghost use Rattle.desk_record.specs.Lines.{kind_of};
+ghost use Rattle.desk_record.specs.EntryLines.{kind_of};
 
 /// What an entry of a record tells. Each entry has a number and bytes.
 #[derive(Clone, Copy, Debug, PartialEq, Eq)]

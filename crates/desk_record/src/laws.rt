@@ -2,7 +2,7 @@
 
 ghost use Rattle.std.specs.Prelude.{◌≡◌, ◌<◌, ◌+◌, ◌++◌, ℕ, List, length, take};
 ghost use Rattle.std.specs.List.{AllByRecursion};
-ghost use Rattle.desk_record.specs.Reading.{IsShort};
+ghost use Rattle.desk_record.specs.Reading.{IsTooShort};
 ghost use Rattle.desk_record.specs.Record.{EntryParts, Fits, entries, entry};
 
 /// Reading undoes writing: whatever follows an entry, only that entry is read there, and what follows is
@@ -22,14 +22,14 @@ pub fn one_record()
 /// beginning of an entry that has a byte is too short.
 pub fn beginnings_are_short()
     ensures { (e : EntryParts) (n : ℕ) → Fits e → 0 < n → n < length (entry e) →
-        IsShort (take n (entry e)) }
+        IsTooShort (take n (entry e)) }
 {}
 
 /// What begins with an entry is not too short, and what is too short is not damaged: so of what is left to
 /// be read one of four things is so, that nothing is left, an entry, that it is too short, that it is
 /// damaged.
 pub fn an_entry_is_not_short()
-    ensures { (e : EntryParts) (rest : List ℕ) → Fits e → IsShort (entry e ++ rest) → ⊥ }
+    ensures { (e : EntryParts) (rest : List ℕ) → Fits e → IsTooShort (entry e ++ rest) → ⊥ }
 {}
 
 /// How many bytes an entry has: those of its line, its own, and a line feed.

@@ -3,7 +3,7 @@
 ghost use Rattle.std.specs.Prelude.{◌≡◌, ◌++◌, IfOk, OnOk, length};
 ghost use Rattle.std.specs.Option.{option_map};
 ghost use Rattle.desk_record.specs.Record.{front, line, sum};
-ghost use Rattle.desk_record.specs.Lines.{line_in, line_said, line_shown, said_in};
+ghost use Rattle.desk_record.specs.EntryLines.{line_in, line_parts_in, line_said, line_shown};
 
 use crate::kind::{Kind, kind_in};
 use crate::numbers::{number_in, write_number};
@@ -62,7 +62,7 @@ fn write_front(text: &mut Vec<u8>, line: &Line) -> Result<(), AllocError>
 /// # Errors
 ///
 /// `AllocError` for want of memory.
-#[tactic(auto, unfolding(crate::specs::Lines::line_in))]
+#[tactic(auto, unfolding(crate::specs::EntryLines::line_in))]
 pub fn read_line(alloc: Global, bytes: &[u8]) -> Result<Option<Line>, AllocError>
     requires { length bytes.now ≡ 86 }
     ensures { IfOk result (λ found. option_map line_shown found ≡ line_in bytes.now) }
@@ -78,10 +78,10 @@ pub fn read_line(alloc: Global, bytes: &[u8]) -> Result<Option<Line>, AllocError
 }
 
 // What stands at the places of a line, if there are a word and numbers.
-#[tactic(auto, unfolding(crate::specs::Lines::said_in))]
+#[tactic(auto, unfolding(crate::specs::EntryLines::line_parts_in))]
 fn line_at(alloc: Global, bytes: &[u8]) -> Result<Option<Line>, AllocError>
     requires { length bytes.now ≡ 86 }
-    ensures { IfOk result (λ found. option_map line_shown found ≡ said_in bytes.now) }
+    ensures { IfOk result (λ found. option_map line_shown found ≡ line_parts_in bytes.now) }
 {
     let Some(kind) = kind_in(&bytes[..9]) else {
         return Ok(None);

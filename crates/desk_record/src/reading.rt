@@ -4,8 +4,8 @@ ghost use Rattle.std.specs.Prelude.{◌≡◌, ◌≤◌, ◌<◌, None, length,
 ghost use Rattle.std.specs.Io.{ReadsAtMost};
 ghost use Rattle.std.specs.Io.KnownBytes.{Consumes, IsAtEnd};
 ghost use Rattle.desk_record.specs.Record.{Fits, entry};
-ghost use Rattle.desk_record.specs.Lines.{line_shown};
-ghost use Rattle.desk_record.specs.Reading.{IsFailure, Stops, entry_shown, has_bytes};
+ghost use Rattle.desk_record.specs.EntryLines.{line_shown};
+ghost use Rattle.desk_record.specs.Reading.{IsFailure, LacksEntry, entry_shown, has_bytes};
 
 use crate::entry::Entry;
 use crate::line::{LINE, Line, read_line};
@@ -54,7 +54,7 @@ pub fn read_entry<R: Read>(alloc: Global, input: &mut R) -> Result<Option<Entry>
         Consumes (R.remaining input.old) (R.remaining input.new) (entry (entry_shown e)))) }
     ensures fits { IfOk result (λ found. IfSome found (λ e. Fits (entry_shown e))) }
     ensures end { IfOk result (λ found. found ≡ None → IsAtEnd (R.remaining input.old)) }
-    ensures fault { IfErr result (Stops (R.remaining input.old)) }
+    ensures fault { IfErr result (LacksEntry (R.remaining input.old)) }
 {
     let text = receive(alloc, input, LINE as u64)?;
     if text.is_empty() {

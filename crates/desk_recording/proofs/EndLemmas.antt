@@ -13,9 +13,9 @@ use Rattle.desk_run.specs.DeskWorld.{DeskWorld, enrolled, with_content}
 use Rattle.desk_run.specs.Verdicts.{step}
 use Rattle.desk_run.specs.laws.Repeat.{step_again}
 use Rattle.desk_wire.specs.Bytes.{world_after}
-use Rattle.desk_wire.specs.Crashes.{IsCertain}
+use Rattle.desk_wire.specs.RequestsKept.{IsCertain}
 use Rattle.desk_wire.specs.Passage.{passed}
-use Rattle.desk_wire.specs.Serving.{HasServed}
+use Rattle.desk_wire.specs.OneRequest.{HasServed}
 use Rattle.desk_wire.specs.Streams.{IsRequest, request_len}
 use Rattle.desk_line.specs.Exits.{failure_at}
 use Rattle.desk_line.specs.Lines.{AreEnrolments}
@@ -24,7 +24,7 @@ use Rattle.desk_line.specs.declared.line.Enrolment.{Enrolment}
 use Rattle.desk_program.specs.Enrolling.{AreEnrolled, with_operators}
 use Rattle.desk_program.specs.Keeping.{IsFoundServed, IsLeftByNews, IsLeftUncertain}
 use Rattle.desk_program.specs.Recorded.{AreNamed, Ended, IsAnswerRecorded, IsRecorded, Noted, Open, Recorded, RecordsAnswer, RecordsNone, RecordsRequest, answer_entry, operator_entry, request_entry, with_answer, with_news, with_request}
-use Rattle.desk_program.specs.Serving.{AreNoted, AreServed, AreTaken, EndsAfter, EndsBy, Exchange, IsLast, Traffic, outcome_of, passage_of}
+use Rattle.desk_program.specs.Serving.{AreNoted, AreServed, AreTaken, EndsAfter, EndsDeskBy, Exchange, IsLastNews, Traffic, outcome_of, passage_of}
 use Rattle.desk_replay.specs.Replaying.{State, played, taken}
 use Rattle.desk_recording.specs.Played.{AddsPlayed, CatchesUp, EndsAs, EndsFound, EndsPlayed, IsPlayedTo, IsUnanswered, caught_up, entries_of, known, pair_of}
 use Rattle.desk_recording.proofs.ExchangeLemmas.{IsGivenUp, IsLeft, are_asked, is_certain, left_next, is_given_up, is_left, low_second, same_second, some_failure}
@@ -163,7 +163,7 @@ news_end n now news later s w left small named none is at = record {
 }
 
 last_news_end : (H : Type 0) (h : H) (done : Result ⊤ Failure) (n : Noted) (now : Option Recorded)
-    (news : List Enrolment) (s : State) (w left : DeskWorld) → IsLast H (Some news) done w left
+    (news : List Enrolment) (s : State) (w left : DeskWorld) → IsLastNews H (Some news) done w left
     → AreEnrolments news → AreNamed news → RecordsNone (Some (Open (with_news n news))) now → IsPlayedTo s w
     → EndsPlayed n now [] (Some news) s left
 last_news_end H h (Ok d) n now news s w left last small named none at = absurd last
@@ -408,7 +408,7 @@ only_last (Ok d) count xs last ends = on xs ends.1
     )
 only_last (Err f) count xs last ends = by xs ends
   where
-    by : (ys : List Exchange) → EndsBy f ys last → OnlyLast ys last
+    by : (ys : List Exchange) → EndsDeskBy f ys last → OnlyLast ys last
     by [] ends = tt
     by (y ∷ ys) (inl on) = inl (on.0, by ys on.1)
     by (y ∷ ys) (inr end) = inr (some_not_none f (failure_at y.served) end.0, end.1, end.2)
@@ -421,7 +421,7 @@ lost_last text (x ∷ xs) last now noted = absurd noted.3.news
 
 last_left : (H : Type 0) (done : Result ⊤ Failure) (xs : List Exchange) (last : Option (List Enrolment))
     (v between left : DeskWorld) → xs ≡ [] → last ≡ None → AreServed H xs v between
-    → IsLast H last done between left → left ≡ v
+    → IsLastNews H last done between left → left ≡ v
 last_left H done [] None v between left empty without served is = is ∙ served
 last_left H done [] (Some news) v between left empty without served is = cc
 last_left H done (x ∷ xs) last v between left empty without served is = cc
@@ -439,7 +439,7 @@ module _ (H : Type 0) (h : H) (Ends : (request rest : List ℕ) → IsRequest re
       ⊎ (answered ≡ Some (Ended (with_request (with_news n x.news) x.arrival.moment request).text))
       → IfSome answered (λ recorded. failure_at x.served ≢ None → now ≡ answered)
       → AreNoted answered xs last now → OnlyLast (x ∷ xs) last → AreServed H xs v between
-      → IsLast H last done between left
+      → IsLastNews H last done between left
       → ((k : Noted) (t : State) → AreNoted (Some (Open k)) xs last now → OnlyLast xs last → IsPlayedTo t v
       → EndsPlayed k now xs last t left)
       → IsPlayedTo s w → EndsPlayed n now (x ∷ xs) last s left
@@ -488,14 +488,14 @@ module _ (H : Type 0) (h : H) (Ends : (request rest : List ℕ) → IsRequest re
 
   pub all_end : (xs : List Exchange) (last : Option (List Enrolment)) (done : Result ⊤ Failure) (n : Noted)
       (now : Option Recorded) (s : State) (w between left : DeskWorld) → AreNoted (Some (Open n)) xs last now
-      → AreServed H xs w between → IsLast H last done between left → OnlyLast xs last
+      → AreServed H xs w between → IsLastNews H last done between left → OnlyLast xs last
       → All (λ x. x.parting.outcome ≡ outcome_of x.served) xs → IsPlayedTo s w
       → EndsPlayed n now xs last s left
   all_end [] None done n now s w between left noted served is only told at =
       none_ends n now s w left noted (is ∙ served) at
   all_end [] (Some news) done n now s w between left noted served is only told at =
       last_news_end H h done n now news s w left
-      (subst (λ v. IsLast H (Some news) done v left) served is) noted.1.0 noted.1.1
+      (subst (λ v. IsLastNews H (Some news) done v left) served is) noted.1.0 noted.1.1
       (subst (λ r. RecordsNone r now) noted.1.2 noted.2) at
   all_end (x ∷ xs) last done n now s w between left noted served is only told at =
       let news = noted.3.news in

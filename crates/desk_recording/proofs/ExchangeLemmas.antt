@@ -16,12 +16,12 @@ use Rattle.desk_store.specs.World.{World}
 use Rattle.desk_run.specs.DeskWorld.{DeskWorld}
 use Rattle.desk_run.specs.Verdicts.{Told, no_such_plan, replied, told_to, unknown_operator}
 use Rattle.desk_writing.specs.Answer.{answer_text, error_text, json_answer}
-use Rattle.desk_writing.specs.Replies.{reply_text}
+use Rattle.desk_writing.specs.ReplyText.{reply_text}
 use Rattle.desk_wire.specs.Bytes.{IsAnsweredSo, IsServerError, status_so, text, text_for, world_after}
-use Rattle.desk_wire.specs.Crashes.{IsCertain}
+use Rattle.desk_wire.specs.RequestsKept.{IsCertain}
 use Rattle.desk_wire.specs.Passage.{passed}
-use Rattle.desk_wire.specs.Refusals.{refusal_text, server_error_text}
-use Rattle.desk_wire.specs.Serving.{HasServed, IsReplied, IsTaken}
+use Rattle.desk_wire.specs.RefusalTexts.{refusal_text, server_error_text}
+use Rattle.desk_wire.specs.OneRequest.{HasServed, IsReplied, IsTaken}
 use Rattle.desk_wire.specs.Streams.{IsRequest, front_within, request_len}
 use Rattle.desk_wire.specs.declared.response.ServerError.{ServerError}
 use Rattle.desk_wire.specs.declared.response.ServerError.TheVariants as given

@@ -8,14 +8,14 @@ use Rattle.desk_reading.specs.Requests.{asked}
 use Rattle.desk_run.specs.DeskWorld.{DeskWorld}
 use Rattle.desk_wire.specs.Bytes.{text_for, world_after}
 use Rattle.desk_wire.specs.Passage.{passed}
-use Rattle.desk_wire.specs.Serving.{HasServed}
+use Rattle.desk_wire.specs.OneRequest.{HasServed}
 use Rattle.desk_wire.specs.Streams.{IsRequest, request_len}
 use Rattle.desk_line.specs.Exits.{failure_at}
 use Rattle.desk_line.specs.Lines.{AreEnrolments}
 use Rattle.desk_line.specs.declared.line.Enrolment.{Enrolment}
 use Rattle.desk_program.specs.Enrolling.{AreEnrolled, with_operators}
 use Rattle.desk_program.specs.Recorded.{AreNamed, Ended, IsAnswerRecorded, IsOpen, IsRecorded, Noted, Open, Recorded, RecordsAnswer, RecordsRequest, answer_entry, operator_entry, request_entry, with_answer, with_news, with_request}
-use Rattle.desk_program.specs.Serving.{AreNoted, AreServed, AreTaken, Exchange, IsLast, Traffic, is_answered, outcome_of, passage_of}
+use Rattle.desk_program.specs.Serving.{AreNoted, AreServed, AreTaken, Exchange, IsLastNews, Traffic, is_answered, outcome_of, passage_of}
 use Rattle.desk_replay.specs.Replaying.{State, played}
 use Rattle.desk_recording.specs.Played.{AddsOpen, AddsPlayed, IsPlayedTo, entries_of, known, pair_of}
 use Rattle.desk_recording.proofs.ExchangeLemmas.{AreAsked, are_asked, low_second, same_second, some_text}
@@ -158,7 +158,7 @@ told_whole x told whole = sym (ap (λ o. o.is_answered) told) ∙ whole
 
 -- a desk that goes on has listed the operators of all news
 none_last : (H : Type 0) (last : Option (List Enrolment)) (w left : DeskWorld)
-    → IsLast {A = ⊤} H last (Ok tt) w left → (last ≡ None) × (left ≡ w)
+    → IsLastNews {A = ⊤} H last (Ok tt) w left → (last ≡ None) × (left ≡ w)
 none_last H None w left is = (refl, is)
 none_last H (Some news) w left is = absurd is
 

@@ -5,15 +5,16 @@ use Rattle.desk_rules.specs.declared.terms.Terms.{Terms}
 use Rattle.desk_run.specs.CallFaults as call
 use Rattle.desk_run.specs.DeskWorld.{DeskWorld}
 use Rattle.desk_run.specs.declared.fault.DeskFault.{DeskFault}
-use Rattle.desk_line.specs.Exits.{IsBreakdown, enrolment_failure}
+use Rattle.desk_line.specs.Exits.{IsLineBreakdown, enrolment_failure}
 use Rattle.desk_line.specs.declared.failure.Failure.{Failure}
 use Rattle.desk_line.specs.declared.line.Enrolment.{Enrolment}
 use Rattle.desk_program.specs.Enrolling.{AreListedSoFar, on_terms, with_operators}
-use Rattle.desk_recording.specs.Recording.{Adds, Step}
+use Rattle.desk_recording.specs.Recording.{AddsStep, Step}
 use Rattle.desk_recording.specs.Recovering.{AddsBoth, AsksAgainIfAny, Recovers}
 use Rattle.desk_recording.specs.Tail.{UnansweredParts}
 
-pub both_added : (old mid new : Option (List Step)) (one other : Step) → Adds old mid one → Adds mid new other
+pub both_added : (old mid new : Option (List Step)) (one other : Step) → AddsStep old mid one
+    → AddsStep mid new other
     → AddsBoth old new one other
 both_added None mid new one other first next = next ∙ ap (option_map (λ steps. steps ++ other ∷ [])) first
 both_added (Some steps) mid new one other first next =
@@ -30,7 +31,7 @@ recovers terms missing u w listed after old new (Ok d) down are asks =
 recovers terms missing u w listed after old new (Err f) down are asks =
     inl (record { listed = listed; are = λ h. are (down h); asks = asks })
 
-failed_as : (fault : DeskFault) → call.IsBreakdown fault → IsBreakdown (enrolment_failure fault)
+failed_as : (fault : DeskFault) → call.IsBreakdown fault → IsLineBreakdown (enrolment_failure fault)
 failed_as fault (inl memory) = inl (ap enrolment_failure memory)
 failed_as fault (inr store) = inr (ap enrolment_failure store)
 
@@ -41,7 +42,7 @@ pub unlisted : {H : Type 0} (terms : Terms) (missing : List Enrolment) (u : Opti
     → Recovers H terms missing u w after old old (Err f)
 unlisted terms missing u w after old fault f is broken so_far =
     inr (record {
-      broken = subst IsBreakdown (sym is)
+      broken = subst IsLineBreakdown (sym is)
           (failed_as fault broken);
       kept = refl;
       listed = so_far;

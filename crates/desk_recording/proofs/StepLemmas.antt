@@ -7,8 +7,8 @@ use Rattle.desk_wire.specs.Streams.{IsRequest}
 use Rattle.desk_line.specs.Lines.{AreEnrolments}
 use Rattle.desk_line.specs.declared.line.Enrolment.{Enrolment}
 use Rattle.desk_program.specs.Recorded.{AreNamed, Ended, IsOpen, Noted, Recorded, RecordsAnswer, RecordsNews, RecordsNone, RecordsRequest, request_entry, with_answer, with_news, with_request}
-use Rattle.desk_program.specs.Serving.{BringsNews, Closes, Denies, Parting, Takes, arrived}
-use Rattle.desk_recording.specs.Recording.{Adds, Answered, Asked, Enrolled, HasText, Lost, Notes, NotesOnDisk, SendsKept, Step, arrivals_in, news_in, partings_in, traffic_of}
+use Rattle.desk_program.specs.Serving.{BringsNews, Closes, Denies, Parting, TakesArrival, arrived}
+use Rattle.desk_recording.specs.Recording.{AddsStep, Answered, Asked, Enrolled, HasText, Lost, Notes, NotesOnDisk, SendsKept, Step, arrivals_in, news_in, partings_in, traffic_of}
 use Rattle.desk_recording.specs.Telling.{recorded_by}
 
 news_and : (steps : List Step) (step : Step)
@@ -136,7 +136,8 @@ is_open (Some steps) (Some n) = tt
 
 -- enrolments are brought
 pub brings_news : (old new : Option (List Step)) (noted now : Option Noted) (news : List Enrolment)
-    → Adds old new (Enrolled news) → NotesOnDisk noted now true (λ n. with_news n news) → AreEnrolments news
+    → AddsStep old new (Enrolled news) → NotesOnDisk noted now true (λ n. with_news n news)
+    → AreEnrolments news
     → IfSome noted (λ n. true ≡ true → AreNamed news)
     → BringsNews (traffic_of old (recorded_by false noted)) (traffic_of new (recorded_by false now)) news
 brings_news None new noted now news is noting small named =
@@ -175,16 +176,17 @@ none_taken old new noted now moment request same noting =
 
 -- a connection is taken
 pub takes_one : (old new : Option (List Step)) (noted now : Option Noted) (moment : ℤ) (bytes : List ℕ)
-    → Adds old new (Asked moment bytes) → NotesOnDisk noted now true (λ n. with_request n moment bytes)
+    → AddsStep old new (Asked moment bytes) → NotesOnDisk noted now true (λ n. with_request n moment bytes)
     → IsMoment moment → (0 < length bytes → IsRequest bytes)
-    → Takes (traffic_of old (recorded_by false noted)) (traffic_of new (recorded_by false now))
+    → TakesArrival (traffic_of old (recorded_by false noted)) (traffic_of new (recorded_by false now))
     (arrived moment (Some bytes))
 takes_one None new noted now moment bytes is noting range whole =
-    subst (λ s. Takes (traffic_of None (recorded_by false noted)) (traffic_of s (recorded_by false now))
+    subst (λ s. TakesArrival (traffic_of None (recorded_by false noted))
+    (traffic_of s (recorded_by false now))
     (arrived moment (Some bytes))) (sym is)
     (tt, refl, refl, refl, records_request noted now moment bytes noting range whole)
 takes_one (Some steps) new noted now moment bytes is noting range whole =
-    subst (λ s. Takes (traffic_of (Some steps) (recorded_by false noted))
+    subst (λ s. TakesArrival (traffic_of (Some steps) (recorded_by false noted))
     (traffic_of s (recorded_by false now)) (arrived moment (Some bytes))) (sym is) (
       arrivals_and steps (Asked moment bytes),
       ap Some (partings_and steps (Asked moment bytes) ∙ append-nil (partings_in steps)),
@@ -195,7 +197,7 @@ takes_one (Some steps) new noted now moment bytes is noting range whole =
 
 -- one is closed, and its answer is kept, or lost
 closes : (old new : Option (List Step)) (recorded after : Option Recorded) (parting : Parting)
-    → Adds old new (Answered parting) ⊎ Adds old new (Lost parting)
+    → AddsStep old new (Answered parting) ⊎ AddsStep old new (Lost parting)
     → RecordsAnswer recorded after parting.sent parting.outcome.is_answered
     → Closes (traffic_of old recorded) (traffic_of new after) parting
 closes None new recorded after parting (inl is) answer =
@@ -223,7 +225,7 @@ closes (Some steps) new recorded after parting (inr is) answer =
 
 kept_or_lost : (old new : Option (List Step)) (parting : Parting) (answer : List ℕ)
     (out now : Option (List ℕ)) → SendsKept old new parting answer out now
-    → Adds old new (Answered parting) ⊎ Adds old new (Lost parting)
+    → AddsStep old new (Answered parting) ⊎ AddsStep old new (Lost parting)
 kept_or_lost old new parting answer out now (inl kept) = inl kept.0
 kept_or_lost old new parting answer out now (inr lost) = inr lost.0
 

@@ -5,7 +5,7 @@ use Rattle.std.specs.List.{AllByRecursion}
 use Rattle.std.specs.Io.KnownBytes.{Consumes}
 use Rattle.std.proofs.KnownBytes.{Consumes-nil, Consumes-trans}
 use Rattle.desk_record.specs.Record.{EntryParts, Fits, entries, entry}
-use Rattle.desk_recording.specs.Tail.{HasSaid, IsNoRecord, IsSaid, IsUnsaid, IsUntold, Said, Steps, TailParts, nothing_said, said, said_by}
+use Rattle.desk_recording.specs.Tail.{HasNoTail, HasSaid, IsNoRecord, IsSaid, IsUnsaid, Said, StepsTail, TailParts, nothing_said, said, said_by}
 use Rattle.desk_recording.specs.declared.tail.TailEnd.{TailEnd}
 use Rattle.desk_recording.specs.declared.tail.TailFault.{TailFault}
 use Rattle.desk_recording.specs.declared.tail.TailFault.TheVariants.{Read, OutOfMemory, NoRecord}
@@ -60,12 +60,12 @@ none_more {old} {mid} {new} {s} first unsaid =
 
 -- a step at which nothing ended
 pub goes_on : (r : Option TailEnd) (old mid new : Option (List ℕ)) (s t : TailParts) → r ≡ None
-    → HasSaid old mid s → Steps (Ok r) mid new s t → HasSaid old new t
-goes_on r old mid new s t is first step = one_more first (subst (λ x. Steps (Ok x) mid new s t) is step)
+    → HasSaid old mid s → StepsTail (Ok r) mid new s t → HasSaid old new t
+goes_on r old mid new s t is first step = one_more first (subst (λ x. StepsTail (Ok x) mid new s t) is step)
 
 -- why no tail is told
 pub untold : (fault : TailFault) (old mid new : Option (List ℕ)) (s t : TailParts) → HasSaid old mid s
-    → Steps (Err fault) mid new s t → IsUntold old fault
+    → StepsTail (Err fault) mid new s t → HasNoTail old fault
 untold Read old mid new s t first step = tt
 untold OutOfMemory old mid new s t first step = tt
 untold NoRecord old mid new s t first step = none_more first step

@@ -4,7 +4,7 @@ use Rattle.std.specs.Prelude.{option_map}
 use Rattle.desk_record.specs.Record.{entry}
 use Rattle.desk_program.specs.Recorded.{Noted, request_entry, with_request}
 use Rattle.desk_recording.specs.Recording.{HasText, NotesOnDisk}
-use Rattle.desk_recording.specs.Writing.{Appended, Extends, Failed, Makes, Synced, Write, appended_in, noted_in, text_in}
+use Rattle.desk_recording.specs.RecordWrites.{Appended, AppendsKnown, Failed, MakesWrite, Synced, Write, appended_in, noted_in, text_in}
 
 appended_and : (writes : List Write) (more : List Write)
     → appended_in (writes ++ more) ≡ appended_in writes ++ appended_in more
@@ -23,13 +23,13 @@ same_text writes write none =
     (appended_in writes)
 
 -- nothing is written
-pub extends_none : (old : Option (List Write)) (bytes : List ℕ) → Extends old old false bytes
+pub extends_none : (old : Option (List Write)) (bytes : List ℕ) → AppendsKnown old old false bytes
 extends_none None bytes = tt
 extends_none (Some writes) bytes = refl
 
 -- a text is appended, or isn't
 pub extends_by : (old now : Option (List Write)) (done : Bool) (bytes : List ℕ)
-    → Makes old now done (Appended bytes) → Extends old now done bytes
+    → MakesWrite old now done (Appended bytes) → AppendsKnown old now done bytes
 extends_by None now done bytes makes = tt
 extends_by (Some writes) now true bytes makes =
     ap text_in makes ∙ ap Some (appended_and writes (Appended bytes ∷ [])
@@ -37,7 +37,7 @@ extends_by (Some writes) now true bytes makes =
 extends_by (Some writes) now false bytes makes = ap text_in makes ∙ ap Some (same_text writes Failed refl)
 
 -- what is asked of the disk leaves the text as it is
-synced_text : (old now : Option (List Write)) (done : Bool) → Makes old now done Synced
+synced_text : (old now : Option (List Write)) (done : Bool) → MakesWrite old now done Synced
     → text_in now ≡ text_in old
 synced_text None now true makes = ap text_in makes
 synced_text None now false makes = ap text_in makes
@@ -63,11 +63,11 @@ module _ (before second : ℕ) (old : Option (List Write)) (bytes : List ℕ) (n
     (is : (text : List ℕ) → next (record { text = text; second = before })
     ≡ record { text = text ++ bytes; second = second }) where
   -- entries are appended, and all is on the disk, or isn't
-  pub notes_synced : (mid now : Option (List Write)) (done : Bool) → Extends old mid true bytes
-      → Makes mid now done Synced → NotesOnDisk (noted_in before old) (noted_in second now) done next
+  pub notes_synced : (mid now : Option (List Write)) (done : Bool) → AppendsKnown old mid true bytes
+      → MakesWrite mid now done Synced → NotesOnDisk (noted_in before old) (noted_in second now) done next
   notes_synced mid now done extends makes = by old done extends (synced_text mid now done makes)
     where
-      by : (old : Option (List Write)) (done : Bool) → Extends old mid true bytes
+      by : (old : Option (List Write)) (done : Bool) → AppendsKnown old mid true bytes
           → text_in now ≡ text_in mid → NotesOnDisk (noted_in before old) (noted_in second now) done next
       by None done extends same = tt
       by (Some writes) true extends same = all_noted second now (appended_in writes ++ bytes) (same ∙ extends)

@@ -7,7 +7,7 @@ use Rattle.desk_record.specs.Record.{EntryParts, entries}
 use Rattle.desk_record.specs.declared.kind.Kind.TheVariants as kind
 use Rattle.desk_replay.specs.Replaying.{version}
 use Rattle.desk_program.specs.Recorded.{operator_entry}
-use Rattle.desk_recording.specs.Writing.{Appended, Synced, Write}
+use Rattle.desk_recording.specs.RecordWrites.{Appended, Synced, Write}
 
 -- the entries of a record's number, of a priority that is permitted, and of the most spans
 abbrev pub record_entry : ℕ → EntryParts

@@ -10,17 +10,17 @@ use Rattle.desk_line.specs.declared.failure.Failure.{Failure}
 use Rattle.desk_line.specs.declared.failure.Failure.TheVariants as failure
 use Rattle.desk_line.specs.declared.line.Play.{Play as PlayWords}
 use Rattle.desk_line.specs.Exits.{Ending, EndsWith, FailsWith}
-use Rattle.desk_program.specs.Causes.{IsCounted}
-use Rattle.desk_program.specs.Inputs.{IsInputKept, IsInputPlayed}
+use Rattle.desk_program.specs.EndCauses.{IsEndCounted}
+use Rattle.desk_program.specs.PortPlays.{IsInputKept, IsInputPlayed}
 use Rattle.desk_program.specs.Serving.{Traffic}
 
 -- why an input hands out no request: it is at its end; the place of the next request is not known; it ends
 -- inside one; or a read failed, or memory ran out
-abbrev pub HasStopped : Bool → Option (List ℕ) → Result ⊤ Failure → Type 0
-HasStopped unframed left (Ok done) = (unframed ≡ false) × IsAtEnd left
-HasStopped unframed left (Err failure.Unframed) = unframed ≡ true
-HasStopped unframed left (Err failure.CutShort) = IfSome left IsCut
-HasStopped unframed left (Err _) = ⊤
+abbrev pub HandsOutNone : Bool → Option (List ℕ) → Result ⊤ Failure → Type 0
+HandsOutNone unframed left (Ok done) = (unframed ≡ false) × IsAtEnd left
+HandsOutNone unframed left (Err failure.Unframed) = unframed ≡ true
+HandsOutNone unframed left (Err failure.CutShort) = IfSome left IsCut
+HandsOutNone unframed left (Err _) = ⊤
 
 -- how a line ends: as the input or the output did, if one did; else by why no more was played; or at as many
 -- requests as one line answers
@@ -50,7 +50,7 @@ pub record IsRecordedCause (stopped : Option (Result ⊤ Failure)) (unframed : B
     (old new : ℕ) : Type 0 where
   pub done : Result ⊤ Failure
   pub ends : EndsWith (ended_by stopped unframed done) end
-  pub cause : IsCounted done old new
+  pub cause : IsEndCounted done old new
 
 -- no desk was opened: the line ends with that failure, and nothing is taken
 abbrev pub IsUnrecorded : {A : Type 0} → Course Traffic → Ending → Option A → Failure → Type 0

@@ -3,11 +3,11 @@ use Rattle.std.specs.Prelude.{◌≡◌, ◌<◌, ◌⊎◌, ⊤, ℕ, ℤ, leng
 use Rattle.desk_line.specs.declared.line.Enrolment.{Enrolment}
 use Rattle.desk_ends.specs.Writing.{BreaksOff}
 use Rattle.desk_ends.specs.declared.writing.WriteFault.{WriteFault}
-use Rattle.desk_wire.specs.Refusals.{server_error_text}
-use Rattle.desk_wire.specs.Serving.{IsTaken}
+use Rattle.desk_wire.specs.RefusalTexts.{server_error_text}
+use Rattle.desk_wire.specs.OneRequest.{IsTaken}
 use Rattle.desk_wire.specs.declared.response.ServerError.TheVariants.{Store}
 use Rattle.desk_program.specs.Recorded.{Noted, Recorded}
-use Rattle.desk_program.specs.Serving.{Arrival, Closes, Parting, Takes, Traffic, arrived, parted, untold}
+use Rattle.desk_program.specs.Serving.{Arrival, Closes, Parting, TakesArrival, Traffic, arrived, parted, untold}
 use Rattle.desk_recording.specs.declared.record.Parted.{Parted}
 use Rattle.std.specs.Io.KnownBytes.{Appends}
 
@@ -20,12 +20,12 @@ pub data Step : Type 0 where
   Lost : Parting → Step
 
 -- known steps are followed by one more
-abbrev pub Adds : Option (List Step) → Option (List Step) → Step → Type 0
-Adds old new step = new ≡ option_map (λ steps. steps ++ step ∷ []) old
+abbrev pub AddsStep : Option (List Step) → Option (List Step) → Step → Type 0
+AddsStep old new step = new ≡ option_map (λ steps. steps ++ step ∷ []) old
 
 -- one step more is made, or none
 abbrev pub AddsIf : Option (List Step) → Option (List Step) → Bool → Step → Type 0
-AddsIf old new true step = Adds old new step
+AddsIf old new true step = AddsStep old new step
 AddsIf old new false step = new ≡ old
 
 -- the news, the connections that were taken, and those that were closed, of these steps
@@ -88,8 +88,8 @@ Sends bytes out now = Appends out now bytes ⊎ ((fault : WriteFault) × BreaksO
 -- a client is sent the answer that is kept; or it can't be kept, and the client is sent that the desk failed
 abbrev pub SendsKept :
     Option (List Step) → Option (List Step) → Parting → List ℕ → Option (List ℕ) → Option (List ℕ) → Type 0
-SendsKept old new parting answer out now = (Adds old new (Answered parting) × Sends answer out now)
-    ⊎ (Adds old new (Lost parting) × Sends (server_error_text Store) out now)
+SendsKept old new parting answer out now = (AddsStep old new (Answered parting) × Sends answer out now)
+    ⊎ (AddsStep old new (Lost parting) × Sends (server_error_text Store) out now)
 
 -- a client was sent this, and its connection is closed
 pub record IsClosedBy (old new : Option (List Step)) (parting : Parting) (answer : List ℕ)
@@ -102,5 +102,5 @@ pub record IsClosedBy (old new : Option (List Step)) (parting : Parting) (answer
 pub record IsTakenFrom (moment : ℤ) (request : List ℕ) (left : Option (List ℕ)) (before after : Traffic) :
     Type 0 where
   pub sent : Option (List ℕ)
-  pub takes : Takes before after (arrived moment sent)
+  pub takes : TakesArrival before after (arrived moment sent)
   pub whole : 0 < length request → IsTaken sent left request

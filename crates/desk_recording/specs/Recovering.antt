@@ -10,7 +10,7 @@ use Rattle.desk_wire.specs.Bytes.{text_for, world_after}
 use Rattle.desk_line.specs.declared.failure.Failure.{Failure}
 use Rattle.desk_line.specs.declared.failure.Failure.TheVariants as failure
 use Rattle.desk_line.specs.declared.line.Enrolment.{Enrolment}
-use Rattle.desk_line.specs.Exits.{IsBreakdown}
+use Rattle.desk_line.specs.Exits.{IsLineBreakdown}
 use Rattle.desk_program.specs.Enrolling.{AreListedSoFar, on_terms, with_operators}
 use Rattle.desk_program.specs.Serving.{Parting, parted}
 use Rattle.desk_program.specs.declared.port.Outcome.{Outcome}
@@ -19,11 +19,11 @@ use Rattle.desk_recording.specs.Recording.{Answered, Asked, Lost, Step}
 use Rattle.desk_recording.specs.Tail.{UnansweredParts}
 
 -- those enrolments that have a ceiling, and whose operators are not on a roll
-abbrev pub is_listed : List Enrolment → List ℕ → Bool
-is_listed roll name = list_any (λ e. bytes_eq e.operator name) roll
+abbrev pub is_on_roll : List Enrolment → List ℕ → Bool
+is_on_roll roll name = list_any (λ e. bytes_eq e.operator name) roll
 
 abbrev pub is_missing : List Enrolment → Enrolment → Bool
-is_missing roll e = not (nat_lt max_priority e.ceiling) && not (is_listed roll e.operator)
+is_missing roll e = not (nat_lt max_priority e.ceiling) && not (is_on_roll roll e.operator)
 
 abbrev pub missing_of : List Enrolment → List Enrolment → List Enrolment
 missing_of roll enrolments = filter (is_missing roll) enrolments
@@ -33,12 +33,12 @@ abbrev pub AddsBoth : Option (List Step) → Option (List Step) → Step → Ste
 AddsBoth old new one other = new ≡ option_map (λ steps. steps ++ one ∷ other ∷ []) old
 
 -- the request is read whole, and answered whole
-abbrev pub whole : Outcome
-whole = record { is_whole = true; is_answered = true }
+abbrev pub whole_outcome : Outcome
+whole_outcome = record { is_whole = true; is_answered = true }
 
 -- an answer that goes to no client
 abbrev pub told_again : List ℕ → Parting
-told_again answer = parted (Some []) (Some answer) whole
+told_again answer = parted (Some []) (Some answer) whole_outcome
 
 -- what is left undone: a request, and its second
 abbrev pub moment_of : UnansweredParts → ℤ
@@ -90,7 +90,7 @@ pub record IsRecovered (H : Type 0) (terms : Terms) (missing : List Enrolment)
 -- or an operator could not be listed, and nothing is asked
 pub record IsNotRecovered (H : Type 0) (terms : Terms) (missing : List Enrolment) (w after : DeskWorld)
     (old new : Option (List Step)) (f : Failure) : Type 0 where
-  pub broken : IsBreakdown f
+  pub broken : IsLineBreakdown f
   pub kept : new ≡ old
   pub listed : AreListedSoFar H missing (on_terms w terms) after
 

@@ -11,7 +11,7 @@ use Rattle.desk_rules.specs.declared.permission.PermitFault.{PermitFault}
 use Rattle.desk_rules.specs.declared.terms.Terms.{Terms}
 use Rattle.desk_line.specs.declared.line.Enrolment.{Enrolment}
 use Rattle.desk_record.specs.Record.{EntryParts, Fits, entries, entry}
-use Rattle.desk_record.specs.Reading.{IsDamaged, IsShort}
+use Rattle.desk_record.specs.Reading.{IsDamagedRecord, IsTooShort}
 use Rattle.desk_record.specs.declared.kind.Kind.{Kind}
 use Rattle.desk_record.specs.declared.kind.Kind.TheVariants as kind
 use Rattle.desk_replay.specs.Replaying.{is_failure, last_moment, version}
@@ -73,37 +73,37 @@ Said = Option TailParts
 abbrev pub none_if : Bool → Said → Said
 none_if test next = if test then None else next
 
-unfoldable pub begun : TailParts → ℕ → List ℕ → Said
-begun t n bytes =
+unfoldable pub said_record : TailParts → ℕ → List ℕ → Said
+said_record t n bytes =
     none_if (is_some t.record_number || not (bytes_eq bytes version))
     (Some (record t { record_number = Some n }))
 
 -- a priority is permitted beside the others
-abbrev pub permitted_by : TailParts → List ℕ → Result (List ℕ) PermitFault → Said
-permitted_by t more (Err fault) = None
-permitted_by t more (Ok permitted) =
+abbrev pub said_permitted_by : TailParts → List ℕ → Result (List ℕ) PermitFault → Said
+said_permitted_by t more (Err fault) = None
+said_permitted_by t more (Ok permitted) =
     Some (record t { permitted = more; terms = record t.terms { permitted = permitted } })
 
-unfoldable pub permitted : TailParts → ℕ → Said
-permitted t p =
+unfoldable pub said_permitted : TailParts → ℕ → Said
+said_permitted t p =
     none_if (nat_lt max_priority p)
-    (permitted_by t (t.permitted ++ (p ∷ [])) (permitted_in (t.permitted ++ (p ∷ []))))
+    (said_permitted_by t (t.permitted ++ (p ∷ [])) (permitted_in (t.permitted ++ (p ∷ []))))
 
-unfoldable pub spanned : TailParts → ℕ → Said
-spanned t n =
+unfoldable pub said_spans : TailParts → ℕ → Said
+said_spans t n =
     none_if (not (nat_le 1 n && nat_le n max_spans))
     (Some (record t { terms = record t.terms { spans = Some n } }))
 
-unfoldable pub listed : TailParts → ℕ → List ℕ → Said
-listed t ceiling name =
+unfoldable pub said_operator : TailParts → ℕ → List ℕ → Said
+said_operator t ceiling name =
     none_if (not (is_operator_name name)) (none_if (nat_lt max_priority ceiling)
     (Some (record t {
       operators = t.operators ++ (record { operator = name; ceiling = ceiling } ∷ []);
     })))
 
 -- a request is recorded: the operators before it are listed by then
-unfoldable pub requested : TailParts → ℕ → List ℕ → Said
-requested t second request =
+unfoldable pub said_request : TailParts → ℕ → List ℕ → Said
+said_request t second request =
     none_if (is_some t.asked) (none_if (nat_lt last_moment second)
     (Some (record t {
       operators = [];
@@ -111,33 +111,33 @@ requested t second request =
     })))
 
 -- its answer is recorded: a failure is none
-abbrev pub answered_by : TailParts → Option UnansweredParts → ℕ → List ℕ → Said
-answered_by t None second answer = None
-answered_by t (Some u) second answer =
+abbrev pub said_answer_to : TailParts → Option UnansweredParts → ℕ → List ℕ → Said
+said_answer_to t None second answer = None
+said_answer_to t (Some u) second answer =
     none_if (not (u.second == second))
     (if is_failure answer then Some t else Some (record t { asked = None }))
 
-unfoldable pub answered : TailParts → ℕ → List ℕ → Said
-answered t second answer = answered_by t t.asked second answer
+unfoldable pub said_answer : TailParts → ℕ → List ℕ → Said
+said_answer t second answer = said_answer_to t t.asked second answer
 
-abbrev pub bare : List ℕ → Said → Said
-bare bytes next = none_if (not (length bytes == 0)) next
+abbrev pub said_bare : List ℕ → Said → Said
+said_bare bytes next = none_if (not (length bytes == 0)) next
 
 abbrev pub said_within : Kind → TailParts → ℕ → List ℕ → Said
-said_within kind.Record t n bytes = begun t n bytes
-said_within kind.Permitted t n bytes = bare bytes (permitted t n)
-said_within kind.Spans t n bytes = bare bytes (spanned t n)
-said_within kind.Operator t n bytes = listed t n bytes
-said_within kind.Request t n bytes = requested t n bytes
-said_within kind.Answer t n bytes = answered t n bytes
+said_within kind.Record t n bytes = said_record t n bytes
+said_within kind.Permitted t n bytes = said_bare bytes (said_permitted t n)
+said_within kind.Spans t n bytes = said_bare bytes (said_spans t n)
+said_within kind.Operator t n bytes = said_operator t n bytes
+said_within kind.Request t n bytes = said_request t n bytes
+said_within kind.Answer t n bytes = said_answer t n bytes
 
-abbrev pub is_record : Kind → Bool
-is_record kind.Record = true
-is_record kind.Permitted = false
-is_record kind.Spans = false
-is_record kind.Operator = false
-is_record kind.Request = false
-is_record kind.Answer = false
+abbrev pub is_first_kind : Kind → Bool
+is_first_kind kind.Record = true
+is_first_kind kind.Permitted = false
+is_first_kind kind.Spans = false
+is_first_kind kind.Operator = false
+is_first_kind kind.Request = false
+is_first_kind kind.Answer = false
 
 -- how many bytes of a record were read, as many as 64 bits hold at most
 abbrev pub grown : TailParts → ℕ → TailParts
@@ -146,7 +146,7 @@ grown t more = record t { size = min (t.size + more) (2 ^ 64 - 1) }
 -- nothing else begins a record
 unfoldable pub said : TailParts → EntryParts → Said
 said t e =
-    none_if (is_none t.record_number && not (is_record e.kind))
+    none_if (is_none t.record_number && not (is_first_kind e.kind))
     (said_within e.kind (grown t (length (entry e))) e.number e.bytes)
 
 -- what entries say, one after the other
@@ -162,8 +162,8 @@ Notes (Err fault) outcome new = (fault ≡ OutOfMemory) ⊎ ((fault ≡ NoRecord
 -- what stands behind the last whole entry: nothing; the beginning of one, and no more; or what is no entry
 abbrev pub EndsIn : TailEnd → Option (List ℕ) → Type 0
 EndsIn End left = IsAtEnd left
-EndsIn Short left = IfSome left IsShort
-EndsIn Damaged left = IfSome left IsDamaged
+EndsIn Short left = IfSome left IsTooShort
+EndsIn Damaged left = IfSome left IsDamagedRecord
 
 -- the first entries that were read say this
 pub record HasSaid (old new : Option (List ℕ)) (t : TailParts) : Type 0 where
@@ -200,15 +200,15 @@ pub record IsNoRecord (old : Option (List ℕ)) : Type 0 where
   pub unsaid : IsUnsaid mid new t
 
 -- why no tail is told: a read failed, memory ran out, or this is no record of a desk
-abbrev pub IsUntold : Option (List ℕ) → TailFault → Type 0
-IsUntold old Read = ⊤
-IsUntold old OutOfMemory = ⊤
-IsUntold old NoRecord = IsNoRecord old
+abbrev pub HasNoTail : Option (List ℕ) → TailFault → Type 0
+HasNoTail old Read = ⊤
+HasNoTail old OutOfMemory = ⊤
+HasNoTail old NoRecord = IsNoRecord old
 
-abbrev pub Steps :
+abbrev pub StepsTail :
     Result (Option TailEnd) TailFault → Option (List ℕ) → Option (List ℕ) → TailParts → TailParts → Type 0
-Steps (Ok None) old new s t = IsSaid old new s t
-Steps (Ok (Some ended)) old new s t = EndsIn ended old × (t ≡ s)
-Steps (Err Read) old new s t = ⊤
-Steps (Err OutOfMemory) old new s t = ⊤
-Steps (Err NoRecord) old new s t = IsUnsaid old new s
+StepsTail (Ok None) old new s t = IsSaid old new s t
+StepsTail (Ok (Some ended)) old new s t = EndsIn ended old × (t ≡ s)
+StepsTail (Err Read) old new s t = ⊤
+StepsTail (Err OutOfMemory) old new s t = ⊤
+StepsTail (Err NoRecord) old new s t = IsUnsaid old new s

@@ -5,7 +5,7 @@ ghost use Rattle.desk_record.specs.Record.{entries};
 ghost use Rattle.desk_recording.specs.Beginning.{header, header_writes, permitted_below, permitted_if};
 ghost use Rattle.desk_recording.specs.Beginning.{spans_entry};
 ghost use Rattle.desk_program.specs.Recorded.{operator_entry};
-ghost use Rattle.desk_recording.specs.Writing.{Follows};
+ghost use Rattle.desk_recording.specs.RecordWrites.{FollowsWrites};
 
 use crate::journal::Journal;
 use desk_line::Enrolment;
@@ -27,7 +27,7 @@ pub fn begin_record<J: Journal>(
     terms: &Terms,
     operators: &[Enrolment],
 ) -> bool
-    ensures { result ≡ true → Follows (J.writes journal.old) (J.writes journal.new)
+    ensures { result ≡ true → FollowsWrites (J.writes journal.old) (J.writes journal.new)
         (header_writes number terms.now operators.now) }
 {
     match header_text(alloc, number, terms, operators) {

@@ -12,14 +12,14 @@ ghost use Rattle.desk_store.specs.World.{World};
 ghost use Rattle.desk_run.specs.DeskFrames.{FindsOnly};
 ghost use Rattle.desk_run.specs.DeskWorld.{IsSettled, world_of};
 ghost use Rattle.desk_wire.specs.Passage.{course};
-ghost use Rattle.desk_wire.specs.Serving.{IsTaken};
+ghost use Rattle.desk_wire.specs.OneRequest.{IsTaken};
 ghost use Rattle.desk_line.specs.Exits.{ending};
 ghost use Rattle.desk_line.specs.Lines.{IsPlay};
 ghost use Rattle.desk_program.specs.Outside.{ended};
 ghost use Rattle.desk_program.specs.Recorded.{IsOpen};
-ghost use Rattle.desk_program.specs.Serving.{Closes, Denies, IsDenied, IsFresh, Takes, arrived, parted, untold};
+ghost use Rattle.desk_program.specs.Serving.{Closes, Denies, IsDenied, IsFresh, TakesArrival, arrived, parted, untold};
 ghost use Rattle.desk_recording.specs.Inputs as spec;
-ghost use Rattle.desk_recording.specs.Inputs.{HasStopped, IsPlayRecorded, IsRecordedCause, IsRecordedKept};
+ghost use Rattle.desk_recording.specs.Inputs.{HandsOutNone, IsPlayRecorded, IsRecordedCause, IsRecordedKept};
 ghost use Rattle.desk_recording.specs.Inputs.{IsUnrecorded};
 ghost use Rattle.desk_recording.specs.Recording.{Sends};
 ghost use Rattle.desk_recording.specs.Telling.{told_by};
@@ -93,7 +93,7 @@ impl<R: Read + Drop, W: Write + Drop> Port for InputPort<R, W> {
 
     fn take(&mut self, alloc: Global) -> Result<Connection<Cursor<Vec<u8>>, Vec<u8>>, Failure>
         ensures moment { IfOk result (λ c. IsMoment c.moment) }
-        ensures taken { IfOk result (λ c. Takes untold untold
+        ensures taken { IfOk result (λ c. TakesArrival untold untold
             (arrived c.moment (cursor_remaining (λ v. Some v.items) c.input))) }
         ensures unsent { IfOk result (λ c. IsFresh untold (Some c.output.items)) }
         ensures same { OnErr result (Denies untold untold) }
@@ -152,7 +152,7 @@ fn next_of<R: Read>(
 ) -> Result<Vec<u8>, Result<(), Failure>>
     ensures taken { IfOk result (λ request.
         IsTaken (R.remaining input.old) (R.remaining input.new) request.items) }
-    ensures stopped { IfErr result (HasStopped is_unframed (R.remaining input.old)) }
+    ensures stopped { IfErr result (HandsOutNone is_unframed (R.remaining input.old)) }
 {
     if is_unframed {
         return Err(Err(Failure::Unframed));

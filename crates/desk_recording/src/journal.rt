@@ -1,7 +1,7 @@
 //! What a record is written to.
 
 ghost use Rattle.std.specs.Prelude.{List, Option, None};
-ghost use Rattle.desk_recording.specs.Writing.{Appended, Makes, Synced, Write};
+ghost use Rattle.desk_recording.specs.RecordWrites.{Appended, MakesWrite, Synced, Write};
 
 /// A file that grows.
 pub trait Journal {
@@ -10,9 +10,9 @@ pub trait Journal {
 
     /// Appends bytes, and answers whether that was done.
     fn append(&mut self, bytes: &[u8]) -> bool
-        ensures { Makes (writes self.old) (writes self.new) result (Appended bytes.now) };
+        ensures { MakesWrite (writes self.old) (writes self.new) result (Appended bytes.now) };
 
     /// Has all that was appended on the disk, and answers whether that was done.
     fn sync(&mut self) -> bool
-        ensures { Makes (writes self.old) (writes self.new) result Synced };
+        ensures { MakesWrite (writes self.old) (writes self.new) result Synced };
 }

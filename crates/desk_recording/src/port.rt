@@ -4,14 +4,14 @@ ghost use Rattle.std.specs.Prelude.{◌≡◌, ◌<◌, false, true, if◌then�
 ghost use Rattle.std.specs.Prelude.{Err, Some, IfErr, IfOk, OnErr, OnOk};
 ghost use Rattle.std.specs.Io.Cursor.{cursor_inner, cursor_remaining};
 ghost use Rattle.desk_ends.specs.Moments.{IsMoment};
-ghost use Rattle.desk_wire.specs.Refusals.{server_error_text};
-ghost use Rattle.desk_wire.specs.Serving.{IsTaken};
+ghost use Rattle.desk_wire.specs.RefusalTexts.{server_error_text};
+ghost use Rattle.desk_wire.specs.OneRequest.{IsTaken};
 ghost use Rattle.desk_wire.specs.declared.response.ServerError.TheVariants.{Store};
 ghost use Rattle.desk_line.specs.Lines.{AreEnrolments};
 ghost use Rattle.desk_program.specs.Recorded.{IsOpen, with_answer};
 ghost use Rattle.desk_program.specs.Serving.{BringsNews, Closes, Denies, IsDenied, IsFresh, Listens};
-ghost use Rattle.desk_program.specs.Serving.{Takes, arrived, parted};
-ghost use Rattle.desk_recording.specs.Recording.{Adds, Answered, IsClosedBy, IsTakenFrom, Notes, Sends};
+ghost use Rattle.desk_program.specs.Serving.{TakesArrival, arrived, parted};
+ghost use Rattle.desk_recording.specs.Recording.{AddsStep, Answered, IsClosedBy, IsTakenFrom, Notes, Sends};
 ghost use Rattle.desk_recording.specs.Recording.{SendsKept, parting_of};
 ghost use Rattle.desk_recording.specs.Telling.{told_by};
 
@@ -99,7 +99,7 @@ impl<P: Port + Drop, R: Record + Drop> Port for RecordedPort<P, R> {
         alloc: Global,
     ) -> Result<Connection<Given<P::Input>, Held<P::Output>>, Failure>
         ensures moment { IfOk result (λ c. IsMoment c.moment) }
-        ensures taken { IfOk result (λ c. Takes (told_by R.Record self.old.keeper self.old.is_broken)
+        ensures taken { IfOk result (λ c. TakesArrival (told_by R.Record self.old.keeper self.old.is_broken)
             (told_by R.Record self.new.keeper self.new.is_broken)
             (arrived c.moment (cursor_remaining (λ v. Some v.items) c.input.request))) }
         ensures unsent { IfOk result (λ c.
@@ -160,7 +160,7 @@ impl<P: Port + Drop, R: Record + Drop> Port for RecordedPort<P, R> {
             outcome) output.answer.items (P.Output.contents output.to) (P.Input.remaining input.client)
             (P.traffic self.old.port) (P.traffic self.new.port) }
         ensures broken { self.new.is_broken ≡ false → (self.old.is_broken ≡ false)
-            × Adds (R.steps self.old.keeper) (R.steps self.new.keeper) (Answered
+            × AddsStep (R.steps self.old.keeper) (R.steps self.new.keeper) (Answered
             (parted (cursor_remaining (λ v. Some v.items) input.request) (Some output.answer.items)
             outcome)) }
     {
@@ -199,7 +199,7 @@ fn send_kept<R: Record, W: Write>(
     ensures sends { SendsKept (R.steps keeper.old) (R.steps keeper.new) (parting_of connection.entry)
         connection.entry.sent.now (W.contents client.old) (W.contents client.new) }
     ensures kept { result ≡ true →
-        Adds (R.steps keeper.old) (R.steps keeper.new) (Answered (parting_of connection.entry)) }
+        AddsStep (R.steps keeper.old) (R.steps keeper.new) (Answered (parting_of connection.entry)) }
     ensures noted { Notes (R.noted keeper.old) (R.noted keeper.new) result
         (λ n. with_answer n connection.entry.sent.now) }
     ensures whole { result ≡ true → (is_broken ≡ false) × (connection.entry.outcome.is_answered ≡ true) }

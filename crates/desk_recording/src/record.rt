@@ -2,7 +2,7 @@
 
 ghost use Rattle.std.specs.Prelude.{◌≡◌, IfSome, List, Option, None, true};
 ghost use Rattle.desk_program.specs.Recorded.{AreNamed, Noted, with_answer, with_news, with_request};
-ghost use Rattle.desk_recording.specs.Recording.{Adds, AddsIf, Answered, Asked, Enrolled, Lost, Notes};
+ghost use Rattle.desk_recording.specs.Recording.{AddsIf, AddsStep, Answered, Asked, Enrolled, Lost, Notes};
 ghost use Rattle.desk_recording.specs.Recording.{NotesOnDisk, Step, parting_of};
 
 use desk_line::Enrolment;
@@ -51,6 +51,6 @@ pub trait Record {
 
     /// Notes that the answer to the request that was kept last is not kept.
     fn lose_answer(&mut self, connection: Parted<'_>)
-        ensures steps { Adds (steps self.old) (steps self.new) (Lost (parting_of connection.entry)) }
+        ensures steps { AddsStep (steps self.old) (steps self.new) (Lost (parting_of connection.entry)) }
         ensures noted { noted self.new ≡ noted self.old };
 }

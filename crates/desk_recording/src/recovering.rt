@@ -7,7 +7,7 @@ ghost use Rattle.desk_store.specs.StoreFrames.{Remembers};
 ghost use Rattle.desk_run.specs.DeskWorld.{world_of};
 ghost use Rattle.desk_line.specs.Lines.{AreEnrolments};
 ghost use Rattle.desk_replay.specs.Replaying.{IsOwn};
-ghost use Rattle.desk_recording.specs.Recording.{Adds, Answered, Lost, parting_of};
+ghost use Rattle.desk_recording.specs.Recording.{AddsStep, Answered, Lost, parting_of};
 ghost use Rattle.desk_recording.specs.Recovering as spec;
 ghost use Rattle.desk_recording.specs.Recovering.{AsksAgain, AsksAgainIfAny, Recovers, told_again};
 ghost use Rattle.desk_recording.specs.Tail.{unanswered_in, unanswered_shown};
@@ -61,7 +61,7 @@ fn is_missing(roll: &[Enrolment], enrolment: &Enrolment) -> bool
 
 // Whether an operator is on a roll.
 fn is_listed(roll: &[Enrolment], operator: &Operator) -> bool
-    ensures { result ≡ spec.is_listed roll.now operator.now }
+    ensures { result ≡ spec.is_on_roll roll.now operator.now }
 {
     roll.iter().any(|enrolment| enrolment.operator == *operator)
 }
@@ -147,9 +147,9 @@ fn ask_again<S: PlanStore, R: Record>(
 // Keeps an answer that goes to no client.
 fn keep_again<R: Record>(keeper: &mut R, answer: &[u8]) -> Result<(), Failure>
     ensures ok { OnOk result
-        (Adds (R.steps keeper.old) (R.steps keeper.new) (Answered (told_again answer.now))) }
+        (AddsStep (R.steps keeper.old) (R.steps keeper.new) (Answered (told_again answer.now))) }
     ensures err { IfErr result (λ f. (f ≡ Failure.Broken)
-        × Adds (R.steps keeper.old) (R.steps keeper.new) (Lost (told_again answer.now))) }
+        × AddsStep (R.steps keeper.old) (R.steps keeper.new) (Lost (told_again answer.now))) }
 {
     let connection = told_again(answer);
     if keeper.keep_answer(connection) {

@@ -5,7 +5,7 @@ ghost use Rattle.std.specs.Io.KnownBytes.{Consumes};
 ghost use Rattle.desk_record.specs.Reading.{entry_shown};
 ghost use Rattle.desk_record.specs.Record.{entry};
 ghost use Rattle.desk_recording.specs.Tail as spec;
-ghost use Rattle.desk_recording.specs.Tail.{IsTail, IsUntold, Notes, Steps, nothing_said, said, tail_shown};
+ghost use Rattle.desk_recording.specs.Tail.{HasNoTail, IsTail, Notes, StepsTail, nothing_said, said, tail_shown};
 
 use desk_line::Enrolment;
 use desk_record::{Entry, Kind, ReadFault, lengths, read_entry};
@@ -105,7 +105,7 @@ impl Tail {
 /// As `TailFault` says.
 pub fn read_tail<R: Read>(alloc: Global, input: &mut R) -> Result<(Tail, TailEnd), TailFault>
     ensures ok { IfOk result (λ read. IsTail (R.remaining input.old) read.1 (tail_shown read.0)) }
-    ensures err { IfErr result (IsUntold (R.remaining input.old)) }
+    ensures err { IfErr result (HasNoTail (R.remaining input.old)) }
 {
     let mut tail = Tail::none(alloc);
     for _ in 0..u64::MAX {
@@ -124,7 +124,7 @@ fn read_one<R: Read>(
     input: &mut R,
     tail: &mut Tail,
 ) -> Result<Option<TailEnd>, TailFault>
-    ensures { Steps result (R.remaining input.old) (R.remaining input.new) (tail_shown tail.old)
+    ensures { StepsTail result (R.remaining input.old) (R.remaining input.new) (tail_shown tail.old)
         (tail_shown tail.new) }
 {
     match read_entry(alloc, input) {
@@ -176,9 +176,9 @@ fn note_within(tail: &mut Tail, kind: Kind, number: u64, bytes: Vec<u8>) -> Resu
 }
 
 // The record begins.
-#[tactic(auto, unfolding(crate::specs::Tail::begun))]
+#[tactic(auto, unfolding(crate::specs::Tail::said_record))]
 fn begin(tail: &mut Tail, number: u64, version: &[u8]) -> Result<(), TailFault>
-    ensures { Notes result (spec.begun (tail_shown tail.old) number version.now) (tail_shown tail.new) }
+    ensures { Notes result (spec.said_record (tail_shown tail.old) number version.now) (tail_shown tail.new) }
 {
     if tail.record.is_some() {
         return Err(TailFault::NoRecord);
@@ -191,9 +191,9 @@ fn begin(tail: &mut Tail, number: u64, version: &[u8]) -> Result<(), TailFault>
 }
 
 // A priority is permitted beside the others.
-#[tactic(auto, unfolding(crate::specs::Tail::permitted))]
+#[tactic(auto, unfolding(crate::specs::Tail::said_permitted))]
 fn permit(tail: &mut Tail, priority: u64) -> Result<(), TailFault>
-    ensures { Notes result (spec.permitted (tail_shown tail.old) priority) (tail_shown tail.new) }
+    ensures { Notes result (spec.said_permitted (tail_shown tail.old) priority) (tail_shown tail.new) }
 {
     if priority > u64::from(MAX_PRIORITY) {
         return Err(TailFault::NoRecord);
@@ -209,9 +209,9 @@ fn permit(tail: &mut Tail, priority: u64) -> Result<(), TailFault>
 }
 
 // An operator's live plans may have so many spans.
-#[tactic(auto, unfolding(crate::specs::Tail::spanned))]
+#[tactic(auto, unfolding(crate::specs::Tail::said_spans))]
 fn limit_spans(tail: &mut Tail, spans: u64) -> Result<(), TailFault>
-    ensures { Notes result (spec.spanned (tail_shown tail.old) spans) (tail_shown tail.new) }
+    ensures { Notes result (spec.said_spans (tail_shown tail.old) spans) (tail_shown tail.new) }
 {
     if spans < 1 || spans > u64::from(MAX_SPANS) {
         return Err(TailFault::NoRecord);
@@ -221,9 +221,9 @@ fn limit_spans(tail: &mut Tail, spans: u64) -> Result<(), TailFault>
 }
 
 // An operator is listed.
-#[tactic(auto, unfolding(crate::specs::Tail::listed))]
+#[tactic(auto, unfolding(crate::specs::Tail::said_operator))]
 fn list(tail: &mut Tail, ceiling: u64, name: &[u8]) -> Result<(), TailFault>
-    ensures { Notes result (spec.listed (tail_shown tail.old) ceiling name.now) (tail_shown tail.new) }
+    ensures { Notes result (spec.said_operator (tail_shown tail.old) ceiling name.now) (tail_shown tail.new) }
 {
     let Some(operator) = Operator::try_new(name) else {
         return Err(TailFault::NoRecord);
@@ -243,9 +243,10 @@ fn list(tail: &mut Tail, ceiling: u64, name: &[u8]) -> Result<(), TailFault>
 }
 
 // A request is asked.
-#[tactic(auto, unfolding(crate::specs::Tail::requested))]
+#[tactic(auto, unfolding(crate::specs::Tail::said_request))]
 fn ask(tail: &mut Tail, second: u64, request: Vec<u8>) -> Result<(), TailFault>
-    ensures { Notes result (spec.requested (tail_shown tail.old) second request.items) (tail_shown tail.new) }
+    ensures { Notes result (spec.said_request (tail_shown tail.old) second request.items)
+        (tail_shown tail.new) }
 {
     if tail.asked.is_some() {
         return Err(TailFault::NoRecord);
@@ -259,9 +260,9 @@ fn ask(tail: &mut Tail, second: u64, request: Vec<u8>) -> Result<(), TailFault>
 }
 
 // The request is answered.
-#[tactic(auto, unfolding(crate::specs::Tail::answered))]
+#[tactic(auto, unfolding(crate::specs::Tail::said_answer))]
 fn answer(tail: &mut Tail, second: u64, answer: &[u8]) -> Result<(), TailFault>
-    ensures { Notes result (spec.answered (tail_shown tail.old) second answer.now) (tail_shown tail.new) }
+    ensures { Notes result (spec.said_answer (tail_shown tail.old) second answer.now) (tail_shown tail.new) }
 {
     let Some(asked) = &tail.asked else {
         return Err(TailFault::NoRecord);

@@ -5,9 +5,9 @@ ghost use Rattle.desk_record.specs.Record.{entries, entry};
 ghost use Rattle.desk_program.specs.Recorded.{AreNamed, operator_entry, with_answer, with_news, with_request};
 ghost use Rattle.desk_recording.specs.Recording.{AddsIf, Answered, Asked, Enrolled, Notes, NotesOnDisk};
 ghost use Rattle.desk_recording.specs.Recording.{parting_of};
-ghost use Rattle.desk_recording.specs.Writing.{Appended, Extends, Follows, Makes, Synced, answer_writes};
-ghost use Rattle.desk_recording.specs.Writing.{appended_writes};
-ghost use Rattle.desk_recording.specs.Writing.{news_writes, noted_in, request_writes};
+ghost use Rattle.desk_recording.specs.RecordWrites.{Appended, AppendsKnown, FollowsWrites, MakesWrite, Synced, answer_writes};
+ghost use Rattle.desk_recording.specs.RecordWrites.{appended_writes};
+ghost use Rattle.desk_recording.specs.RecordWrites.{news_writes, noted_in, request_writes};
 
 use crate::journal::Journal;
 use crate::record::{Parted, Record};
@@ -38,7 +38,7 @@ impl<J: Journal + Drop> WrittenRecord<J> {
 
     /// Has all that was kept on the disk, and answers whether that was done.
     pub fn sync(&mut self) -> bool
-        ensures { Makes (J.writes self.old.journal) (J.writes self.new.journal) result Synced }
+        ensures { MakesWrite (J.writes self.old.journal) (J.writes self.new.journal) result Synced }
     {
         self.journal.sync()
     }
@@ -46,9 +46,9 @@ impl<J: Journal + Drop> WrittenRecord<J> {
     // Appends an entry, and answers whether that was done.
     #[tactic(auto, using(crate::proofs::WritingLemmas::extends_none))]
     fn append(&mut self, kind: Kind, number: u64, bytes: &[u8]) -> bool
-        ensures done { result ≡ true → Follows (J.writes self.old.journal) (J.writes self.new.journal)
+        ensures done { result ≡ true → FollowsWrites (J.writes self.old.journal) (J.writes self.new.journal)
             (appended_writes (record { kind = kind; number = number; bytes = bytes.now })) }
-        ensures text { Extends (J.writes self.old.journal) (J.writes self.new.journal) result
+        ensures text { AppendsKnown (J.writes self.old.journal) (J.writes self.new.journal) result
             (entry (record { kind = kind; number = number; bytes = bytes.now })) }
         ensures second { self.new.second ≡ self.old.second }
     {
@@ -59,9 +59,9 @@ impl<J: Journal + Drop> WrittenRecord<J> {
     // Appends the entries of operators that are enrolled, and answers whether that was done.
     #[tactic(auto, using(crate::proofs::WritingLemmas::extends_none))]
     fn append_news(&mut self, news: &[Enrolment]) -> bool
-        ensures done { result ≡ true → Follows (J.writes self.old.journal) (J.writes self.new.journal)
+        ensures done { result ≡ true → FollowsWrites (J.writes self.old.journal) (J.writes self.new.journal)
             (Appended (entries (map operator_entry news.now)) ∷ []) }
-        ensures text { Extends (J.writes self.old.journal) (J.writes self.new.journal) result
+        ensures text { AppendsKnown (J.writes self.old.journal) (J.writes self.new.journal) result
             (entries (map operator_entry news.now)) }
         ensures named { result ≡ true → AreNamed news.now }
         ensures second { self.new.second ≡ self.old.second }
@@ -77,8 +77,8 @@ impl<J: Journal + Drop> WrittenRecord<J> {
 #[tactic(auto, using(crate::proofs::WritingLemmas::extends_by))]
 fn append_text<J: Journal>(journal: &mut J, text: &[u8]) -> bool
     ensures done { result ≡ true →
-        Follows (J.writes journal.old) (J.writes journal.new) (Appended text.now ∷ []) }
-    ensures text { Extends (J.writes journal.old) (J.writes journal.new) result text.now }
+        FollowsWrites (J.writes journal.old) (J.writes journal.new) (Appended text.now ∷ []) }
+    ensures text { AppendsKnown (J.writes journal.old) (J.writes journal.new) result text.now }
 {
     journal.append(text)
 }
@@ -109,7 +109,7 @@ impl<J: Journal + Drop> Record for WrittenRecord<J> {
             (noted_in self.new.second (J.writes self.new.journal)) result (λ n. with_news n news.now) }
         ensures named { IfSome (noted_in self.old.second (J.writes self.old.journal))
             (λ _. result ≡ true → AreNamed news.now) }
-        ensures writes { result ≡ true → Follows (J.writes self.old.journal) (J.writes self.new.journal)
+        ensures writes { result ≡ true → FollowsWrites (J.writes self.old.journal) (J.writes self.new.journal)
             (news_writes news.now) }
     {
         news.is_empty() || (self.append_news(news) && self.journal.sync())
@@ -120,7 +120,7 @@ impl<J: Journal + Drop> Record for WrittenRecord<J> {
         ensures noted { NotesOnDisk (noted_in self.old.second (J.writes self.old.journal))
             (noted_in self.new.second (J.writes self.new.journal)) result
             (λ n. with_request n moment bytes.now) }
-        ensures writes { result ≡ true → Follows (J.writes self.old.journal) (J.writes self.new.journal)
+        ensures writes { result ≡ true → FollowsWrites (J.writes self.old.journal) (J.writes self.new.journal)
             (request_writes (nat_abs moment) bytes.now) }
     {
         if bytes.is_empty() {
@@ -135,7 +135,7 @@ impl<J: Journal + Drop> Record for WrittenRecord<J> {
         ensures noted { Notes (noted_in self.old.second (J.writes self.old.journal))
             (noted_in self.new.second (J.writes self.new.journal)) result
             (λ n. with_answer n connection.entry.sent.now) }
-        ensures writes { result ≡ true → Follows (J.writes self.old.journal) (J.writes self.new.journal)
+        ensures writes { result ≡ true → FollowsWrites (J.writes self.old.journal) (J.writes self.new.journal)
             (answer_writes self.old.second connection.entry.sent.now) }
     {
         connection.sent.is_empty() || self.append(Kind::Answer, self.second, connection.sent)

@@ -8,8 +8,8 @@ use Rattle.std.proofs.lemmas.Slice.Eq.{bytes_eq-Decides}
 use Rattle.desk_reading.specs.Requests.{asked}
 use Rattle.desk_wire.specs.AllAnswers.{world_left}
 use Rattle.desk_wire.specs.Bytes.{makes_change_for, text_for, world_after}
-use Rattle.desk_replay.specs.Replaying.{AskingParts, State, answered, asked_now, answered_by, counted, is_failure, is_first, last_moment, played, requested, taken, then_taken, with_change}
-use Rattle.desk_replay.specs.Written.{Heard, IsTimely, answer_entry, asking_entry, sent, written}
+use Rattle.desk_replay.specs.Replaying.{AskingParts, State, taken_answer, asked_now, answered_by, counted, is_failure, is_first, last_moment, played, requested, taken, then_taken, with_change}
+use Rattle.desk_replay.specs.WrittenDown.{Heard, IsTimely, answering_entry, asking_entry, sent, written}
 
 -- the state in which a request waits for its answer, and the one after it
 asked_of : State → Heard → State
@@ -51,8 +51,8 @@ same : (xs : List ℕ) → bytes_eq xs xs ≡ true
 same xs = (bytes_eq-Decides xs xs).1 refl
 
 is_answered : (s : State) (r : Heard) → IsSome s.record_number
-    → taken (asked_of s r) (answer_entry s.world r) ≡ Ok (after s r)
-unfolding taken answered asked_of after
+    → taken (asked_of s r) (answering_entry s.world r) ≡ Ok (after s r)
+unfolding taken taken_answer asked_of after
 is_answered s r begun =
     rw (
       begun_is s.record_number begun,
@@ -68,7 +68,7 @@ is_replayed s [] begun none low = (s, refl, refl, none)
 is_replayed s (r ∷ rs) begun none low =
     let rest = is_replayed (after s r) rs begun refl low.1 in (
       rest.0,
-      ap (then_taken (λ t. played t (answer_entry s.world r ∷ written (after s r).world rs)))
+      ap (then_taken (λ t. played t (answering_entry s.world r ∷ written (after s r).world rs)))
           (is_asked s r begun none low.0)
           ∙ ap (then_taken (λ t. played t (written (after s r).world rs))) (is_answered s r begun) ∙ rest.1,
       rest.2,

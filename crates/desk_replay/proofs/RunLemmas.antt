@@ -5,8 +5,8 @@ use Rattle.std.specs.Io.KnownBytes.{Consumes}
 use Rattle.std.proofs.KnownBytes.{Consumes-nil, Consumes-trans}
 use Rattle.desk_record.specs.Record.{EntryParts, Fits, entries, entry}
 use Rattle.desk_run.specs.DeskWorld.{DeskWorld}
-use Rattle.desk_replay.specs.Replaying.{IsOwn, Outcome, State, played, state_of, taken, then_taken}
-use Rattle.desk_replay.specs.Running.{ArePlayed, Ends, HasReplayed, IsPlayed, size_of, start}
+use Rattle.desk_replay.specs.Replaying.{IsOwn, Outcome, State, played, progress_state, taken, then_taken}
+use Rattle.desk_replay.specs.Running.{AreEntriesPlayed, Ends, HasReplayed, IsEntryPlayed, size_of, start}
 use Rattle.desk_replay.specs.declared.stream.ReplayEnd.{ReplayEnd}
 use Rattle.desk_replay.specs.declared.stream.ReplayEnd.TheVariants.{End, Until, Unread, Unplayed}
 
@@ -51,15 +51,16 @@ sized_both place size now es e first next is =
     ∙ ap length (sym (entries_more es e)))
 
 -- nothing is played yet
-pub none_played : (H : Type 0) (old : Option (List ℕ)) (w : DeskWorld) → ArePlayed H 0 old old w (start w)
+pub none_played : (H : Type 0) (old : Option (List ℕ)) (w : DeskWorld)
+    → AreEntriesPlayed H 0 old old w (start w)
 unfolding played
 none_played H old w =
     record { all = []; fit = tt; sized = omega arith; read = Consumes-nil old; gives = λ h. refl }
 
 -- one entry more
 pub one_more : {H G : Type 0} (place size now : ℕ) (old mid new : Option (List ℕ)) (w : DeskWorld)
-    (s t : State) → (G → H) → now ≡ min (place + size) (2 ^ 64 - 1) → ArePlayed H place old mid w s
-    → IsPlayed G size mid new s t → ArePlayed G now old new w t
+    (s t : State) → (G → H) → now ≡ min (place + size) (2 ^ 64 - 1) → AreEntriesPlayed H place old mid w s
+    → IsEntryPlayed G size mid new s t → AreEntriesPlayed G now old new w t
 one_more place size now old mid new w s t down is first next = record {
   all = first.all ++ (next.one ∷ []);
   fit = fit_more first.all next.one first.fit next.fits;
@@ -84,7 +85,8 @@ ends_at until (Unplayed fault) mid new s t h same = record {
 
 -- no entry more
 pub no_more : {H G : Type 0} (until : Option ℕ) (end : ReplayEnd) (place : ℕ)
-    (old mid new : Option (List ℕ)) (w : DeskWorld) (s t : State) → (G → H) → ArePlayed H place old mid w s
+    (old mid new : Option (List ℕ)) (w : DeskWorld) (s t : State) → (G → H)
+    → AreEntriesPlayed H place old mid w s
     → Ends G until end mid new s × (G → t ≡ s) → HasReplayed G until end place old new w t
 no_more until end place old mid new w s t down first ends = record {
   mid = mid;

@@ -4,9 +4,9 @@ use Rattle.desk_run.specs.declared.fault.DeskFault.TheVariants as desk
 use Rattle.desk_replay.specs.declared.fault.ReplayFault.{ReplayFault}
 use Rattle.desk_replay.specs.declared.fault.ReplayFault.TheVariants.{OutOfMemory, Store, NoRecord}
 
-abbrev pub fault_of : DeskFault → ReplayFault
-fault_of desk.OutOfMemory = OutOfMemory
-fault_of desk.Store = Store
-fault_of desk.UnknownOperator = NoRecord
-fault_of desk.NoSuchPlan = NoRecord
-fault_of desk.Ceiling = NoRecord
+abbrev pub replay_fault_of : DeskFault → ReplayFault
+replay_fault_of desk.OutOfMemory = OutOfMemory
+replay_fault_of desk.Store = Store
+replay_fault_of desk.UnknownOperator = NoRecord
+replay_fault_of desk.NoSuchPlan = NoRecord
+replay_fault_of desk.Ceiling = NoRecord

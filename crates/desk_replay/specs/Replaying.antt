@@ -13,7 +13,7 @@ use Rattle.desk_record.specs.declared.kind.Kind.TheVariants as kind
 use Rattle.desk_reading.specs.Requests.{asked}
 use Rattle.desk_run.specs.DeskWorld.{DeskWorld, enrolled}
 use Rattle.desk_wire.specs.Bytes.{makes_change_for, text_for, world_after}
-use Rattle.desk_wire.specs.Refusals.{server_error_text}
+use Rattle.desk_wire.specs.RefusalTexts.{server_error_text}
 use Rattle.desk_wire.specs.declared.response.ServerError.TheVariants as error
 use Rattle.desk_replay.specs.declared.fault.ReplayFault.{ReplayFault}
 use Rattle.desk_replay.specs.declared.fault.ReplayFault.TheVariants.{OutOfMemory, Store, NoRecord, NotNext, Differs}
@@ -58,8 +58,8 @@ asking_in None = None
 asking_in (Some a) = Some (asking_shown a)
 
 -- the state of a desk of this world, by the progress
-abbrev pub state_of : DeskWorld → Progress → State
-state_of w p = record {
+abbrev pub progress_state : DeskWorld → Progress → State
+progress_state w p = record {
   world = w;
   record_number = p.record;
   permitted = p.permitted.items;
@@ -148,9 +148,9 @@ first_of (Some before) answer = before
 
 -- whether a request is asked for the first time, or again, with the first answer then; none if it is not
 -- its turn
-abbrev pub turn_of : Option AskingParts → ℕ → List ℕ → Option (Option (List ℕ))
-turn_of None second request = Some None
-turn_of (Some a) second request =
+abbrev pub request_turn : Option AskingParts → ℕ → List ℕ → Option (Option (List ℕ))
+request_turn None second request = Some None
+request_turn (Some a) second request =
     if same_asked a second request then Some (Some (first_of a.before a.answer)) else None
 
 -- one request more, unless it is asked again; as many as 64 bits hold at most
@@ -191,7 +191,7 @@ asked_now s second request (Some before) =
 unfoldable pub requested : State → ℕ → List ℕ → Outcome
 requested s second request =
     refuse_if (nat_lt last_moment second) NoRecord
-    (asked_now s second request (turn_of s.asking second request))
+    (asked_now s second request (request_turn s.asking second request))
 
 -- an answer says that the desk failed: whether it made the change then is not known
 abbrev pub is_failure : List ℕ → Bool
@@ -214,8 +214,8 @@ answered_by s (Some a) second answer =
     (if is_alike a answer then Ok (record s { asking = None })
     else refuse_if (not (is_failure answer)) Differs (Ok s))
 
-unfoldable pub answered : State → ℕ → List ℕ → Outcome
-answered s second answer = answered_by s s.asking second answer
+unfoldable pub taken_answer : State → ℕ → List ℕ → Outcome
+taken_answer s second answer = answered_by s s.asking second answer
 
 -- an entry that has no bytes
 abbrev pub bare : List ℕ → Outcome → Outcome
@@ -228,7 +228,7 @@ taken_within kind.Permitted s n bytes = bare bytes (permitted s n)
 taken_within kind.Spans s n bytes = bare bytes (spanned s n)
 taken_within kind.Operator s n bytes = listed s n bytes
 taken_within kind.Request s n bytes = requested s n bytes
-taken_within kind.Answer s n bytes = answered s n bytes
+taken_within kind.Answer s n bytes = taken_answer s n bytes
 
 abbrev pub is_record : Kind → Bool
 is_record kind.Record = true
@@ -258,6 +258,6 @@ abbrev pub IsOwn : ReplayFault → Type 0
 IsOwn fault = (fault ≡ OutOfMemory) ⊎ (fault ≡ Store)
 
 -- the outcome is that new state; or the fault, or one of the desk's own, and all is as it was
-abbrev pub Gives : Result ⊤ ReplayFault → Outcome → State → State → Type 0
-Gives (Ok done) outcome old new = outcome ≡ Ok new
-Gives (Err fault) outcome old new = (IsOwn fault ⊎ (outcome ≡ Err fault)) × (new ≡ old)
+abbrev pub GivesOutcome : Result ⊤ ReplayFault → Outcome → State → State → Type 0
+GivesOutcome (Ok done) outcome old new = outcome ≡ Ok new
+GivesOutcome (Err fault) outcome old new = (IsOwn fault ⊎ (outcome ≡ Err fault)) × (new ≡ old)

@@ -4,7 +4,7 @@ use Rattle.std.specs.List.{AllByRecursion}
 use Rattle.std.specs.Io.KnownBytes.{Consumes, IsAtEnd}
 use Rattle.desk_rules.specs.Terms.{no_terms}
 use Rattle.desk_record.specs.Record.{EntryParts, Fits, entries, entry}
-use Rattle.desk_record.specs.Reading.{Stops}
+use Rattle.desk_record.specs.Reading.{LacksEntry}
 use Rattle.desk_record.specs.declared.kind.Kind.{Kind}
 use Rattle.desk_record.specs.declared.kind.Kind.TheVariants as kind
 use Rattle.desk_run.specs.DeskWorld.{DeskWorld}
@@ -25,21 +25,21 @@ start w = record {
   changes = 0;
 }
 
-abbrev pub is_later : Option ℕ → Kind → ℕ → Bool
-is_later None told n = false
-is_later (Some last) kind.Record n = false
-is_later (Some last) kind.Permitted n = false
-is_later (Some last) kind.Spans n = false
-is_later (Some last) kind.Operator n = false
-is_later (Some last) kind.Request n = nat_lt last n
-is_later (Some last) kind.Answer n = false
+abbrev pub is_too_late : Option ℕ → Kind → ℕ → Bool
+is_too_late None told n = false
+is_too_late (Some last) kind.Record n = false
+is_too_late (Some last) kind.Permitted n = false
+is_too_late (Some last) kind.Spans n = false
+is_too_late (Some last) kind.Operator n = false
+is_too_late (Some last) kind.Request n = nat_lt last n
+is_too_late (Some last) kind.Answer n = false
 
 -- how many bytes a text has; as many as 64 bits hold at most
 abbrev pub size_of : List ℕ → ℕ
 size_of text = min (length text) (2 ^ 64 - 1)
 
 -- an entry of this size is read, and, if the store is honest, this comes of it
-pub record IsPlayed (H : Type 0) (size : ℕ) (old new : Option (List ℕ)) (s t : State) : Type 0 where
+pub record IsEntryPlayed (H : Type 0) (size : ℕ) (old new : Option (List ℕ)) (s t : State) : Type 0 where
   pub one : EntryParts
   pub fits : Fits one
   pub sized : size ≡ size_of (entry one)
@@ -47,7 +47,8 @@ pub record IsPlayed (H : Type 0) (size : ℕ) (old new : Option (List ℕ)) (s t
   pub gives : H → taken s one ≡ Ok t
 
 -- an entry is read that is not played, for this reason, or for one of the desk's own
-pub record IsRefused (H : Type 0) (fault : ReplayFault) (old new : Option (List ℕ)) (s : State) : Type 0 where
+pub record IsEntryRefused (H : Type 0) (fault : ReplayFault) (old new : Option (List ℕ)) (s : State) : Type
+    0 where
   pub one : EntryParts
   pub fits : Fits one
   pub read : Consumes old new (entry one)
@@ -58,23 +59,24 @@ pub record IsTooLate (until : Option ℕ) (old new : Option (List ℕ)) : Type 0
   pub one : EntryParts
   pub fits : Fits one
   pub read : Consumes old new (entry one)
-  pub later : IsTrue (is_later until one.kind one.number)
+  pub later : IsTrue (is_too_late until one.kind one.number)
 
 -- why no more entries are played
 abbrev pub Ends : Type 0 → Option ℕ → ReplayEnd → Option (List ℕ) → Option (List ℕ) → State → Type 0
 Ends H until End old new s = IsAtEnd old
 Ends H until Until old new s = IsTooLate until old new
-Ends H until (Unread fault) old new s = Stops old fault
-Ends H until (Unplayed fault) old new s = IsRefused H fault old new s
+Ends H until (Unread fault) old new s = LacksEntry old fault
+Ends H until (Unplayed fault) old new s = IsEntryRefused H fault old new s
 
 -- what comes of one step of a replay
 abbrev pub Steps :
     Type 0 → Option ℕ → Result ℕ ReplayEnd → Option (List ℕ) → Option (List ℕ) → State → State → Type 0
-Steps H until (Ok size) old new s t = IsPlayed H size old new s t
+Steps H until (Ok size) old new s t = IsEntryPlayed H size old new s t
 Steps H until (Err end) old new s t = Ends H until end old new s × (H → t ≡ s)
 
 -- the first entries of a stream are played, as many as have so many bytes
-pub record ArePlayed (H : Type 0) (place : ℕ) (old new : Option (List ℕ)) (w : DeskWorld) (s : State) : Type 0
+pub record AreEntriesPlayed (H : Type 0) (place : ℕ) (old new : Option (List ℕ)) (w : DeskWorld)
+    (s : State) : Type 0
   where
     pub all : List EntryParts
     pub fit : AllByRecursion Fits all
@@ -86,5 +88,5 @@ pub record ArePlayed (H : Type 0) (place : ℕ) (old new : Option (List ℕ)) (w
 pub record HasReplayed (H : Type 0) (until : Option ℕ) (ended : ReplayEnd) (place : ℕ)
     (old new : Option (List ℕ)) (w : DeskWorld) (t : State) : Type 0 where
   pub mid : Option (List ℕ)
-  pub first : ArePlayed H place old mid w t
+  pub first : AreEntriesPlayed H place old mid w t
   pub ends : Ends H until ended mid new t

@@ -4,7 +4,7 @@ ghost use Rattle.std.specs.Prelude.{◌≡◌, None, IsSome, List, Ok, map};
 ghost use Rattle.std.specs.List.{AllByRecursion};
 ghost use Rattle.desk_wire.specs.AllAnswers.{world_left};
 ghost use Rattle.desk_replay.specs.Replaying.{State, played};
-ghost use Rattle.desk_replay.specs.Written.{Heard, IsTimely, sent, written};
+ghost use Rattle.desk_replay.specs.WrittenDown.{Heard, IsTimely, sent, written};
 
 /// Replayed: what a desk writes down of requests that it answers, played where its world was as the first of
 /// them came, differs nowhere, and leaves what the requests left.

@@ -8,8 +8,8 @@ ghost use Rattle.desk_run.specs.DeskWorld.{world_of};
 ghost use Rattle.desk_wire.specs.Passage.{course, passage};
 ghost use Rattle.desk_line.specs.Exits.{FailsWith, ending};
 ghost use Rattle.desk_line.specs.Written.{HasWritten};
-ghost use Rattle.desk_replay.specs.Telling as spec;
-ghost use Rattle.desk_replay.specs.Telling.{IsPrinted, IsReplayed, IsTold, IsWritten, place_line, replayed_line};
+ghost use Rattle.desk_replay.specs.ReplayTold as spec;
+ghost use Rattle.desk_replay.specs.ReplayTold.{IsLinePrinted, IsLineWritten, IsReplayTold, IsReplayed, place_line, replayed_line};
 
 use crate::fault::ReplayFault;
 use crate::stream::{ReplayEnd, Replayed, replay};
@@ -80,7 +80,7 @@ fn tell_end<W: Write, E: Write>(
     output: &mut W,
     errors: &mut E,
 ) -> Exit<E>
-    ensures { IsTold replayed.now.ended replayed.now.progress.requests replayed.now.progress.changes
+    ensures { IsReplayTold replayed.now.ended replayed.now.progress.requests replayed.now.progress.changes
         replayed.now.place (ending result (E.contents errors.old) (E.contents errors.new))
         (course (W.contents output.old) (W.contents output.new)) }
 {
@@ -140,7 +140,7 @@ fn print_replayed<W: Write>(
     changes: u64,
     output: &mut W,
 ) -> Result<(), Failure>
-    ensures { IsPrinted result (replayed_line requests changes) (W.contents output.old)
+    ensures { IsLinePrinted result (replayed_line requests changes) (W.contents output.old)
         (W.contents output.new) }
 {
     let text = replayed_text(alloc, requests, changes)?;
@@ -149,7 +149,7 @@ fn print_replayed<W: Write>(
 }
 
 // The line that tells that all was played.
-#[tactic(auto, unfolding(crate::specs::Telling::replayed_line))]
+#[tactic(auto, unfolding(crate::specs::ReplayTold::replayed_line))]
 fn replayed_text(alloc: Global, requests: u64, changes: u64) -> Result<String, AllocError>
     ensures { IfOk result (λ text. string_bytes text ≡ replayed_line requests changes) }
 {
@@ -158,7 +158,8 @@ fn replayed_text(alloc: Global, requests: u64, changes: u64) -> Result<String, A
 
 // Tells where and why a replay ended. A fault of the writer is passed over, and so is want of memory.
 fn tell_place<E: Write>(alloc: Global, requests: u64, place: u64, cause: &str, errors: &mut E)
-    ensures { IsWritten (place_line requests place cause.now) (E.contents errors.old) (E.contents errors.new)
+    ensures { IsLineWritten (place_line requests place cause.now) (E.contents errors.old)
+        (E.contents errors.new)
         ⊎ (E.contents errors.new ≡ E.contents errors.old) }
 {
     if let Ok(text) = place_text(alloc, requests, place, cause) {
@@ -167,7 +168,7 @@ fn tell_place<E: Write>(alloc: Global, requests: u64, place: u64, cause: &str, e
 }
 
 // The line that tells where and why a replay ended.
-#[tactic(auto, unfolding(crate::specs::Telling::place_line))]
+#[tactic(auto, unfolding(crate::specs::ReplayTold::place_line))]
 fn place_text(alloc: Global, requests: u64, place: u64, cause: &str) -> Result<String, AllocError>
     ensures { IfOk result (λ text. string_bytes text ≡ place_line requests place cause.now) }
 {

@@ -9,7 +9,7 @@ ghost use Rattle.desk_ends.specs.Moments.{IsMoment};
 ghost use Rattle.desk_wire.specs.Bytes.{makes_change_for, text_for, world_after};
 ghost use Rattle.desk_record.specs.Reading.{entry_shown};
 ghost use Rattle.desk_replay.specs.Replaying as spec;
-ghost use Rattle.desk_replay.specs.Replaying.{Gives, IsOwn, asking_in, asking_shown, bytes_of, is_failure, requested, answered, state_of, taken, turn_of};
+ghost use Rattle.desk_replay.specs.Replaying.{GivesOutcome, IsOwn, asking_in, asking_shown, bytes_of, is_failure, requested, taken_answer, progress_state, taken, request_turn};
 ghost use Rattle.desk_replay.specs.declared.fault.ReplayFault.TheVariants as replay_fault;
 
 use crate::fault::ReplayFault;
@@ -36,10 +36,10 @@ pub(crate) fn take_entry<S: PlanStore>(
     progress: &mut Progress,
     entry: Entry,
 ) -> Result<(), ReplayFault>
-    ensures given { IsHonest (S.doubt desk.new.store) → Gives result
-        (taken (state_of (world_of S.content desk.old) progress.old) (entry_shown entry))
-        (state_of (world_of S.content desk.old) progress.old)
-        (state_of (world_of S.content desk.new) progress.new) }
+    ensures given { IsHonest (S.doubt desk.new.store) → GivesOutcome result
+        (taken (progress_state (world_of S.content desk.old) progress.old) (entry_shown entry))
+        (progress_state (world_of S.content desk.old) progress.old)
+        (progress_state (world_of S.content desk.new) progress.new) }
     ensures remembered { Remembers S.doubt S.faults S.is_shielded desk.old.store desk.new.store }
 {
     let Entry {
@@ -65,10 +65,11 @@ fn take_within<S: PlanStore>(
     number: u64,
     bytes: Vec<u8>,
 ) -> Result<(), ReplayFault>
-    ensures given { IsHonest (S.doubt desk.new.store) → Gives result
-        (spec.taken_within kind (state_of (world_of S.content desk.old) progress.old) number bytes.items)
-        (state_of (world_of S.content desk.old) progress.old)
-        (state_of (world_of S.content desk.new) progress.new) }
+    ensures given { IsHonest (S.doubt desk.new.store) → GivesOutcome result
+        (spec.taken_within kind (progress_state (world_of S.content desk.old) progress.old) number
+        bytes.items)
+        (progress_state (world_of S.content desk.old) progress.old)
+        (progress_state (world_of S.content desk.new) progress.new) }
     ensures remembered { Remembers S.doubt S.faults S.is_shielded desk.old.store desk.new.store }
 {
     match kind {
@@ -92,10 +93,10 @@ fn ask<S: PlanStore>(
     second: u64,
     request: Vec<u8>,
 ) -> Result<(), ReplayFault>
-    ensures given { IsHonest (S.doubt desk.new.store) → Gives result
-        (requested (state_of (world_of S.content desk.old) progress.old) second request.items)
-        (state_of (world_of S.content desk.old) progress.old)
-        (state_of (world_of S.content desk.new) progress.new) }
+    ensures given { IsHonest (S.doubt desk.new.store) → GivesOutcome result
+        (requested (progress_state (world_of S.content desk.old) progress.old) second request.items)
+        (progress_state (world_of S.content desk.old) progress.old)
+        (progress_state (world_of S.content desk.new) progress.new) }
     ensures remembered { Remembers S.doubt S.faults S.is_shielded desk.old.store desk.new.store }
 {
     if second > MAX_SECOND as u64 {
@@ -150,9 +151,9 @@ fn turn(
     request: &[u8],
 ) -> Result<Option<Vec<u8>>, ReplayFault>
     ensures ok { IfOk result (λ before.
-        turn_of (asking_in asking.now) second request.now ≡ Some (bytes_of (λ v. v.items) before)) }
+        request_turn (asking_in asking.now) second request.now ≡ Some (bytes_of (λ v. v.items) before)) }
     ensures err { IfErr result (λ f. (f ≡ replay_fault.OutOfMemory)
-        ⊎ ((f ≡ replay_fault.NoRecord) × (turn_of (asking_in asking.now) second request.now ≡ None))) }
+        ⊎ ((f ≡ replay_fault.NoRecord) × (request_turn (asking_in asking.now) second request.now ≡ None))) }
 {
     let Some(asking) = asking else {
         return Ok(None);
@@ -217,10 +218,11 @@ fn tell_one<S: PlanStore>(
 }
 
 // Compares the recorded answer with the desk's.
-#[tactic(auto, unfolding(crate::specs::Replaying::answered))]
+#[tactic(auto, unfolding(crate::specs::Replaying::taken_answer))]
 fn compare(progress: &mut Progress, second: u64, answer: &[u8]) -> Result<(), ReplayFault>
-    ensures { (w : DeskWorld) → Gives result (answered (state_of w progress.old) second answer.now)
-        (state_of w progress.old) (state_of w progress.new) }
+    ensures { (w : DeskWorld)
+        → GivesOutcome result (taken_answer (progress_state w progress.old) second answer.now)
+        (progress_state w progress.old) (progress_state w progress.new) }
 {
     let Some(asking) = &progress.asking else {
         return Err(ReplayFault::NoRecord);

@@ -2,7 +2,7 @@
 
 ghost use Rattle.std.specs.Prelude.{◌≡◌};
 ghost use Rattle.desk_run.specs.DeskWorld.{DeskWorld};
-ghost use Rattle.desk_replay.specs.Replaying.{follows, state_of};
+ghost use Rattle.desk_replay.specs.Replaying.{follows, progress_state};
 ghost use Rattle.desk_replay.specs.Running.{start};
 
 use desk_rules::terms::Terms;
@@ -44,7 +44,7 @@ pub struct Progress {
 impl Progress {
     /// No record has begun.
     pub fn none(alloc: Global) -> Progress
-        ensures { (w : DeskWorld) → state_of w result ≡ start w }
+        ensures { (w : DeskWorld) → progress_state w result ≡ start w }
     {
         Progress {
             record: None,

@@ -6,7 +6,7 @@ ghost use Rattle.desk_store.specs.StoreFrames.{Remembers};
 ghost use Rattle.desk_record.specs.Reading.{entry_shown};
 ghost use Rattle.desk_record.specs.Record.{entry};
 ghost use Rattle.desk_run.specs.DeskWorld.{world_of};
-ghost use Rattle.desk_replay.specs.Replaying.{state_of};
+ghost use Rattle.desk_replay.specs.Replaying.{progress_state};
 ghost use Rattle.desk_replay.specs.Running.{HasReplayed, Steps};
 ghost use Rattle.desk_replay.specs.Running as spec;
 
@@ -55,7 +55,7 @@ pub fn replay<S: PlanStore, R: Read>(
 ) -> Replayed
     ensures played { HasReplayed (IsHonest (S.doubt desk.new.store)) until result.ended
         result.place (R.remaining input.old) (R.remaining input.new) (world_of S.content desk.old)
-        (state_of (world_of S.content desk.new) result.progress) }
+        (progress_state (world_of S.content desk.new) result.progress) }
     ensures remembered { Remembers S.doubt S.faults S.is_shielded desk.old.store desk.new.store }
 {
     let mut progress = Progress::none(alloc);
@@ -90,8 +90,8 @@ fn replay_one<S: PlanStore, R: Read>(
 ) -> Result<u64, ReplayEnd>
     ensures steps { Steps (IsHonest (S.doubt desk.new.store)) until result
         (R.remaining input.old) (R.remaining input.new)
-        (state_of (world_of S.content desk.old) progress.old)
-        (state_of (world_of S.content desk.new) progress.new) }
+        (progress_state (world_of S.content desk.old) progress.old)
+        (progress_state (world_of S.content desk.new) progress.new) }
     ensures remembered { Remembers S.doubt S.faults S.is_shielded desk.old.store desk.new.store }
 {
     let entry = match read_entry(alloc, input) {
@@ -119,7 +119,7 @@ fn size_of(one: &Entry) -> u64
 
 // Whether this is a request that is asked later.
 fn is_later(until: Option<u64>, entry: &Entry) -> bool
-    ensures { result ≡ spec.is_later until entry.now.kind entry.now.number }
+    ensures { result ≡ spec.is_too_late until entry.now.kind entry.now.number }
 {
     match until {
         Some(last) => entry.kind == Kind::Request && entry.number > last,

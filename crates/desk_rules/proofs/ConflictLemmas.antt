@@ -12,7 +12,7 @@ use Rattle.s2_hilbert.specs.laws.Curve.{same_leaf}
 use Rattle.s2_cellid.specs.Family.{leaf_id}
 use Rattle.volume4d.specs.Point.{Point, is_leaf, point_cmp}
 use Rattle.volume4d.specs.Volume.{Block, area_has}
-use Rattle.desk_rules.specs.Level.{reaches}
+use Rattle.desk_rules.specs.LevelReached.{reaches}
 use Rattle.desk_rules.specs.Permission.{is_permitted, blocks, least_blocking}
 use Rattle.volume4d.specs.declared.slab.Slab.{Slab}
 use Rattle.volume4d.specs.declared.slab.Held.{Held}

@@ -9,7 +9,7 @@ use Rattle.s2_cellid.specs.Cell.{last_leaf_id}
 use Rattle.volume4d.specs.Point.{Point}
 use Rattle.volume4d.specs.Shape.{Shape, cells, rectangle}
 use Rattle.volume4d.specs.Volume.{Block, area_has}
-use Rattle.desk_rules.specs.Level.{reaches}
+use Rattle.desk_rules.specs.LevelReached.{reaches}
 use Rattle.desk_rules.specs.Permission.{blocks}
 use Rattle.volume4d.specs.Meeting.{Spot, IsFirst}
 use Rattle.desk_rules.specs.Search.{first_below, first_within, first_pair}

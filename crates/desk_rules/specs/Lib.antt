@@ -1,7 +1,7 @@
 -- Read first: Limits, States, Outcome, Conflict.
 pub mod Limits
 pub mod Name
-pub mod Level
+pub mod LevelReached
 pub mod Plan
 pub mod States
 pub mod Outcome

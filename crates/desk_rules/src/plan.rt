@@ -2,7 +2,7 @@
 
 ghost use Rattle.std.specs.Prelude.{◌≡◌, ◌*◌, ◌≤◌, IfOk};
 ghost use Rattle.std.specs.Option.{option_copied};
-ghost use Rattle.volume4d.specs.Limits.{max_cover, max_volumes};
+ghost use Rattle.volume4d.specs.VolumeLimits.{max_cover, max_volumes};
 ghost use Rattle.desk_rules.specs.Plan.{row_spans};
 ghost use Rattle.desk_rules.specs.States as spec;
 

@@ -37,7 +37,7 @@ use Rattle.desk_rules.specs.declared.reply.PutReply.{PutReply}
 use Rattle.desk_run.specs.declared.pending.Pending.{Pending}
 use Rattle.desk_run.specs.DeskWorld.{DeskWorld, held_in}
 use Rattle.desk_run.specs.Verdicts.{Told, Ruling, replied, unknown_operator, no_such_plan, ruling_alone, put_outcome, put_ruling, plans_left, delete_ruling, shown_in, list_ruling, show_ruling, clear_ruling, enrolled_ruling, ruling_under, verdict, world_with_plans, ruling_in, makes_change, told_to, step}
-use Rattle.desk_run.specs.Calls.{IsUnanswered, IsReady, Readies, IsPending, Prepares, change_after, world_with, world_committed}
+use Rattle.desk_run.specs.Calls.{HasNoReply, IsPendingAs, Readies, IsPending, Prepares, change_after, world_with, world_committed}
 use Rattle.desk_run.proofs.OutcomeLemmas.{outcome_counts}
 use Rattle.desk_run.proofs.PutLemmas.{change_fits}
 
@@ -60,7 +60,7 @@ verdict_is terms w o put given moment stored standing meeting v e m s n over c =
 -- a call to which an answer says no more than a word
 unanswered_by : (w : DeskWorld) (moment : ℤ) (asked : Asked) (reason : Told)
     → ruling_in w asked.operator moment asked.call ≡ ruling_alone reason
-    → IsUnanswered w moment asked reason
+    → HasNoReply w moment asked reason
 unfolding told_to makes_change step
 unanswered_by w moment asked reason e = record {
   told = ap (λ a. a.told) e;
@@ -70,7 +70,7 @@ unanswered_by w moment asked reason e = record {
 
 -- an operator that is not listed
 pub unlisted_is : (w : DeskWorld) (moment : ℤ) (asked : Asked)
-    → ceiling_of asked.operator w.content ≡ None → IsUnanswered w moment asked unknown_operator
+    → ceiling_of asked.operator w.content ≡ None → HasNoReply w moment asked unknown_operator
 unfolding verdict own
 unlisted_is w moment asked e = unanswered_by w moment asked unknown_operator
     (ap (λ c. ruling_under c w.terms (own w.content asked.operator) (held_in w asked.operator)
@@ -99,7 +99,7 @@ pub put_ready : (terms : Terms) (w : World) (o : List ℕ) (put : PutCall) (give
     ≡ put_outcome terms (own w o) (held w o) ceiling given put → given ≡ moment → c
     ≡ change_after v.effect o put
     → r ≡ record { result = v.result; status = v.status; note = v.note; meeting = v.meeting }
-    → IsReady w o (put_ruling (put_outcome terms (own w o) (held w o) ceiling moment put) put
+    → IsPendingAs w o (put_ruling (put_outcome terms (own w o) (held w o) ceiling moment put) put
     (plans_of o w)) (record { reply = reply.Answered r; change = c })
 unfolding put_outcome own
 put_ready terms w o put given moment ceiling v r c listed low is m change reply_is =
@@ -118,7 +118,7 @@ put_ready terms w o put given moment ceiling v r c listed low is m change reply_
 
 -- what is ready for an operator under a ceiling is pending
 pending_from : (w : DeskWorld) (moment : ℤ) (asked : Asked) (ceiling : ℕ) (p : Pending)
-    → ceiling_of asked.operator w.content ≡ Some ceiling → IsReady w.content asked.operator
+    → ceiling_of asked.operator w.content ≡ Some ceiling → IsPendingAs w.content asked.operator
     (enrolled_ruling w.terms (own w.content asked.operator) (held_in w asked.operator) ceiling moment
     asked.call) p → IsPending w moment asked p
 unfolding told_to makes_change step verdict own world_committed
@@ -151,23 +151,23 @@ prepares_from w moment asked ceiling (Err Ceiling) listed h = absurd h
 
 -- a reply that goes with no change is ready
 alone_ready : (w : World) (o : List ℕ) (told : ReplyParts) (r : Reply) → said_in r ≡ told
-    → IsReady w o (ruling_alone (replied told)) (record { reply = r; change = None })
+    → IsPendingAs w o (ruling_alone (replied told)) (record { reply = r; change = None })
 alone_ready w o told r e = record { told = ap replied (sym e); change_is = refl; left = refl; fits = tt }
 
 -- the list of an operator's plans is ready
 pub list_ready : (permitted : List ℕ) (w : World) (o : List ℕ) (shown : List Shown) (r : Reply)
     → shown ≡ map (shown_in permitted w o) (plans_of o w) → said_in r ≡ said.plans shown
-    → IsReady w o (list_ruling permitted (plans_of o w) (held w o)) (record { reply = r; change = None })
+    → IsPendingAs w o (list_ruling permitted (plans_of o w) (held w o)) (record { reply = r; change = None })
 list_ready permitted w o shown r is says = alone_ready w o _ r (says ∙ ap said.plans is)
 
 -- a plan is ready to be shown
 pub show_ready : (permitted : List ℕ) (w now : World) (o id : List ℕ) (found : Option PlanRow)
     (row : PlanRow) (shown : Shown) → found ≡ stored_of id (plans_of o w) → found ≡ Some row → now ≡ w
     → shown ≡ shown_in permitted now o row
-    → IsReady w o (show_ruling permitted (plans_of o w) (held w o) (stored_of id (plans_of o w)))
+    → IsPendingAs w o (show_ruling permitted (plans_of o w) (held w o) (stored_of id (plans_of o w)))
     (record { reply = reply.Plan shown; change = None })
 show_ready permitted w now o id found row shown stored is same shown_is =
-    subst (λ r. IsReady w o (show_ruling permitted (plans_of o w) (held w o) r)
+    subst (λ r. IsPendingAs w o (show_ruling permitted (plans_of o w) (held w o) r)
     (record { reply = reply.Plan shown; change = None })) (sym is ∙ stored)
     (alone_ready w o _ (reply.Plan shown)
     (ap said.plan (shown_is ∙ ap (λ v. shown_in permitted v o row) same)))
@@ -179,7 +179,7 @@ pub status_ready : (w : DeskWorld) (moment : ℤ) (asked : Asked) (ceiling : ℕ
 unfolding enrolled_ruling
 status_ready w moment asked ceiling listed is =
     pending_from w moment asked ceiling (record { reply = reply.Ready; change = None }) listed
-    (subst (λ c. IsReady w.content asked.operator (enrolled_ruling w.terms
+    (subst (λ c. IsPendingAs w.content asked.operator (enrolled_ruling w.terms
     (own w.content asked.operator) (held_in w asked.operator) ceiling moment c)
     (record { reply = reply.Ready; change = None })) (sym is)
     (record { told = refl; change_is = refl; left = refl; fits = tt }))
@@ -188,7 +188,7 @@ status_ready w moment asked ceiling listed is =
 pub delete_ready : (w : World) (o id : List ℕ) (found : Option States) → found
     ≡ states_of (stored_of id (plans_of o w))
     → is_some found ≡ true → IsSome (ceiling_of o w)
-    → IsReady w o (delete_ruling (plans_of o w) id (stored_of id (plans_of o w)))
+    → IsPendingAs w o (delete_ruling (plans_of o w) id (stored_of id (plans_of o w)))
     (record {
       reply = reply.Answered (record {
         result = result.Completed;
@@ -201,7 +201,7 @@ pub delete_ready : (w : World) (o id : List ℕ) (found : Option States) → fou
 unfolding changed_by IsFitting
 delete_ready w o id found e s listed = by_stored (stored_of id (plans_of o w)) refl e where
   by_stored : (r : Option PlanRow) → stored_of id (plans_of o w) ≡ r → found ≡ states_of r
-      → IsReady w o (delete_ruling (plans_of o w) id r)
+      → IsPendingAs w o (delete_ruling (plans_of o w) id r)
       (record {
         reply = reply.Answered (record {
           result = result.Completed;

@@ -31,7 +31,7 @@ use Rattle.desk_store.specs.laws.Order.{all_weaker, all_filter, all_map, sorted_
 use Rattle.desk_store.specs.laws.World.{fewer}
 use Rattle.desk_run.specs.Verdicts.{replied, is_in, clear_ruling}
 use Rattle.desk_run.specs.declared.pending.Pending.{Pending}
-use Rattle.desk_run.specs.Calls.{ids_in, IsClearing, IsReady}
+use Rattle.desk_run.specs.Calls.{ids_in, IsClearing, IsPendingAs}
 
 -- an extent's ids, plan by plan
 ids_append : (extent : Block) (rows : List PlanRow) (row : PlanRow)
@@ -212,7 +212,7 @@ slabs_alone extent given slabs same h x =
 -- nothing is pending where no plan is taken out
 pub none_cleared : (w : World) (o : List ℕ) (extent : Block) (ids : List (List ℕ))
     → ids ≡ ids_in extent (plans_of o w) → length ids ≡ 0
-    → IsReady w o (clear_ruling (plans_of o w) extent)
+    → IsPendingAs w o (clear_ruling (plans_of o w) extent)
     (record { reply = reply.Cleared 0; change = None })
 none_cleared w o extent ids is none =
     let rows = plans_of o w in
@@ -250,7 +250,7 @@ pub some_cleared : (w : World) (o : List ℕ) (extent : Block) (ids : List (List
     → (length ids < 2 ^ 32 → count ≡ length ids) → AreInOrder (plans_of o w)
     → length (plans_of o w) ≤ max_plans
     → IsSome (ceiling_of o w)
-    → IsReady w o (clear_ruling (plans_of o w) extent)
+    → IsPendingAs w o (clear_ruling (plans_of o w) extent)
     (record { reply = reply.Cleared count; change = Some c })
 some_cleared w o extent ids count c is some parts counted s few listed =
     let rows = plans_of o w in
@@ -280,7 +280,7 @@ few_ids w o extent few =
 pub clearing_ready : (w : World) (o : List ℕ) (extent : Block) (p : Pending)
     → IsClearing o (ids_in extent (plans_of o w)) p
     → AreInOrder (plans_of o w) → length (plans_of o w) ≤ max_plans → IsSome (ceiling_of o w)
-    → IsReady w o (clear_ruling (plans_of o w) extent) p
+    → IsPendingAs w o (clear_ruling (plans_of o w) extent) p
 clearing_ready w o extent p h s few listed = by_change p.change h where
   ids : List (List ℕ)
   ids = ids_in extent (plans_of o w)
@@ -289,14 +289,14 @@ clearing_ready w o extent p h s few listed = by_change p.change h where
   told = h.told (few_ids w o extent few)
 
   by_change : (c : Option Change) → IsClearing o ids (record { reply = p.reply; change = c })
-      → IsReady w o (clear_ruling (plans_of o w) extent) (record { reply = p.reply; change = c })
+      → IsPendingAs w o (clear_ruling (plans_of o w) extent) (record { reply = p.reply; change = c })
   by_change None k =
-      subst (λ r. IsReady w o (clear_ruling (plans_of o w) extent)
+      subst (λ r. IsPendingAs w o (clear_ruling (plans_of o w) extent)
       (record { reply = r; change = None }))
       (sym (told ∙ ap (λ xs. reply.Cleared (length xs)) k.asked))
       (none_cleared w o extent ids refl (ap length k.asked))
   by_change (Some c) k =
-      subst (λ r. IsReady w o (clear_ruling (plans_of o w) extent)
+      subst (λ r. IsPendingAs w o (clear_ruling (plans_of o w) extent)
       (record { reply = r; change = Some c }))
       (sym told)
       (some_cleared w o extent ids (length ids) c refl k.asked.0 k.asked.1 (λ _. refl) s few listed)

@@ -27,7 +27,7 @@ use Rattle.desk_rules.specs.declared.reply.Shown.{Shown}
 use Rattle.desk_store.specs.World.{World, has_id, held, held_at, plans_of}
 use Rattle.desk_store.specs.Rivals.{ShareAPoint}
 use Rattle.desk_store.specs.laws.Rival.{at_least_greater}
-use Rattle.desk_run.specs.Listing.{AreSlabsHeld, AreLeft, AreAfter, HaveLevelAt, own_level, own_top, some_hold}
+use Rattle.desk_run.specs.HeldAmong.{AreSlabsHeld, AreLeft, AreAfter, HaveLevelAt, own_level, own_top, some_hold}
 use Rattle.desk_run.specs.Verdicts.{shown_in, shown_plan}
 
 -- ---- the slabs that a plan holds

@@ -21,7 +21,7 @@ use Rattle.volume4d.specs.Meeting.{Spot, IsFirst}
 use Rattle.desk_rules.specs.Permission.{blocks}
 use Rattle.desk_rules.specs.Bridge.{is_blocked_among}
 use Rattle.desk_rules.specs.Conflict.{at_least}
-use Rattle.desk_run.specs.Pieces.{HasPart, IsCut, at_piece}
+use Rattle.desk_run.specs.Pieces.{HasPart, IsCutTo, at_piece}
 
 -- ---- leaves of a slab
 
@@ -206,7 +206,7 @@ regroup true false b true true = refl
 regroup true false b true false = refl
 
 -- a slab that is cut has the points that it had at the piece's leaves
-cut_is : (slab piece new : Slab) (x : Point) → IsCut slab piece new
+cut_is : (slab piece new : Slab) (x : Point) → IsCutTo slab piece new
     → slab_has new x ≡ (slab_has_leaf piece x.leaf && slab_has slab x)
 cut_is slab piece new x is =
     let at = position_of x.leaf in
@@ -245,7 +245,7 @@ cut_none piece x = go (slab_has_leaf piece x.leaf) where
 -- one more held slab is cut
 pub cut_more : (piece : Slab) (old now : List Held) (i : ℕ) (h : Held) (slab : Slab) (x : Point)
     → i < length now → length now ≡ length old → h ≡ get_or now i h → drop i now ≡ drop i old
-    → IsCut h.slab piece slab → top_held (take i now) x ≡ at_piece piece (top_held (take i old)) x
+    → IsCutTo h.slab piece slab → top_held (take i now) x ≡ at_piece piece (top_held (take i old)) x
     → top_held (take (i + 1) (set now i (record { slab = slab; priority = h.priority }))) x
     ≡ at_piece piece (top_held (take (i + 1) old)) x
 cut_more piece old now i h slab x below same_length is rest cut so_far =

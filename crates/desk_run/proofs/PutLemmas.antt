@@ -26,7 +26,7 @@ use Rattle.desk_rules.specs.Limits.{max_plans, max_priority}
 use Rattle.desk_store.specs.World.{World, ceiling_of, stored_of, plans_of}
 use Rattle.desk_store.specs.Changes.{HasRoom}
 use Rattle.desk_store.specs.StoreChange.{IsFitting}
-use Rattle.desk_run.specs.Calls.{Fits, change_after}
+use Rattle.desk_run.specs.Calls.{IsFittingIf, change_after}
 
 no_first : (x : Option Note) (xs : List (Option Note)) → first_note (x ∷ xs) ≡ None → (x ≡ None)
     × (first_note xs ≡ None)
@@ -188,7 +188,7 @@ stored_by (Some row) e = refl
 pub change_fits : (w : World) (o : List ℕ) (asked : PutCall) (moment : ℤ) (most : Option ℕ) (ceiling : ℕ)
     (spot : Option Spot)
     → ceiling_of o w ≡ Some ceiling → ceiling ≤ max_priority
-    → Fits w (change_after (outcome_under asked moment (states_of (stored_of asked.id (plans_of o w)))
+    → IsFittingIf w (change_after (outcome_under asked moment (states_of (stored_of asked.id (plans_of o w)))
     (standing_of most (plans_of o w) ceiling asked) spot).effect o asked)
 unfolding IsFitting
 change_fits w o asked moment most ceiling spot listed low =
@@ -206,7 +206,7 @@ change_fits w o asked moment most ceiling spot listed low =
       below p e = grind (arith, nat_tests)
 
       by_effect : (e : Effect) → (outcome_under asked moment stored standing spot).effect ≡ e
-          → Fits w (change_after e o asked)
+          → IsFittingIf w (change_after e o asked)
       by_effect effect.Nothing f = tt
       by_effect effect.Save f = (
         room_by w o asked.id (saved_within asked moment stored standing spot f),

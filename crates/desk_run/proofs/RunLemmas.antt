@@ -12,32 +12,32 @@ use Rattle.desk_run.specs.declared.fault.DeskFault.{DeskFault}
 use Rattle.desk_run.specs.declared.fault.DeskFault.TheVariants.{OutOfMemory, Store, UnknownOperator, NoSuchPlan, Ceiling}
 use Rattle.desk_run.specs.declared.run.Outcome.{Outcome}
 use Rattle.desk_run.specs.Verdicts.{told_to, step}
-use Rattle.desk_run.specs.Calls.{Tells}
-use Rattle.desk_run.specs.Runs.{IsFoundIn, told_in, world_left, told_by, outcome_of}
+use Rattle.desk_run.specs.Calls.{TellsReply}
+use Rattle.desk_run.specs.Runs.{IsFoundIn, told_in, world_after_calls, as_told, call_outcome}
 
 -- the first calls are answered
 pub record AreAnswered (w : DeskWorld) (calls : List (ℤ × Asked)) (n : ℕ) (outcomes : List Outcome)
     (now : DeskWorld) : Type 0 where
-  pub told : map told_by outcomes ≡ told_in w (take n calls)
-  pub left : now ≡ world_left w (take n calls)
+  pub told : map as_told outcomes ≡ told_in w (take n calls)
+  pub left : now ≡ world_after_calls w (take n calls)
   pub count : length outcomes ≡ n
 
 told_more : (w : DeskWorld) (calls : List (ℤ × Asked)) (call : ℤ × Asked) → told_in w (calls ++ call ∷ [])
-    ≡ told_in w calls ++ told_to (world_left w calls) call.1.operator call.0 call.1.call ∷ []
+    ≡ told_in w calls ++ told_to (world_after_calls w calls) call.1.operator call.0 call.1.call ∷ []
 told_more w [] call = refl
 told_more w (c ∷ calls) call = ap (λ ts. told_to w c.1.operator c.0 c.1.call ∷ ts)
     (told_more (step w c.1.operator c.0 c.1.call) calls call)
 
 left_more : (w : DeskWorld) (calls : List (ℤ × Asked)) (call : ℤ × Asked)
-    → world_left w (calls ++ call ∷ [])
-    ≡ step (world_left w calls) call.1.operator call.0 call.1.call
+    → world_after_calls w (calls ++ call ∷ [])
+    ≡ step (world_after_calls w calls) call.1.operator call.0 call.1.call
 left_more w [] call = refl
 left_more w (c ∷ calls) call = left_more (step w c.1.operator c.0 c.1.call) calls call
 
 -- one more is
 pub one_answered : (w now after : DeskWorld) (calls : List (ℤ × Asked)) (n : ℕ) (outcomes : List Outcome)
     (call : ℤ × Asked) (o : Outcome) → AreAnswered w calls n outcomes now → n < length calls → call
-    ≡ get_or calls n call → told_to now call.1.operator call.0 call.1.call ≡ told_by o → after
+    ≡ get_or calls n call → told_to now call.1.operator call.0 call.1.call ≡ as_told o → after
     ≡ step now call.1.operator call.0 call.1.call
     → AreAnswered w calls (n + 1) (outcomes ++ o ∷ []) after
 one_answered w now after calls n outcomes call o h below is told left =
@@ -46,26 +46,26 @@ one_answered w now after calls n outcomes call o h below is told left =
     ∙ ap (λ c. first ++ c ∷ []) (sym is) in
     record {
       told =
-          map-append told_by outcomes (o ∷ []) ∙ ap (λ ts. ts ++ told_by o ∷ []) h.told
+          map-append as_told outcomes (o ∷ []) ∙ ap (λ ts. ts ++ as_told o ∷ []) h.told
           ∙ ap (λ t. told_in w first ++ t ∷ []) (sym told
           ∙ ap (λ v. told_to v call.1.operator call.0 call.1.call) h.left)
           ∙ sym (told_more w first call) ∙ ap (told_in w) (sym more);
       left = left ∙ ap (λ v. step v call.1.operator call.0 call.1.call) h.left
           ∙ sym (left_more w first call)
-          ∙ ap (world_left w) (sym more);
+          ∙ ap (world_after_calls w) (sym more);
       count = length-append outcomes (o ∷ []) ∙ ap (λ k. k + 1) h.count;
     }
 
 -- what was answered was told so, and its step made
 pub answered_is : (w after : DeskWorld) (moment : ℤ) (asked : Asked) (r : Result Reply DeskFault)
     (o : Outcome)
-    → Tells w moment asked r → OnOk r (after ≡ step w asked.operator moment asked.call)
+    → TellsReply w moment asked r → OnOk r (after ≡ step w asked.operator moment asked.call)
     → OnErr r (after ≡ w)
-    → outcome_of r ≡ Ok o → (told_to w asked.operator moment asked.call ≡ told_by o)
+    → call_outcome r ≡ Ok o → (told_to w asked.operator moment asked.call ≡ as_told o)
     × (after ≡ step w asked.operator moment asked.call)
 answered_is w after moment asked (Ok reply) o told ok err is = (told ∙ outcome_told is, ok) where
-  outcome_told : {p : Outcome} → ◌≡◌ {A = Result Outcome DeskFault} (Ok p) (Ok o) → told_by p
-      ≡ told_by o
+  outcome_told : {p : Outcome} → ◌≡◌ {A = Result Outcome DeskFault} (Ok p) (Ok o) → as_told p
+      ≡ as_told o
   outcome_told e = cc
 answered_is w after moment asked (Err UnknownOperator) o told ok err is =
     (told.told ∙ cc, err ∙ sym told.left)
@@ -97,7 +97,7 @@ same_on_err P (Ok v) same = tt
 same_on_err P (Err fault) same = same
 
 -- the fault at which a run stopped is that of the call
-pub stopped_by : (r : Result Reply DeskFault) (fault : DeskFault) → outcome_of r ≡ Err fault
+pub stopped_by : (r : Result Reply DeskFault) (fault : DeskFault) → call_outcome r ≡ Err fault
     → fault_in r ≡ Some fault
 stopped_by (Ok reply) fault is = cc
 stopped_by (Err UnknownOperator) fault is = cc
@@ -109,10 +109,11 @@ stopped_by (Err Ceiling) fault is = cc
 -- the world that one more call leaves
 left_next : (w now : DeskWorld) (calls : List (ℤ × Asked)) (n : ℕ) (outcomes : List Outcome)
     (call : ℤ × Asked) → AreAnswered w calls n outcomes now → n < length calls → call ≡ get_or calls n call
-    → step now call.1.operator call.0 call.1.call ≡ world_left w (take (n + 1) calls)
+    → step now call.1.operator call.0 call.1.call ≡ world_after_calls w (take (n + 1) calls)
 left_next w now calls n outcomes call h below is =
     ap (λ v. step v call.1.operator call.0 call.1.call) h.left ∙ sym (left_more w (take n calls) call)
-    ∙ sym (ap (world_left w) (take_more calls n call below ∙ ap (λ c. take n calls ++ c ∷ []) (sym is)))
+    ∙ sym (ap (world_after_calls w) (take_more calls n call below
+    ∙ ap (λ c. take n calls ++ c ∷ []) (sym is)))
 
 -- what is found after a call that stopped a run, or after the last
 pub found_next : (w now : DeskWorld) (calls : List (ℤ × Asked)) (n : ℕ) (outcomes : List Outcome)

@@ -20,9 +20,9 @@ abbrev pub IsStoreCounted : {S : Type 0} → (S → ℕ) → S → S → DeskFau
 IsStoreCounted faults_of old new e = e ≡ Store → HasRisen (faults_of old) (faults_of new)
 
 -- the fault as a sentence
-abbrev pub fault_text : DeskFault → List ℕ
-fault_text OutOfMemory = codes "out of memory"
-fault_text Store = codes "the store failed"
-fault_text UnknownOperator = codes "the operator is not enrolled"
-fault_text NoSuchPlan = codes "the operator has no plan with this id"
-fault_text Ceiling = codes "the ceiling is above 1,000"
+abbrev pub desk_fault_text : DeskFault → List ℕ
+desk_fault_text OutOfMemory = codes "out of memory"
+desk_fault_text Store = codes "the store failed"
+desk_fault_text UnknownOperator = codes "the operator is not enrolled"
+desk_fault_text NoSuchPlan = codes "the operator has no plan with this id"
+desk_fault_text Ceiling = codes "the ceiling is above 1,000"

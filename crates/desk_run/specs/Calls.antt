@@ -23,25 +23,25 @@ use Rattle.desk_run.specs.declared.fault.DeskFault.TheVariants.{OutOfMemory, Sto
 use Rattle.desk_run.specs.Verdicts.{Told, Ruling, replied, unknown_operator, no_such_plan, is_in, row_asked, ruling_alone, world_with_plans, makes_change, told_to, step}
 
 -- a call without a reply: what the caller is told instead, and that the call leaves the world as it was
-pub record IsUnanswered (w : DeskWorld) (moment : ℤ) (asked : Asked) (reason : Told) : Type 0 where
+pub record HasNoReply (w : DeskWorld) (moment : ℤ) (asked : Asked) (reason : Told) : Type 0 where
   pub told : told_to w asked.operator moment asked.call ≡ reason
   pub change_is : makes_change w asked.operator moment asked.call ≡ false
   pub left : step w asked.operator moment asked.call ≡ w
 
 -- a reply is told as it is, and so are an unknown operator and a plan that is not there; of want of
 -- memory, and of a store that failed, nothing is claimed; no other fault comes
-abbrev pub Tells : DeskWorld → ℤ → Asked → Result Reply DeskFault → Type 0
-Tells w moment asked (Ok r) = told_to w asked.operator moment asked.call ≡ replied (said_in r)
-Tells w moment asked (Err UnknownOperator) = IsUnanswered w moment asked unknown_operator
-Tells w moment asked (Err NoSuchPlan) = IsUnanswered w moment asked no_such_plan
-Tells w moment asked (Err OutOfMemory) = ⊤
-Tells w moment asked (Err Store) = ⊤
-Tells w moment asked (Err Ceiling) = ⊥
+abbrev pub TellsReply : DeskWorld → ℤ → Asked → Result Reply DeskFault → Type 0
+TellsReply w moment asked (Ok r) = told_to w asked.operator moment asked.call ≡ replied (said_in r)
+TellsReply w moment asked (Err UnknownOperator) = HasNoReply w moment asked unknown_operator
+TellsReply w moment asked (Err NoSuchPlan) = HasNoReply w moment asked no_such_plan
+TellsReply w moment asked (Err OutOfMemory) = ⊤
+TellsReply w moment asked (Err Store) = ⊤
+TellsReply w moment asked (Err Ceiling) = ⊥
 
 -- a change, if there is one, is one that a store takes
-abbrev pub Fits : World → Option Change → Type 0
-Fits w None = ⊤
-Fits w (Some change) = IsFitting change w
+abbrev pub IsFittingIf : World → Option Change → Type 0
+IsFittingIf w None = ⊤
+IsFittingIf w (Some change) = IsFitting change w
 
 -- the world with a change made, if there is one
 abbrev pub world_with : World → Option Change → World
@@ -58,7 +58,7 @@ has_change p = is_some p.change
 
 -- what is pending may be committed
 abbrev pub CanCommit : DeskWorld → Pending → Type 0
-CanCommit w p = Fits w.content p.change
+CanCommit w p = IsFittingIf w.content p.change
 
 -- the desk's world with what is pending committed
 unfoldable pub world_committed : DeskWorld → Pending → DeskWorld
@@ -70,15 +70,15 @@ pub record IsSamePending (p copy : Pending) : Type 0 where
   pub change : option_map parts_in copy.change ≡ option_map parts_in p.change
 
 -- what is pending is what an answer to an operator says
-pub record IsReady (w : World) (operator : List ℕ) (a : Ruling) (p : Pending) : Type 0 where
+pub record IsPendingAs (w : World) (operator : List ℕ) (a : Ruling) (p : Pending) : Type 0 where
   pub told : a.told ≡ replied (said_in (reply_in p))
   pub change_is : has_change p ≡ is_some a.plans
   pub left : world_with w p.change ≡ world_with_plans w operator a.plans
-  pub fits : Fits w p.change
+  pub fits : IsFittingIf w p.change
 
 -- where there is one; that there is no such plan, where the answer says so
 abbrev pub Readies : World → List ℕ → Ruling → Result Pending DeskFault → Type 0
-Readies w operator a (Ok p) = IsReady w operator a p
+Readies w operator a (Ok p) = IsPendingAs w operator a p
 Readies w operator a (Err NoSuchPlan) = a ≡ ruling_alone no_such_plan
 Readies w operator a (Err OutOfMemory) = ⊤
 Readies w operator a (Err Store) = ⊤
@@ -109,8 +109,8 @@ pub record IsPending (w : DeskWorld) (moment : ℤ) (asked : Asked) (p : Pending
 
 abbrev pub Prepares : DeskWorld → ℤ → Asked → Result Pending DeskFault → Type 0
 Prepares w moment asked (Ok p) = IsPending w moment asked p
-Prepares w moment asked (Err UnknownOperator) = IsUnanswered w moment asked unknown_operator
-Prepares w moment asked (Err NoSuchPlan) = IsUnanswered w moment asked no_such_plan
+Prepares w moment asked (Err UnknownOperator) = HasNoReply w moment asked unknown_operator
+Prepares w moment asked (Err NoSuchPlan) = HasNoReply w moment asked no_such_plan
 Prepares w moment asked (Err OutOfMemory) = ⊤
 Prepares w moment asked (Err Store) = ⊤
 Prepares w moment asked (Err Ceiling) = ⊥

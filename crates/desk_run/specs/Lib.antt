@@ -4,10 +4,10 @@ pub mod DeskWorld
 pub mod DeskFrames
 pub mod Verdicts
 pub mod Calls
-pub mod Clusters
-pub mod Listing
+pub mod ConflictParts
+pub mod HeldAmong
 pub mod Pieces
 pub mod Runs
 pub mod Sides
-pub mod TwoRuns
+pub mod CallRuns
 pub mod laws

@@ -17,7 +17,7 @@ pub record IsPiece (whole : Slab) (position : ℕ) (piece : Slab) : Type 0 where
   pub window : slab_window piece ≡ slab_window whole
 
 -- a slab with those of its leaves that a piece has
-pub record IsCut (slab piece cut : Slab) : Type 0 where
+pub record IsCutTo (slab piece cut : Slab) : Type 0 where
   pub first : cut.first ≡ max slab.first piece.first
   pub last : cut.last ≡ min slab.last piece.last
   pub window : slab_window cut ≡ slab_window slab

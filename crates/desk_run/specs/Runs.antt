@@ -21,44 +21,44 @@ told_in w (call ∷ calls) =
     ∷ told_in (step w call.1.operator call.0 call.1.call) calls
 
 -- the world after all calls
-abbrev pub world_left : DeskWorld → List (ℤ × Asked) → DeskWorld
-world_left w [] = w
-world_left w (call ∷ calls) = world_left (step w call.1.operator call.0 call.1.call) calls
+abbrev pub world_after_calls : DeskWorld → List (ℤ × Asked) → DeskWorld
+world_after_calls w [] = w
+world_after_calls w (call ∷ calls) = world_after_calls (step w call.1.operator call.0 call.1.call) calls
 
 -- an outcome as it is told
-abbrev pub told_by : Outcome → Told
-told_by (outcome.Reply reply) = replied (said_in reply)
-told_by outcome.UnknownOperator = unknown_operator
-told_by outcome.NoSuchPlan = no_such_plan
+abbrev pub as_told : Outcome → Told
+as_told (outcome.Reply reply) = replied (said_in reply)
+as_told outcome.UnknownOperator = unknown_operator
+as_told outcome.NoSuchPlan = no_such_plan
 
 -- what a call came to, or the fault that stops a run
-abbrev pub outcome_of : Result Reply DeskFault → Result Outcome DeskFault
-outcome_of (Ok reply) = Ok (outcome.Reply reply)
-outcome_of (Err UnknownOperator) = Ok outcome.UnknownOperator
-outcome_of (Err NoSuchPlan) = Ok outcome.NoSuchPlan
-outcome_of (Err OutOfMemory) = Err OutOfMemory
-outcome_of (Err Store) = Err Store
-outcome_of (Err Ceiling) = Err Ceiling
+abbrev pub call_outcome : Result Reply DeskFault → Result Outcome DeskFault
+call_outcome (Ok reply) = Ok (outcome.Reply reply)
+call_outcome (Err UnknownOperator) = Ok outcome.UnknownOperator
+call_outcome (Err NoSuchPlan) = Ok outcome.NoSuchPlan
+call_outcome (Err OutOfMemory) = Err OutOfMemory
+call_outcome (Err Store) = Err Store
+call_outcome (Err Ceiling) = Err Ceiling
 
 -- what stops a run before its end: want of memory, or a store that failed, with a call left that
 -- has no outcome
-pub record IsCutShort (fault : DeskFault) (answered asked : ℕ) : Type 0 where
+pub record IsRunStopped (fault : DeskFault) (answered asked : ℕ) : Type 0 where
   pub breakdown : IsBreakdown fault
   pub left_over : answered < asked
 
 -- how far a run came: to its end, or to a breakdown
 abbrev pub EndsAt : Option DeskFault → ℕ → ℕ → Type 0
 EndsAt None answered asked = answered ≡ asked
-EndsAt (Some fault) answered asked = IsCutShort fault answered asked
+EndsAt (Some fault) answered asked = IsRunStopped fault answered asked
 
 -- the calls answered are the first of the list, all of them where nothing stopped the run; the
 -- outcomes, and what is left, are theirs
 pub record IsRun (w : DeskWorld) (calls : List (ℤ × Asked)) (ran : Ran) (after : DeskWorld) : Type 0 where
-  pub told : map told_by ran.outcomes.items ≡ told_in w (take (length ran.outcomes.items) calls)
-  pub left : after ≡ world_left w (take (length ran.outcomes.items) calls)
+  pub told : map as_told ran.outcomes.items ≡ told_in w (take (length ran.outcomes.items) calls)
+  pub left : after ≡ world_after_calls w (take (length ran.outcomes.items) calls)
   pub ends : EndsAt ran.stopped (length ran.outcomes.items) (length calls)
 
 -- after n outcomes, what a start finds is what the first n calls left, or what the first n + 1 left
 abbrev pub IsFoundIn : DeskWorld → List (ℤ × Asked) → ℕ → Option World → Type 0
-IsFoundIn w calls n found = (found ≡ Some (world_left w (take n calls)).content)
-    ⊎ (found ≡ Some (world_left w (take (n + 1) calls)).content)
+IsFoundIn w calls n found = (found ≡ Some (world_after_calls w (take n calls)).content)
+    ⊎ (found ≡ Some (world_after_calls w (take (n + 1) calls)).content)

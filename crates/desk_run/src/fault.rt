@@ -22,9 +22,9 @@ pub enum DeskFault {
 
 impl fmt::Display for DeskFault {
     ghost use Rattle.std.specs.Prelude.{Some};
-    ghost use Rattle.desk_run.specs.CallFaults.{fault_text};
+    ghost use Rattle.desk_run.specs.CallFaults.{desk_fault_text};
 
-    ghost output = { λ fault. Some (fault_text fault) };
+    ghost output = { λ fault. Some (desk_fault_text fault) };
 
     fn fmt<W: fmt::Write>(&self, f: &mut fmt::Formatter<W>) -> fmt::Result {
         f.pad(match self {

@@ -9,7 +9,7 @@ ghost use Rattle.desk_rules.specs.declared.plan.PlanRow.{PlanRow};
 ghost use Rattle.desk_rules.specs.declared.words.Usage.TheVariants as usage;
 ghost use Rattle.desk_run.specs.DeskWorld.{DeskWorld, enrolled, side, held_in};
 ghost use Rattle.desk_run.specs.Sides.{HoldAlike, OwnAlike};
-ghost use Rattle.desk_run.specs.TwoRuns.{IsSameFor, TimedCall, calls_of, met_by};
+ghost use Rattle.desk_run.specs.CallRuns.{AreCallsSameFor, TimedCall, calls_of, met_by_calls};
 ghost use Rattle.desk_run.specs.Verdicts.{makes_change, side_left, step};
 ghost use Rattle.desk_store.specs.World.{IsWorld, plans_of, stored_of, text_cmp};
 
@@ -57,6 +57,6 @@ pub fn repeated()
 pub fn two_runs()
     ensures { (operator : List ℕ) (v w : DeskWorld) (calls others : List TimedCall) →
         OwnAlike operator v w → calls_of operator calls ≡ calls_of operator others →
-        AllZip (HoldAlike operator) (met_by operator v calls) (met_by operator w others) →
-        IsSameFor operator v calls w others }
+        AllZip (HoldAlike operator) (met_by_calls operator v calls) (met_by_calls operator w others) →
+        AreCallsSameFor operator v calls w others }
 {}

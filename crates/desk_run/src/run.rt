@@ -6,7 +6,7 @@ ghost use Rattle.desk_store.specs.StoreFaults.{IsHonest, HasRisen};
 ghost use Rattle.desk_run.specs.DeskFrames.{FindsOnly};
 ghost use Rattle.desk_run.specs.DeskWorld.{world_of};
 ghost use Rattle.desk_run.specs.Runs as spec;
-ghost use Rattle.desk_run.specs.Runs.{IsFoundIn, IsRun, told_by};
+ghost use Rattle.desk_run.specs.Runs.{IsFoundIn, IsRun, as_told};
 
 use crate::desk::Desk;
 use crate::fault::DeskFault;
@@ -42,7 +42,7 @@ impl Outcome {
     ///
     /// `AllocError` if memory runs out.
     pub fn copy(&self) -> Result<Outcome, AllocError>
-        ensures { IfOk result (λ copy. told_by copy ≡ told_by self.now) }
+        ensures { IfOk result (λ copy. as_told copy ≡ as_told self.now) }
     {
         match self {
             Outcome::Reply(reply) => Ok(Outcome::Reply(reply.copy()?)),
@@ -60,7 +60,7 @@ impl Ran {
     /// `AllocError` if memory runs out.
     pub fn copy(&self) -> Result<Ran, AllocError>
         ensures outcomes { IfOk result (λ copy.
-            map told_by copy.outcomes.items ≡ map told_by self.now.outcomes.items) }
+            map as_told copy.outcomes.items ≡ map as_told self.now.outcomes.items) }
         ensures stopped { IfOk result (λ copy. copy.stopped ≡ self.now.stopped) }
     {
         Ok(Ran {
@@ -93,7 +93,7 @@ impl<S: PlanStore> Desk<S> {
 
 // Copies of outcomes, in their order.
 fn copies(outcomes: &Vec<Outcome>) -> Result<Vec<Outcome>, AllocError>
-    ensures { IfOk result (λ copies. map told_by copies.items ≡ map told_by outcomes.now.items) }
+    ensures { IfOk result (λ copies. map as_told copies.items ≡ map as_told outcomes.now.items) }
 {
     let mut copies = Vec::new(*outcomes.allocator());
     for outcome in outcomes {
@@ -135,7 +135,7 @@ fn run_over<S: PlanStore>(
 
 // The outcome of a call, or the fault that stops a run.
 fn outcome_of(answered: Result<Reply, DeskFault>) -> Result<Outcome, DeskFault>
-    ensures { result ≡ spec.outcome_of answered }
+    ensures { result ≡ spec.call_outcome answered }
 {
     match answered {
         Ok(reply) => Ok(Outcome::Reply(reply)),

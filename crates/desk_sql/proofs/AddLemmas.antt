@@ -28,7 +28,7 @@ use Rattle.sqlite_schema.specs.declared.schema.Reference.{Reference}
 use Rattle.sqlite_schema.specs.declared.schema.Among.TheVariants.{All}
 use Rattle.sqlite_schema.specs.declared.schema.Constraint.TheVariants.{Unique}
 use Rattle.desk_sql.specs.Schema.{desk_schema}
-use Rattle.desk_sql.specs.Changing.{HasRoom}
+use Rattle.desk_sql.specs.Changing.{HasRowids}
 use Rattle.desk_sql.proofs.PassLemmas.{Passes, apart, with_here, with_others}
 use Rattle.desk_sql.proofs.UpdateStops.{IsGood}
 
@@ -36,7 +36,7 @@ no_differ : (n : ℤ) → differ (Int n) (Int n) ≡ false
 unfolding binary
 no_differ n = ap (λ o. is_true (from_truth (Some (is_ne o)))) (tied_itself value_cmp_total (Int n))
 
-first_fits : (count : ℕ) (rows : List Row) → 0 < count → HasRoom count rows
+first_fits : (count : ℕ) (rows : List Row) → 0 < count → HasRowids count rows
     → fits_i64 (next_rowid rows) ≡ true
 first_fits count rows some room =
     let same : next_rowid rows +ℤ pos 0 ≡ next_rowid rows = omega (arith, ints) in
@@ -58,7 +58,7 @@ module _ (table : Table) (listed : Has desk_schema.tables table) (db : Trees) (c
   abbrev pub HasParents : Type 0
   HasParents = AllByRecursion (λ ref. has_parent desk_schema.tables db added ref ≡ true) table.references
 
-  module _ (room : HasRoom 1 rows) (whole : AllByRecursion (λ r. is_int (rowid r) ≡ true) rows) where
+  module _ (room : HasRowids 1 rows) (whole : AllByRecursion (λ r. is_int (rowid r) ≡ true) rows) where
     pub free : is_taken rows added ≡ false
     free = next_is_free Chosen rows cells room.rising whole
 

@@ -23,9 +23,9 @@ use Rattle.sqlite_value.specs.Keys.{plain, first_key}
 use Rattle.sqlite_tied.specs.Compute.{everything}
 use Rattle.desk_sql.specs.Schema.{desk_schema, operator_table, plan_table, volume_table, span_table, to_operator, to_plan}
 use Rattle.desk_sql.specs.Rows.{IsDesk, columns, operator_row, tables_of}
-use Rattle.desk_sql.specs.Batches.{volume_of, volume_params, span_of}
+use Rattle.desk_sql.specs.Batches.{volume_row_in, volume_params, span_row_in}
 use Rattle.desk_sql.specs.Statements.{enforced}
-use Rattle.desk_sql.specs.Changes.{row_of}
+use Rattle.desk_sql.specs.RowChanges.{plan_row_in}
 use Rattle.desk_sql.specs.declared.changing.writing.PlanRecord.{PlanRecord}
 use Rattle.desk_sql.specs.declared.changing.writing.VolumeRecord.{VolumeRecord}
 use Rattle.desk_sql.specs.declared.changing.writing.SpanRecord.{SpanRecord}
@@ -116,7 +116,7 @@ operator_values name ceiling limit db e (inl misfit) = absurd (true≢false misf
 operator_values name ceiling limit db e (inr steps) = steps
 
 plan_values : (it : PlanRecord) (limit : Option ℕ) (db : Database) (e : Error)
-    → RefusesSource limit db (row_of it ++ []) (Values insert_plan_terms 6) e
+    → RefusesSource limit db (plan_row_in it ++ []) (Values insert_plan_terms 6) e
     → (e ≡ SqliteFailure code.OperationInterrupted) × IsSome limit
 unfolding everything
 plan_values it limit db e (inl misfit) = absurd (true≢false misfit.1)
@@ -130,7 +130,7 @@ volume_values it limit db e (inl misfit) = absurd (true≢false misfit.1)
 volume_values it limit db e (inr steps) = steps
 
 span_values : (it : SpanRecord) (limit : Option ℕ) (db : Database) (e : Error)
-    → RefusesSource limit db (span_of it ++ []) (Values insert_span_terms 11) e
+    → RefusesSource limit db (span_row_in it ++ []) (Values insert_span_terms 11) e
     → (e ≡ SqliteFailure code.OperationInterrupted) × IsSome limit
 unfolding everything
 span_values it limit db e (inl misfit) = absurd (true≢false misfit.1)
@@ -196,15 +196,15 @@ module _ (name : List ℕ) (ceiling : ℕ) (limit : Option ℕ) (old : Database)
       }) 0
 
 module _ (p : PlanRecord) (limit : Option ℕ) (old : Database) (desk : IsDesk old) (sound : IsDatabase old)
-    (fits : FitsPlan p.operator.now p.id.now (row_of p) old) where
+    (fits : FitsPlan p.operator.now p.id.now (plan_row_in p) old) where
   abbrev plan_trees : Trees
   plan_trees = old.trees
 
-  plan_lone : IsLone (at 2 plan_table) (inr (inl refl)) plan_trees (row_of p)
+  plan_lone : IsLone (at 2 plan_table) (inr (inl refl)) plan_trees (plan_row_in p)
   plan_lone i (inl is) on = off (at 2 plan_table) i _ is refl on
   plan_lone i (inr (inl is)) on =
-      alone (columns 5) (λ r. has_same_key 2 r (row_of p)) i _ is _ (plan_trees 2)
-      (key_2 (next_rowid (old.trees 2)) (row_of p)) fits.2.1
+      alone (columns 5) (λ r. has_same_key 2 r (plan_row_in p)) i _ is _ (plan_trees 2)
+      (key_2 (next_rowid (old.trees 2)) (plan_row_in p)) fits.2.1
   plan_lone i (inr (inr (inl is))) on = off (at 2 plan_table) i _ is refl on
   plan_lone i (inr (inr (inr (inl is)))) on = off (at 2 plan_table) i _ is refl on
   plan_lone i (inr (inr (inr (inr (inl is))))) on = off (at 2 plan_table) i _ is refl on
@@ -214,11 +214,11 @@ module _ (p : PlanRecord) (limit : Option ℕ) (old : Database) (desk : IsDesk o
   plan_lone i (inr (inr (inr (inr (inr (inr (inr (inr none)))))))) on = absurd none
 
   plan_never : (stop : Option Error)
-      → OnRows (task_at limit (row_of p) plan_table.name plan_table.columns plan_table.primary
+      → OnRows (task_at limit (plan_row_in p) plan_table.name plan_table.columns plan_table.primary
       plan_table.references 2) enforced None (Insert 1 (Values insert_plan_terms 6)) old.trees (Err stop)
       → IsAtLimit limit stop
-  plan_never = never_stops limit (row_of p) plan_table.name plan_table.columns plan_table.primary
-      plan_table.references 2 old.trees insert_plan_terms 6 (row_of p) (record {
+  plan_never = never_stops limit (plan_row_in p) plan_table.name plan_table.columns plan_table.primary
+      plan_table.references 2 old.trees insert_plan_terms 6 (plan_row_in p) (record {
         listed = inr (inl refl);
         refers = plan_refers;
         one = refl;
@@ -234,12 +234,12 @@ module _ (p : PlanRecord) (limit : Option ℕ) (old : Database) (desk : IsDesk o
         room = fits.2.0;
         whole = desk.plans.whole;
         lone = plan_lone;
-        parents = (operator_there plan_trees _ (row_of p) fits.3, tt);
+        parents = (operator_there plan_trees _ (plan_row_in p) fits.3, tt);
         obeys = subst (λ s. Obeys s old.trees) desk.schema sound.obeys;
       }) 1
 
 module _ (v : VolumeRecord) (limit : Option ℕ) (old : Database) (desk : IsDesk old) (sound : IsDatabase old)
-    (fits : FitsVolume v.operator.now v.id.now v.asked.now v.canon.now (volume_of v) old) where
+    (fits : FitsVolume v.operator.now v.id.now v.asked.now v.canon.now (volume_row_in v) old) where
   abbrev volume_trees : Trees
   volume_trees = old.trees
 
@@ -287,11 +287,11 @@ module _ (v : VolumeRecord) (limit : Option ℕ) (old : Database) (desk : IsDesk
       }) 4
 
 module _ (s : SpanRecord) (limit : Option ℕ) (old : Database) (desk : IsDesk old) (sound : IsDatabase old)
-    (fits : FitsSpan s.operator.now s.id.now (span_of s) old) where
+    (fits : FitsSpan s.operator.now s.id.now (span_row_in s) old) where
   abbrev span_trees : Trees
   span_trees = old.trees
 
-  span_lone : IsLone (at 11 span_table) (inr (inr (inr (inr (inr (inl refl)))))) span_trees (span_of s)
+  span_lone : IsLone (at 11 span_table) (inr (inr (inr (inr (inr (inl refl)))))) span_trees (span_row_in s)
   span_lone i (inl is) on = off (at 11 span_table) i _ is refl on
   span_lone i (inr (inl is)) on = off (at 11 span_table) i _ is refl on
   span_lone i (inr (inr (inl is))) on = off (at 11 span_table) i _ is refl on
@@ -299,17 +299,17 @@ module _ (s : SpanRecord) (limit : Option ℕ) (old : Database) (desk : IsDesk o
   span_lone i (inr (inr (inr (inr (inl is))))) on = off (at 11 span_table) i _ is refl on
   span_lone i (inr (inr (inr (inr (inr (inl is)))))) on = off (at 11 span_table) i _ is refl on
   span_lone i (inr (inr (inr (inr (inr (inr (inl is))))))) on =
-      alone (columns 10) (λ r. has_same_key 4 r (span_of s)) i _ is _ (span_trees 11)
-      (key_4 (next_rowid (old.trees 11)) (span_of s)) fits.2.1
+      alone (columns 10) (λ r. has_same_key 4 r (span_row_in s)) i _ is _ (span_trees 11)
+      (key_4 (next_rowid (old.trees 11)) (span_row_in s)) fits.2.1
   span_lone i (inr (inr (inr (inr (inr (inr (inr (inl is)))))))) on = off (at 11 span_table) i _ is refl on
   span_lone i (inr (inr (inr (inr (inr (inr (inr (inr none)))))))) on = absurd none
 
   span_never : (stop : Option Error)
-      → OnRows (task_at limit (span_of s) span_table.name span_table.columns span_table.primary
+      → OnRows (task_at limit (span_row_in s) span_table.name span_table.columns span_table.primary
       span_table.references 11) enforced None (Insert 5 (Values insert_span_terms 11)) old.trees (Err stop)
       → IsAtLimit limit stop
-  span_never = never_stops limit (span_of s) span_table.name span_table.columns span_table.primary
-      span_table.references 11 old.trees insert_span_terms 11 (span_of s) (record {
+  span_never = never_stops limit (span_row_in s) span_table.name span_table.columns span_table.primary
+      span_table.references 11 old.trees insert_span_terms 11 (span_row_in s) (record {
         listed = inr (inr (inr (inr (inr (inl refl)))));
         refers = span_refers;
         one = refl;
@@ -327,7 +327,7 @@ module _ (s : SpanRecord) (limit : Option ℕ) (old : Database) (desk : IsDesk o
         room = fits.2.0;
         whole = desk.spans.whole;
         lone = span_lone;
-        parents = (plan_there span_trees _ (span_of s) fits.3, tt);
+        parents = (plan_there span_trees _ (span_row_in s) fits.3, tt);
         obeys = subst (λ s. Obeys s old.trees) desk.schema sound.obeys;
       }) 5
 
@@ -340,21 +340,21 @@ insert_operator_sure name ceiling =
     sure_change insert_operator_text (operator_row name ceiling) _ _ insert_operator_is tt refl (omega arith)
     (λ limit db stop desk sound fits h. operator_never name ceiling limit db desk sound fits stop h)
 
-pub insert_plan_sure : (p : PlanRecord) → IsSureChange insert_plan_text (row_of p)
-    (FitsPlan p.operator.now p.id.now (row_of p))
+pub insert_plan_sure : (p : PlanRecord) → IsSureChange insert_plan_text (plan_row_in p)
+    (FitsPlan p.operator.now p.id.now (plan_row_in p))
 unfolding understood everything
-insert_plan_sure p = sure_change insert_plan_text (row_of p) _ _ insert_plan_is tt refl (omega arith)
+insert_plan_sure p = sure_change insert_plan_text (plan_row_in p) _ _ insert_plan_is tt refl (omega arith)
     (λ limit db stop desk sound fits h. plan_never p limit db desk sound fits stop h)
 
 pub insert_volume_sure : (v : VolumeRecord) → IsSureChange insert_volume_text (volume_params v)
-    (FitsVolume v.operator.now v.id.now v.asked.now v.canon.now (volume_of v))
+    (FitsVolume v.operator.now v.id.now v.asked.now v.canon.now (volume_row_in v))
 unfolding understood everything
 insert_volume_sure v = sure_change insert_volume_text (volume_params v) _ _ insert_volume_is tt refl
     (omega arith)
     (λ limit db stop desk sound fits h. volume_never v limit db desk sound fits stop h)
 
-pub insert_span_sure : (s : SpanRecord) → IsSureChange insert_span_text (span_of s)
-    (FitsSpan s.operator.now s.id.now (span_of s))
+pub insert_span_sure : (s : SpanRecord) → IsSureChange insert_span_text (span_row_in s)
+    (FitsSpan s.operator.now s.id.now (span_row_in s))
 unfolding understood everything
-insert_span_sure s = sure_change insert_span_text (span_of s) _ _ insert_span_is tt refl (omega arith)
+insert_span_sure s = sure_change insert_span_text (span_row_in s) _ _ insert_span_is tt refl (omega arith)
     (λ limit db stop desk sound fits h. span_never s limit db desk sound fits stop h)

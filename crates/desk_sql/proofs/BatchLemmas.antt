@@ -18,7 +18,7 @@ use Rattle.desk_sql.specs.Refusals.{IsRefusal}
 use Rattle.desk_sql.proofs.RowidLemmas.{refusal_on}
 use Rattle.desk_sql.proofs.LeavingLemmas.{remembers_itself, remembers_survived, remembers_then}
 use Rattle.desk_sql.specs.Batches.{AddsVolumes, AddsSpans, IsUnderWay}
-use Rattle.desk_sql.specs.Calls.{IsChanged}
+use Rattle.desk_sql.specs.QueryEnds.{IsChanged}
 
 pub record HasAdded {S : Type 0} (g : Ghosts S) (old now : Held S)
     (Changes : Tables → Tables → Type 0) : Type

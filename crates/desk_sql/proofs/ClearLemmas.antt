@@ -9,7 +9,7 @@ use Rattle.sqlite_value.specs.declared.value.Value.{Value}
 use Rattle.sqlite_value.specs.declared.value.Value.TheVariants.{Text}
 use Rattle.sqlite_value.proofs.OrderLemmas.{value_cmp_total}
 use Rattle.sqlite.specs.Order.{Row, column, value_cmp}
-use Rattle.desk_sql.specs.Rows.{Tables, is_text, is_by, is_of, is_not_of, left_without, RemovesPlan}
+use Rattle.desk_sql.specs.Rows.{Tables, is_text, is_row_by, is_of, is_not_of, left_without, RemovesPlan}
 use Rattle.desk_sql.specs.Batches.{RemovesPlans, is_of_none, ids_there}
 
 -- ---- ids that a row has
@@ -43,12 +43,12 @@ second false b h = cc
 same_id : (operator id other : List ℕ) (q r : Row) → is_of operator other q ≡ true → is_of operator id q
     ≡ true → is_of operator id r ≡ true → is_of operator other r ≡ true
 same_id operator id other q r one two three =
-    both (is_by operator r) (is_text (column r 1) other)
-    (first (is_by operator r) (is_text (column r 1) id) three)
+    both (is_row_by operator r) (is_text (column r 1) other)
+    (first (is_row_by operator r) (is_text (column r 1) id) three)
     (same_text (column q 1) (column r 1) other id
-    (second (is_by operator q) (is_text (column q 1) other) one)
-    (second (is_by operator q) (is_text (column q 1) id) two)
-    (second (is_by operator r) (is_text (column r 1) id) three))
+    (second (is_row_by operator q) (is_text (column q 1) other) one)
+    (second (is_row_by operator q) (is_text (column q 1) id) two)
+    (second (is_row_by operator r) (is_text (column r 1) id) three))
 
 -- ---- rows that are left
 

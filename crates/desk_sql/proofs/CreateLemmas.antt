@@ -19,7 +19,7 @@ use Rattle.desk_sql.specs.declared.opening.finding.TablesPresent.{TablesPresent}
 use Rattle.desk_sql.specs.declared.opening.finding.TablesPresent.TheVariants.{Nothing, Operators, Plans, OldVolumes, OldSpans, OldIndex, Volumes, Spans, All}
 use Rattle.desk_sql.specs.declared.opening.numbers.DeskTable.TheVariants as desk
 use Rattle.desk_sql.specs.Schema.{blank_schema, operator_schema, plan_schema, old_volume_schema, old_table_schema, old_schema, volume_schema, table_schema, desk_schema, schema_of, has_table, tree_of, operator_table, plan_table, old_volume_table, old_span_table, old_span_made, old_span_first, volume_table, span_table, span_made, span_first}
-use Rattle.desk_sql.specs.Making.{Grows, Finishes, Completes, MayComplete}
+use Rattle.desk_sql.specs.Making.{GrowsTables, Finishes, Completes, MayComplete}
 use Rattle.desk_sql.specs.Rows.{IsDesk, IsMadeTo, AreNumbered, tables_at, tables_of}
 use Rattle.desk_sql.specs.Finding.{Holds}
 use Rattle.desk_sql.specs.Effects.{Spares}
@@ -410,7 +410,7 @@ first_extends = record {
 pub grows : {S : Type 0} (g : Ghosts S) (made next : TablesPresent) (old new : Held S) (text : List ℕ)
     → Extends text made next → Holds g old (IsMadeTo made) → HasCleanDisk (state g old)
     → Shows (state g old) (state g new) (state g new).now (state g old).committed true → (count : ℕ)
-    → Executes text [] (state g old) (state g new) (Ok count) → Grows g made next old new
+    → Executes text [] (state g old) (state g new) (Ok count) → GrowsTables g made next old new
 grows g made next old new text known holds clean shows count h =
     let was = holds clean shows.was_open in
     let done = known.tables (state g old).step_limit (state g old).now (state g new).now was
@@ -431,11 +431,11 @@ grows g made next old new text known holds clean shows count h =
 pub record HasGrown {S : Type 0} (g : Ghosts S) (made at : TablesPresent) (old now : Held S) : Type 0 where
   pub remembered : Remembers g old now
   pub grown : HasCleanDisk (state g now) → (at ≢ made) ⊎ IsTrue (state g now).is_open
-      → Grows g made at old now
+      → GrowsTables g made at old now
 
 pub grown_more : {S : Type 0} (g : Ghosts S) (made at next : TablesPresent) (old mid new : Held S)
     → HasGrown g made at old mid → Remembers g mid new
-    → (HasCleanDisk (state g new) → Grows g at next mid new) → HasGrown g made next old new
+    → (HasCleanDisk (state g new) → GrowsTables g at next mid new) → HasGrown g made next old new
 grown_more g made at next old mid new so_far turn step = record {
   remembered = remembers_then g old mid new so_far.remembered turn;
   grown = λ clean later.
@@ -468,7 +468,7 @@ pub finished : {S : Type 0} (g : Ghosts S) (made at : TablesPresent) (old now : 
     → at ≡ All
     → HasGrown g made at old now → HasCleanDisk (state g now) → Finishes g made old now
 finished g made at old now missing end so_far clean =
-    let all = subst (λ m. Grows g made m old now) end
+    let all = subst (λ m. GrowsTables g made m old now) end
     (so_far.grown clean (inl (λ same. missing (sym same ∙ end)))) in
     record {
       was_open = all.was_open;

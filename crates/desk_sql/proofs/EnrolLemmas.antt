@@ -6,8 +6,8 @@ use Rattle.std.proofs.lemmas.List.Sorted.{list_any-IsPermutation}
 use Rattle.std.proofs.lemmas.Bool.Decides.{nat_tests}
 use Rattle.sqlite.specs.Order.{Row, column}
 use Rattle.sqlite.specs.Effect.{Database}
-use Rattle.desk_sql.specs.Rows.{is_by, operator_row, tables_of}
-use Rattle.desk_sql.specs.Changing.{FitsOperator, HasRoom, IsShort, LacksKey}
+use Rattle.desk_sql.specs.Rows.{is_row_by, operator_row, tables_of}
+use Rattle.desk_sql.specs.Changing.{FitsOperator, HasRowids, IsShort, LacksKey}
 use Rattle.desk_sql.proofs.CascadeLemmas.{null_is_none}
 use Rattle.desk_sql.proofs.NumberLemmas.{any_same}
 
@@ -34,14 +34,14 @@ both_hold true = refl
 both_hold false = refl
 
 -- no row has the key of an operator that is not listed
-lacks_key : (name : List ℕ) (ceiling : ℕ) (rows : List Row) → list_any (is_by name) rows ≡ false
+lacks_key : (name : List ℕ) (ceiling : ℕ) (rows : List Row) → list_any (is_row_by name) rows ≡ false
     → LacksKey 1 (operator_row name ceiling) rows
 lacks_key name ceiling rows none =
-    any_same _ (is_by name) (λ r. both_hold _ ∙ null_is_none (column r 0) name) rows ∙ none
+    any_same _ (is_row_by name) (λ r. both_hold _ ∙ null_is_none (column r 0) name) rows ∙ none
 
 pub fits_unlisted : (name : List ℕ) (ceiling : ℕ) (db : Database) (found : Bool)
-    → found ≡ list_any (is_by name) (tables_of db.trees).operators → found ≡ false → IsShort name
-    → HasRoom 1 (db.trees 0) → FitsOperator name (operator_row name ceiling) db
+    → found ≡ list_any (is_row_by name) (tables_of db.trees).operators → found ≡ false → IsShort name
+    → HasRowids 1 (db.trees 0) → FitsOperator name (operator_row name ceiling) db
 fits_unlisted name ceiling db found is none short room = (
   short,
   (room, lacks_key name ceiling (tables_of db.trees).operators (sym is ∙ none)),

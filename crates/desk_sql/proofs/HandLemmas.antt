@@ -13,7 +13,7 @@ use Rattle.sqlite.specs.Store.{Ghosts}
 use Rattle.sqlite.specs.Held.{Held, state}
 use Rattle.sqlite.proofs.Callers.{EndsIn, begins_shown, given_begin, unchanged_then}
 use Rattle.desk_sql.specs.Refusals.{IsSimple, IsSureGiven, IsRefusal}
-use Rattle.desk_sql.specs.Taking.{FailsToHand, FailsToHandAll, IsCutShort, Refusing}
+use Rattle.desk_sql.specs.Taking.{FailsToHand, FailsToHandAll, IsTakenInPart, Refusing}
 use Rattle.desk_sql.proofs.ReadLemmas.{sure_plain}
 use Rattle.desk_sql.proofs.AskLemmas.{IsCause, KnownSure, failed, sure_at}
 use Rattle.desk_sql.proofs.TakingLemmas.{shown_from, unchanged_itself}
@@ -98,7 +98,7 @@ module _ {S : Type 0} (g : Ghosts S) (sql : List ℕ) (params : Row) (old : Held
           (subst (λ t. HasGiven g t params new rows) is given)
 
       cut_by : (e : Error) → FailsToHand g first new text params refuses e
-          → IsCutShort g old new Answer refuses e
+          → IsTakenInPart g old new Answer refuses e
       cut_by e (inl later) =
           let all = unchanged_then (state g old) (state g first) (state g later.now) so_far later.same in
           inl (by_cause later.now new e all start
@@ -113,15 +113,16 @@ module _ {S : Type 0} (g : Ghosts S) (sql : List ℕ) (params : Row) (old : Held
           inr (inr (big, rows ++ left, shown, omega (arith, many, length-append rows left)))
 
       pub cut_short : (had : List Row → Type 0) → had [] → (r : Result (Unit {0}) Error)
-          → IfErr r (FailsToHandAll g first new had refuses) → IfErr r (IsCutShort g old new Answer refuses)
+          → IfErr r (FailsToHandAll g first new had refuses)
+          → IfErr r (IsTakenInPart g old new Answer refuses)
       cut_short had fresh (Ok u) fails = tt
       cut_short had fresh (Err e) fails = cut_by e (fails text params [] begun fresh)
 
 -- the same of what the rows of an answer are
 pub cut_short_of : {S : Type 0} (g : Ghosts S) (old new : Held S) (IsAnswer IsOther : List Row → Type 0)
     (refuses : Refusing) → ((rows : List Row) → IsAnswer rows → IsOther rows)
-    → (r : Result (Unit {0}) Error) → IfErr r (IsCutShort g old new IsAnswer refuses)
-    → IfErr r (IsCutShort g old new IsOther refuses)
+    → (r : Result (Unit {0}) Error) → IfErr r (IsTakenInPart g old new IsAnswer refuses)
+    → IfErr r (IsTakenInPart g old new IsOther refuses)
 cut_short_of g old new IsAnswer IsOther refuses so (Ok u) h = tt
 cut_short_of g old new IsAnswer IsOther refuses so (Err e) (inl h) = inl h
 cut_short_of g old new IsAnswer IsOther refuses so (Err e) (inr (inl (taken, row, left, are, refused))) =

@@ -19,9 +19,9 @@ use Rattle.desk_sql.specs.Rows.{IsDesk, AreNumbered, columns, cover_columns, tab
 use Rattle.desk_sql.specs.declared.changing.writing.PlanRecord.{PlanRecord}
 use Rattle.desk_sql.specs.declared.changing.writing.VolumeRecord.{VolumeRecord}
 use Rattle.desk_sql.specs.declared.changing.writing.SpanRecord.{SpanRecord}
-use Rattle.desk_sql.specs.Batches.{volume_of, cover_of, volume_params, span_of}
+use Rattle.desk_sql.specs.Batches.{volume_row_in, cover_of, volume_params, span_row_in}
 use Rattle.desk_sql.specs.Statements.{Changes}
-use Rattle.desk_sql.specs.Changes.{row_of}
+use Rattle.desk_sql.specs.RowChanges.{plan_row_in}
 use Rattle.desk_sql.proofs.NumberLemmas.{unequal, numbered_put, put_adds}
 use Rattle.desk_sql.proofs.Texts.{insert_operator_text, insert_plan_text, insert_volume_text, insert_span_text}
 use Rattle.desk_sql.proofs.CommandTexts.{insert_operator_is, insert_operator_terms, insert_plan_is, insert_plan_terms, insert_volume_is, insert_volume_terms, insert_span_is, insert_span_terms}
@@ -375,18 +375,20 @@ insert_operator_changes name ceiling =
     changes_by insert_operator_text (operator_row name ceiling) _ _ insert_operator_is tt
     (λ limit old new desk h. insert_operator name ceiling limit old new desk h)
 
-pub insert_plan_changes : (p : PlanRecord) → Changes insert_plan_text (row_of p) (AddsPlan (row_of p))
-insert_plan_changes p = changes_by insert_plan_text (row_of p) _ _ insert_plan_is tt
+pub insert_plan_changes : (p : PlanRecord)
+    → Changes insert_plan_text (plan_row_in p) (AddsPlan (plan_row_in p))
+insert_plan_changes p = changes_by insert_plan_text (plan_row_in p) _ _ insert_plan_is tt
     (λ limit old new desk h. insert_plan p.operator.now p.id.now p.priority p.usage p.aircraft limit old
     new desk h)
 
 pub insert_volume_changes : (v : VolumeRecord)
-    → Changes insert_volume_text (volume_params v) (AddsVolume (volume_of v) (cover_of v))
+    → Changes insert_volume_text (volume_params v) (AddsVolume (volume_row_in v) (cover_of v))
 insert_volume_changes v = changes_by insert_volume_text (volume_params v) _ _ insert_volume_is tt
     (λ limit old new desk h. insert_volume v.operator.now v.id.now v.place v.lower v.upper v.start v.stop
     v.asked.now v.canon.now limit old new desk h)
 
-pub insert_span_changes : (s : SpanRecord) → Changes insert_span_text (span_of s) (AddsSpan (span_of s))
-insert_span_changes s = changes_by insert_span_text (span_of s) _ _ insert_span_is tt
+pub insert_span_changes : (s : SpanRecord)
+    → Changes insert_span_text (span_row_in s) (AddsSpan (span_row_in s))
+insert_span_changes s = changes_by insert_span_text (span_row_in s) _ _ insert_span_is tt
     (λ limit old new desk h. insert_span s.operator.now s.id.now s.place s.first s.last s.lower s.upper
     s.start s.stop s.priority limit old new desk h)

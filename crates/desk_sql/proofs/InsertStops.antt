@@ -33,7 +33,7 @@ use Rattle.sqlite_schema.specs.declared.schema.Keys.TheVariants.{Enforced}
 use Rattle.sqlite_schema.specs.declared.schema.Reference.{Reference}
 use Rattle.desk_sql.specs.Schema.{desk_schema}
 use Rattle.desk_sql.specs.Statements.{enforced}
-use Rattle.desk_sql.specs.Changing.{HasRoom, IsAtLimit}
+use Rattle.desk_sql.specs.Changing.{HasRowids, IsAtLimit}
 use Rattle.desk_sql.proofs.WriteLemmas.{table_at, task_at, insert_applies, cast_null}
 use Rattle.desk_sql.proofs.DeleteStops.{same_stop, rows_stopped}
 use Rattle.desk_sql.proofs.KeyLemmas.{obeyed_refers}
@@ -66,7 +66,7 @@ module _ (limit : Option ℕ) (params : Row) (name : List ℕ) (cols : List Colu
         → (e ≡ SqliteFailure code.OperationInterrupted) × IsSome limit
     pub casts : cast_all cols params ≡ cells
     pub good : IsGood table db cells
-    pub room : HasRoom 1 (db tree)
+    pub room : HasRowids 1 (db tree)
     pub whole : AllByRecursion (λ r. is_int (rowid r) ≡ true) (db tree)
     pub lone : IsLone table listed db cells
     pub parents : HasParents table listed db cells

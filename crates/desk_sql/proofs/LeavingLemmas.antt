@@ -13,7 +13,7 @@ use Rattle.sqlite.specs.State.{HasCleanDisk, Survives, CommitsShowing, Shown, Sh
 use Rattle.sqlite.proofs.Callers.{never_commits, unchanged_then}
 use Rattle.desk_sql.specs.Schema.{desk_schema}
 use Rattle.desk_sql.specs.Rows.{IsDesk, Tables, tables_of}
-use Rattle.desk_sql.specs.Effects.{IsKept, Makes, Commits, MayMake, Spares, ShowsAsBefore}
+use Rattle.desk_sql.specs.Effects.{StaysShown, Makes, Commits, MayMake, Spares, ShowsAsBefore}
 use Rattle.desk_sql.specs.Frames.{OnlyReads, Remembers}
 use Rattle.desk_sql.proofs.ReadLemmas.{failed, if_either, unmoved}
 use Rattle.desk_sql.specs.Taking.{HandsAll, IsLeft}
@@ -163,7 +163,7 @@ spared_then g a b c doubted first last clean db left =
 -- ---- what every call leaves
 
 -- of a text that was not prepared
-pub reads_unprepared : {S : Type 0} (g : Ghosts S) (old new : Held S) → IsKept g old new
+pub reads_unprepared : {S : Type 0} (g : Ghosts S) (old new : Held S) → StaysShown g old new
     → new.in_transaction ≡ false → Survives (state g old) (state g new) (λ _. ⊥) → OnlyReads g old new
 reads_unprepared g old new kept mode survives = record {
   kept = kept;
@@ -177,7 +177,7 @@ reads_unprepared g old new kept mode survives = record {
 
 -- of a text that was prepared, and then run
 pub reads_prepared : {S : Type 0} (g : Ghosts S) (old mid new : Held S) (Committed : Trees → Type 0)
-    → IsKept g old new → new.in_transaction ≡ false → Spares g old new
+    → StaysShown g old new → new.in_transaction ≡ false → Spares g old new
     → Survives (state g old) (state g mid) (λ _. ⊥) → Survives (state g mid) (state g new) Committed
     → OnlyReads g old new
 reads_prepared g old mid new Committed kept mode spared first last = record {
@@ -221,7 +221,7 @@ remembers_then g a b c first last = record {
 
 -- of a query whose rows are handed over
 pub reads_handed : {S : Type 0} (g : Ghosts S) (old mid first new : Held S) (Committed : Trees → Type 0)
-    → IsKept g old new → new.in_transaction ≡ false → Spares g old first
+    → StaysShown g old new → new.in_transaction ≡ false → Spares g old first
     → Survives (state g old) (state g mid) (λ _. ⊥) → Survives (state g mid) (state g first) Committed
     → Remembers g first new → OnlyReads g old new
 reads_handed g old mid first new Committed kept mode spared prepared begun last = record {

@@ -6,7 +6,7 @@ use Rattle.sqlite.specs.Order.{Row}
 use Rattle.sqlite.specs.Tree.{Trees, IsAscending}
 use Rattle.sqlite.specs.Effect.{Database}
 use Rattle.desk_sql.specs.Rows.{Tables, tables_of}
-use Rattle.desk_sql.specs.Batches.{volume_of, cover_of, span_of, AddsVolumes, AddsSpans}
+use Rattle.desk_sql.specs.Batches.{volume_row_in, cover_of, span_row_in, AddsVolumes, AddsSpans}
 use Rattle.desk_sql.specs.declared.changing.writing.VolumeRecord.{VolumeRecord}
 use Rattle.desk_sql.specs.declared.changing.writing.SpanRecord.{SpanRecord}
 use Rattle.desk_sql.specs.Changing.{FitsVolume, FitsSpan, HasKey, LacksKey, has_same_key}
@@ -88,26 +88,26 @@ room_at : (rows : List Row) (at : ℕ) (old now : List Row)
 room_at rows at old now takes low room = takes 1 (fewer (at + 1) (length rows) old (omega (arith, low)) room)
 
 pub volume_fits : (rows : List VolumeRecord) (at : ℕ) (d : VolumeRecord) (old now : Database)
-    → AreNewVolumes (map volume_of rows) (map cover_of rows) old → at < length rows
-    → AddsVolumes (map volume_of (take at rows)) (map cover_of (take at rows)) (tables_of old.trees)
+    → AreNewVolumes (map volume_row_in rows) (map cover_of rows) old → at < length rows
+    → AddsVolumes (map volume_row_in (take at rows)) (map cover_of (take at rows)) (tables_of old.trees)
     (tables_of now.trees)
     → TakesRoom 0 at 0 old.trees now.trees
     → FitsVolume (get_or rows at d).operator.now (get_or rows at d).id.now (get_or rows at d).asked.now
-    (get_or rows at d).canon.now (volume_of (get_or rows at d)) now
+    (get_or rows at d).canon.now (volume_row_in (get_or rows at d)) now
 volume_fits rows at d old now new low adds takes =
     let v = get_or rows at d in
     let t = tables_of old.trees in
-    let before = map volume_of (take at rows) in
-    let after = map volume_of (drop (suc at) rows) in
+    let before = map volume_row_in (take at rows) in
+    let after = map volume_row_in (drop (suc at) rows) in
     let here = subst (λ rs. AreNewRows 3 rs (old.trees 9) t.volumes t.plans)
-    (parted volume_of rows at d low) new.0 in
+    (parted volume_row_in rows at d low) new.0 in
     let canon = all_at (λ r. AllByRecursion IsShortValue r) (map cover_of (take at rows)) (cover_of v)
     (map cover_of (drop (suc at) rows)) (subst AreShort (parted cover_of rows at d low) new.1) in
-    let short = short_at 3 before (volume_of v) after (old.trees 9) t.volumes t.plans here in
-    let free = free_at 3 before (volume_of v) after (old.trees 9) t.volumes t.plans here
+    let short = short_at 3 before (volume_row_in v) after (old.trees 9) t.volumes t.plans here in
+    let free = free_at 3 before (volume_row_in v) after (old.trees 9) t.volumes t.plans here
     (tables_of now.trees).volumes adds.0 in
-    let many : at < length (map volume_of rows) = omega (arith, low, length_shown volume_of rows) in
-    let room = room_at (map volume_of rows) at (old.trees 9) (now.trees 9) takes.of_volumes many
+    let many : at < length (map volume_row_in rows) = omega (arith, low, length_shown volume_row_in rows) in
+    let room = room_at (map volume_row_in rows) at (old.trees 9) (now.trees 9) takes.of_volumes many
     new.0.room in
     let same : (tables_of now.trees).plans ≡ t.plans = ap (λ (x : Tables). x.plans) adds.2 in (
       short.0,
@@ -115,31 +115,31 @@ volume_fits rows at d old now new low adds takes =
       short.1.1.1.1.1.1.1.0,
       canon.1.1.1.0,
       (room.1, free),
-      subst (HasKey 2 (volume_of v)) (sym same)
-          (planned_at 3 before (volume_of v) after (old.trees 9) t.volumes t.plans here),
+      subst (HasKey 2 (volume_row_in v)) (sym same)
+          (planned_at 3 before (volume_row_in v) after (old.trees 9) t.volumes t.plans here),
     )
 
 pub span_fits : (rows : List SpanRecord) (at : ℕ) (d : SpanRecord) (old now : Database)
-    → AreNewSpans (map span_of rows) old → at < length rows
-    → AddsSpans (map span_of (take at rows)) (tables_of old.trees) (tables_of now.trees)
+    → AreNewSpans (map span_row_in rows) old → at < length rows
+    → AddsSpans (map span_row_in (take at rows)) (tables_of old.trees) (tables_of now.trees)
     → TakesRoom 0 0 at old.trees now.trees
-    → FitsSpan (get_or rows at d).operator.now (get_or rows at d).id.now (span_of (get_or rows at d)) now
+    → FitsSpan (get_or rows at d).operator.now (get_or rows at d).id.now (span_row_in (get_or rows at d)) now
 span_fits rows at d old now new low adds takes =
     let s = get_or rows at d in
-    let all = parted span_of rows at d low in
+    let all = parted span_row_in rows at d low in
     let here = subst (λ rs. AreNewSpans rs old) all new in
-    let before = map span_of (take at rows) in
-    let after = map span_of (drop (suc at) rows) in
+    let before = map span_row_in (take at rows) in
+    let after = map span_row_in (drop (suc at) rows) in
     let t = tables_of old.trees in
-    let short = short_at 4 before (span_of s) after (old.trees 11) t.spans t.plans here in
-    let free = free_at 4 before (span_of s) after (old.trees 11) t.spans t.plans here
+    let short = short_at 4 before (span_row_in s) after (old.trees 11) t.spans t.plans here in
+    let free = free_at 4 before (span_row_in s) after (old.trees 11) t.spans t.plans here
     (tables_of now.trees).spans adds.0 in
-    let many : at < length (map span_of rows) = omega (arith, low, length_shown span_of rows) in
-    let room = room_at (map span_of rows) at (old.trees 11) (now.trees 11) takes.of_spans many new.room in
+    let many : at < length (map span_row_in rows) = omega (arith, low, length_shown span_row_in rows) in
+    let room = room_at (map span_row_in rows) at (old.trees 11) (now.trees 11) takes.of_spans many new.room in
     let same : (tables_of now.trees).plans ≡ t.plans = ap (λ (x : Tables). x.plans) adds.1 in (
       short.0,
       short.1.0,
       (room.1, free),
-      subst (HasKey 2 (span_of s)) (sym same)
-          (planned_at 4 before (span_of s) after (old.trees 11) t.spans t.plans here),
+      subst (HasKey 2 (span_row_in s)) (sym same)
+          (planned_at 4 before (span_row_in s) after (old.trees 11) t.spans t.plans here),
     )

@@ -20,7 +20,7 @@ use Rattle.sqlite_schema.specs.declared.schema.Keys.TheVariants.{Enforced}
 use Rattle.desk_sql.specs.Schema.{desk_schema, plan_table, span_table}
 use Rattle.desk_sql.specs.Rows.{IsDesk, AreNumbered, is_of, is_not_of, columns, cover_columns, tables_of, RemovesPlan, RemovesSpans}
 use Rattle.desk_sql.specs.Statements.{Changes}
-use Rattle.desk_sql.specs.Changes.{key_row}
+use Rattle.desk_sql.specs.RowChanges.{key_row}
 use Rattle.desk_sql.proofs.Texts.{remove_spans_text, remove_plan_text}
 use Rattle.desk_sql.proofs.CommandTexts.{remove_spans_is, remove_spans_query, remove_plan_is, remove_plan_query}
 use Rattle.desk_sql.proofs.ReadLemmas.{equals_text}

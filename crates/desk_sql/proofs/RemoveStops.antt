@@ -28,7 +28,7 @@ use Rattle.sqlite.specs.Does.{OnRows}
 use Rattle.desk_sql.specs.Schema.{desk_schema, plan_table}
 use Rattle.desk_sql.specs.Rows.{IsDesk}
 use Rattle.desk_sql.specs.Statements.{enforced}
-use Rattle.desk_sql.specs.Changes.{key_row}
+use Rattle.desk_sql.specs.RowChanges.{key_row}
 use Rattle.desk_sql.specs.Changing.{IsAtLimit, IsSureChange}
 use Rattle.desk_sql.proofs.Texts.{remove_spans_text, remove_plan_text}
 use Rattle.desk_sql.proofs.CommandTexts.{remove_spans_is, remove_spans_query, remove_plan_is, remove_plan_query}

@@ -21,11 +21,11 @@ use Rattle.desk_sql.specs.Schema.{desk_schema, operator_table, plan_table, volum
 use Rattle.desk_sql.specs.declared.changing.writing.PlanRecord.{PlanRecord}
 use Rattle.desk_sql.specs.declared.changing.writing.VolumeRecord.{VolumeRecord}
 use Rattle.desk_sql.specs.declared.changing.writing.SpanRecord.{SpanRecord}
-use Rattle.desk_sql.specs.Batches.{volume_params, span_of}
+use Rattle.desk_sql.specs.Batches.{volume_params, span_row_in}
 use Rattle.desk_sql.specs.Rows.{IsDesk, Tables, operator_row}
 use Rattle.desk_sql.specs.Statements.{Changes, enforced}
-use Rattle.desk_sql.specs.Changes.{key_row, row_of}
-use Rattle.desk_sql.specs.Putting.{HasRoomFor, TakesOperators, TakesRoom, Takes}
+use Rattle.desk_sql.specs.RowChanges.{key_row, plan_row_in}
+use Rattle.desk_sql.specs.Putting.{HasRoomFor, TakesOperators, TakesRoom, TextTakes}
 use Rattle.desk_sql.proofs.Texts.{insert_operator_text, insert_plan_text, insert_volume_text, insert_span_text, remove_plan_text}
 use Rattle.desk_sql.proofs.CommandTexts.{insert_operator_is, insert_operator_terms, insert_plan_is, insert_plan_terms, insert_volume_is, insert_volume_terms, insert_span_is, insert_span_terms, remove_plan_is}
 use Rattle.desk_sql.proofs.WriteLemmas.{Adds, adds, cast_null, did, insert_applies, ran, rows_written, table_at, task_at}
@@ -72,7 +72,7 @@ same_room old now left same room =
     subst (HasRoomFor left) (sym same) (fewer left (0 + left) old (omega arith) room)
 
 pub insert_operator_room : (name : List ℕ) (ceiling : ℕ)
-    → Takes insert_operator_text (operator_row name ceiling) (TakesOperators 1)
+    → TextTakes insert_operator_text (operator_row name ceiling) (TakesOperators 1)
 insert_operator_room name ceiling = record {
   room = λ limit old new desk h.
       let row = operator_row name ceiling in
@@ -85,23 +85,24 @@ insert_operator_room name ceiling = record {
       operator_table.references 0 db new.trees left desk.operators.whole a;
 }
 
-pub insert_plan_room : (p : PlanRecord) → Takes insert_plan_text (row_of p) (TakesRoom 1 0 0)
+pub insert_plan_room : (p : PlanRecord) → TextTakes insert_plan_text (plan_row_in p) (TakesRoom 1 0 0)
 insert_plan_room p = record {
   room = λ limit old new desk h.
       let db = old.trees in
-      let d = did insert_plan_text (row_of p) limit old new desk (Insert 1 (Values insert_plan_terms 6))
+      let d = did insert_plan_text (plan_row_in p) limit old new desk (Insert 1 (Values insert_plan_terms 6))
       insert_plan_is h in
-      let a = row_added limit (row_of p) plan_table.name plan_table.columns plan_table.primary
+      let a = row_added limit (plan_row_in p) plan_table.name plan_table.columns plan_table.primary
       plan_table.references 2 db 1 insert_plan_terms 6 d.0 new refl d.1 in
       record {
-        of_plans = λ left. room_taken limit (row_of p) plan_table.name plan_table.columns plan_table.primary
+        of_plans = λ left. room_taken limit (plan_row_in p) plan_table.name plan_table.columns
+            plan_table.primary
             plan_table.references 2 db new.trees left desk.plans.whole a;
         of_volumes = λ left. same_room (db 9) (new.trees 9) left (a.others.1.1.1.1.0 (unequal _ _ refl));
         of_spans = λ left. same_room (db 11) (new.trees 11) left (a.others.1.1.1.1.1.0 (unequal _ _ refl));
       };
 }
 
-pub insert_volume_room : (v : VolumeRecord) → Takes insert_volume_text (volume_params v) (TakesRoom 0 1 0)
+pub insert_volume_room : (v : VolumeRecord) → TextTakes insert_volume_text (volume_params v) (TakesRoom 0 1 0)
 insert_volume_room v = record {
   room = λ limit old new desk h.
       let db = old.trees in
@@ -118,18 +119,18 @@ insert_volume_room v = record {
       };
 }
 
-pub insert_span_room : (s : SpanRecord) → Takes insert_span_text (span_of s) (TakesRoom 0 0 1)
+pub insert_span_room : (s : SpanRecord) → TextTakes insert_span_text (span_row_in s) (TakesRoom 0 0 1)
 insert_span_room s = record {
   room = λ limit old new desk h.
       let db = old.trees in
-      let d = did insert_span_text (span_of s) limit old new desk (Insert 5 (Values insert_span_terms 11))
+      let d = did insert_span_text (span_row_in s) limit old new desk (Insert 5 (Values insert_span_terms 11))
       insert_span_is h in
-      let a = row_added limit (span_of s) span_table.name span_table.columns span_table.primary
+      let a = row_added limit (span_row_in s) span_table.name span_table.columns span_table.primary
       span_table.references 11 db 5 insert_span_terms 11 d.0 new refl d.1 in
       record {
         of_plans = λ left. same_room (db 2) (new.trees 2) left (a.others.1.0 (unequal _ _ refl));
         of_volumes = λ left. same_room (db 9) (new.trees 9) left (a.others.1.1.1.1.0 (unequal _ _ refl));
-        of_spans = λ left. room_taken limit (span_of s) span_table.name span_table.columns
+        of_spans = λ left. room_taken limit (span_row_in s) span_table.name span_table.columns
             span_table.primary span_table.references 11 db new.trees left desk.spans.whole a;
       };
 }
@@ -144,7 +145,7 @@ cut_room b q old now left is whole room =
     [ true ↦ room_kept left q old whole there | false ↦ there ])
 
 pub remove_plan_room : (operator id : List ℕ)
-    → Takes remove_plan_text (key_row operator id) (TakesRoom 0 0 0)
+    → TextTakes remove_plan_text (key_row operator id) (TakesRoom 0 0 0)
 remove_plan_room operator id = record {
   room = λ limit old new desk h.
       let db = old.trees in
@@ -168,12 +169,13 @@ remove_plan_room operator id = record {
 }
 
 -- of a change whose room nobody asks
-pub any_room : (text : List ℕ) (params : Row) → Takes text params (λ old new. ⊤)
+pub any_room : (text : List ℕ) (params : Row) → TextTakes text params (λ old new. ⊤)
 any_room text params = record { room = λ limit old new desk h. tt }
 
 -- what ran took that room
 pub took : (text : List ℕ) (params : Row) (Change : Tables → Tables → Type 0) (Room : Trees → Trees → Type 0)
-    → Changes text params Change → Takes text params Room → (old new : State) → IsDesk old.now → (count : ℕ)
+    → Changes text params Change → TextTakes text params Room → (old new : State) → IsDesk old.now
+    → (count : ℕ)
     → Executes text params old new (Ok count) → Room old.now.trees new.now.trees
 took text params Change Room known takes old new desk count h =
     takes.room old.step_limit old.now new.now desk

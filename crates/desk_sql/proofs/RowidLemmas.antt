@@ -28,11 +28,11 @@ use Rattle.sqlite.specs.Table.{Table}
 use Rattle.sqlite_schema.specs.declared.schema.Index.{Index}
 use Rattle.desk_sql.specs.Schema.{schema_to, tree_of, HasTable}
 use Rattle.desk_sql.specs.Rows.{AreNumbered, Lists, by_cells}
-use Rattle.desk_sql.specs.Refusals.{IsRefusal, IsUnnumbered, IsUnread, IsMisnumbered, IsSure}
+use Rattle.desk_sql.specs.Refusals.{IsRefusal, IsUnnumbered, AreRowsUnread, IsMisnumbered, IsSure}
 use Rattle.desk_sql.specs.Statements.{SelectsAll, rowids}
-use Rattle.desk_sql.specs.Effects.{IsKept}
+use Rattle.desk_sql.specs.Effects.{StaysShown}
 use Rattle.desk_sql.specs.Frames.{OnlyReads}
-use Rattle.desk_sql.specs.Finding.{Holds, AreRising, RiseSo, next_above, exceeds, rises, rises_after}
+use Rattle.desk_sql.specs.Finding.{Holds, AreRising, RiseSo, next_above, is_above_last, rises, rises_after}
 use Rattle.desk_sql.specs.declared.opening.numbers.DeskTable.{DeskTable}
 use Rattle.desk_sql.specs.declared.opening.numbers.DeskTable.TheVariants.{Operator, Plan, OldVolume, OldSpan, Volume, Span}
 use Rattle.desk_sql.proofs.Texts.{operator_rowids_text, plan_rowids_text, old_volume_rowids_text, old_span_rowids_text, volume_rowids_text, span_rowids_text}
@@ -68,7 +68,7 @@ none_above [] = tt
 none_above (r ∷ rows) = (tt, none_above rows)
 
 module _ (r : Row) (rows : List Row) where
-  above_all : (last : Option ℤ) (n : ℤ) → rowid r ≡ Int n → exceeds last n ≡ true
+  above_all : (last : Option ℤ) (n : ℤ) → rowid r ≡ Int n → is_above_last last n ≡ true
       → AllByRecursion (IsAbove (Some n)) rows → AllByRecursion (IsAbove last) (r ∷ rows)
   above_all None n is up more = (tt, none_above rows)
   above_all (Some m) n is up more =
@@ -79,7 +79,7 @@ module _ (r : Row) (rows : List Row) where
       )
 
   module _ (last : Option ℤ) (later : (n : ℤ) → rises rows (Some n) ≡ true → Rises (Some n) rows) where
-    if_above : (n : ℤ) → rowid r ≡ Int n → (b : Bool) → exceeds last n ≡ b
+    if_above : (n : ℤ) → rowid r ≡ Int n → (b : Bool) → is_above_last last n ≡ b
         → rises_after (rises rows) (if b then Some n else None) ≡ true → Rises last (r ∷ rows)
     if_above n is false up h = absurd (true≢false (sym h))
     if_above n is true up h =
@@ -94,12 +94,12 @@ module _ (r : Row) (rows : List Row) where
     if_rises : (v : Value) → rowid r ≡ v → rises_after (rises rows) (next_above last v) ≡ true
         → Rises last (r ∷ rows)
     if_rises Null is h = absurd (true≢false (sym h))
-    if_rises (Int n) is h = if_above n is (exceeds last n) refl h
+    if_rises (Int n) is h = if_above n is (is_above_last last n) refl h
     if_rises (Real x) is h = absurd (true≢false (sym h))
     if_rises (Text t) is h = absurd (true≢false (sym h))
     if_rises (Blob b) is h = absurd (true≢false (sym h))
 
-  exceeds_if : (last : Option ℤ) (n : ℤ) → rowid r ≡ Int n → IsAbove last r → exceeds last n ≡ true
+  exceeds_if : (last : Option ℤ) (n : ℤ) → rowid r ≡ Int n → IsAbove last r → is_above_last last n ≡ true
   exceeds_if None n is up = refl
   exceeds_if (Some m) n is up = lt_if m n (subst (λ v. value_cmp (Int m) v ≡ Less) is up)
 
@@ -222,7 +222,7 @@ module _ {S : Type 0} (g : Ghosts S) (old new : Held S) (text : List ℕ) (table
     (selects : SelectsAll table text (0 ∷ []) (λ db. rowids (db (tree_of table)))) where
   pub numbered_if : Holds g old (HasTable table) → (HasCleanDisk (state g new)
       → HasCleanDisk (state g old))
-      → IsKept g old new → (rows : List Row)
+      → StaysShown g old new → (rows : List Row)
       → (HasCleanDisk (state g new) → Shown text [] (state g old) (state g new) rows) → AreRising rows
       → Holds g new (λ (db : Database). AreNumbered (db.trees (tree_of table)))
   numbered_if known was kept rows shown up clean live =
@@ -328,7 +328,7 @@ module _ {S : Type 0} (g : Ghosts S) (old mid new : Held S)
     refusal_on e (inr (inr h)) = inr (inr (h.0, subst IsSome limit h.1))
 
     pub unread_on : {V : Type 0} → (state g mid).now ≡ (state g old).now → (r : Result V Error)
-        → IfErr r (IsUnread g mid new) → IfErr r (IsUnread g old new)
+        → IfErr r (AreRowsUnread g mid new) → IfErr r (AreRowsUnread g old new)
     unread_on same (Ok v) why = tt
     unread_on same (Err e) (inl h) = inl (refusal_on e h)
     unread_on same (Err e) (inr h) = inr (h.0, subst IsMisnumbered same h.1)

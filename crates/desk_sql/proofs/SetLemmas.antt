@@ -16,9 +16,9 @@ use Rattle.sqlite.specs.Command.TheVariants.{Update}
 use Rattle.sqlite.specs.Effect.{Database}
 use Rattle.sqlite_schema.specs.declared.program.Program.{Program}
 use Rattle.desk_sql.specs.Schema.{operator_table, plan_table}
-use Rattle.desk_sql.specs.Rows.{IsDesk, AreNumbered, is_text, is_by, is_of, columns, tables_of, operator_row, plan_row, with_row, SetsOperators, SetsPlans}
+use Rattle.desk_sql.specs.Rows.{IsDesk, AreNumbered, is_text, is_row_by, is_of, columns, tables_of, operator_row, plan_row, with_row, SetsOperators, SetsPlans}
 use Rattle.desk_sql.specs.Statements.{Changes}
-use Rattle.desk_sql.specs.Changes.{closing_row}
+use Rattle.desk_sql.specs.RowChanges.{closing_row}
 use Rattle.desk_sql.proofs.Texts.{set_ceiling_text, close_plan_text}
 use Rattle.desk_sql.proofs.CommandTexts.{set_ceiling_is, set_ceiling_query, close_plan_is, close_plan_query}
 use Rattle.desk_sql.proofs.ReadLemmas.{equals_text}
@@ -51,7 +51,7 @@ module _ (name : List ℕ) (ceiling : ℕ) (limit : Option ℕ) (old new : Datab
   ceiling_params = Text name ∷ Int (pos ceiling) ∷ []
 
   pub set_ceiling : IsDesk old → May set_ceiling_text ceiling_params limit old new
-      → IsDesk new × SetsOperators (is_by name) (operator_row name ceiling)
+      → IsDesk new × SetsOperators (is_row_by name) (operator_row name ceiling)
       (tables_of old.trees)
       (tables_of new.trees)
   set_ceiling desk h =
@@ -68,7 +68,7 @@ module _ (name : List ℕ) (ceiling : ℕ) (limit : Option ℕ) (old new : Datab
       set_ceiling_query.filter set_ceiling_query.project wanted source it.0 refl (λ r. refl)
       (λ r. both_hold _ ∙ equals_text (column r 1) name) it.1 in
       let c = changes limit ceiling_params operator_table.name operator_table.columns
-      operator_table.primary operator_table.references 0 db wanted (is_by name) (columns 2) source
+      operator_table.primary operator_table.references 0 db wanted (is_row_by name) (columns 2) source
       (operator_row name ceiling) it.0.trees desk.operators (λ r. refl) (λ r. refl)
       (λ r is. then (ap (cast kind.Text) (text_same (column r 1) name is))
       (then (cast_int (pos ceiling)) refl)) (λ found.
@@ -92,7 +92,7 @@ module _ (name : List ℕ) (ceiling : ℕ) (limit : Option ℕ) (old new : Datab
           spans = subst AreNumbered (sym e11) desk.spans;
         },
         (
-          subst (λ (t : Trees). IsPermutation (with_row (is_by name) (operator_row name ceiling)
+          subst (λ (t : Trees). IsPermutation (with_row (is_row_by name) (operator_row name ceiling)
               (map (columns 2) (db 0))) (map (columns 2) (t 0))) (sym now) c.rows,
           tables_operator db new.trees e2 e4 e6 e9 e11,
         ),
@@ -157,7 +157,7 @@ module _ (operator id : List ℕ) (priority aircraft : ℕ) (limit : Option ℕ)
       )
 
 pub set_ceiling_changes : (name : List ℕ) (ceiling : ℕ) → Changes set_ceiling_text (operator_row name ceiling)
-    (SetsOperators (is_by name) (operator_row name ceiling))
+    (SetsOperators (is_row_by name) (operator_row name ceiling))
 set_ceiling_changes name ceiling =
     changes_by set_ceiling_text (operator_row name ceiling) _ _ set_ceiling_is tt
     (λ limit old new desk h. set_ceiling name ceiling limit old new desk h)

@@ -22,7 +22,7 @@ use Rattle.sqlite_tied.specs.Compute.{everything}
 use Rattle.desk_sql.specs.Schema.{desk_schema, operator_table, plan_table}
 use Rattle.desk_sql.specs.Rows.{IsDesk, is_text, operator_row, plan_row}
 use Rattle.desk_sql.specs.Statements.{enforced}
-use Rattle.desk_sql.specs.Changes.{closing_row}
+use Rattle.desk_sql.specs.RowChanges.{closing_row}
 use Rattle.desk_sql.specs.Changing.{AreLow, IsShort, IsAtLimit, IsSureChange}
 use Rattle.desk_sql.proofs.Texts.{set_ceiling_text, close_plan_text}
 use Rattle.desk_sql.proofs.CommandTexts.{set_ceiling_is, set_ceiling_query, close_plan_is, close_plan_query}

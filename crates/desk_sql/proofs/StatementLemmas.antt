@@ -15,7 +15,7 @@ use Rattle.sqlite_value.specs.declared.keys.Key.{Key}
 use Rattle.sqlite.specs.State.{HasCleanDisk, Shown}
 use Rattle.sqlite.specs.Store.{Ghosts}
 use Rattle.sqlite.specs.Held.{Held, state}
-use Rattle.desk_sql.specs.Rows.{IsDesk, is_by, is_of, is_wanted, differs, is_at_most, is_at_least, is_below, is_above, held_columns, is_same, joined, has_volume, with_volumes, by_cells, columns, tables_of, Lists}
+use Rattle.desk_sql.specs.Rows.{IsDesk, is_row_by, is_of, is_wanted, differs, is_at_most, is_at_least, is_below, is_above, held_columns, is_same, joined, has_volume, with_volumes, by_cells, columns, tables_of, Lists}
 use Rattle.desk_sql.specs.declared.reading.rivals.SpanQuery.{SpanQuery}
 use Rattle.desk_sql.specs.Effects.{IsReady}
 use Rattle.desk_sql.specs.declared.reading.query.Query.{Query}
@@ -224,21 +224,21 @@ joined_rows params terms project wanted shown passes (p ∷ plans) volumes =
     (wanted cut) _
 
 own_test : (operator : List ℕ) (p s : Row) → list_all (holds ((Text operator ∷ []) ∷ p ∷ s ∷ []))
-    own_plans_query.filter ≡ (has_volume (columns 5 p) (columns 8 s) && is_by operator (columns 5 p))
+    own_plans_query.filter ≡ (has_volume (columns 5 p) (columns 8 s) && is_row_by operator (columns 5 p))
 own_test operator p s =
     ap₂ (λ a b. a && b) (equals (column s 1) (column p 1))
     (ap₂ (λ a b. a && (b && true)) (equals (column s 2) (column p 2))
     (equals_text (column p 1) operator))
     ∙ and_later (is_same (column s 1) (column p 1)) (is_same (column s 2) (column p 2))
-    (is_by operator (columns 5 p))
+    (is_row_by operator (columns 5 p))
 
 pub operator_named_selected : (name : List ℕ)
-    → Selects operator_named_text (Text name ∷ []) [] (λ t. filter (is_by name) t.operators)
+    → Selects operator_named_text (Text name ∷ []) [] (λ t. filter (is_row_by name) t.operators)
 operator_named_selected name =
     selects operator_named_text _ _ _ _ _ operator_named_is _ (operator_named_sure name) [] _
     (λ e. refl) (λ x y. refl)
     (λ db. scanned (λ r. (Text name ∷ []) ∷ r ∷ []) operator_named_query.filter
-    operator_named_query.project (columns 2) (is_by name) (λ r. refl)
+    operator_named_query.project (columns 2) (is_row_by name) (λ r. refl)
     (λ r. both_hold _ ∙ equals_text (column r 1) name) (db 0))
 
 pub all_operators_selected : SelectsAll Operator all_operators_text (0 ∷ []) (λ db. (tables_of db).operators)
@@ -297,11 +297,12 @@ all_spans_selected =
     (λ r. true) (λ r. refl) (λ r. refl) (db 11) ∙ every (map (columns 10) (db 11)))
 
 pub own_plans_selected : (operator : List ℕ)
-    → Selects own_plans_text (Text operator ∷ []) (1 ∷ 5 ∷ []) (with_volumes (is_by operator))
+    → Selects own_plans_text (Text operator ∷ []) (1 ∷ 5 ∷ []) (with_volumes (is_row_by operator))
 own_plans_selected operator =
     selects own_plans_text _ _ _ _ _ own_plans_is _ (own_plans_sure operator) (1 ∷ 5 ∷ []) _
     (λ e. refl) (λ x y. refl)
-    (λ db. joined_rows (Text operator ∷ []) own_plans_query.filter own_plans_query.project (is_by operator)
+    (λ db. joined_rows (Text operator
+    ∷ []) own_plans_query.filter own_plans_query.project (is_row_by operator)
     (λ p s. refl) (λ p s. own_test operator p s) (db 2) (db 9))
 
 -- ---- the spans that may stand in the way of a plan

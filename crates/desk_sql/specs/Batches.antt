@@ -11,18 +11,19 @@ use Rattle.desk_sql.specs.declared.changing.writing.VolumeRecord.{VolumeRecord}
 use Rattle.desk_sql.specs.declared.changing.writing.SpanRecord.{SpanRecord}
 use Rattle.desk_sql.specs.Rows.{IsDesk, Tables, is_of, is_not_of, left_without, volume_row, cover_row, span_row}
 
-abbrev pub volume_of : VolumeRecord → Row
-volume_of v = volume_row v.operator.now v.id.now v.place v.lower v.upper v.start v.stop v.asked.now
+abbrev pub volume_row_in : VolumeRecord → Row
+volume_row_in v = volume_row v.operator.now v.id.now v.place v.lower v.upper v.start v.stop v.asked.now
 
 abbrev pub cover_of : VolumeRecord → Row
 cover_of v = cover_row v.operator.now v.id.now v.place v.canon.now
 
 -- the whole row of `volume2`
 abbrev pub volume_params : VolumeRecord → Row
-volume_params v = volume_of v ++ Blob v.canon.now ∷ []
+volume_params v = volume_row_in v ++ Blob v.canon.now ∷ []
 
-abbrev pub span_of : SpanRecord → Row
-span_of s = span_row s.operator.now s.id.now s.place s.first s.last s.lower s.upper s.start s.stop s.priority
+abbrev pub span_row_in : SpanRecord → Row
+span_row_in s = span_row s.operator.now s.id.now s.place s.first s.last s.lower s.upper s.start s.stop
+    s.priority
 
 abbrev pub AddsVolumes : List Row → List Row → Tables → Tables → Type 0
 AddsVolumes rows covers old new = IsPermutation (rows ++ old.volumes) new.volumes

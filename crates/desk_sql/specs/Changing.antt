@@ -30,7 +30,7 @@ abbrev pub AreLow : List Row → Type 0
 AreLow rows = AllByRecursion (λ r. fits_i64 (id_in (rowid r)) ≡ true) rows
 
 -- rows in the order of their rowids, with room for so many after the last
-pub record HasRoom (count : ℕ) (rows : List Row) : Type 0 where
+pub record HasRowids (count : ℕ) (rows : List Row) : Type 0 where
   pub rising : IsTable rows
   pub low : AreLow rows
   pub next : (k : ℕ) → k < count → fits_i64 (next_rowid rows +ℤ pos k) ≡ true
@@ -49,7 +49,7 @@ LacksKey width row rows = list_any (λ r. has_same_key width r row) rows ≡ fal
 
 -- room for one more row, whose key no row has
 abbrev pub IsNewRow : ℕ → Row → List Row → List Row → Type 0
-IsNewRow width row stored shown = HasRoom 1 stored × LacksKey width row shown
+IsNewRow width row stored shown = HasRowids 1 stored × LacksKey width row shown
 
 -- ---- what fits each INSERT
 

@@ -27,8 +27,8 @@ module _ {S : Type 0} (g : Ghosts S) (old new : Held S) where
     pub now : (state g new).now ≡ (state g old).now
     pub committed : (state g new).committed ≡ (state g old).committed
 
-  abbrev pub IsKept : Type 0
-  IsKept = HasCleanDisk (state g new) → IsTrue (state g new).is_open → ShowsAsBefore
+  abbrev pub StaysShown : Type 0
+  StaysShown = HasCleanDisk (state g new) → IsTrue (state g new).is_open → ShowsAsBefore
 
   -- within a transaction, which goes on, the tables were changed so
   pub record Makes (Changes : Tables → Tables → Type 0) : Type 0 where

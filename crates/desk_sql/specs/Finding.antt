@@ -30,13 +30,13 @@ pub record AreRising (rows : List Row) : Type 0 where
   pub whole : AllByRecursion (λ r. is_int (rowid r) ≡ true) rows
   pub rising : IsTable rows
 
-abbrev pub exceeds : Option ℤ → ℤ → Bool
-exceeds None n = true
-exceeds (Some last) n = int_lt last n
+abbrev pub is_above_last : Option ℤ → ℤ → Bool
+is_above_last None n = true
+is_above_last (Some last) n = int_lt last n
 
 -- the value, if it is a whole number above the last one
 abbrev pub next_above : Option ℤ → Value → Option ℤ
-next_above last (Int n) = if exceeds last n then Some n else None
+next_above last (Int n) = if is_above_last last n then Some n else None
 next_above last Null = None
 next_above last (Real x) = None
 next_above last (Text t) = None

@@ -3,13 +3,13 @@ use Rattle.std.specs.Prelude.{◌≡◌, ◌≤◌, false}
 use Rattle.sqlite.specs.View.{doubt as doubt_of}
 use Rattle.sqlite.specs.Store.{Ghosts}
 use Rattle.sqlite.specs.Held.{Held, state}
-use Rattle.desk_sql.specs.Effects.{IsKept, Spares}
+use Rattle.desk_sql.specs.Effects.{Spares, StaysShown}
 
 module _ {S : Type 0} (g : Ghosts S) (old new : Held S) where
   -- a query: what is shown stays, no transaction is under way, the limit on steps stays, the disk's doubt and
   -- the count of its faults never fall, a shield stays, and a crash leaves what it could leave before
   pub record OnlyReads : Type 0 where
-    pub kept : IsKept g old new
+    pub kept : StaysShown g old new
     pub mode : new.in_transaction ≡ false
     pub limit : new.step_limit ≡ old.step_limit
     pub doubt : doubt_of (state g old).is_clean ≤ doubt_of (state g new).is_clean

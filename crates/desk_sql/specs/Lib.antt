@@ -1,5 +1,5 @@
 -- Read first: Schema, Rows, Effects, Frames, Calls.
-pub mod Keeping
+pub mod Takers
 pub mod Schema
 pub mod Rows
 pub mod Effects
@@ -11,11 +11,11 @@ pub mod Finding
 pub mod Objects
 pub mod Refusals
 pub mod Taking
-pub mod Calls
+pub mod QueryEnds
 pub mod Others
 pub mod Statements
 pub mod Queries
 pub mod Volumes
 pub mod Changing
 pub mod Putting
-pub mod Changes
+pub mod RowChanges

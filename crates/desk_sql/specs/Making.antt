@@ -59,7 +59,8 @@ pub record IsStep (text : List ℕ) (made next : TablesPresent) : Type 0 where
 -- ---- what it makes
 
 -- within a transaction, which goes on, what is made grew so, and the rows that there were stayed
-pub record Grows {S : Type 0} (g : Ghosts S) (made next : TablesPresent) (old new : Held S) : Type 0 where
+pub record GrowsTables {S : Type 0} (g : Ghosts S) (made next : TablesPresent) (old new : Held S) : Type
+    0 where
   pub was_open : IsTrue (state g old).is_open
   pub is_open : IsTrue (state g new).is_open
   pub begun : IsTrue new.in_transaction

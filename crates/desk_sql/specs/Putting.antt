@@ -7,7 +7,7 @@ use Rattle.sqlite.specs.Order.{Row}
 use Rattle.sqlite.specs.Tree.{Trees, IsAscending}
 use Rattle.sqlite.specs.Effect.{Database}
 use Rattle.desk_sql.specs.Rows.{IsDesk, is_of, tables_of}
-use Rattle.desk_sql.specs.Changing.{HasKey, HasRoom, IsShort, LacksKey, has_same_key}
+use Rattle.desk_sql.specs.Changing.{HasKey, HasRowids, IsShort, LacksKey, has_same_key}
 use Rattle.desk_sql.specs.Schema.{desk_schema}
 use Rattle.desk_sql.specs.Statements.{MayWrite}
 use Rattle.sqlite.specs.Listing.{understood}
@@ -17,7 +17,7 @@ use Rattle.std.specs.Prelude.{Option}
 
 -- rowids are left for so many rows more, of which there are 2 ^ 63 - 1 above 0
 abbrev pub HasRoomFor : ℕ → List Row → Type 0
-HasRoomFor count rows = (count < 2 ^ 63) × HasRoom count rows
+HasRoomFor count rows = (count < 2 ^ 63) × HasRowids count rows
 
 -- a change takes the room of at most so many plans, volumes and spans
 pub record TakesRoom (plans volumes spans : ℕ) (old new : Trees) : Type 0 where
@@ -31,7 +31,7 @@ TakesOperators operators old new =
     (left : ℕ) → HasRoomFor (operators + left) (old 0) → HasRoomFor left (new 0)
 
 -- a text that with these parameters takes this room
-pub record Takes (text : List ℕ) (params : Row) (Room : Trees → Trees → Type 0) : Type 0 where
+pub record TextTakes (text : List ℕ) (params : Row) (Room : Trees → Trees → Type 0) : Type 0 where
   pub room : (limit : Option ℕ) (old new : Database) → IsDesk old
       → MayWrite text (understood desk_schema text) params limit old new → Room old.trees new.trees
 

@@ -8,7 +8,7 @@ use Rattle.desk_sql.specs.declared.reading.whole.Whole.{Whole}
 use Rattle.desk_sql.specs.declared.reading.whole.Whole.TheVariants as whole
 use Rattle.desk_sql.specs.declared.reading.query.Query.{Query}
 use Rattle.desk_sql.specs.declared.reading.query.Query.TheVariants.{OperatorNamed, PlanOf, VolumesOf, OwnPlans, RivalSpans, OtherSpans, SpansOf}
-use Rattle.desk_sql.specs.Rows.{Tables, is_by, is_of, with_volumes, is_wanted, held_columns}
+use Rattle.desk_sql.specs.Rows.{Tables, is_row_by, is_of, with_volumes, is_wanted, held_columns}
 use Rattle.desk_sql.specs.Others.{is_others_from, is_plans}
 
 -- ---- whole tables
@@ -81,10 +81,10 @@ order_of (SpansOf operator id reach) = []
 
 -- its rows
 abbrev pub rows_of : Query → Tables → List Row
-rows_of (OperatorNamed name) t = filter (is_by name.now) t.operators
+rows_of (OperatorNamed name) t = filter (is_row_by name.now) t.operators
 rows_of (PlanOf operator id) t = filter (is_of operator.now id.now) t.plans
 rows_of (VolumesOf operator id) t = filter (is_of operator.now id.now) t.volumes
-rows_of (OwnPlans operator) t = with_volumes (is_by operator.now) t
+rows_of (OwnPlans operator) t = with_volumes (is_row_by operator.now) t
 rows_of (RivalSpans operator id reach low) t =
     map held_columns (filter (is_wanted operator.now id.now reach low) t.spans)
 rows_of (OtherSpans operator reach low) t =

@@ -82,6 +82,6 @@ module _ {S : Type 0} (g : Ghosts S) (old new : Held S) where
       × (¬ AreNumbered ((state g old).now.trees (tree_of table))))
 
   -- memory, the disk or a limit on steps, or the rowids are not those of a sound desk
-  abbrev pub IsUnread : Error → Type 0
-  IsUnread e =
+  abbrev pub AreRowsUnread : Error → Type 0
+  AreRowsUnread e =
       IsRefusal e ⊎ ((e ≡ SqliteFailure code.DatabaseCorrupt) × IsMisnumbered (state g old).now)

@@ -45,12 +45,12 @@ abbrev pub is_text : Value → List ℕ → Bool
 is_text v text = is_eq (value_cmp v (Text text))
 
 -- the first column: the name of an operator, or of the operator whose row it is
-abbrev pub is_by : List ℕ → Row → Bool
-is_by operator row = is_text (column row 0) operator
+abbrev pub is_row_by : List ℕ → Row → Bool
+is_row_by operator row = is_text (column row 0) operator
 
 -- of this plan: of each table but `operator`
 abbrev pub is_of : List ℕ → List ℕ → Row → Bool
-is_of operator id row = is_by operator row && is_text (column row 1) id
+is_of operator id row = is_row_by operator row && is_text (column row 1) id
 
 abbrev pub is_not_of : List ℕ → List ℕ → Row → Bool
 is_not_of operator id row = not (is_of operator id row)
@@ -197,8 +197,8 @@ SetsPlans p row old new = IsPermutation (with_row p row old.plans) new.plans
 -- the operator's row is set, or added where there is none with its name
 abbrev pub PutsOperator : List ℕ → ℕ → Tables → Tables → Type 0
 PutsOperator name ceiling old new =
-    IsPermutation (if list_any (is_by name) old.operators
-    then with_row (is_by name) (operator_row name ceiling) old.operators
+    IsPermutation (if list_any (is_row_by name) old.operators
+    then with_row (is_row_by name) (operator_row name ceiling) old.operators
     else operator_row name ceiling ∷ old.operators) new.operators
     × (new ≡ record old { operators = new.operators })
 

@@ -97,6 +97,6 @@ module _ {S : Type 0} (g : Ghosts S) (old new : Held S) where
       → FailsToHand sql params refuses e
 
   -- memory, the disk or a limit on steps refuses the query, or its rows are not all taken
-  abbrev pub IsCutShort : (List Row → Type 0) → Refusing → Error → Type 0
-  IsCutShort IsAnswer refuses e =
+  abbrev pub IsTakenInPart : (List Row → Type 0) → Refusing → Error → Type 0
+  IsTakenInPart IsAnswer refuses e =
       IsRefusal g old new e ⊎ (IsRowRefused IsAnswer refuses e ⊎ HasTooMany IsAnswer e)

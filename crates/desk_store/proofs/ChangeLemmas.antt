@@ -11,10 +11,10 @@ use Rattle.desk_rules.specs.declared.plan.PlanRow.{PlanRow}
 use Rattle.desk_store.specs.declared.list.Enrolment.{Enrolment}
 use Rattle.desk_store.specs.World.{Filed, World, text_cmp, filed_cmp, rows_by, plans_of}
 use Rattle.desk_store.specs.Changes.{replaced, with_plans, closed, close_row, clear_rows}
-use Rattle.desk_store.specs.Rows.{is_own}
+use Rattle.desk_store.specs.OwnRows.{is_own}
 use Rattle.desk_store.specs.laws.Change.{stays, close_filed, cleared_plans, closed_plans}
 use Rattle.desk_store.specs.Parts.{PlanParts, row_of, closed_parts}
-use Rattle.desk_store.specs.Listing.{listed_of, filed_of, filed_all, world_of, is_one_of, without}
+use Rattle.desk_store.specs.Listing.{listed_of, filed_of, filed_all, world_in_lists, is_one_of, without}
 use Rattle.desk_store.proofs.EntryLemmas.{Key, key_cmp, filed_sorted}
 
 filter_filed : (o : List ℕ) (ids : List (List ℕ)) (es : List (Key × PlanParts))
@@ -141,11 +141,11 @@ none_closed o id es more sorted none e = ap filed_all e ∙ unwritten o id es no
 
 -- the world when an operator's plans have changed
 pub changed : (f : List PlanRow → List PlanRow) (old : World) (ops counted : List (List ℕ × Enrolment))
-    (plans more : List (Key × PlanParts)) (o : List ℕ) → world_of ops plans ≡ old
+    (plans more : List (Key × PlanParts)) (o : List ℕ) → world_in_lists ops plans ≡ old
     → map listed_of counted
     ≡ map listed_of ops → filed_all more ≡ replaced o (f (rows_by o (filed_all plans)))
     (filed_all plans)
-    → world_of counted more ≡ with_plans old o (f (plans_of o old))
+    → world_in_lists counted more ≡ with_plans old o (f (plans_of o old))
 unfolding with_plans
 changed f old ops counted plans more o is same e = (λ k. record { operators = same k; plans = e k })
     ∙ ap change is where

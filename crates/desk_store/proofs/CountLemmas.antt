@@ -12,7 +12,7 @@ use Rattle.std.proofs.lemmas.Map.Lookups.{exact_bytes}
 use Rattle.desk_store.specs.declared.list.Enrolment.{Enrolment}
 use Rattle.desk_store.specs.World.{Filed, text_cmp, rows_by, ceiling_of}
 use Rattle.desk_store.specs.Parts.{PlanParts}
-use Rattle.desk_store.specs.Listing.{listed_of, filed_all, world_of, AreCounted, IsStore, with_count}
+use Rattle.desk_store.specs.Listing.{listed_of, filed_all, world_in_lists, AreCounted, IsStore, with_count}
 use Rattle.desk_store.specs.laws.Order.{is_equal, all_weaker}
 use Rattle.desk_store.specs.laws.World.{unlisted_none}
 use Rattle.desk_store.proofs.EntryLemmas.{Key}
@@ -44,7 +44,7 @@ count_is o es plans h = by_found (lookup (is_at (text_cmp o)) es) refl where
   by_found : (found : Option Enrolment) → lookup (is_at (text_cmp o)) es ≡ found
       → unwrap_or (option_map (λ e. e.plan_count) found) 0 ≡ length (rows_by o (filed_all plans))
   by_found None f = sym
-      (ap length (unlisted_none o (world_of es plans) h.0.world
+      (ap length (unlisted_none o (world_in_lists es plans) h.0.world
       (sym (ceiling_found o es) ∙ ap (option_map (λ e. e.ceiling)) f)))
   by_found (Some e) f = found_count o es (filed_all plans) e h.1 f
 

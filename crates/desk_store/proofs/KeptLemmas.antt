@@ -20,7 +20,7 @@ use Rattle.desk_store.specs.Content.{IsPlan, IsContent}
 use Rattle.desk_store.specs.Changes.{put_row, closed, close_row, is_named, clear_rows, with_plans}
 use Rattle.desk_store.specs.StoreChange.{changed_by, IsFitting}
 use Rattle.desk_store.specs.Parts.{PlanParts, parts_of, row_of}
-use Rattle.desk_store.specs.Listing.{filed_all, world_of, AreCounted, IsStore, with_count, without}
+use Rattle.desk_store.specs.Listing.{filed_all, world_in_lists, AreCounted, IsStore, with_count, without}
 use Rattle.desk_store.specs.laws.Order.{is_equal, rows_sorted}
 use Rattle.desk_store.specs.laws.World.{own_replaced, others_kept, fewer, length-put_stored}
 use Rattle.desk_store.specs.laws.Content.{put_content, close_content, clear_content}
@@ -35,7 +35,7 @@ kept_by change before old after same h keeps e = subst IsContent (sym e) (keeps 
 
 -- the counts where an operator's number of plans stays
 same_counts : (old : World) (ops : List (List ℕ × Enrolment)) (plans more : List (Key × PlanParts))
-    (o : List ℕ) (rows : List PlanRow) → world_of ops plans ≡ old → world_of ops more
+    (o : List ℕ) (rows : List PlanRow) → world_in_lists ops plans ≡ old → world_in_lists ops more
     ≡ with_plans old o rows
     → length rows ≡ length (plans_of o old) → AreCounted ops (filed_all plans)
     → AreCounted ops (filed_all more)
@@ -54,8 +54,8 @@ same_counts old ops plans more o rows is after count =
 
 -- and where it changes
 new_counts : (old : World) (ops : List (List ℕ × Enrolment)) (plans more : List (Key × PlanParts))
-    (o : List ℕ) (n : ℕ) (rows : List PlanRow) → world_of ops plans ≡ old
-    → world_of (with_count o n ops) more
+    (o : List ℕ) (n : ℕ) (rows : List PlanRow) → world_in_lists ops plans ≡ old
+    → world_in_lists (with_count o n ops) more
     ≡ with_plans old o rows → n ≡ length rows → AreCounted ops (filed_all plans)
     → AreCounted (with_count o n ops) (filed_all more)
 new_counts old ops plans more o n rows is after count =
@@ -65,23 +65,23 @@ new_counts old ops plans more o n rows is after count =
 
 -- a row in place of one
 pub put_again : (old : World) (ops : List (List ℕ × Enrolment)) (plans more : List (Key × PlanParts))
-    (o : List ℕ) (row : PlanRow) (found : Option PlanParts) → world_of ops plans ≡ old
+    (o : List ℕ) (row : PlanRow) (found : Option PlanParts) → world_in_lists ops plans ≡ old
     → IsStore ops plans
     → IsFitting (Put o row) old → IsPlan row → IsStrictlySortedBy key_cmp (keys_of plans) → more
     ≡ insert_entry key_cmp plans (o, row.id) (parts_of row) → found
     ≡ lookup (is_at (key_cmp (o, row.id))) plans → is_some found ≡ true
-    → (world_of ops more ≡ changed_by (Put o row) old) × IsStore ops more
+    → (world_in_lists ops more ≡ changed_by (Put o row) old) × IsStore ops more
 unfolding changed_by
 put_again old ops plans more o row found is h fits within sorted e f there = (
   after,
   (
-    kept_by (Put o row) (world_of ops plans) old (world_of ops more) is h.0
+    kept_by (Put o row) (world_in_lists ops plans) old (world_in_lists ops more) is h.0
         (λ content. put_content o row old content fits within) after,
     same_counts
         old ops plans more o (put_row row (plans_of o old)) is after count h.1,
   ),
 ) where
-  after : world_of ops more ≡ with_plans old o (put_row row (plans_of o old))
+  after : world_in_lists ops more ≡ with_plans old o (put_row row (plans_of o old))
   after = stored old ops ops plans more o row.id (parts_of row) is refl sorted e
 
   some : (r : Option PlanParts) → is_some r ≡ true → is_some (option_map (row_of row.id) r) ≡ true
@@ -115,25 +115,25 @@ length-put_absent row (r ∷ rs) none = by_order (text_cmp row.id r.id) refl non
 
 -- a row more
 pub put_first : (old : World) (ops : List (List ℕ × Enrolment)) (plans more : List (Key × PlanParts))
-    (o : List ℕ) (row : PlanRow) (found : Option PlanParts) (count : ℕ) → world_of ops plans ≡ old
+    (o : List ℕ) (row : PlanRow) (found : Option PlanParts) (count : ℕ) → world_in_lists ops plans ≡ old
     → IsStore ops plans → IsFitting (Put o row) old → IsPlan row
     → IsStrictlySortedBy key_cmp (keys_of plans) → more
     ≡ insert_entry key_cmp plans (o, row.id) (parts_of row) → found
     ≡ lookup (is_at (key_cmp (o, row.id))) plans → is_some found ≡ false → count
     ≡ unwrap_or (option_map (λ e. e.plan_count) (lookup (is_at (text_cmp o)) ops)) 0
-    → (world_of (with_count o (count + 1) ops) more ≡ changed_by (Put o row) old)
+    → (world_in_lists (with_count o (count + 1) ops) more ≡ changed_by (Put o row) old)
     × IsStore (with_count o (count + 1) ops) more
 unfolding changed_by
 put_first old ops plans more o row found count is h fits within sorted e f none counted = (
   after,
   (
-    kept_by (Put o row) (world_of ops plans) old (world_of (with_count o (count + 1) ops) more) is
+    kept_by (Put o row) (world_in_lists ops plans) old (world_in_lists (with_count o (count + 1) ops) more) is
         h.0 (λ content. put_content o row old content fits within) after,
     new_counts old ops plans more o (count + 1) (put_row row (plans_of o old)) is after
         one_more h.1,
   ),
 ) where
-  after : world_of (with_count o (count + 1) ops) more ≡ with_plans old o (put_row row (plans_of o old))
+  after : world_in_lists (with_count o (count + 1) ops) more ≡ with_plans old o (put_row row (plans_of o old))
   after = stored old ops (with_count o (count + 1) ops) plans more o row.id (parts_of row) is
       (listed_same o (count + 1) ops) sorted e
 
@@ -161,13 +161,13 @@ count_within old ops plans o count h counted = omega
 -- plans taken out
 pub clear_kept : (old : World) (ops : List (List ℕ × Enrolment)) (plans more : List (Key × PlanParts))
     (o : List ℕ) (n : ℕ) (ids : List (List ℕ)) (change : Change) → changed_by change old
-    ≡ with_plans old o (clear_rows ids (plans_of o old)) → world_of ops plans ≡ old → IsStore ops plans
+    ≡ with_plans old o (clear_rows ids (plans_of o old)) → world_in_lists ops plans ≡ old → IsStore ops plans
     → IsFitting change old
-    → world_of (with_count o n ops) more ≡ with_plans old o (clear_rows ids (plans_of o old)) → n
+    → world_in_lists (with_count o n ops) more ≡ with_plans old o (clear_rows ids (plans_of o old)) → n
     ≡ length (rows_by o (filed_all more))
     → IsStore (with_count o n ops) more
 clear_kept old ops plans more o n ids change by is h fits after count = (
-  kept_by change (world_of ops plans) old (world_of (with_count o n ops) more) is h.0
+  kept_by change (world_in_lists ops plans) old (world_in_lists (with_count o n ops) more) is h.0
       (λ content. clear_content o ids change old content fits by) (after ∙ sym by),
   new_counts old ops plans more o n rows is after (count ∙ ap (λ w. length (plans_of o w)) after
       ∙ ap length (own_replaced o rows old)) h.1,
@@ -181,7 +181,7 @@ pub clear_within : (ops : List (List ℕ × Enrolment)) (plans more : List (Key 
     → length (rows_by o (filed_all more)) ≤ max_plans
 unfolding with_plans
 clear_within ops plans more o ids h left =
-    let w = world_of ops plans in
+    let w = world_in_lists ops plans in
     let rows = clear_rows ids (plans_of o w) in
     let are : rows_by o (filed_all more) ≡ rows =
     ap (rows_by o) (cleared o ids plans more h.0.world.plans left)
@@ -190,11 +190,11 @@ clear_within ops plans more o ids h left =
 
 -- a plan closed
 pub close_kept : (old : World) (ops : List (List ℕ × Enrolment)) (plans more : List (Key × PlanParts))
-    (o id : List ℕ) → world_of ops plans ≡ old → IsStore ops plans → IsFitting (Close o id) old
-    → world_of ops more ≡ changed_by (Close o id) old → IsStore ops more
+    (o id : List ℕ) → world_in_lists ops plans ≡ old → IsStore ops plans → IsFitting (Close o id) old
+    → world_in_lists ops more ≡ changed_by (Close o id) old → IsStore ops more
 unfolding changed_by
 close_kept old ops plans more o id is h fits after = (
-  kept_by (Close o id) (world_of ops plans) old (world_of ops more) is h.0
+  kept_by (Close o id) (world_in_lists ops plans) old (world_in_lists ops more) is h.0
       (λ content. close_content o id old content fits) after,
   same_counts old ops plans more o (close_row id (plans_of o old)) is after
       (length-map (plans_of o old) (λ r. cond (has_id id r) (closed r) r)) h.1,

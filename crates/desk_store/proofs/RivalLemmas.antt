@@ -12,7 +12,7 @@ use Rattle.volume4d.specs.laws.Level.{greater_none, greater_assoc, top_held-push
 use Rattle.desk_rules.specs.Plan.{is_live, row_holds}
 use Rattle.desk_rules.specs.Conflict.{at_least}
 use Rattle.desk_store.specs.World.{Filed, is_by}
-use Rattle.desk_store.specs.Rows.{is_own, rival_level, rivals_top, other_level, others_top}
+use Rattle.desk_store.specs.OwnRows.{is_own, rival_level, rivals_top, other_level, others_top}
 use Rattle.desk_store.specs.laws.Rival.{at_least_greater, rivals_top-cons, rivals_top-nil, others_top-cons, others_top-nil}
 
 max_itself : (n : ℕ) → max n n ≡ n

@@ -4,7 +4,7 @@ use Rattle.std.specs.Prelude.{nat_le}
 use Rattle.std.specs.List.{AllByRecursion, filter}
 use Rattle.std.proofs.lemmas.Bool.{and_parts, leb-true}
 use Rattle.std.proofs.lemmas.List.Sums.{sum_by-cons}
-use Rattle.volume4d.specs.Limits.{max_cover, max_volumes}
+use Rattle.volume4d.specs.VolumeLimits.{max_cover, max_volumes}
 use Rattle.volume4d.specs.FootprintBytes.{HasValidParts}
 use Rattle.volume4d.specs.Shape.{is_footprint}
 use Rattle.volume4d.specs.SpanCounts.{volume_spans, area_spans}

@@ -15,7 +15,7 @@ use Rattle.desk_store.specs.declared.list.Enrolment.{Enrolment}
 use Rattle.desk_store.specs.World.{Filed, Listed, World, text_cmp, rows_by, plans_of, is_by, stored_of, has_id}
 use Rattle.desk_store.specs.Changes.{list_operator, put_row, replaced, with_operator, with_plans}
 use Rattle.desk_store.specs.Parts.{PlanParts, row_of, kept_states}
-use Rattle.desk_store.specs.Listing.{listed_of, filed_of, filed_all, world_of}
+use Rattle.desk_store.specs.Listing.{listed_of, filed_of, filed_all, world_in_lists}
 use Rattle.desk_store.proofs.EntryLemmas.{Key, key_cmp, entry_inserted}
 
 -- the ceiling that a look-up finds
@@ -93,11 +93,11 @@ operator_inserted o new (e ∷ es) = by_order (text_cmp o e.0) refl (operator_in
 
 -- enrolling is listing
 pub enrolled : (old : World) (ops more : List (List ℕ × Enrolment)) (plans : List (Key × PlanParts))
-    (o : List ℕ) (new : Enrolment) → world_of ops plans ≡ old → more ≡ insert_entry text_cmp ops o new
-    → world_of more plans ≡ with_operator old o new.ceiling
+    (o : List ℕ) (new : Enrolment) → world_in_lists ops plans ≡ old → more ≡ insert_entry text_cmp ops o new
+    → world_in_lists more plans ≡ with_operator old o new.ceiling
 unfolding with_operator
 enrolled old ops more plans o new is e =
-    ap (λ es. world_of es plans) e
+    ap (λ es. world_in_lists es plans) e
     ∙ (λ k. record { operators = operator_inserted o new ops k; plans = filed_all plans })
     ∙ ap listed is where
       listed : World → World
@@ -106,13 +106,13 @@ enrolled old ops more plans o new is e =
 -- storing is putting the row among the operator's
 pub stored : (old : World) (ops counted : List (List ℕ × Enrolment))
     (plans more : List (Key × PlanParts))
-    (o id : List ℕ) (plan : PlanParts) → world_of ops plans ≡ old → map listed_of counted
+    (o id : List ℕ) (plan : PlanParts) → world_in_lists ops plans ≡ old → map listed_of counted
     ≡ map listed_of ops
     → IsStrictlySortedBy key_cmp (keys_of plans) → more ≡ insert_entry key_cmp plans (o, id) plan
-    → world_of counted more ≡ with_plans old o (put_row (row_of id plan) (plans_of o old))
+    → world_in_lists counted more ≡ with_plans old o (put_row (row_of id plan) (plans_of o old))
 unfolding with_plans
 stored old ops counted plans more o id plan is same sorted e =
-    ap (world_of counted) e
+    ap (world_in_lists counted) e
     ∙ (λ k. record { operators = same k; plans = entry_inserted o id plan plans sorted k })
     ∙ ap put is where
       put : World → World

@@ -4,7 +4,7 @@ pub mod Content
 pub mod Changes
 pub mod StoreChange
 pub mod ChangeParts
-pub mod Rows
+pub mod OwnRows
 pub mod Rivals
 pub mod StoreFaults
 pub mod Crashes

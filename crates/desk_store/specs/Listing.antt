@@ -19,8 +19,8 @@ filed_of e = record { operator = e.0.0; row = row_of e.0.1 e.1 }
 abbrev pub filed_all : List ((List ℕ × List ℕ) × PlanParts) → List Filed
 filed_all plans = map filed_of plans
 
-abbrev pub world_of : List (List ℕ × Enrolment) → List ((List ℕ × List ℕ) × PlanParts) → World
-world_of operators plans = record { operators = map listed_of operators; plans = filed_all plans }
+abbrev pub world_in_lists : List (List ℕ × Enrolment) → List ((List ℕ × List ℕ) × PlanParts) → World
+world_in_lists operators plans = record { operators = map listed_of operators; plans = filed_all plans }
 
 -- an operator's ceiling, or none where it is not listed, and its count, or 0
 abbrev pub ceiling_at : List ℕ → List (List ℕ × Enrolment) → Option ℕ
@@ -36,7 +36,7 @@ AreCounted operators plans = AllByRecursion (λ e. e.1.plan_count ≡ length (ro
 
 -- what a store in memory always is
 abbrev pub IsStore : List (List ℕ × Enrolment) → List ((List ℕ × List ℕ) × PlanParts) → Type 0
-IsStore operators plans = IsContent (world_of operators plans) × AreCounted operators (filed_all plans)
+IsStore operators plans = IsContent (world_in_lists operators plans) × AreCounted operators (filed_all plans)
 
 -- the key of one of an operator's plans of some ids, and the plans but those
 abbrev pub is_one_of : List ℕ → List (List ℕ) → List ℕ × List ℕ → Bool

@@ -16,6 +16,6 @@ abbrev pub IsCounted : {S : Type 0} → (S → ℕ) → S → S → StoreFault �
 IsCounted faults_of old new e = e ≡ Store → HasRisen (faults_of old) (faults_of new)
 
 -- the fault as a sentence
-abbrev pub fault_text : StoreFault → List ℕ
-fault_text OutOfMemory = codes "out of memory"
-fault_text Store = codes "the store failed"
+abbrev pub store_fault_text : StoreFault → List ℕ
+store_fault_text OutOfMemory = codes "out of memory"
+store_fault_text Store = codes "the store failed"

@@ -15,9 +15,9 @@ pub enum StoreFault {
 
 impl fmt::Display for StoreFault {
     ghost use Rattle.std.specs.Prelude.{Some};
-    ghost use Rattle.desk_store.specs.StoreFaults.{fault_text};
+    ghost use Rattle.desk_store.specs.StoreFaults.{store_fault_text};
 
-    ghost output = { λ fault. Some (fault_text fault) };
+    ghost output = { λ fault. Some (store_fault_text fault) };
 
     fn fmt<W: fmt::Write>(&self, f: &mut fmt::Formatter<W>) -> fmt::Result {
         f.pad(match self {

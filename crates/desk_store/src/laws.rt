@@ -1,7 +1,7 @@
 //! Laws of what a store keeps. Each is the contract of a function that does nothing else.
 
 ghost use Rattle.std.specs.Prelude.{ℕ, ◌*◌, ◌≤◌, List};
-ghost use Rattle.volume4d.specs.Limits.{max_cover, max_volumes};
+ghost use Rattle.volume4d.specs.VolumeLimits.{max_cover, max_volumes};
 ghost use Rattle.desk_rules.specs.Limits.{max_plans};
 ghost use Rattle.desk_store.specs.Content.{IsContent};
 ghost use Rattle.desk_store.specs.World.{World, plans_of, spans_beside};

@@ -10,7 +10,7 @@ ghost use Rattle.desk_rules.specs.Limits.{max_plans};
 ghost use Rattle.desk_rules.specs.States.{states_of};
 ghost use Rattle.desk_store.specs.World as world;
 ghost use Rattle.desk_store.specs.World.{text_cmp, rows_by, spans_beside, stored_of};
-ghost use Rattle.desk_store.specs.Rows.{other_level, others_top, rival_level, rivals_top};
+ghost use Rattle.desk_store.specs.OwnRows.{other_level, others_top, rival_level, rivals_top};
 ghost use Rattle.desk_store.specs.StoreChange.{changed_by, IsFitting};
 ghost use Rattle.desk_store.specs.Rivals.{HaveLevel, AddLevel, AddsLevel};
 ghost use Rattle.desk_store.specs.Listing.{filed_of, filed_all, is_one_of, without};
@@ -53,9 +53,9 @@ impl Model for ListStore {
 
     ghost Value = { World };
 
-    ghost use Rattle.desk_store.specs.Listing.{world_of, IsStore};
+    ghost use Rattle.desk_store.specs.Listing.{world_in_lists, IsStore};
 
-    ghost view = { λ s. world_of s.operators.entries s.plans.entries };
+    ghost view = { λ s. world_in_lists s.operators.entries s.plans.entries };
 
     ghost invariant = { λ s. IsStore s.operators.entries s.plans.entries };
 }

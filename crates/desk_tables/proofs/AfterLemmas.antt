@@ -15,7 +15,7 @@ use Rattle.desk_sql.specs.Rows.{Tables, PutsOperator, ClosesPlan, tables_of}
 use Rattle.desk_sql.specs.Batches.{PutsPlan, RemovesPlans}
 use Rattle.desk_sql.specs.Effects.{Commits, MayMake, IsMadeOf}
 use Rattle.desk_sql.specs.Frames.{OnlyReads}
-use Rattle.desk_sql.specs.Calls.{IsCommitted}
+use Rattle.desk_sql.specs.QueryEnds.{IsCommitted}
 use Rattle.desk_rules.specs.Limits.{max_priority}
 use Rattle.desk_rules.specs.Name.{is_operator_name}
 use Rattle.desk_store.specs.World.{World}
@@ -26,12 +26,12 @@ use Rattle.desk_store.specs.declared.change.Change.{Change}
 use Rattle.desk_store.specs.declared.fault.StoreFault.{StoreFault}
 use Rattle.desk_store.specs.declared.change.Change.TheVariants.{Enrol, Put, Close}
 use Rattle.desk_store.specs.Content.{IsId, IsPlan, IsContent}
-use Rattle.desk_tables.specs.Tables.{id_text, usage_number, aircraft_number, plan_row, plan_rows, area_rows, area_covers, ArePlanSpanRows, AreTables}
+use Rattle.desk_tables.specs.Tables.{id_text, usage_number, aircraft_number, row_of_plan, plan_rows, area_rows, area_covers, ArePlanSpanRows, AreTables}
 use Rattle.desk_tables.specs.Lookups.{own_of}
-use Rattle.desk_tables.specs.TableChanges.{ChangesRows, PutsRows, ClosesRows, ClearsRows, IsWithin}
+use Rattle.desk_tables.specs.TableChanges.{ChangesRows, PutsRows, ClosesRows, ClearsRows, IsWithinLimits}
 use Rattle.desk_tables.specs.Store.{Stands}
 use Rattle.desk_tables.specs.Leaving.{HasWorld, MayHave}
-use Rattle.desk_tables.specs.Changing.{IsMade}
+use Rattle.desk_tables.specs.ChangesMade.{IsMade}
 use Rattle.desk_tables.proofs.ChangeLemmas.{change_tables, change_content}
 use Rattle.desk_tables.proofs.SetLemmas.{operator_is_put}
 use Rattle.desk_tables.proofs.PutLemmas.{put_is_put}
@@ -39,8 +39,8 @@ use Rattle.desk_tables.proofs.ClearLemmas.{removal_is_clear}
 use Rattle.desk_tables.proofs.CloseLemmas.{close_is_close}
 use Rattle.desk_tables.proofs.StoreLemmas.{kept_stands}
 
-named : (name : List ℕ) (ceiling : ℕ) → IsTrue (is_operator_name name) → IsWithin (Enrol name ceiling)
-unfolding IsWithin
+named : (name : List ℕ) (ceiling : ℕ) → IsTrue (is_operator_name name) → IsWithinLimits (Enrol name ceiling)
+unfolding IsWithinLimits
 named name ceiling valid = valid
 
 pub low_fits : (name : List ℕ) (ceiling : ℕ) (w : World) → ceiling ≤ max_priority
@@ -58,12 +58,12 @@ enrolled : (name : List ℕ) (ceiling : ℕ) (w : World) (old new : Tables) → 
 unfolding ChangesRows
 enrolled name ceiling w old new h t e = operator_is_put name ceiling w old new h t e
 
-within_put : (operator : List ℕ) (row : PlanRow) → IsPlan row → IsWithin (Put operator row)
-unfolding IsWithin
+within_put : (operator : List ℕ) (row : PlanRow) → IsPlan row → IsWithinLimits (Put operator row)
+unfolding IsWithinLimits
 within_put operator row plan = plan
 
-within_close : (operator id : List ℕ) → IsId id → IsWithin (Close operator id)
-unfolding IsWithin
+within_close : (operator id : List ℕ) → IsId id → IsWithinLimits (Close operator id)
+unfolding IsWithinLimits
 within_close operator id valid = valid
 
 put_asked : (operator : List ℕ) (row : PlanRow) (old new : Tables)
@@ -95,7 +95,7 @@ module _ {S : Type 0} (g : Ghosts S) (old new : Held S) (w : World) (stood : Sta
       → doubt (state g old).is_clean ≤ doubt (state g new).is_clean
       → (change : Change) (Rows : Tables → Tables → Type 0)
       → (HasCleanDisk (state g new) → Commits g old new Rows)
-      → (HasCleanDisk (state g old) → IsFitting change w) → IsWithin change
+      → (HasCleanDisk (state g old) → IsFitting change w) → IsWithinLimits change
       → ((one two : Tables) → HasCleanDisk (state g new) → IsContent w → AreTables one w → Rows one two
       → ChangesRows change one two)
       → Stands g new (changed_by change w)
@@ -117,7 +117,7 @@ module _ {S : Type 0} (g : Ghosts S) (old new : Held S) (w : World) (stood : Sta
 
   left_changed : doubt (state g old).is_clean ≤ doubt (state g new).is_clean
       → (change : Change) (Rows : Tables → Tables → Type 0) → MayMake g old new Rows
-      → (HasCleanDisk (state g old) → IsFitting change w) → IsWithin change
+      → (HasCleanDisk (state g old) → IsFitting change w) → IsWithinLimits change
       → ((one two : Tables) → HasCleanDisk (state g new) → IsContent w → AreTables one w → Rows one two
       → ChangesRows change one two)
       → MayHave g old new (changed_by change w)
@@ -145,7 +145,7 @@ module _ {S : Type 0} (g : Ghosts S) (old new : Held S) (w : World) (stood : Sta
     where
       -- a transaction that changed the rows as a change asks made the change
       made_changed : (change : Change) (Rows : Tables → Tables → Type 0) → IsCommitted g old new r Rows Fits
-          → (HasCleanDisk (state g old) → IsFitting change w) → IsWithin change
+          → (HasCleanDisk (state g old) → IsFitting change w) → IsWithinLimits change
           → ((one two : Tables) → HasCleanDisk (state g new) → IsContent w → AreTables one w → Rows one two
           → ChangesRows change one two)
           → IsMade g old new made w change
@@ -194,19 +194,20 @@ module _ {S : Type 0} (g : Ghosts S) (old new : Held S) (w : World) (stood : Sta
           → IsMade g old new made w (Put operator row)
       made_put operator row text volumes covers spans is are covers_are span_rows plan it fits =
           made_changed (Put operator row) (PutsPlan operator (id_text row.id)
-          (plan_row (filed_by operator row)) (area_rows (filed_by operator row))
+          (row_of_plan (filed_by operator row)) (area_rows (filed_by operator row))
           (area_covers (filed_by operator row)) spans)
           (committed_as (λ rows. PutsPlan operator (id_text row.id)
-          (plan_row (filed_by operator row)) (area_rows (filed_by operator row)) rows spans) covers_are
+          (row_of_plan (filed_by operator row)) (area_rows (filed_by operator row)) rows spans) covers_are
           (committed_as (λ rows. PutsPlan operator (id_text row.id)
-          (plan_row (filed_by operator row)) rows covers spans) are
+          (row_of_plan (filed_by operator row)) rows covers spans) are
           (committed_as (λ t. PutsPlan operator t
           (sql.plan_row operator t row.priority (usage_number row.usage) (aircraft_number row.aircraft))
           volumes covers spans) is it)))
           fits (within_put operator row plan) (λ one two clean h t e. put_asked operator row one two
           (put_is_put (filed_by operator row) w one two spans h plan t span_rows e))
 
-      pub made_cleared : (change : Change) (operator : List ℕ) (ids texts : List (List ℕ)) → IsWithin change
+      pub made_cleared : (change : Change) (operator : List ℕ) (ids texts : List (List ℕ))
+          → IsWithinLimits change
           → ((one two : Tables) → ClearsRows operator ids one two → ChangesRows change one two)
           → texts ≡ map id_text ids → IsCommitted g old new r (RemovesPlans operator texts) Fits
           → (HasCleanDisk (state g old) → IsFitting change w) → IsMade g old new made w change

@@ -20,24 +20,24 @@ use Rattle.volume4d.specs.Volume.{Block}
 use Rattle.desk_rules.specs.Limits.{max_priority}
 use Rattle.desk_rules.specs.declared.plan.PlanRow.{PlanRow}
 use Rattle.desk_sql.specs.Refusals.{HasDiskFailed, IsRefusal}
-use Rattle.desk_store.specs.Rows.{is_own}
+use Rattle.desk_store.specs.OwnRows.{is_own}
 use Rattle.desk_store.specs.World.{Filed, World, plans_of, stored_of}
 use Rattle.desk_store.specs.declared.fault.StoreFault.{StoreFault}
 use Rattle.desk_store.specs.declared.fault.StoreFault.TheVariants.{Store}
 use Rattle.desk_tables.specs.Causes.{BlamesStore}
 use Rattle.desk_store.specs.Content.{IsContent, IsPlan}
 use Rattle.desk_tables.specs.Lookups.{one_or_none, own_of}
-use Rattle.desk_tables.specs.Reading.{IsHead, IsVolumeAt}
-use Rattle.desk_tables.specs.Tables.{area_rows, plan_row, plan_rows, volume_rows}
+use Rattle.desk_tables.specs.RowsRead.{IsHead, IsVolumeAt}
+use Rattle.desk_tables.specs.Tables.{area_rows, plan_rows, row_of_plan, volume_rows}
 use Rattle.desk_tables.specs.Causes.{HasTooManySpans}
 use Rattle.desk_tables.specs.Gathering.{BeginNoListing, HasCollected, HasNoArea}
-use Rattle.desk_tables.specs.Reading.{listing_rows}
+use Rattle.desk_tables.specs.RowsRead.{listing_rows}
 use Rattle.desk_tables.specs.RivalRows.{IsNoHeld}
 use Rattle.desk_tables.specs.Tables.{AreTables}
 use Rattle.desk_tables.specs.declared.reading.values.Head.{Head}
 use Rattle.desk_rules.specs.Limits.{max_plans}
 use Rattle.desk_sql.specs.Rows.{held_columns, tables_of}
-use Rattle.desk_sql.specs.Taking.{IsCutShort}
+use Rattle.desk_sql.specs.Taking.{IsTakenInPart}
 use Rattle.std.specs.Result.{IsErrAnd}
 use Rattle.std.proofs.lemmas.List.{length-map}
 use Rattle.std.proofs.lemmas.List.Sorted.{length_permutation}
@@ -107,7 +107,7 @@ plan_reads o id w head_rows rows rest head h are volumes some none =
           → head ∷ rest ≡ plan_rows (one_or_none found) → rows ≡ volume_rows (one_or_none found) → ⊥
       by_found None hp e f = cc
       by_found (Some p) hp e f =
-          let is : head ≡ plan_row p = cc in
+          let is : head ≡ row_of_plan p = cc in
           none p.row hp.0.0 hp.1.0 (subst (λ r. IsHead r p.row) (sym is) (head_read p))
           (subst (λ xs. AllZip (λ r v. IsVolumeAt r 3 v) xs p.row.area)
           (sym (f ∙ append-nil (area_rows p))) (area_read p 0 p.row.area))
@@ -125,7 +125,7 @@ head_reads o id w head_rows rest head h are some =
           → (p : PlanRow) × (p.priority < 2 ^ 32) × IsHead head p
       by_found None hp e = cc
       by_found (Some p) hp e =
-          let is : head ≡ plan_row p = cc in
+          let is : head ≡ row_of_plan p = cc in
           (p.row, hp.1.0, subst (λ r. IsHead r p.row) (sym is) (head_read p))
 
 -- a plan that may be closed is stored
@@ -163,7 +163,7 @@ module _ {S : Type 0} (g : Ghosts S) (old new : Held S) (unlimited : old.step_li
   pub listing_blamed : (r : Result (Unit {0}) Error) (plans : List PlanRow) (head : Option Head)
       (volumes : List Block)
       → IfErr r (λ e. e ≢ SqliteFailure code.OutOfMemory) × OnOk r (HasNoArea head volumes)
-      → IfErr r (IsCutShort g old new IsAnswer (Or BeginNoListing))
+      → IfErr r (IsTakenInPart g old new IsAnswer (Or BeginNoListing))
       → OnOk r ((rows : List Row) × IsAnswer rows × HasCollected plans head volumes rows)
       → HasDiskFailed g old new
   listing_blamed (Ok u) plans head volumes why cut handed =
@@ -190,7 +190,7 @@ pub spans_blamed : {S : Type 0} (g : Ghosts S) (old new : Held S) → old.step_l
     → (want : Row → Bool) (w : World)
     → IsContent w → AreTables (tables_of (state g old).now.trees) w → (r : Result (Unit {0}) Error)
     → IsErrAnd r (λ e. e ≢ SqliteFailure code.OutOfMemory)
-    → IfErr r (IsCutShort g old new (IsPermutation
+    → IfErr r (IsTakenInPart g old new (IsPermutation
     (map held_columns (filter want (tables_of (state g old).now.trees).spans)))
     (Or (λ taken row. IsNoHeld row)))
     → HasDiskFailed g old new ⊎ HasTooManySpans (state g old).now

@@ -19,16 +19,16 @@ use Rattle.desk_sql.specs.Rows as sql
 use Rattle.desk_sql.specs.Rows.{Tables, is_not_of}
 use Rattle.desk_store.specs.World.{Filed, Listed, World, text_cmp, listed_cmp, filed_cmp, plans_of, is_by}
 use Rattle.desk_store.specs.Changes.{put_filed, filed_by, put_row, list_operator, with_plans, with_operator, replaced, closed, close_row, clear_rows}
-use Rattle.desk_store.specs.Rows.{is_own}
+use Rattle.desk_store.specs.OwnRows.{is_own}
 use Rattle.desk_store.specs.laws.Order.{inserted, all_weaker}
 use Rattle.desk_store.specs.laws.Content.{enrol_content, put_content, close_content, clear_content}
 use Rattle.desk_store.specs.laws.Change.{stays, cleared_plans, close_filed, closed_plans}
 use Rattle.desk_store.specs.StoreChange.{changed_by, IsFitting}
 use Rattle.desk_store.specs.declared.change.Change.{Change}
 use Rattle.desk_store.specs.declared.change.Change.TheVariants.{Enrol, Put, Close, Clear}
-use Rattle.desk_tables.specs.Tables.{id_text, operator_row, operator_rows, plan_row, plan_rows, volume_row, rows_from, area_rows, volume_rows, cover_row, area_covers, cover_rows, AreSpanRows, HasNoOldRows, AreTables}
+use Rattle.desk_tables.specs.Tables.{id_text, row_of_operator, operator_rows, row_of_plan, plan_rows, row_of_volume, rows_from, area_rows, volume_rows, row_of_cover, area_covers, cover_rows, AreSpanRows, HasNoOldRows, AreTables}
 use Rattle.desk_store.specs.Content.{IsId, IsPlan, IsContent}
-use Rattle.desk_tables.specs.TableChanges.{with_usage, EnrolsRows, PutsRows, ClosesRows, ClearsRows, ChangesRows, IsWithin, closed_if, is_left}
+use Rattle.desk_tables.specs.TableChanges.{with_usage, EnrolsRows, PutsRows, ClosesRows, ClearsRows, ChangesRows, IsWithinLimits, closed_if, is_left}
 use Rattle.desk_tables.proofs.RowLemmas.{after_key}
 use Rattle.desk_tables.proofs.FilterLemmas.{ArePlans, turned, own_row, other_row, left_row, plans_filtered, volumes_filtered, covers_filtered, plan_spans_filtered, spans_filtered, spans_moved}
 
@@ -55,7 +55,7 @@ in_any_order tables w ps h old operators plans volumes covers spans = record {
   old = old;
   operators = operators;
   plans = IsPermutation-trans (plan_rows w.plans) (plan_rows ps) tables.plans
-      (IsPermutation-map plan_row w.plans ps back) plans;
+      (IsPermutation-map row_of_plan w.plans ps back) plans;
   volumes = IsPermutation-trans (volume_rows w.plans) (volume_rows ps) tables.volumes
       (IsPermutation-flat_map area_rows w.plans ps back) volumes;
   covers = IsPermutation-trans (cover_rows w.plans) (cover_rows ps) tables.covers
@@ -164,20 +164,20 @@ list_moves name ceiling (l ∷ ls) s = by_order (text_cmp name l.name) refl
         rw e (front new l (filter (named_otherwise name) ls) (list_operator name ceiling ls) ih)
 
 pub operators_filtered : (name : List ℕ) (ls : List Listed)
-    → filter (λ r. not (sql.is_by name r)) (map operator_row ls)
-    ≡ map operator_row (filter (named_otherwise name) ls)
+    → filter (λ r. not (sql.is_row_by name r)) (map row_of_operator ls)
+    ≡ map row_of_operator (filter (named_otherwise name) ls)
 operators_filtered name [] = refl
 operators_filtered name (l ∷ ls) =
-    (λ i. cond (not (is_eq (value_cmp-Text l.name name i))) (operator_row l ∷ left) left)
-    ∙ ap (λ b. cond (not b) (operator_row l ∷ left) left) (turned l.name name)
+    (λ i. cond (not (is_eq (value_cmp-Text l.name name i))) (row_of_operator l ∷ left) left)
+    ∙ ap (λ b. cond (not b) (row_of_operator l ∷ left) left) (turned l.name name)
     ∙ by_test (named_otherwise name l) (operators_filtered name ls) where
       left : List Row
-      left = filter (λ r. not (sql.is_by name r)) (map operator_row ls)
+      left = filter (λ r. not (sql.is_row_by name r)) (map row_of_operator ls)
 
-      by_test : (b : Bool) → left ≡ map operator_row (filter (named_otherwise name) ls)
-          → cond b (operator_row l ∷ left) left ≡ map operator_row
+      by_test : (b : Bool) → left ≡ map row_of_operator (filter (named_otherwise name) ls)
+          → cond b (row_of_operator l ∷ left) left ≡ map row_of_operator
           (cond b (l ∷ filter (named_otherwise name) ls) (filter (named_otherwise name) ls))
-      by_test true ih = ap (λ rows. operator_row l ∷ rows) ih
+      by_test true ih = ap (λ rows. row_of_operator l ∷ rows) ih
       by_test false ih = ih
 
 enrol_tables : (name : List ℕ) (ceiling : ℕ) (w : World) (old new : Tables) → IsContent w
@@ -196,28 +196,28 @@ enrol_tables name ceiling w old new h t e = record {
   row = sql.operator_row name ceiling
 
   left : List Row → List Row
-  left rows = filter (λ r. not (sql.is_by name r)) rows
+  left rows = filter (λ r. not (sql.is_row_by name r)) rows
 
-  listed : IsPermutation (map operator_row (list_operator name ceiling w.operators))
-      (row ∷ map operator_row (filter (named_otherwise name) w.operators))
-  listed = IsPermutation-map operator_row (list_operator name ceiling w.operators)
+  listed : IsPermutation (map row_of_operator (list_operator name ceiling w.operators))
+      (row ∷ map row_of_operator (filter (named_otherwise name) w.operators))
+  listed = IsPermutation-map row_of_operator (list_operator name ceiling w.operators)
       (record { name = name; ceiling = ceiling } ∷ filter (named_otherwise name) w.operators)
       (IsPermutation-sym (record { name = name; ceiling = ceiling }
       ∷ filter (named_otherwise name) w.operators) (list_operator name ceiling w.operators)
       (list_moves name ceiling w.operators h.world.operators))
 
-  rows : IsPermutation (row ∷ map operator_row (filter (named_otherwise name) w.operators))
+  rows : IsPermutation (row ∷ map row_of_operator (filter (named_otherwise name) w.operators))
       (row ∷ left old.operators)
-  rows = IsPermutation-cons row (map operator_row (filter (named_otherwise name) w.operators))
+  rows = IsPermutation-cons row (map row_of_operator (filter (named_otherwise name) w.operators))
       (left old.operators)
       (subst (λ xs. IsPermutation xs (left old.operators)) (operators_filtered name w.operators)
-      (IsPermutation-filter (λ r. not (sql.is_by name r)) (operator_rows w) old.operators t.operators))
+      (IsPermutation-filter (λ r. not (sql.is_row_by name r)) (operator_rows w) old.operators t.operators))
 
-  operators : IsPermutation (map operator_row (list_operator name ceiling w.operators)) new.operators
-  operators = IsPermutation-trans (map operator_row (list_operator name ceiling w.operators))
+  operators : IsPermutation (map row_of_operator (list_operator name ceiling w.operators)) new.operators
+  operators = IsPermutation-trans (map row_of_operator (list_operator name ceiling w.operators))
       (row ∷ left old.operators) new.operators
-      (IsPermutation-trans (map operator_row (list_operator name ceiling w.operators))
-      (row ∷ map operator_row (filter (named_otherwise name) w.operators)) (row ∷ left old.operators)
+      (IsPermutation-trans (map row_of_operator (list_operator name ceiling w.operators))
+      (row ∷ map row_of_operator (filter (named_otherwise name) w.operators)) (row ∷ left old.operators)
       listed rows) e.operators
 
 -- ---- rows that a test keeps
@@ -259,8 +259,8 @@ put_tables o row w old new h within t e =
     (put_moves p w.plans h.world.plans))
     (e.no_old t.old)
     (IsPermutation-trans (operator_rows w) old.operators new.operators t.operators e.operators)
-    (IsPermutation-trans (plan_rows qs) (plan_row p ∷ filter test old.plans) new.plans
-    (IsPermutation-cons (plan_row p) (plan_rows (filter (other p) w.plans)) (filter test old.plans)
+    (IsPermutation-trans (plan_rows qs) (row_of_plan p ∷ filter test old.plans) new.plans
+    (IsPermutation-cons (row_of_plan p) (plan_rows (filter (other p) w.plans)) (filter test old.plans)
     (plans_left (other p) test same old w h t)) e.plans)
     (IsPermutation-trans (volume_rows qs) (area_rows p ++ filter test old.volumes) new.volumes
     (IsPermutation-append_right (area_rows p) (volume_rows (filter (other p) w.plans))
@@ -326,14 +326,14 @@ plans_closed : (o id : List ℕ) (ps : List Filed) → IsId id → ArePlans ps
     ≡ plan_rows (map (close_filed o id) ps)
 plans_closed o id [] hi h = refl
 plans_closed o id (p ∷ ps) hi h = λ i. one i ∷ plans_closed o id ps hi h.1 i where
-  by_test : (b : Bool) → cond b (with_usage 2 (plan_row p)) (plan_row p)
-      ≡ plan_row (cond b (record { operator = p.operator; row = closed p.row }) p)
+  by_test : (b : Bool) → cond b (with_usage 2 (row_of_plan p)) (row_of_plan p)
+      ≡ row_of_plan (cond b (record { operator = p.operator; row = closed p.row }) p)
   by_test true = refl
   by_test false = refl
 
-  one : closed_if o id (plan_row p) ≡ plan_row (close_filed o id p)
-  one = ap (λ b. cond b (with_usage 2 (plan_row p)) (plan_row p))
-      (own_row o id p (after_key (plan_row p)) hi h.0.id) ∙ by_test (is_own o id p)
+  one : closed_if o id (row_of_plan p) ≡ row_of_plan (close_filed o id p)
+  one = ap (λ b. cond b (with_usage 2 (row_of_plan p)) (row_of_plan p))
+      (own_row o id p (after_key (row_of_plan p)) hi h.0.id) ∙ by_test (is_own o id p)
 
 -- rows of volumes, if a row of a closed plan is what it was
 module _ (row : Filed → ℕ → Block → Row) (same : (p : Filed) (n : ℕ) (v : Block)
@@ -357,11 +357,11 @@ module _ (row : Filed → ℕ → Block → Row) (same : (p : Filed) (n : ℕ) (
 
 volumes_closed : (o id : List ℕ) (ps : List Filed) → volume_rows ps
     ≡ volume_rows (map (close_filed o id) ps)
-volumes_closed = areas_closed volume_row (λ p n v. refl)
+volumes_closed = areas_closed row_of_volume (λ p n v. refl)
 
 covers_closed : (o id : List ℕ) (ps : List Filed) → cover_rows ps
     ≡ cover_rows (map (close_filed o id) ps)
-covers_closed = areas_closed cover_row (λ p n v. refl)
+covers_closed = areas_closed row_of_cover (λ p n v. refl)
 
 spans_closed : (o id : List ℕ) (ps : List Filed) (rows : List Row) → IsId id → ArePlans ps
     → AreSpanRows ps rows → AreSpanRows (map (close_filed o id) ps)
@@ -410,9 +410,9 @@ close_tables o id w old new h within t e =
       qs : List Filed
       qs = map (close_filed o id) w.plans
 
-pub change_tables : (change : Change) (w : World) (old new : Tables) → IsContent w → IsWithin change
+pub change_tables : (change : Change) (w : World) (old new : Tables) → IsContent w → IsWithinLimits change
     → AreTables old w → ChangesRows change old new → AreTables new (changed_by change w)
-unfolding changed_by IsWithin ChangesRows
+unfolding changed_by IsWithinLimits ChangesRows
 change_tables (Enrol operator ceiling) w old new h within t e =
     enrol_tables operator ceiling w old new h t e
 change_tables (Put operator row) w old new h within t e = put_tables operator row w old new h within t e
@@ -423,9 +423,9 @@ change_tables (Clear operator ids) w old new h within t e =
 
 -- ---- what stays a content
 
-pub change_content : (change : Change) (w : World) → IsContent w → IsFitting change w → IsWithin change
+pub change_content : (change : Change) (w : World) → IsContent w → IsFitting change w → IsWithinLimits change
     → IsContent (changed_by change w)
-unfolding changed_by IsWithin
+unfolding changed_by IsWithinLimits
 change_content (Enrol operator ceiling) w h fits within = enrol_content operator ceiling w h fits within
 change_content (Put operator row) w h fits within = put_content operator row w h fits within
 change_content (Close operator id) w h fits within = close_content operator id w h fits

@@ -11,7 +11,7 @@ use Rattle.desk_sql.specs.Rows.{Tables, is_of}
 use Rattle.desk_sql.specs.Batches.{RemovesPlans, is_of_none}
 use Rattle.desk_store.specs.World.{Filed, World}
 use Rattle.desk_store.specs.laws.Order.{all_weaker}
-use Rattle.desk_tables.specs.Tables.{id_text, plan_row, plan_rows, volume_row, rows_from, volume_rows, cover_row, cover_rows, span_row, AreSpanRowsFrom, ArePlanSpanRows, AreSpanRows, AreTables}
+use Rattle.desk_tables.specs.Tables.{id_text, row_of_plan, plan_rows, row_of_volume, rows_from, volume_rows, row_of_cover, cover_rows, row_of_span, AreSpanRowsFrom, ArePlanSpanRows, AreSpanRows, AreTables}
 use Rattle.desk_tables.specs.TableChanges.{ClearsRows, is_left}
 use Rattle.desk_tables.proofs.RowLemmas.{after_place, placed, placed_rows}
 
@@ -62,40 +62,40 @@ module _ (operator : List ℕ) (has : List ℕ → Bool) where
         by_tests true false e f ih = let no : false ≡ true = f refl in cc
         by_tests false false e f ih = ih
 
-  placed_planned : (more : Filed → ℕ → Block → Row) (p : Filed) → IsPlanned (plan_row p) → (n : ℕ)
+  placed_planned : (more : Filed → ℕ → Block → Row) (p : Filed) → IsPlanned (row_of_plan p) → (n : ℕ)
       (vs : List Block) → AllByRecursion IsPlanned (rows_from (placed more) p n vs)
   placed_planned more p h n [] = tt
   placed_planned more p h n (v ∷ vs) = (h, placed_planned more p h (n + 1) vs)
 
   all_placed : (more : Filed → ℕ → Block → Row) (ps : List Filed)
-      → AllByRecursion (λ p. IsPlanned (plan_row p)) ps
+      → AllByRecursion (λ p. IsPlanned (row_of_plan p)) ps
       → AllByRecursion IsPlanned (placed_rows more ps)
   all_placed more [] h = tt
   all_placed more (p ∷ ps) h =
       all_append IsPlanned (rows_from (placed more) p 0 p.row.area) (placed_rows more ps)
       (placed_planned more p h.0 0 p.row.area) (all_placed more ps h.1)
 
-  all_volumes : (ps : List Filed) → AllByRecursion (λ p. IsPlanned (plan_row p)) ps
+  all_volumes : (ps : List Filed) → AllByRecursion (λ p. IsPlanned (row_of_plan p)) ps
       → AllByRecursion IsPlanned (volume_rows ps)
-  all_volumes = all_placed (after_place volume_row)
+  all_volumes = all_placed (after_place row_of_volume)
 
-  all_covers : (ps : List Filed) → AllByRecursion (λ p. IsPlanned (plan_row p)) ps
+  all_covers : (ps : List Filed) → AllByRecursion (λ p. IsPlanned (row_of_plan p)) ps
       → AllByRecursion IsPlanned (cover_rows ps)
-  all_covers = all_placed (after_place cover_row)
+  all_covers = all_placed (after_place row_of_cover)
 
-  spans_on : (p : Filed) → IsPlanned (plan_row p) → (n : ℕ) (v : Block) (spans : List Span)
-      → AllByRecursion IsPlanned (map (span_row p n v) spans)
+  spans_on : (p : Filed) → IsPlanned (row_of_plan p) → (n : ℕ) (v : Block) (spans : List Span)
+      → AllByRecursion IsPlanned (map (row_of_span p n v) spans)
   spans_on p h n v [] = tt
   spans_on p h n v (s ∷ spans) = (h, spans_on p h n v spans)
 
-  spans_from : (p : Filed) → IsPlanned (plan_row p) → (n : ℕ) (vs : List Block) (rows : List Row)
+  spans_from : (p : Filed) → IsPlanned (row_of_plan p) → (n : ℕ) (vs : List Block) (rows : List Row)
       → AreSpanRowsFrom p n vs rows → AllByRecursion IsPlanned rows
   spans_from p h n [] rows e = subst (AllByRecursion IsPlanned) (sym e) tt
   spans_from p h n (v ∷ vs) rows (spans, rest, ranges, are, more) =
-      subst (AllByRecursion IsPlanned) (sym are) (all_append IsPlanned (map (span_row p n v) spans) rest
+      subst (AllByRecursion IsPlanned) (sym are) (all_append IsPlanned (map (row_of_span p n v) spans) rest
       (spans_on p h n v spans) (spans_from p h (n + 1) vs rest more))
 
-  plan_spans : (p : Filed) → IsPlanned (plan_row p) → (rows : List Row) → ArePlanSpanRows p rows
+  plan_spans : (p : Filed) → IsPlanned (row_of_plan p) → (rows : List Row) → ArePlanSpanRows p rows
       → AllByRecursion IsPlanned rows
   plan_spans p h rows are = by_live (is_live p.row.usage) are where
     by_live : (b : Bool) → MatchBool b (AreSpanRowsFrom p 0 p.row.area rows) (rows ≡ [])
@@ -103,7 +103,7 @@ module _ (operator : List ℕ) (has : List ℕ → Bool) where
     by_live true k = spans_from p h 0 p.row.area rows k
     by_live false k = subst (AllByRecursion IsPlanned) (sym k) tt
 
-  all_spans : (ps : List Filed) → AllByRecursion (λ p. IsPlanned (plan_row p)) ps → (rows : List Row)
+  all_spans : (ps : List Filed) → AllByRecursion (λ p. IsPlanned (row_of_plan p)) ps → (rows : List Row)
       → AreSpanRows ps rows → AllByRecursion IsPlanned rows
   all_spans [] h rows e = subst (AllByRecursion IsPlanned) (sym e) tt
   all_spans (p ∷ ps) h rows (front, rest, are, mine, more) =
@@ -137,16 +137,16 @@ module _ (operator : List ℕ) (has : List ℕ → Bool) where
       )
 
 own_planned : (operator : List ℕ) (ps : List Filed)
-    → AllByRecursion (λ p. (text : List ℕ) → is_of operator text (plan_row p) ≡ true
+    → AllByRecursion (λ p. (text : List ℕ) → is_of operator text (row_of_plan p) ≡ true
     → list_any (is_of operator text) (plan_rows ps) ≡ true) ps
 own_planned operator [] = tt
 own_planned operator (p ∷ ps) = (
   (λ text h. ap (λ b. b || list_any (is_of operator text) (plan_rows ps)) h),
-  all_weaker (λ q. (text : List ℕ) → is_of operator text (plan_row q) ≡ true
+  all_weaker (λ q. (text : List ℕ) → is_of operator text (row_of_plan q) ≡ true
       → list_any (is_of operator text) (plan_rows ps) ≡ true)
-      (λ q. (text : List ℕ) → is_of operator text (plan_row q) ≡ true
+      (λ q. (text : List ℕ) → is_of operator text (row_of_plan q) ≡ true
       → list_any (is_of operator text) (plan_rows (p ∷ ps)) ≡ true)
-      (λ q k text h. or_true (is_of operator text (plan_row p))
+      (λ q k text h. or_true (is_of operator text (row_of_plan p))
       (list_any (is_of operator text) (plan_rows ps)) (k text h)) ps (own_planned operator ps),
 )
 
@@ -175,12 +175,12 @@ removal_is_clear operator ids w old new t e = record {
   gone : Row → Bool
   gone = is_of_none operator (filter has (map id_text ids))
 
-  planned : AllByRecursion (λ p. (text : List ℕ) → is_of operator text (plan_row p) ≡ true → has text
+  planned : AllByRecursion (λ p. (text : List ℕ) → is_of operator text (row_of_plan p) ≡ true → has text
       ≡ true)
       w.plans
-  planned = all_weaker (λ q. (text : List ℕ) → is_of operator text (plan_row q) ≡ true
+  planned = all_weaker (λ q. (text : List ℕ) → is_of operator text (row_of_plan q) ≡ true
       → list_any (is_of operator text) (plan_rows w.plans) ≡ true)
-      (λ q. (text : List ℕ) → is_of operator text (plan_row q) ≡ true → has text ≡ true)
+      (λ q. (text : List ℕ) → is_of operator text (row_of_plan q) ≡ true → has text ≡ true)
       (λ q k text h. sym (list_any-IsPermutation (is_of operator text) (plan_rows w.plans) old.plans
       t.plans)
       ∙ k text h) w.plans (own_planned operator w.plans)

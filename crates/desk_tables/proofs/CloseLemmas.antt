@@ -11,8 +11,8 @@ use Rattle.sqlite_keyed.proofs.ListLemmas.{IsPermutation-same, all_kept}
 use Rattle.desk_sql.specs.Rows as sql
 use Rattle.desk_sql.specs.Rows.{Tables, is_of, with_row, ClosesPlan}
 use Rattle.desk_store.specs.World.{Filed, World, text_cmp}
-use Rattle.desk_store.specs.Rows.{is_own}
-use Rattle.desk_tables.specs.Tables.{id_text, aircraft_number, plan_row, plan_rows, AreTables}
+use Rattle.desk_store.specs.OwnRows.{is_own}
+use Rattle.desk_tables.specs.Tables.{id_text, aircraft_number, row_of_plan, plan_rows, AreTables}
 use Rattle.desk_store.specs.Content.{IsId, IsContent}
 use Rattle.desk_tables.specs.Lookups.{one_or_none, own_of}
 use Rattle.desk_tables.specs.TableChanges.{ClosesRows, closed_if}
@@ -45,17 +45,18 @@ module _ (o id : List ℕ) (head : Row) (priority aircraft : ℕ)
 
     -- the rows of the key's plan
     abbrev HaveHead : List Filed → Type 0
-    HaveHead ps = AllByRecursion (λ p. is_own o id p ≡ true → plan_row p ≡ head) ps
+    HaveHead ps = AllByRecursion (λ p. is_own o id p ≡ true → row_of_plan p ≡ head) ps
 
-    one_closed : (p : Filed) → IsId id → IsId p.row.id → (is_own o id p ≡ true → plan_row p ≡ head)
-        → cond (is_of o (id_text id) (plan_row p)) closed_row (plan_row p) ≡ closed_if o id (plan_row p)
-    one_closed p hi hp is = by_test (is_of o (id_text id) (plan_row p)) refl where
-      own : is_of o (id_text id) (plan_row p) ≡ is_own o id p
-      own = own_row o id p (after_key (plan_row p)) hi hp
+    one_closed : (p : Filed) → IsId id → IsId p.row.id → (is_own o id p ≡ true → row_of_plan p ≡ head)
+        → cond (is_of o (id_text id) (row_of_plan p)) closed_row (row_of_plan p)
+        ≡ closed_if o id (row_of_plan p)
+    one_closed p hi hp is = by_test (is_of o (id_text id) (row_of_plan p)) refl where
+      own : is_of o (id_text id) (row_of_plan p) ≡ is_own o id p
+      own = own_row o id p (after_key (row_of_plan p)) hi hp
 
-      by_test : (b : Bool) → is_of o (id_text id) (plan_row p) ≡ b
-          → cond (is_of o (id_text id) (plan_row p)) closed_row (plan_row p)
-          ≡ closed_if o id (plan_row p)
+      by_test : (b : Bool) → is_of o (id_text id) (row_of_plan p) ≡ b
+          → cond (is_of o (id_text id) (row_of_plan p)) closed_row (row_of_plan p)
+          ≡ closed_if o id (row_of_plan p)
       by_test false e = rw e refl
       by_test true e =
           let mine : is_own o id p ≡ true = sym own ∙ e in
@@ -78,13 +79,13 @@ module _ (o id : List ℕ) (head : Row) (priority aircraft : ℕ)
     have_head : (w : World) (head_rows rest : List Row) → IsContent w → head_rows ≡ plan_rows (own_of o id w)
         → head_rows
         ≡ head ∷ rest → HaveHead w.plans
-    have_head w head_rows rest h are some = all_kept (λ p. plan_row p ≡ head) (is_own o id) w.plans
-        (subst (AllByRecursion (λ p. plan_row p ≡ head)) (sym (one_own o id w.plans h.world.plans))
+    have_head w head_rows rest h are some = all_kept (λ p. row_of_plan p ≡ head) (is_own o id) w.plans
+        (subst (AllByRecursion (λ p. row_of_plan p ≡ head)) (sym (one_own o id w.plans h.world.plans))
         (by_found (find (is_own o id) w.plans) (sym some ∙ are))) where
           by_found : (found : Option Filed) → head ∷ rest ≡ plan_rows (one_or_none found)
-              → AllByRecursion (λ p. plan_row p ≡ head) (one_or_none found)
+              → AllByRecursion (λ p. row_of_plan p ≡ head) (one_or_none found)
           by_found None e = tt
-          by_found (Some p) e = let is : plan_row p ≡ head = cc in (is, tt)
+          by_found (Some p) e = let is : row_of_plan p ≡ head = cc in (is, tt)
 
     pub close_is_close : (w : World) (old new : Tables) (head_rows rest : List Row) → IsContent w → IsId id
         → AreTables old w → head_rows ≡ plan_rows (own_of o id w) → head_rows ≡ head ∷ rest
@@ -119,5 +120,5 @@ pub plan_closed : (o id : List ℕ) (p : Filed) (w : World) (old new : Tables) �
     → ClosesPlan o (id_text id) p.row.priority (aircraft_number p.row.aircraft) old new
     → ClosesRows o id old new
 plan_closed o id p w old new h hi t is e =
-    close_is_close o id (plan_row p) p.row.priority (aircraft_number p.row.aircraft) refl refl w old new
-    (plan_row p ∷ []) [] h hi t (ap plan_rows (sym is)) refl e
+    close_is_close o id (row_of_plan p) p.row.priority (aircraft_number p.row.aircraft) refl refl w old new
+    (row_of_plan p ∷ []) [] h hi t (ap plan_rows (sym is)) refl e

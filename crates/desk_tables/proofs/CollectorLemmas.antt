@@ -4,16 +4,16 @@ use Rattle.std.specs.List.{AllByRecursion}
 use Rattle.std.proofs.lemmas.Bool.Decides.{nat_tests}
 use Rattle.std.proofs.lemmas.List.{length-append, length-map}
 use Rattle.sqlite_value.specs.Order.{Row}
-use Rattle.volume4d.specs.Limits.{max_volumes}
+use Rattle.volume4d.specs.VolumeLimits.{max_volumes}
 use Rattle.volume4d.specs.Volume.{Block, is_area}
 use Rattle.desk_rules.specs.declared.plan.PlanRow.{PlanRow}
 use Rattle.desk_store.specs.World.{Filed}
 use Rattle.desk_sql.specs.Rows.{joined}
 use Rattle.desk_tables.specs.declared.reading.values.Head.{Head}
-use Rattle.desk_tables.specs.Tables.{area_rows, plan_row, volume_row, volume_rows_from}
+use Rattle.desk_tables.specs.Tables.{area_rows, row_of_plan, row_of_volume, volume_rows_from}
 use Rattle.desk_store.specs.Content.{IsBlock}
-use Rattle.desk_tables.specs.Reading.{IsVolumeAt, IsHead, joined_from, joined_rows, listing_rows}
-use Rattle.desk_tables.specs.Gathering.{HasNoArea, IsNoHead, IsUngathered, IsUnderWay, Leads}
+use Rattle.desk_tables.specs.RowsRead.{IsVolumeAt, IsHead, joined_from, joined_rows, listing_rows}
+use Rattle.desk_tables.specs.Gathering.{HasNoArea, IsNoHead, IsUngathered, IsPlanUnderWay, Leads}
 use Rattle.desk_tables.proofs.FilterLemmas.{ArePlans}
 use Rattle.desk_tables.proofs.JoinLemmas.{IsFirst, each_at, first_row, head_read, no_rows, not_later, stays_later, volume_read}
 
@@ -35,14 +35,14 @@ last_low [] ys h = h
 last_low (x ∷ xs) ys h = last_low xs ys h.1
 
 more_low : (plans : List PlanRow) (head : Head) (volumes : List Block) (left : List Row) (ps : List Filed)
-    → AreLow ps → (way : IsUnderWay plans head volumes left (map (λ p. p.row) ps)) → AreLow way.more
+    → AreLow ps → (way : IsPlanUnderWay plans head volumes left (map (λ p. p.row) ps)) → AreLow way.more
 more_low plans head volumes left ps low way =
     (rows_low (way.plan ∷ way.more) (last_low plans (map (λ p. p.row) (way.plan ∷ way.more))
     (subst (AllByRecursion (λ r. r.priority < 2 ^ 32)) (sym way.whole) (low_rows ps low)))).1
 
 -- the volumes of a plan of which no row is left are an area
 whole_area : (plans : List PlanRow) (head : Head) (volumes : List Block) (left : List Row)
-    (all : List PlanRow) (way : IsUnderWay plans head volumes left all) → way.rest ≡ []
+    (all : List PlanRow) (way : IsPlanUnderWay plans head volumes left all) → way.rest ≡ []
     → ¬ (is_area volumes ≡ false)
 whole_area plans head volumes left all way none off =
     let area : volumes ≡ way.plan.row.area = sym (append-nil volumes)
@@ -95,7 +95,7 @@ never_ungathered plans (Some head) volumes row left ps h low way why = by_rest w
       let n = length volumes in
       let listing : row ∷ left ≡ joined_from way.plan n (v ∷ vs) ++ listing_rows way.more = way.rows
       ∙ ap (λ us. joined_from way.plan n us ++ listing_rows way.more) (sym is) in
-      let here : row ≡ joined (plan_row way.plan) (volume_row way.plan n v) = cc in
+      let here : row ≡ joined (row_of_plan way.plan) (row_of_volume way.plan n v) = cc in
       let area : volumes ++ v ∷ vs ≡ way.plan.row.area = ap (λ us. volumes ++ us) is ∙ way.area in
       let block : IsBlock v = each_at volumes v vs
       (subst (AllByRecursion IsBlock) (sym area) way.each.0.each) in
@@ -127,7 +127,7 @@ listing_short [] h = omega arith
 listing_short (p ∷ ps) h = omega (
   arith,
   length-append (joined_rows p) (listing_rows ps),
-  length-map (area_rows p) (joined (plan_row p)),
+  length-map (area_rows p) (joined (row_of_plan p)),
   volumes_long p 0 p.row.area,
   area_short p.row.area h.0.volumes,
   listing_short ps h.1,

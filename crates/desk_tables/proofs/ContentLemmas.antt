@@ -16,7 +16,7 @@ use Rattle.desk_rules.specs.declared.words.Usage.TheVariants as usage
 use Rattle.desk_rules.specs.declared.words.Aircraft.{Aircraft}
 use Rattle.desk_rules.specs.declared.words.Aircraft.TheVariants as aircraft
 use Rattle.desk_store.specs.World.{Filed, Listed, World, text_cmp}
-use Rattle.desk_tables.specs.Tables.{id_text, usage_number, aircraft_number, operator_row, operator_rows, plan_row, plan_rows, volume_row, volume_rows_from, volume_rows, AreTables}
+use Rattle.desk_tables.specs.Tables.{id_text, usage_number, aircraft_number, row_of_operator, operator_rows, row_of_plan, plan_rows, row_of_volume, volume_rows_from, volume_rows, AreTables}
 use Rattle.desk_store.specs.Content.{IsId, IsBlock, IsPlan, IsContent}
 use Rattle.desk_tables.proofs.IdLemmas.{text_order}
 use Rattle.desk_tables.proofs.RowLemmas.{operators_ascend, plans_ascend, volumes_ascend, one_order}
@@ -49,19 +49,19 @@ one_aircraft aircraft.Contingent aircraft.OffNominal e = absurd (omega (arith, e
 one_aircraft aircraft.Contingent aircraft.Contingent e = refl
 
 -- operators
-one_listed : (l k : Listed) → operator_row l ≡ operator_row k → l ≡ k
+one_listed : (l k : Listed) → row_of_operator l ≡ row_of_operator k → l ≡ k
 one_listed l k e =
     let name : l.name ≡ k.name = cc in
     let ceiling : l.ceiling ≡ k.ceiling = cc in
     λ i. record { name = name i; ceiling = ceiling i }
 
-pub one_operators : (ls ks : List Listed) → map operator_row ls ≡ map operator_row ks → ls ≡ ks
+pub one_operators : (ls ks : List Listed) → map row_of_operator ls ≡ map row_of_operator ks → ls ≡ ks
 one_operators [] [] e = refl
 one_operators [] (k ∷ ks) e = cc
 one_operators (l ∷ ls) [] e = cc
 one_operators (l ∷ ls) (k ∷ ks) e =
-    let first : operator_row l ≡ operator_row k = cc in
-    let rest : map operator_row ls ≡ map operator_row ks = cc in
+    let first : row_of_operator l ≡ row_of_operator k = cc in
+    let rest : map row_of_operator ls ≡ map row_of_operator ks = cc in
     λ i. one_listed l k first i ∷ one_operators ls ks rest i
 
 abbrev ArePlans : List Filed → Type 0
@@ -76,7 +76,7 @@ first_place : (p : Filed) (area : List Block) (more : List Row) (r : Row) (rest 
     → volume_rows_from p 0 area ++ more ≡ r ∷ rest → column r 2 ≡ Int (pos 0)
 first_place p [] more r rest some e = absurd (some refl)
 first_place p (v ∷ vs) more r rest some e =
-    let same : volume_row p 0 v ≡ r = cc in
+    let same : row_of_volume p 0 v ≡ r = cc in
     ap (λ row. column row 2) (sym same)
 
 begins : (ps : List Filed) → ArePlans ps → (r : Row) (rest : List Row) → volume_rows ps ≡ r ∷ rest
@@ -87,9 +87,9 @@ begins (p ∷ ps) h r rest e = first_place p p.row.area (volume_rows ps) r rest
     e
 
 not_later : (ps : List Filed) → ArePlans ps → (q : Filed) (n : ℕ) (u : Block) (rest : List Row)
-    → volume_rows ps ≡ volume_row q (n + 1) u ∷ rest → ⊥
+    → volume_rows ps ≡ row_of_volume q (n + 1) u ∷ rest → ⊥
 not_later ps h q n u rest e =
-    let place : Int (pos (n + 1)) ≡ Int (pos 0) = begins ps h (volume_row q (n + 1) u) rest e in
+    let place : Int (pos (n + 1)) ≡ Int (pos 0) = begins ps h (row_of_volume q (n + 1) u) rest e in
     let same : n + 1 ≡ 0 = cc in
     omega (arith, same)
 
@@ -101,8 +101,8 @@ HaveRows operators plans volumes w = IsPermutation (operator_rows w) operators
 module _ (one_shape : (one other : Shape) → HasValidParts one → HasValidParts other
     → footprint_bytes one
     ≡ footprint_bytes other → one ≡ other) where
-  one_block : (p q : Filed) (n : ℕ) (v u : Block) → IsBlock v → IsBlock u → volume_row p n v
-      ≡ volume_row q n u → v ≡ u
+  one_block : (p q : Filed) (n : ℕ) (v u : Block) → IsBlock v → IsBlock u → row_of_volume p n v
+      ≡ row_of_volume q n u → v ≡ u
   one_block p q n v u hv hu e =
       let lower : v.window.lower ≡ u.window.lower = cc in
       let upper : v.window.upper ≡ u.window.upper = cc in
@@ -124,7 +124,7 @@ module _ (one_shape : (one other : Shape) → HasValidParts one → HasValidPart
   cut p q ps qs hp hq n [] (u ∷ us) hv hu e = absurd (not_later ps hp q n u _ e)
   cut p q ps qs hp hq n (v ∷ vs) [] hv hu e = absurd (not_later qs hq p n v _ (sym e))
   cut p q ps qs hp hq n (v ∷ vs) (u ∷ us) hv hu e =
-      let first : volume_row p (n + 1) v ≡ volume_row q (n + 1) u = cc in
+      let first : row_of_volume p (n + 1) v ≡ row_of_volume q (n + 1) u = cc in
       let rest : volume_rows_from p (n + 1 + 1) vs ++ volume_rows ps ≡ volume_rows_from q (n + 1 + 1) us
       ++ volume_rows qs = cc in
       let more = cut p q ps qs hp hq (n + 1) vs us hv.1 hu.1 rest in
@@ -139,13 +139,13 @@ module _ (one_shape : (one other : Shape) → HasValidParts one → HasValidPart
   cut_first p q ps qs hp hq [] us sv su hv hu e = absurd (sv refl)
   cut_first p q ps qs hp hq (v ∷ vs) [] sv su hv hu e = absurd (su refl)
   cut_first p q ps qs hp hq (v ∷ vs) (u ∷ us) sv su hv hu e =
-      let first : volume_row p 0 v ≡ volume_row q 0 u = cc in
+      let first : row_of_volume p 0 v ≡ row_of_volume q 0 u = cc in
       let rest : volume_rows_from p (0 + 1) vs ++ volume_rows ps ≡ volume_rows_from q (0 + 1) us
       ++ volume_rows qs = cc in
       let more = cut p q ps qs hp hq 0 vs us hv.1 hu.1 rest in
       ((λ i. one_block p q 0 v u hv.0 hu.0 first i ∷ more.0 i), more.1)
 
-  one_plan : (p q : Filed) → IsPlan p.row → IsPlan q.row → plan_row p ≡ plan_row q → p.row.area
+  one_plan : (p q : Filed) → IsPlan p.row → IsPlan q.row → row_of_plan p ≡ row_of_plan q → p.row.area
       ≡ q.row.area
       → p ≡ q
   one_plan p q hp hq e area =
@@ -171,7 +171,7 @@ module _ (one_shape : (one other : Shape) → HasValidParts one → HasValidPart
   one_plans [] (q ∷ qs) hp hq e f = cc
   one_plans (p ∷ ps) [] hp hq e f = cc
   one_plans (p ∷ ps) (q ∷ qs) hp hq e f =
-      let first : plan_row p ≡ plan_row q = cc in
+      let first : row_of_plan p ≡ row_of_plan q = cc in
       let rest : plan_rows ps ≡ plan_rows qs = cc in
       let parts = cut_first p q ps qs hp.1 hq.1 p.row.area q.row.area (no_area p.row.area hp.0.volumes)
       (no_area q.row.area hq.0.volumes) hp.0.each hq.0.each f in

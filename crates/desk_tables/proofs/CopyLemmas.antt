@@ -12,7 +12,7 @@ use Rattle.desk_sql.specs.Rows.{Tables, tables_of, AddsOperator, AddsPlan}
 use Rattle.desk_store.specs.World.{Filed, Listed, World}
 use Rattle.desk_store.specs.Content.{IsContent}
 use Rattle.desk_tables.specs.Store.{Stands}
-use Rattle.desk_tables.specs.Tables.{operator_row, operator_rows, plan_row, plan_rows, volume_rows, cover_rows, AreTables}
+use Rattle.desk_tables.specs.Tables.{row_of_operator, operator_rows, row_of_plan, plan_rows, volume_rows, cover_rows, AreTables}
 use Rattle.desk_tables.specs.Copying.{AddsHeadRows, AddsOperatorRows, AddsWorldRows}
 use Rattle.desk_tables.proofs.MovingLemmas.{further}
 use Rattle.desk_tables.proofs.StoreLemmas.{no_row, nothing}
@@ -31,13 +31,13 @@ no_operators t = record {
 }
 
 pub more_operators : (ls : List Listed) (l : Listed) (all : List Listed) → all ≡ ls ++ l ∷ []
-    → (a b c : Tables) → AddsOperatorRows ls a b → AddsOperator (operator_row l) b c
+    → (a b c : Tables) → AddsOperatorRows ls a b → AddsOperator (row_of_operator l) b c
     → AddsOperatorRows all a c
 more_operators ls l all is a b c first last =
     subst (λ ks. AddsOperatorRows ks a c) (sym is) (record {
       operators = subst (λ rs. IsPermutation (rs ++ a.operators) c.operators)
-          (sym (map-append operator_row ls (l ∷ [])))
-          (further (map operator_row ls) (operator_row l ∷ []) a.operators b.operators c.operators
+          (sym (map-append row_of_operator ls (l ∷ [])))
+          (further (map row_of_operator ls) (row_of_operator l ∷ []) a.operators b.operators c.operators
           first.operators last.0);
       plans = ap (λ (t : Tables). t.plans) last.1 ∙ first.plans;
       old_volumes = ap (λ (t : Tables). t.old_volumes) last.1 ∙ first.old_volumes;
@@ -59,12 +59,12 @@ no_heads t = record {
 }
 
 pub more_heads : (ps : List Filed) (p : Filed) (all : List Filed) → all ≡ ps ++ p ∷ []
-    → (a b c : Tables) → AddsHeadRows ps a b → AddsPlan (plan_row p) b c → AddsHeadRows all a c
+    → (a b c : Tables) → AddsHeadRows ps a b → AddsPlan (row_of_plan p) b c → AddsHeadRows all a c
 more_heads ps p all is a b c first last =
     subst (λ qs. AddsHeadRows qs a c) (sym is) (record {
       operators = ap (λ (t : Tables). t.operators) last.1 ∙ first.operators;
-      plans = subst (λ rs. IsPermutation (rs ++ a.plans) c.plans) (sym (map-append plan_row ps (p ∷ [])))
-          (further (plan_rows ps) (plan_row p ∷ []) a.plans b.plans c.plans first.plans last.0);
+      plans = subst (λ rs. IsPermutation (rs ++ a.plans) c.plans) (sym (map-append row_of_plan ps (p ∷ [])))
+          (further (plan_rows ps) (row_of_plan p ∷ []) a.plans b.plans c.plans first.plans last.0);
       old_volumes = ap (λ (t : Tables). t.old_volumes) last.1 ∙ first.old_volumes;
       old_spans = ap (λ (t : Tables). t.old_spans) last.1 ∙ first.old_spans;
       volumes = ap (λ (t : Tables). t.volumes) last.1 ∙ first.volumes;

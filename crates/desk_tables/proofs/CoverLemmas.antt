@@ -7,7 +7,7 @@ use Rattle.volume4d.specs.FootprintBytes.{HasValidParts, footprint_bytes}
 use Rattle.volume4d.specs.Shape.{Shape}
 use Rattle.desk_sql.specs.Rows.{Tables}
 use Rattle.desk_store.specs.World.{Filed, World}
-use Rattle.desk_tables.specs.Tables.{rows_from, cover_row, cover_rows, area_covers}
+use Rattle.desk_tables.specs.Tables.{rows_from, row_of_cover, cover_rows, area_covers}
 use Rattle.desk_store.specs.Content.{IsContent}
 use Rattle.desk_tables.specs.Opening.{AreRows, AreAllRows}
 use Rattle.desk_tables.proofs.ContentLemmas.{one_plans}
@@ -15,8 +15,8 @@ use Rattle.desk_tables.proofs.ContentLemmas.{one_plans}
 -- covers of the volumes from a place on
 pub record IsAfter (p : Filed) (area : List Block) (rows : List Row) (i : ℕ) (rest : List Row) : Type 0
   where
-    pub same : (x : List Row) → (rows ≡ rows_from cover_row p 0 area ++ x)
-        ↔ (rest ≡ rows_from cover_row p i (drop i area) ++ x)
+    pub same : (x : List Row) → (rows ≡ rows_from row_of_cover p 0 area ++ x)
+        ↔ (rest ≡ rows_from row_of_cover p i (drop i area) ++ x)
 
 -- the rows are covers of all plans if and only if those that are left are covers of the others
 pub record Agreeing (plans : List Filed) (rows : List Row) (others : List Filed) (left : List Row) : Type 0

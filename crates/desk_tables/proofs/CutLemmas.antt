@@ -20,7 +20,7 @@ use Rattle.desk_sql.specs.Unpacking.{RemakesTables}
 use Rattle.desk_store.specs.World.{Filed, World}
 use Rattle.desk_tables.specs.Tables.{AreTables, AreSpanRows, cover_rows, operator_rows, plan_rows, volume_rows}
 use Rattle.desk_tables.specs.Opening.{HasNewRows, HasRowsOld, IsContentOf}
-use Rattle.desk_tables.specs.Moving.{AddsPlansRows, HasNoNewRows, IsOldContentOf, IsWhole, MovesRows, OrdersRows, RemovesOldRows}
+use Rattle.desk_tables.specs.Moving.{AddsPlansRows, HasAllTables, HasNoNewRows, IsOldContentOf, MovesRows, OrdersRows, RemovesOldRows}
 use Rattle.desk_tables.specs.CutShort.{IsCompletedAs, IsMovedAs, LeavesShownOr, MayBecome}
 use Rattle.desk_tables.proofs.MovingLemmas.{makes_then, remembers_then}
 use Rattle.desk_tables.proofs.StoreLemmas.{nothing, nothing_holds}
@@ -344,7 +344,7 @@ module _ {S : Type 0} (g : Ghosts S) (made : TablesPresent) (w : World) (a b : H
       → doubt (state g b).is_clean ≤ doubt (state g c).is_clean
       → doubt (state g c).is_clean ≤ doubt (state g d).is_clean
       → MayComplete g made b c
-      → (HasCleanDisk (state g c) → IsTrue (state g c).is_open → IsWhole g made b c)
+      → (HasCleanDisk (state g c) → IsTrue (state g c).is_open → HasAllTables g made b c)
       → MayMake g c d (MovesRows ps) → MayBecome g a d IsMovedAs
   moved_leaves ps c d same first second may whole moves clean db left =
       let late : HasCleanDisk (state g c) = omega (arith, second, clean) in

@@ -9,10 +9,10 @@ use Rattle.volume4d.specs.Slab.{span_of, slab_window}
 use Rattle.desk_rules.specs.declared.words.Usage.TheVariants as usage
 use Rattle.volume4d.specs.Volume.{Block}
 use Rattle.desk_store.specs.World.{Filed}
-use Rattle.desk_tables.specs.Tables.{id_text, plan_row, volume_row, volume_rows_from, area_rows, span_row}
+use Rattle.desk_tables.specs.Tables.{id_text, row_of_plan, row_of_volume, volume_rows_from, area_rows, row_of_span}
 use Rattle.desk_store.specs.Content.{IsId, IsBlock}
 use Rattle.volume4d.specs.Volume.{is_area}
-use Rattle.desk_tables.specs.Reading.{IsVolumeAt, IsHead}
+use Rattle.desk_tables.specs.RowsRead.{IsVolumeAt, IsHead}
 use Rattle.desk_tables.specs.Records.{IsFiled, AreRowsOf, AreNumbersOf, IsKeyed, IsWindowAt, slab_row, row_fault_of}
 use Rattle.desk_tables.specs.declared.opening.exact.RowFault.TheVariants.{NoDesk}
 use Rattle.desk_store.specs.declared.fault.StoreFault.{StoreFault}
@@ -36,9 +36,9 @@ with5 P f r h = absurd (omega (arith, h))
 
 module _ (p : Filed) (operator id : List ℕ) (by : operator ≡ p.operator) (of : id ≡ id_text p.row.id)
   where
-    plan_row_is : (r : Row) → IsKeyed operator id 5 r → AreNumbersOf r p.row → r ≡ plan_row p
+    plan_row_is : (r : Row) → IsKeyed operator id 5 r → AreNumbersOf r p.row → r ≡ row_of_plan p
     plan_row_is r key n =
-        with5 (λ r. IsKeyed operator id 5 r → AreNumbersOf r p.row → r ≡ plan_row p)
+        with5 (λ r. IsKeyed operator id 5 r → AreNumbersOf r p.row → r ≡ row_of_plan p)
         (λ x0 x1 x2 x3 x4 key n i. (key.name ∙ ap Text by) i ∷ (key.text ∙ ap Text of) i ∷ n.priority i
         ∷ n.usage i ∷ n.aircraft i ∷ [])
         r key.wide key n
@@ -51,15 +51,15 @@ module _ (p : Filed) (operator id : List ℕ) (by : operator ≡ p.operator) (of
 
     pub volume_row_is : (place : ℕ) (v : Block) (r : Row) (t : Bool) → IsKeyed operator id 8 r
         → IsTrue t
-        ↔ (column r 2 ≡ Int (pos place)) → IsVolumeAt r 3 v → IsTrue t ↔ (r ≡ volume_row p place v)
+        ↔ (column r 2 ≡ Int (pos place)) → IsVolumeAt r 3 v → IsTrue t ↔ (r ≡ row_of_volume p place v)
     volume_row_is place v r t key at h =
         ((λ y. made r key (at.0 y) h), λ e. at.1 (ap (λ r. column r 2) e))
       where
         made : (r : Row) → IsKeyed operator id 8 r → column r 2 ≡ Int (pos place) → IsVolumeAt r 3 v → r
-            ≡ volume_row p place v
+            ≡ row_of_volume p place v
         made r key at h =
             with8 (λ r. IsKeyed operator id 8 r → column r 2 ≡ Int (pos place) → IsVolumeAt r 3 v → r
-            ≡ volume_row p place v)
+            ≡ row_of_volume p place v)
             (λ x0 x1 x2 x3 x4 x5 x6 x7 key at h i. (key.name ∙ ap Text by) i ∷ (key.text ∙ ap Text of) i
             ∷ at i
             ∷ h.lower i ∷ h.upper i ∷ h.start i ∷ h.end i ∷ h.asked i ∷ [])
@@ -128,7 +128,7 @@ drop_tail (w ∷ ws) (suc i) v us e = rw Rattle.std.proofs.Common.add-one
 pub placing_on : (p : Filed) (rows : List Row) (area : List Block) (i : ℕ) (row : Row) → i < length rows
     → row
     ≡ get_or rows i row
-    → ((v : Block) → IsVolumeAt row 3 v → row ≡ volume_row p i v) → Placing p rows area i
+    → ((v : Block) → IsVolumeAt row 3 v → row ≡ row_of_volume p i v) → Placing p rows area i
     → Placing p rows area (i + 1)
 placing_on p rows area i row w e is before =
     let rs = cut_at rows i row row w e in
@@ -150,7 +150,7 @@ placing_on p rows area i row w e is before =
 pub placing_stops : (p : Filed) (rows : List Row) (area : List Block) (i : ℕ) (row : Row)
     → i < length rows
     → row ≡ get_or rows i row
-    → ((v : Block) → IsVolumeAt row 3 v → row ≡ volume_row p i v → ⊥) → Placing p rows area i → rows
+    → ((v : Block) → IsVolumeAt row 3 v → row ≡ row_of_volume p i v → ⊥) → Placing p rows area i → rows
     ≡ volume_rows_from p 0 area → ⊥
 placing_stops p rows area i row w e is before h =
     let rs = cut_at rows i row row w e in
@@ -161,10 +161,10 @@ placing_stops p rows area i row w e is before h =
 
 pub slabs_as_spans : (p : Filed) (place : ℕ) (v : Block) (slabs : List Slab)
     → AllByRecursion (λ s. slab_window s ≡ v.window) slabs
-    → map (span_row p place v) (map span_of slabs) ≡ map (slab_row p place) slabs
+    → map (row_of_span p place v) (map span_of slabs) ≡ map (slab_row p place) slabs
 slabs_as_spans p place v [] h = refl
 slabs_as_spans p place v (s ∷ slabs) h =
-    λ i. ap (λ w. span_row p place (record { footprint = v.footprint; window = w }) (span_of s))
+    λ i. ap (λ w. row_of_span p place (record { footprint = v.footprint; window = w }) (span_of s))
     (sym h.0) i
     ∷ slabs_as_spans p place v slabs h.1 i
 
@@ -193,7 +193,7 @@ pub no_area : (head : Row) (volumes : List Row) → ((vs : List Block) → IsTru
 no_area head volumes none p is rows = none p.row.area is.row.volumes is.row.each
     (area_stands p volumes rows.area)
 
-head_stands : (p : Filed) (head : Row) → head ≡ plan_row p → IsHead head p.row
+head_stands : (p : Filed) (head : Row) → head ≡ row_of_plan p → IsHead head p.row
 head_stands p head e = subst (λ r. IsHead r p.row) (sym e)
     (record { id = refl; priority = refl; usage = refl; aircraft = refl })
 

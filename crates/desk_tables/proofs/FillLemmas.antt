@@ -24,8 +24,8 @@ use Rattle.desk_tables.specs.Copying.{AddsHeadRows, AddsOperatorRows, BlamesNew}
 use Rattle.desk_store.specs.Content.{IsContent}
 use Rattle.desk_tables.specs.Records.{IsFiled}
 use Rattle.desk_tables.specs.Store.{Stands}
-use Rattle.desk_tables.specs.Tables.{id_text, operator_row, operator_rows, plan_row, plan_rows}
-use Rattle.desk_tables.specs.Writing.{AreNewHeads, AreNewKeys, AreNewOperators, AreWritable, CanBeFilled, HaveFewRows}
+use Rattle.desk_tables.specs.Tables.{id_text, operator_rows, plan_rows, row_of_operator, row_of_plan}
+use Rattle.desk_tables.specs.Writable.{AreNewHeads, AreNewKeys, AreNewOperators, AreWritable, CanBeFilled, HaveFewRows}
 use Rattle.desk_tables.proofs.AssemblyLemmas.{filed_within}
 use Rattle.desk_tables.proofs.CauseLemmas.{name_short}
 use Rattle.desk_tables.proofs.CopyLemmas.{alone}
@@ -63,36 +63,39 @@ module _ (width : ℕ) (x : Row) (xs stored shown : List Row)
     )
 
 module _ (l : Listed) (later : List Listed) (a : Database) (all : AreNewOperators (l ∷ later) a) where
-  pub operator_fits : FitsOperator l.name (operator_row l) a
+  pub operator_fits : FitsOperator l.name (row_of_operator l) a
   operator_fits = (
     all.names.0,
-    first_key 1 (operator_row l) (map operator_row later) (a.trees 0) (tables_of a.trees).operators all.new,
+    first_key 1 (row_of_operator l) (map row_of_operator later) (a.trees 0) (tables_of a.trees).operators
+        all.new,
   )
 
-  pub operators_left : (b : Database) → AddsOperator (operator_row l) (tables_of a.trees) (tables_of b.trees)
+  pub operators_left : (b : Database)
+      → AddsOperator (row_of_operator l) (tables_of a.trees) (tables_of b.trees)
       → TakesOperators 1 a.trees b.trees → AreNewOperators later b
   operators_left b adds takes = record {
     names = all.names.1;
-    new = later_keys 1 (operator_row l) (map operator_row later) (a.trees 0) (tables_of a.trees).operators
+    new = later_keys 1 (row_of_operator l) (map row_of_operator later) (a.trees 0)
+        (tables_of a.trees).operators
         all.new (b.trees 0) (tables_of b.trees).operators takes adds.0;
   }
 
 module _ (p : Filed) (later : List Filed) (a : Database) (all : AreNewHeads (p ∷ later) a) where
   pub head_fits : (name text : List ℕ) (row : Row) → name ≡ p.operator → text ≡ id_text p.row.id
-      → row ≡ plan_row p → FitsPlan name text row a
+      → row ≡ row_of_plan p → FitsPlan name text row a
   head_fits name text row named written is = (
     subst IsShort (sym named) all.names.0,
     subst IsShort (sym written) (id_short p.row.id),
     subst (λ r. IsNewRow 2 r (a.trees 2) (tables_of a.trees).plans) (sym is)
-        (first_key 2 (plan_row p) (plan_rows later) (a.trees 2) (tables_of a.trees).plans all.new),
+        (first_key 2 (row_of_plan p) (plan_rows later) (a.trees 2) (tables_of a.trees).plans all.new),
     subst (λ r. HasKey 1 r (tables_of a.trees).operators) (sym is) all.listed.0,
   )
 
-  pub heads_left : (b : Database) → AddsPlan (plan_row p) (tables_of a.trees) (tables_of b.trees)
+  pub heads_left : (b : Database) → AddsPlan (row_of_plan p) (tables_of a.trees) (tables_of b.trees)
       → TakesRoom 1 0 0 a.trees b.trees → AreNewHeads later b
   heads_left b adds takes = record {
     names = all.names.1;
-    new = later_keys 2 (plan_row p) (plan_rows later) (a.trees 2) (tables_of a.trees).plans all.new
+    new = later_keys 2 (row_of_plan p) (plan_rows later) (a.trees 2) (tables_of a.trees).plans all.new
         (b.trees 2) (tables_of b.trees).plans takes.of_plans adds.0;
     listed = subst (λ ls. AllByRecursion (λ r. HasKey 1 r ls) (plan_rows later))
         (sym (ap (λ (t : Tables). t.operators) adds.1)) all.listed.1;
@@ -100,9 +103,10 @@ module _ (p : Filed) (later : List Filed) (a : Database) (all : AreNewHeads (p �
 
 -- ---- what tables without rows begin with
 
-operators_apart : (ls : List Listed) → IsStrictlySortedBy listed_cmp ls → HaveOwnKeys 1 (map operator_row ls)
+operators_apart : (ls : List Listed) → IsStrictlySortedBy listed_cmp ls
+    → HaveOwnKeys 1 (map row_of_operator ls)
 operators_apart ls sorted = ascending_weaker (λ a b. by_cells (0 ∷ []) a b ≡ Less)
-    (λ a b. has_same_key 1 a b ≡ false) (λ a b. apart_by a b (0 ∷ [])) (map operator_row ls)
+    (λ a b. has_same_key 1 a b ≡ false) (λ a b. apart_by a b (0 ∷ [])) (map row_of_operator ls)
     (operators_up ls sorted)
 
 heads_apart : (ps : List Filed) → ArePlans ps → IsStrictlySortedBy filed_cmp ps → HaveOwnKeys 2 (plan_rows ps)
@@ -121,12 +125,13 @@ to_blank width rows stored shown tree none few apart = record {
 
 -- the operators of plans are there, in whatever order
 heads_listed : (w : World) (qs : List Filed) (shown : List Row) → AllByRecursion (IsListed w) qs
-    → IsPermutation (map operator_row w.operators) shown
+    → IsPermutation (map row_of_operator w.operators) shown
     → AllByRecursion (λ r. HasKey 1 r shown) (plan_rows qs)
 heads_listed w [] shown h same = tt
 heads_listed w (q ∷ qs) shown h same = (
-  sym (list_any-IsPermutation (λ r. has_same_key 1 r (plan_row q)) (map operator_row w.operators) shown same)
-      ∙ named_row q.operator (drop 1 (plan_row q)) w.operators (if_listed w.operators w.plans q h.0),
+  sym (list_any-IsPermutation (λ r. has_same_key 1 r (row_of_plan q)) (map row_of_operator w.operators) shown
+      same)
+      ∙ named_row q.operator (drop 1 (row_of_plan q)) w.operators (if_listed w.operators w.plans q h.0),
   heads_listed w qs shown h.1 same,
 )
 
@@ -135,9 +140,9 @@ module _ (w : World) (old : Database) (can : CanBeFilled w old) where
   operators_new = record {
     names = all_weaker (λ l. IsTrue (is_operator_name l.name)) (λ l. IsShort l.name)
         (λ l. name_short l.name) w.operators can.content.names;
-    new = to_blank 1 (map operator_row w.operators) (old.trees 0) (tables_of old.trees).operators
+    new = to_blank 1 (map row_of_operator w.operators) (old.trees 0) (tables_of old.trees).operators
         (no_tree _ (old.trees 0) can.no_operators) can.no_operators
-        (subst (λ n. n < 2 ^ 63) (sym (length-map w.operators operator_row)) can.operators)
+        (subst (λ n. n < 2 ^ 63) (sym (length-map w.operators row_of_operator)) can.operators)
         (operators_apart w.operators can.content.world.operators);
   }
 
@@ -153,7 +158,7 @@ module _ (w : World) (old : Database) (can : CanBeFilled w old) where
                 w.plans within;
             new = to_blank 2 (plan_rows w.plans) (mid.trees 2) (tables_of mid.trees).plans
                 (no_tree _ (mid.trees 2) none) none
-                (subst (λ n. n < 2 ^ 63) (sym (length-map w.plans plan_row)) can.plans)
+                (subst (λ n. n < 2 ^ 63) (sym (length-map w.plans row_of_plan)) can.plans)
                 (heads_apart w.plans (are_plans w.plans within) can.content.world.plans);
             listed = heads_listed w w.plans (tables_of mid.trees).operators can.content.world.listed
                 (alone (operator_rows w) (tables_of old.trees).operators (tables_of mid.trees).operators

@@ -16,9 +16,9 @@ use Rattle.volume4d.specs.Volume.{Block}
 use Rattle.desk_rules.specs.Plan.{is_live}
 use Rattle.desk_sql.specs.Rows.{is_of, is_not_of}
 use Rattle.desk_store.specs.World.{Filed, text_cmp}
-use Rattle.desk_store.specs.Rows.{is_own}
+use Rattle.desk_store.specs.OwnRows.{is_own}
 use Rattle.desk_store.specs.laws.Change.{stays}
-use Rattle.desk_tables.specs.Tables.{id_text, plan_row, plan_rows, volume_row, rows_from, volume_rows, cover_row, cover_rows, span_row, AreSpanRowsFrom, ArePlanSpanRows, AreSpanRows}
+use Rattle.desk_tables.specs.Tables.{id_text, row_of_plan, plan_rows, row_of_volume, rows_from, volume_rows, row_of_cover, cover_rows, row_of_span, AreSpanRowsFrom, ArePlanSpanRows, AreSpanRows}
 use Rattle.desk_store.specs.Content.{IsId, IsPlan}
 use Rattle.desk_tables.specs.TableChanges.{is_left}
 use Rattle.desk_tables.proofs.IdLemmas.{text_order}
@@ -67,12 +67,12 @@ module _ (test : Filed → Bool) (row_test : Row → Bool)
       ≡ plan_rows (filter test ps)
   plans_filtered [] h = refl
   plans_filtered (p ∷ ps) h =
-      ap (λ b. cond b (plan_row p ∷ filter row_test (plan_rows ps)) (filter row_test (plan_rows ps)))
-      (same p (after_key (plan_row p)) h.0) ∙ by_test (test p) (plans_filtered ps h.1) where
+      ap (λ b. cond b (row_of_plan p ∷ filter row_test (plan_rows ps)) (filter row_test (plan_rows ps)))
+      (same p (after_key (row_of_plan p)) h.0) ∙ by_test (test p) (plans_filtered ps h.1) where
         by_test : (b : Bool) → filter row_test (plan_rows ps) ≡ plan_rows (filter test ps)
-            → cond b (plan_row p ∷ filter row_test (plan_rows ps)) (filter row_test (plan_rows ps))
+            → cond b (row_of_plan p ∷ filter row_test (plan_rows ps)) (filter row_test (plan_rows ps))
             ≡ plan_rows (cond b (p ∷ filter test ps) (filter test ps))
-        by_test true ih = ap (λ rows. plan_row p ∷ rows) ih
+        by_test true ih = ap (λ rows. row_of_plan p ∷ rows) ih
         by_test false ih = ih
 
   all_or_none : (b : Bool) (r : Row) (rows : List Row) → cond b (r ∷ cond b rows []) (cond b rows [])
@@ -108,22 +108,22 @@ module _ (test : Filed → Bool) (row_test : Row → Bool)
 
   pub volumes_filtered : (ps : List Filed) → ArePlans ps → filter row_test (volume_rows ps)
       ≡ volume_rows (filter test ps)
-  volumes_filtered = placed_filtered (after_place volume_row)
+  volumes_filtered = placed_filtered (after_place row_of_volume)
 
   pub covers_filtered : (ps : List Filed) → ArePlans ps → filter row_test (cover_rows ps)
       ≡ cover_rows (filter test ps)
-  covers_filtered = placed_filtered (after_place cover_row)
+  covers_filtered = placed_filtered (after_place row_of_cover)
 
   on_spans_filtered : (q : Filed) → IsPlan q.row → (n : ℕ) (v : Block) (spans : List Span)
-      → filter row_test (map (span_row q n v) spans) ≡ cond (test q) (map (span_row q n v) spans) []
+      → filter row_test (map (row_of_span q n v) spans) ≡ cond (test q) (map (row_of_span q n v) spans) []
   on_spans_filtered q h n v [] = none (test q) where
     none : (b : Bool) → ◌≡◌ {A = List Row} [] (cond b [] [])
     none true = refl
     none false = refl
   on_spans_filtered q h n v (s ∷ spans) =
-      (λ i. cond (same q (after_key (span_row q n v s)) h i)
-      (span_row q n v s ∷ on_spans_filtered q h n v spans i) (on_spans_filtered q h n v spans i))
-      ∙ all_or_none (test q) (span_row q n v s) (map (span_row q n v) spans)
+      (λ i. cond (same q (after_key (row_of_span q n v s)) h i)
+      (row_of_span q n v s ∷ on_spans_filtered q h n v spans i) (on_spans_filtered q h n v spans i))
+      ∙ all_or_none (test q) (row_of_span q n v s) (map (row_of_span q n v) spans)
 
   joined : (b : Bool) (xs ys : List Row) → cond b xs [] ++ cond b ys [] ≡ cond b (xs ++ ys) []
   joined true xs ys = refl
@@ -136,9 +136,9 @@ module _ (test : Filed → Bool) (row_test : Row → Bool)
     none true rows e = ap (filter row_test) e ∙ sym e
     none false rows e = ap (filter row_test) e
   spans_from_filtered q h n (v ∷ vs) rows (spans, rest, ranges, are, more) =
-      ap (filter row_test) are ∙ filter-append row_test (map (span_row q n v) spans) rest
+      ap (filter row_test) are ∙ filter-append row_test (map (row_of_span q n v) spans) rest
       ∙ (λ i. on_spans_filtered q h n v spans i ++ spans_from_filtered q h (n + 1) vs rest more i)
-      ∙ joined (test q) (map (span_row q n v) spans) rest
+      ∙ joined (test q) (map (row_of_span q n v) spans) rest
       ∙ ap (λ xs. cond (test q) xs []) (sym are)
 
   pub plan_spans_filtered : (q : Filed) → IsPlan q.row → (rows : List Row) → ArePlanSpanRows q rows

@@ -3,13 +3,13 @@ use Rattle.std.proofs.Common.{◌≡◌, ◌≤◌, false, refl, ◌∙◌, arit
 use Rattle.sqlite_trees.specs.declared.store.Store.{Ghosts}
 use Rattle.sqlite_trees.specs.View.{doubt}
 use Rattle.sqlite.specs.Held.{Held, state}
-use Rattle.desk_sql.specs.Effects.{IsKept}
+use Rattle.desk_sql.specs.Effects.{StaysShown}
 use Rattle.desk_sql.specs.Frames.{OnlyReads}
 
 module _ {S : Type 0} (g : Ghosts S) where
   -- what is kept twice is kept
-  pub kept_on : (a b c : Held S) → IsKept g a b → IsKept g b c
-      → doubt (state g b).is_clean ≤ doubt (state g c).is_clean → IsKept g a c
+  pub kept_on : (a b c : Held S) → StaysShown g a b → StaysShown g b c
+      → doubt (state g b).is_clean ≤ doubt (state g c).is_clean → StaysShown g a c
   kept_on a b c one two rises = λ clean live.
       let after = two clean live in
       let before = one (omega (arith, rises, clean)) after.was_open in record {

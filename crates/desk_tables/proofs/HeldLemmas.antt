@@ -33,13 +33,13 @@ use Rattle.desk_rules.specs.Plan.{is_live, row_holds}
 use Rattle.desk_sql.specs.Rows as sql
 use Rattle.desk_sql.specs.Rows.{Tables, is_at_most, is_at_least, is_below, is_above, differs, held_columns}
 use Rattle.desk_store.specs.World.{Filed, World, held, is_by}
-use Rattle.desk_store.specs.Rows.{is_own, other_level, others_top, rival_level, rivals_top}
+use Rattle.desk_store.specs.OwnRows.{is_own, other_level, others_top, rival_level, rivals_top}
 use Rattle.desk_store.specs.Rivals.{AreRivals, HaveLevel}
 use Rattle.desk_store.specs.laws.Rival.{others_top-cons, others_top-nil, held_by_others, rivals_top-cons, rivals_top-nil, held_by_rivals}
-use Rattle.desk_tables.specs.Tables.{id_text, span_row, AreSpanRowsFrom, ArePlanSpanRows, AreSpanRows, AreTables}
+use Rattle.desk_tables.specs.Tables.{id_text, row_of_span, AreSpanRowsFrom, ArePlanSpanRows, AreSpanRows, AreTables}
 use Rattle.desk_store.specs.Content.{IsId, IsPlan, IsContent}
 use Rattle.desk_tables.specs.declared.span_bounds.SpanBounds.{SpanBounds}
-use Rattle.desk_tables.specs.SpanBounds.{AreWhole, Bounds, HasKnownSpan, IsKnown, IsWithin}
+use Rattle.desk_tables.specs.SpanBounds.{AreWhole, Bounds, HasKnownSpan, IsKnown, IsWithinExtent}
 use Rattle.desk_tables.specs.RivalRows.{HaveTaken, HaveTakenAll, IsHeldIn, HasTakenHelds, is_asked, is_asked_if, reach_of}
 use Rattle.desk_tables.specs.RivalRows.{AreWanted}
 use Rattle.desk_tables.proofs.SpanBoundLemmas.{asked_rival, tables_known}
@@ -361,37 +361,37 @@ module _ (another : Row → Bool) (stays : Filed → Bool)
   regrouped : (l g a t : Bool) → l ≡ true → (((l && g) && a) && t) ≡ (g && (a && t))
   regrouped l g a t h = ap (λ u. ((u && g) && a) && t) h ∙ and_assoc g a t
 
-  span_passes : (p : Filed) (n : ℕ) (v : Block) (s : Span) → IsPlan p.row → passes (span_row p n v s)
+  span_passes : (p : Filed) (n : ℕ) (v : Block) (s : Span) → IsPlan p.row → passes (row_of_span p n v s)
       ≡ (counted p && (span_has s position && window_has v.window x))
   span_passes p n v s hp =
-      ap (λ b. want (span_row p n v s) && b)
+      ap (λ b. want (row_of_span p n v s) && b)
       (regrouped (is_leaf x.leaf) (span_has s position)
       (int_le v.window.lower x.altitude && int_lt x.altitude v.window.upper)
       (int_le v.window.start x.second && int_lt x.second v.window.end) here.is)
       ∙ by_point (span_has s position && window_has v.window x) refl where
         by_point : (t : Bool) → (span_has s position && window_has v.window x) ≡ t
-            → (want (span_row p n v s) && (span_has s position && window_has v.window x))
+            → (want (row_of_span p n v s) && (span_has s position && window_has v.window x))
             ≡ (counted p && (span_has s position && window_has v.window x))
         by_point true h =
             let k = touches s v e x here h in
             λ i. ((k.first i && (k.last i && (k.lower i
             && (k.upper i && (k.start i && (k.end i && priority_reached least p.row.priority i))))))
-            && same p (after_key (span_row p n v s)) hp i)
+            && same p (after_key (row_of_span p n v s)) hp i)
             && (span_has s position && window_has v.window x)
         by_point false h =
-            ap (λ t. want (span_row p n v s) && t) h ∙ and-false (want (span_row p n v s))
+            ap (λ t. want (row_of_span p n v s) && t) h ∙ and-false (want (row_of_span p n v s))
             ∙ sym (ap (λ t. counted p && t) h ∙ and-false (counted p))
 
   no_level : (b : Bool) (n : ℕ) → None ≡ level_where (b && false) n
   no_level b n = sym (ap (λ t. level_where t n) (and-false b))
 
   on_spans : (p : Filed) (n : ℕ) (v : Block) (spans : List Span) → IsPlan p.row
-      → top (map (span_row p n v) spans) ≡ level_where
+      → top (map (row_of_span p n v) spans) ≡ level_where
       (counted p && (spans_have spans position && window_has v.window x)) p.row.priority
   on_spans p n v [] hp = no_level (counted p) p.row.priority
   on_spans p n v (s ∷ spans) hp =
-      top_by-cons passes (λ r. row_priority (held_columns r)) (span_row p n v s)
-      (map (span_row p n v) spans)
+      top_by-cons passes (λ r. row_priority (held_columns r)) (row_of_span p n v s)
+      (map (row_of_span p n v) spans)
       ∙ (λ i. greater (level_where (span_passes p n v s hp i) p.row.priority)
       (on_spans p n v spans hp i))
       ∙ either_level _ _ p.row.priority
@@ -400,7 +400,7 @@ module _ (another : Row → Bool) (stays : Filed → Bool)
 
   -- one span of a volume has the point just where the volume has it
   on_block : (p : Filed) (n : ℕ) (v : Block) (spans : List Span) → IsPlan p.row
-      → IsRanges (shape_positions v.footprint) spans → top (map (span_row p n v) spans)
+      → IsRanges (shape_positions v.footprint) spans → top (map (row_of_span p n v) spans)
       ≡ level_where (counted p && block_has v x) p.row.priority
   on_block p n v spans hp ranges =
       on_spans p n v spans hp
@@ -413,7 +413,7 @@ module _ (another : Row → Bool) (stays : Filed → Bool)
   on_area p n [] rows hp are = ap top are ∙ no_level (counted p) p.row.priority
   on_area p n (v ∷ vs) rows hp (spans, rest, ranges, are, more) =
       ap top are ∙ top_by-append passes (λ r. row_priority (held_columns r))
-      (map (span_row p n v) spans) rest
+      (map (row_of_span p n v) spans) rest
       ∙ (λ i. greater (on_block p n v spans hp ranges i) (on_area p (n + 1) vs rest hp more i))
       ∙ either_level _ _ p.row.priority
       ∙ ap (λ b. level_where b p.row.priority) (sym
@@ -450,7 +450,7 @@ module _ (another : Row → Bool) (stays : Filed → Bool)
     at_point : (tables : Tables) (w : World) (span_bounds : SpanBounds) (questions : List Span)
         (helds : List Held)
         → IsContent w → AreTables tables w → Bounds span_bounds w → AreWhole e (IsKnown span_bounds) questions
-        → AllByRecursion (IsWithin e) questions
+        → AllByRecursion (IsWithinExtent e) questions
         → HaveTakenAll (is_asked_if another least e) questions tables.spans helds
         → top_held helds x ≡ at_least least (tops w.plans)
     at_point tables w span_bounds questions helds h t bounds whole within (rows, alike, taken) =
@@ -486,7 +486,7 @@ are_rivals : (tables : Tables) (w : World) (o id : List ℕ) (least : ℕ) (exte
     (span_bounds : SpanBounds)
     (questions : List Span) (helds : List Held) → IsId id → IsContent w → AreTables tables w
     → Bounds span_bounds w → AreWhole extent (IsKnown span_bounds) questions
-    → AllByRecursion (IsWithin extent) questions
+    → AllByRecursion (IsWithinExtent extent) questions
     → HaveTakenAll (is_asked (record { operator = o; id = Some id; least = least }) extent) questions
     tables.spans helds
     → AreRivals w o id least extent helds
@@ -520,7 +520,7 @@ any_level (Some n) = ap (λ b. cond b (Some n) None) (none_below n)
 are_others : (tables : Tables) (w : World) (o : List ℕ) (least : ℕ) (extent : Slab)
     (span_bounds : SpanBounds) (questions : List Span) (helds : List Held) → IsContent w → AreTables tables w
     → Bounds span_bounds w → AreWhole extent (IsKnown span_bounds) questions
-    → AllByRecursion (IsWithin extent) questions
+    → AllByRecursion (IsWithinExtent extent) questions
     → HaveTakenAll (is_asked (record { operator = o; id = None; least = least }) extent) questions
     tables.spans helds
     → HaveLevel extent helds (λ x. at_least least (held w o x))
@@ -535,7 +535,7 @@ are_others tables w o least extent span_bounds questions helds h t bounds whole 
 pub are_wanted : (tables : Tables) (w : World) (o : List ℕ) (id : Option (List ℕ)) (least : ℕ)
     (extent : Slab) (span_bounds : SpanBounds) (questions : List Span) (helds : List Held) → IfSome id IsId
     → IsContent w → AreTables tables w → Bounds span_bounds w
-    → AreWhole extent (IsKnown span_bounds) questions → AllByRecursion (IsWithin extent) questions
+    → AreWhole extent (IsKnown span_bounds) questions → AllByRecursion (IsWithinExtent extent) questions
     → HaveTakenAll (is_asked (record { operator = o; id = id; least = least }) extent) questions tables.spans
     helds → AreWanted w (record { operator = o; id = id; least = least }) extent helds
 are_wanted tables w o (Some id) least extent span_bounds questions helds hi h t bounds whole within taken =

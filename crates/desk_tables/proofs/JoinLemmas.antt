@@ -10,19 +10,20 @@ use Rattle.desk_rules.specs.declared.plan.PlanRow.{PlanRow}
 use Rattle.desk_sql.specs.Rows.{joined}
 use Rattle.desk_store.specs.World.{Filed}
 use Rattle.desk_tables.specs.declared.reading.values.Head.{Head}
-use Rattle.desk_tables.specs.Tables.{plan_row, volume_row}
+use Rattle.desk_tables.specs.Tables.{row_of_plan, row_of_volume}
 use Rattle.desk_store.specs.Content.{IsId, IsBlock}
-use Rattle.desk_tables.specs.Reading.{IsVolumeAt, IsHead, is_later, joined_from, listing_rows}
-use Rattle.desk_tables.specs.Gathering.{plan_with, closed_plans, IsUnderWay, Leads}
+use Rattle.desk_tables.specs.RowsRead.{IsVolumeAt, IsHead, is_later, joined_from, listing_rows}
+use Rattle.desk_tables.specs.Gathering.{plan_with, closed_plans, IsPlanUnderWay, Leads}
 use Rattle.desk_tables.proofs.FilterLemmas.{ArePlans}
 
 no_area : (area : List Block) → IsTrue (is_area area) → area ≡ [] → ⊥
 no_area area h e = true≢false (sym h ∙ ap is_area e)
 
-pub volume_read : (p : Filed) (n : ℕ) (v : Block) → IsVolumeAt (joined (plan_row p) (volume_row p n v)) 6 v
+pub volume_read : (p : Filed) (n : ℕ) (v : Block)
+    → IsVolumeAt (joined (row_of_plan p) (row_of_volume p n v)) 6 v
 volume_read p n v = record { lower = refl; upper = refl; start = refl; end = refl; asked = refl }
 
-pub head_read : (p : Filed) (n : ℕ) (v : Block) → IsHead (joined (plan_row p) (volume_row p n v)) p.row
+pub head_read : (p : Filed) (n : ℕ) (v : Block) → IsHead (joined (row_of_plan p) (row_of_volume p n v)) p.row
 head_read p n v = record { id = refl; priority = refl; usage = refl; aircraft = refl }
 
 above : (n : ℕ) → 1 ≤ n → int_lt (pos 0) (pos n) ≡ true
@@ -36,7 +37,7 @@ pub record IsFirst (row : Row) (left : List Row) (ps : List Filed) : Type 0 wher
   pub rest : List Block
   pub are : ps ≡ plan ∷ more
   pub area : volume ∷ rest ≡ plan.row.area
-  pub row_is : row ≡ joined (plan_row plan) (volume_row plan 0 volume)
+  pub row_is : row ≡ joined (row_of_plan plan) (row_of_volume plan 0 volume)
   pub left_is : left ≡ joined_from plan 1 rest ++ listing_rows more
 
 pub first_row : (row : Row) (left : List Row) (ps : List Filed) → ArePlans ps → row ∷ left ≡ listing_rows ps
@@ -87,7 +88,7 @@ begins : (plans : List PlanRow) (head : Head) (volume : Block) (row : Row) (left
     (ps : List Filed)
     (all : List PlanRow) → ArePlans ps → IsFirst row left ps → ReadsHead row head
     → ReadsVolume row volume
-    → plans ++ map (λ p. p.row) ps ≡ all → IsUnderWay plans head (volume ∷ []) left all
+    → plans ++ map (λ p. p.row) ps ≡ all → IsPlanUnderWay plans head (volume ∷ []) left all
 begins plans head volume row left ps all h first reads_head reads_volume e =
     let are : ArePlans (first.plan ∷ first.more) = subst ArePlans first.are h in
     let blocks : AllByRecursion IsBlock (first.volume ∷ first.rest) =
@@ -112,7 +113,7 @@ begins plans head volume row left ps all h first reads_head reads_volume e =
 -- where no volume of the plan under way is left, the plan is whole
 closes : (plans : List PlanRow) (head : Head) (volumes : List Block) (left : List Row)
     (all : List PlanRow)
-    (way : IsUnderWay plans head volumes left all) → way.rest ≡ []
+    (way : IsPlanUnderWay plans head volumes left all) → way.rest ≡ []
     → closed_plans plans (Some head) volumes ++ map (λ p. p.row) way.more ≡ all
 closes plans head volumes left all way none =
     let area : volumes ≡ way.plan.row.area = sym (append-nil volumes)
@@ -124,7 +125,7 @@ closes plans head volumes left all way none =
 
 -- the next row of the plan under way is a later one
 pub stays_later : (row : Row) (p : Filed) (n : ℕ) (v : Block) → 1 ≤ n → row
-    ≡ joined (plan_row p) (volume_row p n v) → is_later row ≡ true
+    ≡ joined (row_of_plan p) (row_of_volume p n v) → is_later row ≡ true
 stays_later row p n v low is = ap is_later is ∙ above n low
 
 takes_first : (plans : List PlanRow) (old : Option Head) (volumes : List Block) (row : Row)
@@ -139,7 +140,7 @@ takes_first plans None volumes row left ps h leads test head volume reads_head r
 takes_first plans (Some old) volumes row left ps h way test head volume reads_head reads_volume =
     by_rest way.rest refl where
       by_rest : (rest : List Block) → rest ≡ way.rest
-          → IsUnderWay (closed_plans plans (Some old) volumes) head
+          → IsPlanUnderWay (closed_plans plans (Some old) volumes) head
           (volume ∷ []) left (map (λ p. p.row) ps)
       by_rest [] is =
           let listing : row ∷ left ≡ listing_rows way.more = way.rows
@@ -162,7 +163,7 @@ takes_later : (plans : List PlanRow) (old : Option Head) (volumes : List Block) 
 takes_later plans None volumes row left ps h leads test volume reads =
     absurd (true≢false (sym test ∙ not_later row left ps (first_row row left ps h leads.1)))
 takes_later plans (Some head) volumes row left ps h way test volume reads = by_rest way.rest refl where
-  by_rest : (rest : List Block) → rest ≡ way.rest → IsUnderWay plans head (volumes ++ volume ∷ []) left
+  by_rest : (rest : List Block) → rest ≡ way.rest → IsPlanUnderWay plans head (volumes ++ volume ∷ []) left
       (map (λ p. p.row) ps)
   by_rest [] is =
       let listing : row ∷ left ≡ listing_rows way.more = way.rows
@@ -173,7 +174,7 @@ takes_later plans (Some head) volumes row left ps h way test volume reads = by_r
       let n = length volumes in
       let listing : row ∷ left ≡ joined_from way.plan n (v ∷ vs) ++ listing_rows way.more = way.rows
       ∙ ap (λ us. joined_from way.plan n us ++ listing_rows way.more) (sym is) in
-      let here : row ≡ joined (plan_row way.plan) (volume_row way.plan n v) = cc in
+      let here : row ≡ joined (row_of_plan way.plan) (row_of_volume way.plan n v) = cc in
       let there : left ≡ joined_from way.plan (n + 1) vs ++ listing_rows way.more = cc in
       let area : volumes ++ v ∷ vs ≡ way.plan.row.area = ap (λ us. volumes ++ us) is ∙ way.area in
       let block : IsBlock v = each_at volumes v vs

@@ -18,26 +18,26 @@ use Rattle.desk_sql.specs.Rows as sql
 use Rattle.desk_sql.specs.Rows.{Tables, Lists, by_cells, joined, has_volume, with_volumes}
 use Rattle.desk_store.specs.World.{Filed, World, text_cmp, filed_cmp, is_by}
 use Rattle.desk_store.specs.laws.Order.{all_filter, all_append, all_kept, by_ids, name_of}
-use Rattle.desk_store.specs.Rows.{is_own}
-use Rattle.desk_tables.specs.Tables.{id_text, plan_row, plan_rows, volume_row, area_rows, volume_rows, AreTables}
+use Rattle.desk_store.specs.OwnRows.{is_own}
+use Rattle.desk_tables.specs.Tables.{id_text, row_of_plan, plan_rows, row_of_volume, area_rows, volume_rows, AreTables}
 use Rattle.desk_store.specs.Content.{IsPlan, IsContent}
-use Rattle.desk_tables.specs.Reading.{joined_from, joined_rows, listing_rows}
+use Rattle.desk_tables.specs.RowsRead.{joined_from, joined_rows, listing_rows}
 use Rattle.desk_tables.specs.Lookups.{one_or_none}
 use Rattle.desk_tables.proofs.IdLemmas.{text_order}
 use Rattle.desk_tables.proofs.FilterLemmas.{ArePlans, turned, own_row, volumes_filtered}
 use Rattle.desk_tables.proofs.ListingLemmas.{in_order, places_less, one_own, filed_total, own_at}
 
 heads_filtered : (wanted : Filed → Bool) (want : Row → Bool)
-    → ((q : Filed) → IsPlan q.row → want (plan_row q) ≡ wanted q) → (ps : List Filed) → ArePlans ps
+    → ((q : Filed) → IsPlan q.row → want (row_of_plan q) ≡ wanted q) → (ps : List Filed) → ArePlans ps
     → filter want (plan_rows ps) ≡ plan_rows (filter wanted ps)
 heads_filtered wanted want same [] h = refl
 heads_filtered wanted want same (p ∷ ps) h =
-    ap (λ b. cond b (plan_row p ∷ filter want (plan_rows ps)) (filter want (plan_rows ps))) (same p h.0)
+    ap (λ b. cond b (row_of_plan p ∷ filter want (plan_rows ps)) (filter want (plan_rows ps))) (same p h.0)
     ∙ by_test (wanted p) (heads_filtered wanted want same ps h.1) where
       by_test : (b : Bool) → filter want (plan_rows ps) ≡ plan_rows (filter wanted ps)
-          → cond b (plan_row p ∷ filter want (plan_rows ps)) (filter want (plan_rows ps))
+          → cond b (row_of_plan p ∷ filter want (plan_rows ps)) (filter want (plan_rows ps))
           ≡ plan_rows (cond b (p ∷ filter wanted ps) (filter wanted ps))
-      by_test true ih = ap (λ rows. plan_row p ∷ rows) ih
+      by_test true ih = ap (λ rows. row_of_plan p ∷ rows) ih
       by_test false ih = ih
 
 -- each plan of a world is the only one of its key
@@ -73,9 +73,9 @@ each_found (p ∷ ps) s = (
 -- a plan's own rows among those of all volumes
 own_volumes : (ps : List Filed) (q : Filed) → IsStrictlySortedBy filed_cmp ps → ArePlans ps
     → IsPlan q.row
-    → Finds ps q → filter (has_volume (plan_row q)) (volume_rows ps) ≡ area_rows q
+    → Finds ps q → filter (has_volume (row_of_plan q)) (volume_rows ps) ≡ area_rows q
 own_volumes ps q s h hq found =
-    volumes_filtered (is_own q.operator q.row.id) (has_volume (plan_row q))
+    volumes_filtered (is_own q.operator q.row.id) (has_volume (row_of_plan q))
     (λ p r hp. own_row q.operator q.row.id p r hq.id hp.id) ps h
     ∙ ap volume_rows (one_own q.operator q.row.id ps s ∙ ap one_or_none found)
     ∙ append-nil (area_rows q)
@@ -85,11 +85,11 @@ listed : (ps qs : List Filed) → IsStrictlySortedBy filed_cmp ps → ArePlans p
     → flat_map (λ r. map (joined r) (filter (has_volume r) (volume_rows ps))) (plan_rows qs)
     ≡ listing_rows qs
 listed ps [] s h hq found = refl
-listed ps (q ∷ qs) s h hq found = λ i. map (joined (plan_row q)) (own_volumes ps q s h hq.0 found.0 i)
+listed ps (q ∷ qs) s h hq found = λ i. map (joined (row_of_plan q)) (own_volumes ps q s h hq.0 found.0 i)
     ++ listed ps qs s h hq.1 found.1 i
 
 module _ (wanted : Filed → Bool) (want : Row → Bool)
-    (same : (q : Filed) → IsPlan q.row → want (plan_row q) ≡ wanted q) (tables : Tables) (w : World)
+    (same : (q : Filed) → IsPlan q.row → want (row_of_plan q) ≡ wanted q) (tables : Tables) (w : World)
     (h : IsContent w) (t : AreTables tables w) where
   joins : List Row → Row → List Row
   joins volumes r = map (joined r) (filter (has_volume r) volumes)
@@ -117,13 +117,14 @@ module _ (wanted : Filed → Bool) (want : Row → Bool)
 module _ (cells : List ℕ) (alike : Filed → Filed → Type 0)
     (by_keys : (p q : Filed) (n m : ℕ) (v u : Block) → IsPlan p.row → IsPlan q.row → alike p q
     → filed_cmp p q
-    ≡ Less → by_cells cells (joined (plan_row p) (volume_row p n v))
-    (joined (plan_row q) (volume_row q m u)) ≡ Less)
+    ≡ Less → by_cells cells (joined (row_of_plan p) (row_of_volume p n v))
+    (joined (row_of_plan q) (row_of_volume q m u)) ≡ Less)
     (by_places : (p : Filed) (n m : ℕ) (v u : Block) → n < m
-    → by_cells cells (joined (plan_row p) (volume_row p n v)) (joined (plan_row p) (volume_row p m u))
+    → by_cells cells (joined (row_of_plan p) (row_of_volume p n v))
+    (joined (row_of_plan p) (row_of_volume p m u))
     ≡ Less) where
   area_after : (p : Filed) (n m : ℕ) (v : Block) (us : List Block) → n < m
-      → AllByRecursion (λ b. by_cells cells (joined (plan_row p) (volume_row p n v)) b ≡ Less)
+      → AllByRecursion (λ b. by_cells cells (joined (row_of_plan p) (row_of_volume p n v)) b ≡ Less)
       (joined_from p m us)
   area_after p n m v [] e = tt
   area_after p n m v (u ∷ us) e =
@@ -137,7 +138,7 @@ module _ (cells : List ℕ) (alike : Filed → Filed → Type 0)
   one_after : (p q : Filed) (n m : ℕ) (v : Block) (us : List Block) → IsPlan p.row → IsPlan q.row
       → alike p q
       → filed_cmp p q ≡ Less
-      → AllByRecursion (λ b. by_cells cells (joined (plan_row p) (volume_row p n v)) b
+      → AllByRecursion (λ b. by_cells cells (joined (row_of_plan p) (row_of_volume p n v)) b
       ≡ Less) (joined_from q m us)
   one_after p q n m v [] hp hq a e = tt
   one_after p q n m v (u ∷ us) hp hq a e =
@@ -145,11 +146,11 @@ module _ (cells : List ℕ) (alike : Filed → Filed → Type 0)
 
   all_after : (p : Filed) (n : ℕ) (v : Block) (qs : List Filed) → IsPlan p.row → ArePlans qs
       → AllByRecursion (alike p) qs → AllByRecursion (λ q. filed_cmp p q ≡ Less) qs
-      → AllByRecursion (λ b. by_cells cells (joined (plan_row p) (volume_row p n v)) b ≡ Less)
+      → AllByRecursion (λ b. by_cells cells (joined (row_of_plan p) (row_of_volume p n v)) b ≡ Less)
       (listing_rows qs)
   all_after p n v [] hp h a s = tt
   all_after p n v (q ∷ qs) hp h a s =
-      all_append (λ b. by_cells cells (joined (plan_row p) (volume_row p n v)) b ≡ Less) (joined_rows q)
+      all_append (λ b. by_cells cells (joined (row_of_plan p) (row_of_volume p n v)) b ≡ Less) (joined_rows q)
       (listing_rows qs) (one_after p q n 0 v q.row.area hp h.0 a.0 s.0)
       (all_after p n v qs hp h.1 a.1 s.1)
 
@@ -175,8 +176,8 @@ abbrev SameOperator : Filed → Filed → Type 0
 SameOperator p q = p.operator ≡ q.operator
 
 own_keys : (p q : Filed) (n m : ℕ) (v u : Block) → IsPlan p.row → IsPlan q.row → SameOperator p q
-    → filed_cmp p q ≡ Less → by_cells (1 ∷ 5 ∷ []) (joined (plan_row p) (volume_row p n v))
-    (joined (plan_row q) (volume_row q m u)) ≡ Less
+    → filed_cmp p q ≡ Less → by_cells (1 ∷ 5 ∷ []) (joined (row_of_plan p) (row_of_volume p n v))
+    (joined (row_of_plan q) (row_of_volume q m u)) ≡ Less
 own_keys p q n m v u hp hq same e =
     let ids : text_cmp p.row.id q.row.id ≡ Less = sym
     (by_ids p q (ap (λ o. text_cmp o q.operator) same ∙ tied_itself nat_list_cmp_total q.operator))
@@ -186,8 +187,8 @@ own_keys p q n m v u hp hq same e =
     ∙ ids)
 
 own_places : (p : Filed) (n m : ℕ) (v u : Block) → n < m
-    → by_cells (1 ∷ 5 ∷ []) (joined (plan_row p) (volume_row p n v))
-    (joined (plan_row p) (volume_row p m u))
+    → by_cells (1 ∷ 5 ∷ []) (joined (row_of_plan p) (row_of_volume p n v))
+    (joined (row_of_plan p) (row_of_volume p m u))
     ≡ Less
 own_places p n m v u e = λ i. ordering_then (tied_itself value_cmp_total (Text (id_text p.row.id)) i)
     (ordering_then (places_less n m e i) Equal)
@@ -204,20 +205,20 @@ own_alike o ps = go (filter (is_by o) ps) (all_kept (is_by o) ps) where
   go [] h = tt
   go (q ∷ qs) h = (with_first q qs h.0 h.1, go qs h.1)
 
-own_test : (o : List ℕ) (q : Filed) → IsPlan q.row → sql.is_by o (plan_row q) ≡ is_by o q
+own_test : (o : List ℕ) (q : Filed) → IsPlan q.row → sql.is_row_by o (row_of_plan q) ≡ is_by o q
 own_test o q h = ap is_eq (value_cmp-Text q.operator o) ∙ turned q.operator o
 
 -- the rows of the join are the listing of the operator's plans
 pub own_listing : (tables : Tables) (w : World) (o : List ℕ) (rows : List Row) → IsContent w
-    → AreTables tables w → Lists (1 ∷ 5 ∷ []) (with_volumes (sql.is_by o) tables) rows → rows
+    → AreTables tables w → Lists (1 ∷ 5 ∷ []) (with_volumes (sql.is_row_by o) tables) rows → rows
     ≡ listing_rows (filter (is_by o) w.plans)
 own_listing tables w o rows h t lists =
-    in_order (1 ∷ 5 ∷ []) (listing_rows (filter (is_by o) w.plans)) (with_volumes (sql.is_by o) tables)
+    in_order (1 ∷ 5 ∷ []) (listing_rows (filter (is_by o) w.plans)) (with_volumes (sql.is_row_by o) tables)
     rows
     (listing_up (1 ∷ 5 ∷ []) SameOperator own_keys own_places (filter (is_by o) w.plans)
     (all_filter (λ p. IsPlan p.row) (is_by o) w.plans h.rows) (own_alike o w.plans)
     (IsStrictlySortedBy-filter filed_cmp (is_by o) w.plans h.world.plans))
-    (join_rows (is_by o) (sql.is_by o) (own_test o) tables w h t) lists
+    (join_rows (is_by o) (sql.is_row_by o) (own_test o) tables w h t) lists
 
 pub own_plans_are : (w : World) (o : List ℕ) → IsContent w → ArePlans (filter (is_by o) w.plans)
 own_plans_are w o h = all_filter (λ p. IsPlan p.row) (is_by o) w.plans h.rows

@@ -19,7 +19,7 @@ use Rattle.desk_rules.specs.Plan.{is_live}
 use Rattle.desk_sql.specs.Rows.{Tables, Lists, by_cells}
 use Rattle.desk_store.specs.World.{Filed, Listed, World, text_cmp, listed_cmp, filed_cmp}
 use Rattle.desk_store.specs.laws.Order.{all_weaker, all_append}
-use Rattle.desk_tables.specs.Tables.{id_text, operator_row, operator_rows, plan_row, plan_rows, volume_row, rows_from, volume_rows_from, volume_rows, cover_row, cover_rows, span_row, AreSpanRowsFrom, ArePlanSpanRows, AreSpanRows, HasNoOldRows, AreTables}
+use Rattle.desk_tables.specs.Tables.{id_text, row_of_operator, operator_rows, row_of_plan, plan_rows, row_of_volume, rows_from, volume_rows_from, volume_rows, row_of_cover, cover_rows, row_of_span, AreSpanRowsFrom, ArePlanSpanRows, AreSpanRows, HasNoOldRows, AreTables}
 use Rattle.desk_store.specs.Content.{IsPlan, IsContent}
 use Rattle.desk_tables.specs.Opening.{AreRows, AreAllRows, AreSortedByKey, AreSortedHeads}
 use Rattle.desk_tables.specs.Moving.{AreOldTables, AreSortedOld, HasNoNewRows}
@@ -35,16 +35,16 @@ use Rattle.desk_tables.proofs.SpanLemmas.{spans_keyed}
 abbrev NameBelow : Row → Row → Type 0
 NameBelow r s = by_cells (0 ∷ []) r s ≡ Less
 
-name_below : (l k : Listed) → listed_cmp l k ≡ Less → NameBelow (operator_row l) (operator_row k)
+name_below : (l k : Listed) → listed_cmp l k ≡ Less → NameBelow (row_of_operator l) (row_of_operator k)
 name_below l k e = ap (λ o. ordering_then o Equal) (value_cmp-Text l.name k.name ∙ e)
 
 pub operators_up : (ls : List Listed) → IsStrictlySortedBy listed_cmp ls
-    → IsAscending NameBelow (map operator_row ls)
+    → IsAscending NameBelow (map row_of_operator ls)
 unfolding IsStrictlySortedBy
 operators_up [] s = tt
 operators_up (l ∷ ls) s = (
-  all_map (NameBelow (operator_row l)) operator_row ls
-      (all_weaker (λ k. listed_cmp l k ≡ Less) (λ k. NameBelow (operator_row l) (operator_row k))
+  all_map (NameBelow (row_of_operator l)) row_of_operator ls
+      (all_weaker (λ k. listed_cmp l k ≡ Less) (λ k. NameBelow (row_of_operator l) (row_of_operator k))
       (name_below l) ls s.0),
   operators_up ls s.1,
 )
@@ -102,14 +102,14 @@ later_heads : (p : Filed) (qs : List Filed) → ArePlans qs
     → AllByRecursion (λ q. filed_cmp p q ≡ Less) qs
     → AllByRecursion (IsLater p) (plan_rows qs)
 later_heads p [] h s = tt
-later_heads p (q ∷ qs) h s = ((q, h.0, s.0, (after_key (plan_row q), refl)), later_heads p qs h.1 s.1)
+later_heads p (q ∷ qs) h s = ((q, h.0, s.0, (after_key (row_of_plan q), refl)), later_heads p qs h.1 s.1)
 
 pub plans_up : (ps : List Filed) → ArePlans ps → IsStrictlySortedBy filed_cmp ps
     → IsAscending (Below []) (plan_rows ps)
 unfolding IsStrictlySortedBy
 plans_up [] h s = tt
-plans_up (p ∷ ps) h s = one_more [] p (plan_row p ∷ []) (plan_rows ps) h.0
-    ((after_key (plan_row p), refl), tt) (tt, tt) (later_heads p ps h.1 s.0) (plans_up ps h.1 s.1)
+plans_up (p ∷ ps) h s = one_more [] p (row_of_plan p ∷ []) (plan_rows ps) h.0
+    ((after_key (row_of_plan p), refl), tt) (tt, tt) (later_heads p ps h.1 s.0) (plans_up ps h.1 s.1)
 
 -- ---- volumes
 
@@ -149,15 +149,15 @@ module _ (more : Filed → ℕ → Block → Row) where
 
 pub area_up : (p : Filed) (n : ℕ) (vs : List Block) → IsPlan p.row
     → IsAscending (Below (2 ∷ [])) (volume_rows_from p n vs)
-area_up = places_up (after_place volume_row)
+area_up = places_up (after_place row_of_volume)
 
 pub volumes_up : (ps : List Filed) → ArePlans ps → IsStrictlySortedBy filed_cmp ps
     → IsAscending (Below (2 ∷ [])) (volume_rows ps)
-volumes_up = placed_up (after_place volume_row)
+volumes_up = placed_up (after_place row_of_volume)
 
 covers_up : (ps : List Filed) → ArePlans ps → IsStrictlySortedBy filed_cmp ps
     → IsAscending (Below (2 ∷ [])) (cover_rows ps)
-covers_up = placed_up (after_place cover_row)
+covers_up = placed_up (after_place row_of_cover)
 
 -- ---- spans
 
@@ -192,16 +192,16 @@ after_places : (p : Filed) (n m : ℕ) (vs : List Block) (rows : List Row) → n
 after_places p n m [] rows less e = subst (AllByRecursion (IsAfterPlace p n)) (sym e) tt
 after_places p n m (v ∷ vs) rows less (spans, rest, ranges, are, then) =
     subst (AllByRecursion (IsAfterPlace p n)) (sym are)
-    (all_append (IsAfterPlace p n) (map (span_row p m v) spans) rest (each spans)
+    (all_append (IsAfterPlace p n) (map (row_of_span p m v) spans) rest (each spans)
     (after_places p n (m + 1) vs rest (omega (arith, less)) then)) where
-      each : (xs : List Span) → AllByRecursion (IsAfterPlace p n) (map (span_row p m v) xs)
+      each : (xs : List Span) → AllByRecursion (IsAfterPlace p n) (map (row_of_span p m v) xs)
       each [] = tt
-      each (x ∷ xs) = ((m, less, (drop 3 (span_row p m v x), refl)), each xs)
+      each (x ∷ xs) = ((m, less, (drop 3 (row_of_span p m v x), refl)), each xs)
 
 on_places : (p : Filed) (n : ℕ) (v : Block) (xs : List Span)
-    → AllByRecursion (HasPlace p n) (map (span_row p n v) xs)
+    → AllByRecursion (HasPlace p n) (map (row_of_span p n v) xs)
 on_places p n v [] = tt
-on_places p n v (x ∷ xs) = ((drop 3 (span_row p n v x), refl), on_places p n v xs)
+on_places p n v (x ∷ xs) = ((drop 3 (row_of_span p n v x), refl), on_places p n v xs)
 
 firsts_rise : (spans : List Span) → AllByRecursion IsSpan spans → AllPairs IsApart spans
     → IsAscending (λ a b. a.first < b.first) spans
@@ -215,22 +215,22 @@ firsts_rise (x ∷ xs) each apart = (
 )
 
 span_below : (p : Filed) (n : ℕ) (v : Block) (x y : Span) → IsPlan p.row → x.first < y.first
-    → Below (2 ∷ 3 ∷ []) (span_row p n v x) (span_row p n v y)
+    → Below (2 ∷ 3 ∷ []) (row_of_span p n v x) (row_of_span p n v y)
 span_below p n v x y hp less =
-    same_below (2 ∷ 3 ∷ []) p (span_row p n v x) (span_row p n v y) hp
-    (after_key (span_row p n v x), refl)
-    (after_key (span_row p n v y), refl)
+    same_below (2 ∷ 3 ∷ []) p (row_of_span p n v x) (row_of_span p n v y) hp
+    (after_key (row_of_span p n v x), refl)
+    (after_key (row_of_span p n v y), refl)
     ((λ i. ordering_then (tied_itself value_cmp_total (Int (pos n)) i)
     (ordering_then (places_less x.first y.first less i) Equal)))
 
 on_up : (p : Filed) (n : ℕ) (v : Block) (spans : List Span) → IsPlan p.row
     → IsAscending (λ a b. a.first < b.first) spans
-    → IsAscending (Below (2 ∷ 3 ∷ [])) (map (span_row p n v) spans)
+    → IsAscending (Below (2 ∷ 3 ∷ [])) (map (row_of_span p n v) spans)
 on_up p n v [] hp up = tt
 on_up p n v (x ∷ xs) hp up = (
-  all_map (Below (2 ∷ 3 ∷ []) (span_row p n v x)) (span_row p n v) xs
-      (all_weaker (λ y. x.first < y.first) (λ y. Below (2 ∷ 3 ∷ []) (span_row p n v x)
-      (span_row p n v y))
+  all_map (Below (2 ∷ 3 ∷ []) (row_of_span p n v x)) (row_of_span p n v) xs
+      (all_weaker (λ y. x.first < y.first) (λ y. Below (2 ∷ 3 ∷ []) (row_of_span p n v x)
+      (row_of_span p n v y))
       (λ y. span_below p n v x y hp) xs up.0),
   on_up p n v xs hp up.1,
 )
@@ -241,13 +241,13 @@ from_up : (p : Filed) (n : ℕ) (vs : List Block) (rows : List Row) → IsPlan p
 from_up p n [] rows hp e = subst (IsAscending (Below (2 ∷ 3 ∷ []))) (sym e) tt
 from_up p n (v ∷ vs) rows hp (spans, rest, ranges, are, then) =
     subst (IsAscending (Below (2 ∷ 3 ∷ []))) (sym are)
-    (ascending-append (Below (2 ∷ 3 ∷ [])) (map (span_row p n v) spans) rest
+    (ascending-append (Below (2 ∷ 3 ∷ [])) (map (row_of_span p n v) spans) rest
     (on_up p n v spans hp (firsts_rise spans (recursion_from_All IsSpan spans ranges.each)
     ranges.apart))
     (from_up p (n + 1) vs rest hp then)
     (all_weaker (HasPlace p n) (λ r. AllByRecursion (Below (2 ∷ 3 ∷ []) r) rest)
     (λ r k. all_weaker (IsAfterPlace p n) (Below (2 ∷ 3 ∷ []) r) (λ s. next_below p n r s hp k) rest
-    (after_places p n (n + 1) vs rest (omega arith) then)) (map (span_row p n v) spans)
+    (after_places p n (n + 1) vs rest (omega arith) then)) (map (row_of_span p n v) spans)
     (on_places p n v spans)))
 
 pub plan_up : (p : Filed) (rows : List Row) → IsPlan p.row → ArePlanSpanRows p rows

@@ -28,7 +28,7 @@ use Rattle.desk_store.specs.Content.{IsContent}
 use Rattle.desk_tables.specs.Store.{IsStanding, Stands}
 use Rattle.desk_tables.specs.Files.{AreRefused, IsUnread}
 use Rattle.desk_tables.specs.Opening.{IsPart, AreNoContent}
-use Rattle.desk_tables.specs.Leaving.{HasWorld, ReadsAs, MayLeave, MayHave, IsUntaken, IsFoundAfter, BeginsAfter, IsLeftBy, IsLegible, IsRefusedAfter, IsRefusedAtRest}
+use Rattle.desk_tables.specs.Leaving.{HasWorld, ReadsAs, MayLeave, MayHave, IsNotTakenAsIs, IsFoundAfter, BeginsAfter, IsImageLeft, IsLegible, IsRefusedAfter, IsRefusedAtRest}
 use Rattle.sqlite_disk.specs.declared.Files.{Files}
 use Rattle.sqlite_wal.specs.Files.{outcomes}
 use Rattle.sqlite_wal.proofs.LogLemmas.{SeenMayStay}
@@ -124,7 +124,7 @@ nothing_made db blank = record {
 }
 
 -- what is taken for no desk's is read as none
-untaken : (db : Database) → IsDatabase db → IsUntaken db → ReadsAs db.trees None
+untaken : (db : Database) → IsDatabase db → IsNotTakenAsIs db → ReadsAs db.trees None
 untaken db sound un w has =
     let same : db.schema ≡ desk_schema = lists_once _ db.schema desk_schema sound.lists has.sound.lists in
     elim un [
@@ -188,7 +188,7 @@ module _ {D E : Type 0} {g : disk.Ghosts D} {k : disk.Ghosts E} (last : Held (Fi
 
   module _ (never : ¬ MayLeave over_files last None) where
     never_untaken : (found : Held (FileStore E k)) → IsFoundAfter last found
-        → IsUntaken (file_state found).now → ⊥
+        → IsNotTakenAsIs (file_state found).now → ⊥
     never_untaken found it un =
         ∥∥₁_elim (found_as found None it (subst (λ db. ReadsAs db None) (same_trees found it)
         (untaken (file_state found).now (now_sound found it) un))) (λ x y. absurd x) never
@@ -215,7 +215,7 @@ module _ {D E : Type 0} {g : disk.Ghosts D} {k : disk.Ghosts E} (last : Held (Fi
         ]
 
     module _ (e : OpenFault) (left : Held (FileStore E k)) where
-      taken : (it : IsRefusedAfter last e left) → IsUntaken (file_state it.refused.found).now → ⊥
+      taken : (it : IsRefusedAfter last e left) → IsNotTakenAsIs (file_state it.refused.found).now → ⊥
       taken it = never_untaken it.refused.found (record {
         image = it.image;
         files = it.files;
@@ -265,7 +265,7 @@ module _ {D E : Type 0} {g : disk.Ghosts D} {k : disk.Ghosts E} (last : Held (Fi
         }
 
     -- of such files neither is told, by a connection that can be read or by none
-    pub not_told : (image : Image) → IsLeftBy last image → (e : OpenFault)
+    pub not_told : (image : Image) → IsImageLeft last image → (e : OpenFault)
         → (connection : Result (Held (FileStore E k)) (Unreached E k)) → AreRefused image e connection
         → IfOk connection IsLegible → IsUnread e
     not_told image files e (Err it) unread legible = unread.unread
@@ -301,7 +301,7 @@ module _ {D E : Type 0} {g : disk.Ghosts D} {k : disk.Ghosts E} (last : Held (Fi
 
   -- a start over what one content was left in, wherever it is cut short, leaves that content alone
   module _ (w : World) (only : LeavesOnly w (MayLeave over_files last)) where
-    pub cut_leaves : HaveOneContent → (image : Image) → IsLeftBy last image → (new : Held (FileStore E k))
+    pub cut_leaves : HaveOneContent → (image : Image) → IsImageLeft last image → (new : Held (FileStore E k))
         → IsCutShort IsMovedOn image new → HasCleanDisk (file_state new)
         → LeavesOnly w (MayLeave over_files new)
     cut_leaves law image files new cut clean read (db, may, reads) =

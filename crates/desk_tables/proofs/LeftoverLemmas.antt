@@ -30,8 +30,8 @@ use Rattle.sqlite.specs.declared.file.Leftover.TheVariants as left
 use Rattle.sqlite.proofs.FileLemmas.{is_something}
 use Rattle.sqlite.proofs.Theorems.{opens_again}
 use Rattle.desk_tables.specs.Files.{FindsFirst, IsUnread, IsUnreached}
-use Rattle.desk_tables.specs.Leaving.{IsFoundAfter, IsLeftBy}
-use Rattle.desk_tables.specs.Leftovers.{IsLeftOf, IsTaken, MayRemain, RemainsOf}
+use Rattle.desk_tables.specs.Leaving.{IsFoundAfter, IsImageLeft}
+use Rattle.desk_tables.specs.Leftovers.{IsKeptBySqlite, IsLeftOf, MayRemain, RemainsOf}
 use Rattle.desk_tables.specs.declared.opening.path.Unreached.{Unreached}
 
 -- what a crash may leave of a file after these calls, the newest first
@@ -149,7 +149,8 @@ module _ {D : Type 0} {g : disk.Ghosts D} (files : Files D)
     (synced : (next : Image) → outcomes g files.log files.db next → next ≡ image_of g files)
   where
     -- what is left of files that held a database holds it
-    still_held : (it : Leftover D g) → LeavesFiles files it → IsTaken (image_of g files) it → (next : Image)
+    still_held : (it : Leftover D g) → LeavesFiles files it → IsKeptBySqlite (image_of g files) it
+        → (next : Image)
         → MayRemain it next → (db : Trees) → HoldsDatabase (image_of g files) db
         → ∥ HoldsDatabase next db ∥₁
     still_held (left.Files now) leaves taken next may db held =
@@ -167,7 +168,8 @@ module _ {D : Type 0} {g : disk.Ghosts D} (files : Files D)
         (λ it. subst (HoldsDatabase next) ((leaves it.0 it.1).1 db held) it.2)
 
     -- what a start finds in it, it would find in the files as they were
-    found_again : (it : Leftover D g) → LeavesFiles files it → IsTaken (image_of g files) it → (next : Image)
+    found_again : (it : Leftover D g) → LeavesFiles files it → IsKeptBySqlite (image_of g files) it
+        → (next : Image)
         → MayRemain it next → (db : Trees) → HoldsDatabase (image_of g files) db → (s : State)
         → FindsIn next s → ∥ FindsIn (image_of g files) s ∥₁
     found_again (left.Files now) leaves taken next may db held s found =
@@ -195,7 +197,8 @@ module _ {D : Type 0} {g : disk.Ghosts D} (files : Files D)
         let r : FindsIn (image_of g files) s = record { holds = was.1; reads = was.0 } in r)
 
     -- where there was no database there is none, or one with what was found
-    none_held : (it : Leftover D g) → LeavesFiles files it → IsTaken (image_of g files) it → (next : Image)
+    none_held : (it : Leftover D g) → LeavesFiles files it → IsKeptBySqlite (image_of g files) it
+        → (next : Image)
         → MayRemain it next → IsNothing (image_of g files)
         → IsNothing next ⊎ ∥ ((db : Trees) × HoldsDatabase next db × AreFoundIn (image_of g files) db) ∥₁
     none_held (left.Files now) leaves taken next may nothing =
@@ -222,8 +225,8 @@ module _ {E : Type 0} {k : disk.Ghosts E} (image next : Image) (it : Leftover E 
     synced : (other : Image) → outcomes k files.log files.db other → other ≡ image_of k files
     synced other may = remains.left.synced other may ∙ sym remains.left.held
 
-    taken : IsTaken (image_of k files) it
-    taken = subst (λ i. IsTaken i it) (sym remains.left.held) remains.taken
+    taken : IsKeptBySqlite (image_of k files) it
+    taken = subst (λ i. IsKeptBySqlite i it) (sym remains.left.held) remains.taken
 
     leaves : LeavesFiles files it
     leaves = remains.left.left remains.clean
@@ -249,7 +252,8 @@ module _ {E : Type 0} {k : disk.Ghosts E} (image next : Image) (it : Leftover E 
             (subst (λ i. HoldsDatabase i db) (sym remains.left.held) held) (file_state found) first.1) in
             ∥∥₁_map before (λ f. let r : FindsFirst image found = (first.0, f) in r)
 
-        pub found_after : {F : Type 0} {f : disk.Ghosts F} (last : Held (FileStore F f)) → IsLeftBy last image
+        pub found_after : {F : Type 0} {f : disk.Ghosts F} (last : Held (FileStore F f))
+            → IsImageLeft last image
             → ∥ IsFoundAfter last found ∥₁
         found_after last by =
             ∥∥₁_elim (opens_again last.store by.connected.numbered by.connected.sound image by.left) squash₁

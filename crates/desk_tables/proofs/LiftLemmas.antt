@@ -4,7 +4,7 @@ use Rattle.std.specs.Prelude.{IsSome}
 use Rattle.sqlite_trees.specs.declared.store.Store.{Ghosts}
 use Rattle.sqlite_trees.specs.View.{doubt}
 use Rattle.sqlite.specs.Held.{Held, state}
-use Rattle.desk_sql.specs.Effects.{IsKept, ShowsAsBefore}
+use Rattle.desk_sql.specs.Effects.{ShowsAsBefore, StaysShown}
 use Rattle.desk_store.specs.World.{World}
 use Rattle.desk_tables.specs.declared.opening.open.OpenFault.{OpenFault}
 use Rattle.desk_tables.specs.Moving.{BeginsMoved, KeepsRows, ShowsNoContent}
@@ -87,7 +87,7 @@ module _ {S : Type 0} (g : Ghosts S) (a b c : Held S) (is : b ≡ lifted a) wher
   pub moves_lifted : (w : World) (count : ℕ) → BeginsMoved g b c w count → BeginsMoved g a c w count
   moves_lifted w count it = moves g a c w count (subst (λ h. BeginsMoved g h c w count) is it)
 
-  pub kept_lifted : IsKept g b c → IsKept g a c
+  pub kept_lifted : StaysShown g b c → StaysShown g a c
   kept_lifted it = λ clean live. shows g a c (subst (λ h. ShowsAsBefore g h c) is (it clean live))
 
   pub keeps_lifted : KeepsRows g b c → KeepsRows g a c

@@ -23,10 +23,10 @@ use Rattle.desk_rules.specs.declared.plan.PlanRow.{PlanRow}
 use Rattle.desk_sql.specs.Rows.{Tables, Lists, by_cells, is_of}
 use Rattle.desk_store.specs.World.{Filed, World, text_cmp, filed_cmp, is_by, has_id, rows_by, plans_of, stored_of}
 use Rattle.desk_store.specs.laws.Order.{is_equal, all_weaker}
-use Rattle.desk_store.specs.Rows.{is_own}
-use Rattle.desk_tables.specs.Tables.{id_text, plan_row, plan_rows, volume_row, volume_rows_from, area_rows, volume_rows, AreTables}
+use Rattle.desk_store.specs.OwnRows.{is_own}
+use Rattle.desk_tables.specs.Tables.{id_text, row_of_plan, plan_rows, row_of_volume, volume_rows_from, area_rows, volume_rows, AreTables}
 use Rattle.desk_store.specs.Content.{IsId, IsBlock, IsContent}
-use Rattle.desk_tables.specs.Reading.{IsVolumeAt, IsHead}
+use Rattle.desk_tables.specs.RowsRead.{IsVolumeAt, IsHead}
 use Rattle.desk_tables.specs.Lookups.{one_or_none, own_of}
 use Rattle.desk_tables.proofs.FilterLemmas.{ArePlans, own_row, plans_filtered, volumes_filtered}
 
@@ -50,7 +50,7 @@ places_less n m h = value_cmp-Int (pos n) (pos m) ∙ ints where
   ints = grind (arith, nat_tests, h)
 
 area_after : (p : Filed) (n m : ℕ) (v : Block) (us : List Block) → n < m
-    → AllByRecursion (λ r. by_cells (2 ∷ []) (volume_row p n v) r ≡ Less) (volume_rows_from p m us)
+    → AllByRecursion (λ r. by_cells (2 ∷ []) (row_of_volume p n v) r ≡ Less) (volume_rows_from p m us)
 area_after p n m v [] h = tt
 area_after p n m v (u ∷ us) h = (
   ap (λ o. ordering_then o Equal) (places_less n m h),
@@ -163,7 +163,7 @@ area_read p n (v ∷ vs) = (
       vs,
 )
 
-pub head_read : (p : Filed) → IsHead (plan_row p) p.row
+pub head_read : (p : Filed) → IsHead (row_of_plan p) p.row
 head_read p = record { id = refl; priority = refl; usage = refl; aircraft = refl }
 
 own_is_plan : (o id : List ℕ) (ps : List Filed) → ArePlans ps
@@ -202,7 +202,7 @@ plan_stored o id w head_rows rows rest head plan h are volumes some read =
           ≡ option_map (λ p. p.row) found
       by_found None hp e f = cc
       by_found (Some p) hp e f =
-          let is : head ≡ plan_row p = cc in
+          let is : head ≡ row_of_plan p = cc in
           ap Some (read p.row hp.0.id (subst (λ r. IsHead r p.row) (sym is) (head_read p)) hp.0.each
           (subst (λ xs. AllZip (λ r v. IsVolumeAt r 3 v) xs p.row.area)
           (sym (f ∙ append-nil (area_rows p)))

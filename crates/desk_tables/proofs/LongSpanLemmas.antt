@@ -6,7 +6,7 @@ use Rattle.std.proofs.lemmas.List.Folds.{list_any_more}
 use Rattle.s2_cover.specs.declared.spans.Span.{Span}
 use Rattle.volume4d.specs.declared.slab.Slab.{Slab}
 use Rattle.desk_tables.specs.declared.span_bounds.SpanBounds.{SpanBounds}
-use Rattle.desk_tables.specs.SpanBounds.{AreWhole, IsAmong, IsWithin, Keeps, begins_in, takes_in}
+use Rattle.desk_tables.specs.SpanBounds.{AreWhole, IsAmong, IsWithinExtent, Keeps, begins_in, takes_in}
 
 or_left : (a b : Bool) → a ≡ true → (a || b) ≡ true
 or_left a b h = ap (λ c. c || b) h
@@ -58,12 +58,12 @@ module _ (extent : Slab) (low : ℕ) where
   -- the questions for some of the long spans that are kept
   pub record AreAskedFor (long_spans : List (Option Span)) (questions : List Span) : Type 0 where
     pub whole : AreWhole extent (λ span. IsAmong long_spans span × (span.first < low)) questions
-    pub within : AllByRecursion (IsWithin extent) questions
+    pub within : AllByRecursion (IsWithinExtent extent) questions
 
   pub asked_on : (long_spans : List (Option Span)) (i : ℕ) (d : Option Span) (old new : List Span)
       → i < length long_spans → AreAskedFor (take i long_spans) old → AreFor (get_or long_spans i d) new
       → ((span : Span) → IsTrue (list_any (begins_in span) old) → IsTrue (list_any (begins_in span) new))
-      → (AllByRecursion (IsWithin extent) old → AllByRecursion (IsWithin extent) new)
+      → (AllByRecursion (IsWithinExtent extent) old → AllByRecursion (IsWithinExtent extent) new)
       → AreAskedFor (take (i + 1) long_spans) new
   asked_on long_spans i d old new inside before here kept within = record {
     whole = λ span one ends begins. by_place span one.1 ends begins

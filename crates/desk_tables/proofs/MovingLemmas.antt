@@ -17,7 +17,7 @@ use Rattle.volume4d.specs.Shape.{Shape, rectangle, shape_positions}
 use Rattle.desk_sql.specs.declared.opening.finding.TablesPresent.{TablesPresent}
 use Rattle.desk_sql.specs.declared.opening.finding.TablesPresent.TheVariants.{All}
 use Rattle.desk_sql.specs.Rows.{IsMadeTo, Tables, tables_of, tables_at, has_old_rows}
-use Rattle.desk_sql.specs.Effects.{IsKept, ShowsAsBefore, Makes}
+use Rattle.desk_sql.specs.Effects.{StaysShown, ShowsAsBefore, Makes}
 use Rattle.desk_sql.specs.Frames.{OnlyReads, Remembers}
 use Rattle.desk_sql.specs.Batches.{IsUnderWay}
 use Rattle.desk_sql.specs.Finding.{Holds, HasOthers}
@@ -26,8 +26,8 @@ use Rattle.desk_tables.specs.Tables.{area_rows, area_covers, volume_rows, cover_
 use Rattle.desk_store.specs.Content.{IsContent}
 use Rattle.desk_tables.specs.declared.opening.open.OpenFault.{OpenFault}
 use Rattle.desk_tables.specs.Opening.{AreRows, BeginsWith, HasNoContent, HasRowsOld, ShowsNoDesk}
-use Rattle.desk_tables.specs.OpeningSteps.{BeginsAllMoved, HadNoOld, IsOpened, IsSetUp}
-use Rattle.desk_tables.specs.Moving.{AddsPlanRows, AddsPlansRows, BeginsMoved, HasNoOldContent, IsOldArea, IsOldContent, IsOldContentOf, IsOldShape, IsWhole, KeepsRows, ShowsNoContent, WasMoved, old_max_cover}
+use Rattle.desk_tables.specs.OpeningSteps.{BeginsAllMoved, HadNoOld, IsOpening, IsSetUp}
+use Rattle.desk_tables.specs.Moving.{AddsPlanRows, AddsPlansRows, BeginsMoved, HasAllTables, HasNoOldContent, IsOldArea, IsOldContent, IsOldContentOf, IsOldShape, KeepsRows, ShowsNoContent, WasMoved, old_max_cover}
 use Rattle.desk_tables.proofs.ContentLemmas.{one_plans}
 use Rattle.desk_tables.proofs.OpeningLemmas.{cause_then, desk_made, made_desk}
 
@@ -204,7 +204,7 @@ no_old_areas one_shape t v hv rows off w hw are =
 module _ {S : Type 0} (g : Ghosts S) where
   -- where nothing was missing, nothing is made
   pub whole_already : (made : TablesPresent) (a : Held S) → Holds g a (IsMadeTo made) → made ≡ All
-      → HasCleanDisk (state g a) → IsTrue (state g a).is_open → IsWhole g made a a
+      → HasCleanDisk (state g a) → IsTrue (state g a).is_open → HasAllTables g made a a
   whole_already made a part all = λ clean live. record {
     was_open = live;
     desk = desk_made (state g a).now
@@ -225,7 +225,8 @@ module _ {S : Type 0} (g : Ghosts S) where
   }
 
   -- rows that are kept since a reading
-  pub keeps_since : (a b c : Held S) → IsKept g a b → doubt (state g b).is_clean ≤ doubt (state g c).is_clean
+  pub keeps_since : (a b c : Held S) → StaysShown g a b
+      → doubt (state g b).is_clean ≤ doubt (state g c).is_clean
       → KeepsRows g b c → KeepsRows g a c
   keeps_since a b c one rises two = λ clean live. elim (two clean live) [
     | inl same ↦
@@ -251,8 +252,8 @@ module _ {S : Type 0} (g : Ghosts S) where
   pub keeps_whole : (made : TablesPresent) (b c d : Held S) → Holds g b (IsMadeTo made)
       → doubt (state g b).is_clean ≤ doubt (state g c).is_clean
       → doubt (state g c).is_clean ≤ doubt (state g d).is_clean
-      → (HasCleanDisk (state g c) → IsTrue (state g c).is_open → IsWhole g made b c)
-      → IsKept g c d → KeepsRows g b d
+      → (HasCleanDisk (state g c) → IsTrue (state g c).is_open → HasAllTables g made b c)
+      → StaysShown g c d → KeepsRows g b d
   keeps_whole made b c d part one two done kept = λ clean live.
       let shows = kept clean live in
       let mid : HasCleanDisk (state g c) = omega (arith, two, clean) in
@@ -279,7 +280,7 @@ pub moved_after : {S V : Type 0} (g : Ghosts S) (a b c : Held S) (made : TablesP
     → Holds g b (HasRowsOld made true)
     → IsSetUp g b c r world (λ v. BeginsAllMoved g b c (world v) (count v)) (HadNoOld g b c made)
     (KeepsRows g b c)
-    → IsOpened g a c r world (λ v. BeginsMoved g a c (world v) (count v)) (ShowsNoContent g a c) ⊥
+    → IsOpening g a c r world (λ v. BeginsMoved g a c (world v) (count v)) (ShowsNoContent g a c) ⊥
     (KeepsRows g a c)
 moved_after g a b c made world count (Ok v) reads part old done = record {
   begins = λ clean live.

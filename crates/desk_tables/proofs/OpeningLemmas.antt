@@ -15,10 +15,10 @@ use Rattle.desk_sql.specs.declared.opening.finding.TablesPresent.TheVariants.{No
 use Rattle.desk_sql.specs.declared.opening.numbers.DeskTable.TheVariants as desk
 use Rattle.desk_sql.specs.Schema.{tree_of, has_table}
 use Rattle.desk_sql.specs.Rows.{IsDesk, IsMadeTo, AreNumbered, Tables, tables_of, tables_at, has_rows, has_old_rows}
-use Rattle.desk_sql.specs.Effects.{IsKept, IsOpenIfClean, ShowsAsBefore}
+use Rattle.desk_sql.specs.Effects.{IsOpenIfClean, ShowsAsBefore, StaysShown}
 use Rattle.desk_sql.specs.Frames.{OnlyReads}
 use Rattle.desk_sql.specs.Finding.{Holds}
-use Rattle.desk_sql.specs.Refusals.{IsRefusal, IsUnread}
+use Rattle.desk_sql.specs.Refusals.{AreRowsUnread, IsRefusal}
 use Rattle.sqlite_value.specs.Order.{Row}
 use Rattle.desk_store.specs.World.{World}
 use Rattle.desk_tables.specs.declared.opening.open.OpenFault.{OpenFault}
@@ -26,8 +26,8 @@ use Rattle.desk_tables.specs.declared.opening.open.OpenFault.TheVariants.{NotADe
 use Rattle.desk_store.specs.Content.{IsContent}
 use Rattle.desk_tables.specs.Store.{Stands}
 use Rattle.desk_tables.specs.Tables.{HasNoOldRows, AreTables}
-use Rattle.desk_tables.specs.Opening.{AreSortedByKey, AreAllRows, HasNewRows, IsContentOf, AreNoContent, IsPart, BeganBlank, BeginsWith, ShowsNoDesk, ShowsOldRows, IsNoDesk, HasFailed, BlamesReading, BlamesDatabase, open_fault_of}
-use Rattle.desk_tables.specs.OpeningSteps.{HadNone, IsOpened, IsRead, IsSetUp}
+use Rattle.desk_tables.specs.Opening.{AreSortedByKey, AreAllRows, HasNewRows, IsContentOf, AreNoContent, IsPart, BeganBlank, BeginsWith, ShowsNoDesk, ShowsOldRows, IsNoDesk, IsHindered, BlamesReading, BlamesDatabase, open_fault_of}
+use Rattle.desk_tables.specs.OpeningSteps.{HadNone, IsOpening, IsRead, IsSetUp}
 use Rattle.desk_tables.proofs.FrameLemmas.{kept_on}
 use Rattle.desk_tables.proofs.KeyOrderLemmas.{are_rows, are_tables}
 
@@ -87,7 +87,7 @@ module _ {S : Type 0} (g : Ghosts S) where
 
   -- rows of no content are no desk's
   none_shown : (made : TablesPresent) (a c : Held S) → Holds g a (IsMadeTo made) → Holds g a (HasNewRows made)
-      → IsKept g a c → doubt (state g a).is_clean ≤ doubt (state g c).is_clean → HadNone g a c made
+      → StaysShown g a c → doubt (state g a).is_clean ≤ doubt (state g c).is_clean → HadNone g a c made
       → ShowsNoDesk g a c
   none_shown made a c part new kept rises none = λ clean live.
       let shows = kept clean live in
@@ -103,7 +103,7 @@ module _ {S : Type 0} (g : Ghosts S) where
   pub set_up_as_read : {V : Type 0} (world : V → World) (r : Result V OpenFault) (a b : Held S)
       → a.step_limit ≡ None → Holds g a (IsMadeTo All) → Holds g a (HasNewRows All)
       → IsRead g a b r All (λ t v. IsContentOf t (world v)) AreNoContent → OnOk r (IsOpenIfClean g b)
-      → IsSetUp g a b r world (λ v. BeginsWith g a b (world v)) (ShowsNoDesk g a b) (IsKept g a b)
+      → IsSetUp g a b r world (λ v. BeginsWith g a b (world v)) (ShowsNoDesk g a b) (StaysShown g a b)
   set_up_as_read world (Ok v) a b unlimited whole new read live = record {
     begins = λ clean live.
         let shows = read.reads.kept clean live in
@@ -145,8 +145,8 @@ module _ {S : Type 0} (g : Ghosts S) where
   pub set_up_anew : {V : Type 0} (made : TablesPresent) (world : V → World) (r : Result V OpenFault)
       (Begins : World → Type 0) (a c : Held S) → ((w : World) → Begins w → BeginsWith g a c w)
       → Holds g a (IsMadeTo made) → Holds g a (HasNewRows made)
-      → IsSetUp g a c r world (λ v. Begins (world v)) (HadNone g a c made) (IsKept g a c)
-      → IsSetUp g a c r world (λ v. BeginsWith g a c (world v)) (ShowsNoDesk g a c) (IsKept g a c)
+      → IsSetUp g a c r world (λ v. Begins (world v)) (HadNone g a c made) (StaysShown g a c)
+      → IsSetUp g a c r world (λ v. BeginsWith g a c (world v)) (ShowsNoDesk g a c) (StaysShown g a c)
   set_up_anew made world (Ok v) Begins a c begins part new done = record {
     begins = begins (world v) done.begins;
     stands = done.stands;
@@ -213,7 +213,7 @@ module _ {S : Type 0} (g : Ghosts S) (a b c : Held S) (reads : OnlyReads g a b)
         })))
       ]
 
-  none_then : IsKept g b c → ShowsNoDesk g b c → ShowsNoDesk g a c
+  none_then : StaysShown g b c → ShowsNoDesk g b c → ShowsNoDesk g a c
   none_then kept none = λ clean live.
       subst IsNoDesk (same_before clean (kept clean live).was_open).now (none clean live)
 
@@ -232,9 +232,9 @@ module _ {S : Type 0} (g : Ghosts S) (a b c : Held S) (faults : (state g a).faul
 -- what is set up after a reading is a whole opening
 pub opened_since : {S V : Type 0} (g : Ghosts S) (a b c : Held S) (world : V → World) (r : Result V OpenFault)
     → OnlyReads g a b
-    → IsSetUp g b c r world (λ v. BeginsWith g b c (world v)) (ShowsNoDesk g b c) (IsKept g b c)
-    → IsOpened g a c r world (λ v. BeginsWith g a c (world v)) (ShowsNoDesk g a c) (ShowsOldRows g a c)
-    (IsKept g a c)
+    → IsSetUp g b c r world (λ v. BeginsWith g b c (world v)) (ShowsNoDesk g b c) (StaysShown g b c)
+    → IsOpening g a c r world (λ v. BeginsWith g a c (world v)) (ShowsNoDesk g a c) (ShowsOldRows g a c)
+    (StaysShown g a c)
 opened_since g a b c world (Ok v) reads done = record {
   begins = begins_then g a b c reads done.doubt (world v) done.was_open done.begins;
   stands = done.stands;
@@ -264,7 +264,7 @@ opened_since g a b c world (Err e) reads done = record {
 pub unread_as : {S V W : Type 0} (g : Ghosts S) (a b : Held S) (made : TablesPresent) {world : V → World}
     {Begins : V → Type 0} {Gives : Tables → W → Type 0} {Refuses : Tables → Type 0} {Keeps : Type 0}
     (r : Result V OpenFault) (e : OpenFault) → IsErrAnd r (λ fault. fault ≡ e)
-    → IsRead g a b {V = W} (Err e) made Gives Refuses → (IsKept g a b → Keeps)
+    → IsRead g a b {V = W} (Err e) made Gives Refuses → (StaysShown g a b → Keeps)
     → IsSetUp g a b r world Begins
     (HasCleanDisk (state g b) → Refuses (tables_at made (state g a).now.trees)) Keeps
 unread_as g a b made (Ok v) e is read keeps = absurd is
@@ -288,7 +288,7 @@ pub refused_as : {S V : Type 0} (g : Ghosts S) (a c : Held S) {world : V → Wor
     → (e ≡ NotADesk → Refuses) → e ≢ OldSchema → BlamesDatabase g a c e → Keeps
     → c.step_limit ≡ a.step_limit → doubt (state g a).is_clean ≤ doubt (state g c).is_clean
     → ((state g a).IsShielded → (state g c).IsShielded)
-    → IsOpened g a c r world Begins Refuses Older Keeps
+    → IsOpening g a c r world Begins Refuses Older Keeps
 refused_as g a c (Ok v) e is none newer cause kept limit rises shield = absurd is
 refused_as g a c (Err f) e is none newer cause kept limit rises shield = record {
   begins = tt;
@@ -317,7 +317,7 @@ kept_on_err (Err e) a = a
 module _ {S : Type 0} (g : Ghosts S) where
   -- what SQLite refuses is told as a failure only if the disk failed or the steps did not do
   failed_if : (a b c : Held S) (error : Error) → (state g a).faults ≤ (state g b).faults → b.step_limit
-      ≡ a.step_limit → IsRefusal g b c error → open_fault_of error ≡ Store → HasFailed g a c
+      ≡ a.step_limit → IsRefusal g b c error → open_fault_of error ≡ Store → IsHindered g a c
   failed_if a b c error fewer limit (inl h) told =
       let e : open_fault_of (SqliteFailure code.OutOfMemory)
       ≡ Store = subst (λ x. open_fault_of x ≡ Store) h told in cc
@@ -326,7 +326,7 @@ module _ {S : Type 0} (g : Ghosts S) where
 
   -- what the tables are not found for
   pub blames_unread : (a b : Held S) (error : Error)
-      → (HasCleanDisk (state g b) → IsTrue (state g b).is_open → IsUnread g a b error)
+      → (HasCleanDisk (state g b) → IsTrue (state g b).is_open → AreRowsUnread g a b error)
       → BlamesDatabase g a b (open_fault_of error)
   blames_unread a b error why clean live told = elim (why clean live) [
     | inl refusal ↦ inl (failed_if a a b error (omega arith) refl refusal told)

@@ -15,8 +15,8 @@ use Rattle.desk_sql.specs.Unpacking.{RemakesTables}
 use Rattle.desk_store.specs.World.{Filed, World}
 use Rattle.desk_tables.specs.Tables.{plan_rows}
 use Rattle.desk_tables.specs.Opening.{IsContentOf}
-use Rattle.desk_tables.specs.Moving.{IsOldContentOf, IsWhole, RemovesOldRows}
-use Rattle.desk_tables.specs.Writing.{AreAwaited, AreWritable, HasSpansToIndex, HaveFewRows, IsToOrder}
+use Rattle.desk_tables.specs.Moving.{HasAllTables, IsOldContentOf, RemovesOldRows}
+use Rattle.desk_tables.specs.Writable.{AreAwaited, AreWritable, HasSpansToIndex, HaveFewRows, IsToOrder}
 use Rattle.desk_tables.proofs.AssemblyLemmas.{filed_within}
 use Rattle.desk_tables.proofs.SmallLemmas.{small_old_spans, small_spans}
 use Rattle.desk_tables.proofs.WritingLemmas.{FewCovers, writable}
@@ -43,7 +43,8 @@ module _ {S : Type 0} (g : Ghosts S) (made : TablesPresent) (w : World) (a b : H
 
   pub whole_awaited : (ps : List Filed) (c : Held S) → ps ≡ w.plans
       → doubt (state g b).is_clean ≤ doubt (state g c).is_clean
-      → (HasCleanDisk (state g c) → IsTrue (state g c).is_open → IsWhole g made b c) → HaveFewRows w.plans
+      → (HasCleanDisk (state g c) → IsTrue (state g c).is_open → HasAllTables g made b c)
+      → HaveFewRows w.plans
       → Holds g c (λ db. AreAwaited ps (tables_of db.trees))
   whole_awaited ps c is rises done few clean live =
       let mid : HasCleanDisk (state g b) = omega (arith, rises, clean) in

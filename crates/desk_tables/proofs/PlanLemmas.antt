@@ -10,10 +10,10 @@ use Rattle.sqlite_value.specs.Order.{Row}
 use Rattle.volume4d.specs.Volume.{Block}
 use Rattle.desk_store.specs.World.{Filed, text_cmp, filed_cmp}
 use Rattle.desk_store.specs.laws.Order.{all_weaker, all_append}
-use Rattle.desk_tables.specs.Tables.{id_text, plan_row, plan_rows, volume_row, rows_from, volume_rows_from, area_rows, volume_rows}
+use Rattle.desk_tables.specs.Tables.{id_text, row_of_plan, plan_rows, row_of_volume, rows_from, volume_rows_from, area_rows, volume_rows}
 use Rattle.desk_store.specs.Content.{IsPlan}
 use Rattle.desk_tables.specs.Records.{IsFiled, AreRowsOf}
-use Rattle.desk_tables.specs.Opening.{ArePlanRows, is_of}
+use Rattle.desk_tables.specs.Opening.{ArePlanRows, is_row_of}
 use Rattle.desk_tables.proofs.RowLemmas.{after_key, after_place, placed}
 use Rattle.desk_tables.proofs.IdLemmas.{text_order}
 use Rattle.desk_tables.proofs.FilterLemmas.{ArePlans, turned}
@@ -22,7 +22,7 @@ use Rattle.desk_tables.proofs.ListingLemmas.{filed_total, own_at}
 -- ---- which rows are of a plan
 
 abbrev pub of : Filed → Row → Bool
-of p r = is_of p.operator (id_text p.row.id) r
+of p r = is_row_of p.operator (id_text p.row.id) r
 
 -- a row that begins with the plan's key
 abbrev pub HasKey : Filed → Row → Type 0
@@ -53,7 +53,7 @@ placed_keyed more p n (v ∷ vs) = ((after_key (placed more p n v), refl), place
 
 pub area_keyed : (p : Filed) (n : ℕ) (vs : List Block)
     → AllByRecursion (HasKey p) (volume_rows_from p n vs)
-area_keyed = placed_keyed (after_place volume_row)
+area_keyed = placed_keyed (after_place row_of_volume)
 
 volumes_of_others : (p : Filed) (qs : List Filed) → IsPlan p.row → ArePlans qs
     → AllByRecursion (λ q. filed_cmp p q ≡ Less) qs
@@ -92,7 +92,7 @@ pub record AreFiled (head_rows volumes : List Row) (ps : List Filed) (left rest 
 
 heads_append : (ps qs : List Filed) → plan_rows (ps ++ qs) ≡ plan_rows ps ++ plan_rows qs
 heads_append [] qs = refl
-heads_append (p ∷ ps) qs = ap (λ rs. plan_row p ∷ rs) (heads_append ps qs)
+heads_append (p ∷ ps) qs = ap (λ rs. row_of_plan p ∷ rs) (heads_append ps qs)
 
 areas_append : (ps qs : List Filed) → volume_rows (ps ++ qs) ≡ volume_rows ps ++ volume_rows qs
 areas_append [] qs = refl
@@ -100,16 +100,16 @@ areas_append (p ∷ ps) qs = ap (λ rs. area_rows p ++ rs) (areas_append ps qs)
     ∙ sym (append_assoc (area_rows p) (volume_rows ps) (volume_rows qs))
 
 module _ (left later rest mine more : List Row) (head : Row) (count : ℕ) (some : left ≡ head ∷ later)
-    (counted : (p : Filed) → head ≡ plan_row p → count ≡ prefix_len (of p) rest)
+    (counted : (p : Filed) → head ≡ row_of_plan p → count ≡ prefix_len (of p) rest)
     (mine_is : mine ≡ take count rest) (more_is : more ≡ drop count rest) where
   -- if rows are of plans in order, those of the first are taken
   first_taken : (q : Filed) (qs : List Filed) → IsStrictlySortedBy filed_cmp (q ∷ qs)
-      → ArePlanRows (q ∷ qs) left rest → (head ≡ plan_row q) × (mine ≡ area_rows q)
+      → ArePlanRows (q ∷ qs) left rest → (head ≡ row_of_plan q) × (mine ≡ area_rows q)
       × ArePlanRows qs later more
   unfolding IsStrictlySortedBy
   first_taken q qs s h =
-      let both : head ∷ later ≡ plan_row q ∷ plan_rows qs = sym some ∙ h.plans in
-      let first : head ≡ plan_row q = cc in
+      let both : head ∷ later ≡ row_of_plan q ∷ plan_rows qs = sym some ∙ h.plans in
+      let first : head ≡ row_of_plan q = cc in
       let head_rows : later ≡ plan_rows qs = cc in
       let plans = plans_within (q ∷ qs) h.within in
       let here : length (area_rows q) ≡ count =
@@ -146,7 +146,7 @@ module _ (left later rest mine more : List Row) (head : Row) (count : ℕ) (some
     within = all_append IsFiled ps (p ∷ []) h.within (within, tt);
     heads_so_far =
         h.heads_so_far ∙ (λ i. plan_rows ps ++ (some ∙ ap (λ r. r ∷ later) are.plan) i)
-        ∙ sym (append_assoc (plan_rows ps) (plan_row p ∷ []) later)
+        ∙ sym (append_assoc (plan_rows ps) (row_of_plan p ∷ []) later)
         ∙ ap (λ rs. rs ++ later) (sym (heads_append ps (p ∷ [])));
     areas_so_far =
         h.areas_so_far ∙ (λ i. volume_rows ps ++ (rejoined rest count

@@ -8,8 +8,8 @@ use Rattle.sqlite_keyed.proofs.ListLemmas.{IsPermutation-filter, IsPermutation-s
 use Rattle.desk_sql.specs.Rows.{Tables, is_of, is_not_of, left_without}
 use Rattle.desk_sql.specs.Batches.{PutsPlan}
 use Rattle.desk_store.specs.World.{Filed, World}
-use Rattle.desk_store.specs.Rows.{is_own}
-use Rattle.desk_tables.specs.Tables.{id_text, plan_row, plan_rows, area_rows, volume_rows, area_covers, cover_rows, ArePlanSpanRows, AreSpanRows, AreTables}
+use Rattle.desk_store.specs.OwnRows.{is_own}
+use Rattle.desk_tables.specs.Tables.{id_text, row_of_plan, plan_rows, area_rows, volume_rows, area_covers, cover_rows, ArePlanSpanRows, AreSpanRows, AreTables}
 use Rattle.desk_store.specs.Content.{IsId, IsPlan, IsContent}
 use Rattle.desk_tables.specs.TableChanges.{PutsRows}
 use Rattle.desk_tables.proofs.RowLemmas.{after_key}
@@ -26,9 +26,9 @@ none_own o id (p ∷ ps) hi h e = let parts = none_from_any (is_of o (id_text id
       go : (q : Filed) (qs : List Filed) → ArePlans (q ∷ qs)
           → AllByRecursion (λ r. is_of o (id_text id) r ≡ false) (plan_rows (q ∷ qs))
           → NoneOwn o id (q ∷ qs)
-      go q [] k none = (ap not (sym (own_row o id q (after_key (plan_row q)) hi k.0.id) ∙ none.0), tt)
+      go q [] k none = (ap not (sym (own_row o id q (after_key (row_of_plan q)) hi k.0.id) ∙ none.0), tt)
       go q (r ∷ rs) k none = (
-        ap not (sym (own_row o id q (after_key (plan_row q)) hi k.0.id) ∙ none.0),
+        ap not (sym (own_row o id q (after_key (row_of_plan q)) hi k.0.id) ∙ none.0),
         go r rs k.1
             none.1,
       )
@@ -100,7 +100,7 @@ none_without o text tables rows none =
 pub put_is_put : (p : Filed) (w : World) (old new : Tables) (spans : List Row) → IsContent w
     → IsPlan p.row
     → AreTables old w → ArePlanSpanRows p spans
-    → PutsPlan p.operator (id_text p.row.id) (plan_row p) (area_rows p) (area_covers p) spans old new
+    → PutsPlan p.operator (id_text p.row.id) (row_of_plan p) (area_rows p) (area_covers p) spans old new
     → PutsRows p old new
 put_is_put p w old new spans h hp t are e = record {
   no_old = λ none. record {

@@ -18,7 +18,7 @@ use Rattle.sqlite.specs.Effect.{Database}
 use Rattle.s2_cover.specs.declared.spans.Span.{Span}
 use Rattle.s2_cover.specs.CanonicalList.{canonical_list}
 use Rattle.volume4d.specs.FootprintBytes.{HasValidParts, footprint_bytes}
-use Rattle.volume4d.specs.Limits.{max_cells, max_cover}
+use Rattle.volume4d.specs.VolumeLimits.{max_cells, max_cover}
 use Rattle.volume4d.specs.Shape.{Shape, cells, rectangle, is_footprint, shape_positions}
 use Rattle.volume4d.specs.Volume.{Block}
 use Rattle.desk_rules.specs.declared.plan.PlanRow.{PlanRow}
@@ -33,7 +33,7 @@ use Rattle.desk_store.specs.StoreChange.{IsFitting}
 use Rattle.desk_store.specs.declared.change.Change.TheVariants.{Put}
 use Rattle.desk_store.specs.World.{Filed, Listed, World, ceiling_of, text_cmp}
 use Rattle.desk_store.specs.laws.Order.{all_weaker, all_append}
-use Rattle.desk_tables.specs.Tables.{id_text, operator_row, area_rows, area_covers, rows_from, volume_rows_from, cover_row, span_row, AreSpanRowsFrom, ArePlanSpanRows, AreTables}
+use Rattle.desk_tables.specs.Tables.{id_text, row_of_operator, area_rows, area_covers, rows_from, volume_rows_from, row_of_cover, row_of_span, AreSpanRowsFrom, ArePlanSpanRows, AreTables}
 use Rattle.desk_store.specs.Content.{IsBlock, IsPlan}
 use Rattle.desk_tables.specs.Causes.{HasRoomForPlan}
 use Rattle.desk_tables.proofs.CauseLemmas.{name_short}
@@ -100,7 +100,7 @@ module _ (p : Filed) (name : IsShort p.operator) (text : IsShort (id_text p.row.
     volumes_short (n + 1) vs h.1,
   )
 
-  volume_spans_short : (n : ℕ) (v : Block) (spans : List Span) → AreShort (map (span_row p n v) spans)
+  volume_spans_short : (n : ℕ) (v : Block) (spans : List Span) → AreShort (map (row_of_span p n v) spans)
   volume_spans_short n v [] = tt
   volume_spans_short n v (s ∷ spans) =
       ((name, (text, (tt, (tt, (tt, (tt, (tt, (tt, (tt, (tt, tt)))))))))), volume_spans_short n v spans)
@@ -108,7 +108,8 @@ module _ (p : Filed) (name : IsShort p.operator) (text : IsShort (id_text p.row.
   area_spans_short : (n : ℕ) (vs : List Block) (rows : List Row) → AreSpanRowsFrom p n vs rows → AreShort rows
   area_spans_short n [] rows e = subst AreShort (sym e) tt
   area_spans_short n (v ∷ vs) rows (spans, rest, ranges, are, then) =
-      subst AreShort (sym are) (all_append _ (map (span_row p n v) spans) rest (volume_spans_short n v spans)
+      subst AreShort (sym are) (all_append _ (map (row_of_span p n v) spans) rest
+      (volume_spans_short n v spans)
       (area_spans_short (n + 1) vs rest then))
 
   pub spans_short : (rows : List Row) → ArePlanSpanRows p rows → AreShort rows
@@ -120,7 +121,7 @@ module _ (p : Filed) (name : IsShort p.operator) (text : IsShort (id_text p.row.
   -- where a cover has at most so many cells
   pub covers_short : ((shape : Shape) → IsTrue (is_footprint shape) → HasValidParts shape
       → length (canonical_list (shape_positions shape)) ≤ max_cover)
-      → (n : ℕ) (vs : List Block) → AllByRecursion IsBlock vs → AreShort (rows_from cover_row p n vs)
+      → (n : ℕ) (vs : List Block) → AllByRecursion IsBlock vs → AreShort (rows_from row_of_cover p n vs)
   covers_short few n [] h = tt
   covers_short few n (v ∷ vs) h =
       let count = few v.footprint h.0.limits h.0.valid in
@@ -140,19 +141,19 @@ both_hold true = refl
 both_hold false = refl
 
 same_name : (name : List ℕ) (rest : Row) (l : Listed)
-    → has_same_key 1 (operator_row l) (Text name ∷ rest) ≡ is_eq (text_cmp name l.name)
+    → has_same_key 1 (row_of_operator l) (Text name ∷ rest) ≡ is_eq (text_cmp name l.name)
 same_name name rest l = both_hold _ ∙ ap is_eq (value_cmp-Text l.name name) ∙ turned l.name name
 
 pub named_row : (name : List ℕ) (rest : Row) (ls : List Listed) → has_name name ls ≡ true
-    → HasKey 1 (Text name ∷ rest) (map operator_row ls)
+    → HasKey 1 (Text name ∷ rest) (map row_of_operator ls)
 named_row name rest [] h = h
 named_row name rest (l ∷ ls) h =
-    by_test (is_eq (text_cmp name l.name)) (has_same_key 1 (operator_row l) (Text name ∷ rest))
+    by_test (is_eq (text_cmp name l.name)) (has_same_key 1 (row_of_operator l) (Text name ∷ rest))
     (same_name name rest l) h (named_row name rest ls) where
       by_test : (b c : Bool) → c ≡ b
           → is_some (cond b (Some l) (find (λ l. is_eq (text_cmp name l.name)) ls)) ≡ true
-          → (has_name name ls ≡ true → HasKey 1 (Text name ∷ rest) (map operator_row ls))
-          → (c || list_any (λ r. has_same_key 1 r (Text name ∷ rest)) (map operator_row ls)) ≡ true
+          → (has_name name ls ≡ true → HasKey 1 (Text name ∷ rest) (map row_of_operator ls))
+          → (c || list_any (λ r. has_same_key 1 r (Text name ∷ rest)) (map row_of_operator ls)) ≡ true
       by_test true true e h later = refl
       by_test false false e h later = later h
       by_test true false e h later = cc
@@ -181,7 +182,7 @@ puttable few operator row text volumes covers spans w db priority usage aircraft
     let name = name_short operator valid in
     let id_short : IsShort (id_text row.id) = subst IsShort is short in
     let plan_is : Row = sql.plan_row operator text priority usage aircraft in
-    let same = list_any-IsPermutation (λ r. has_same_key 1 r plan_is) (map operator_row w.operators)
+    let same = list_any-IsPermutation (λ r. has_same_key 1 r plan_is) (map row_of_operator w.operators)
     (tables_of db.trees).operators tables.operators in
     let listed = if_listed w.operators w.plans p (listed_for operator row w fits) in
     record {

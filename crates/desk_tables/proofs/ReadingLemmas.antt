@@ -5,7 +5,7 @@ use Rattle.sqlite_value.specs.declared.value.Value.{Value}
 use Rattle.sqlite_value.specs.declared.value.Value.TheVariants.{Int, Text, Blob}
 use Rattle.sqlite_value.specs.Order.{Row, column}
 use Rattle.volume4d.specs.FootprintBytes.{footprint_bytes, HasValidParts, AreBytesOf}
-use Rattle.volume4d.specs.Limits.{within_altitudes, within_times, within_length}
+use Rattle.volume4d.specs.VolumeLimits.{within_altitudes, within_times, within_length}
 use Rattle.volume4d.specs.Shape.{Shape}
 use Rattle.volume4d.specs.Volume.{Block}
 use Rattle.volume4d.specs.Windows.{WindowParts, window_or_fault}
@@ -16,7 +16,7 @@ use Rattle.uuid.proofs.RoundTrips.{parses_hyphenated}
 use Rattle.volume4d.specs.Volume.{is_area}
 use Rattle.desk_tables.specs.Tables.{id_text}
 use Rattle.desk_store.specs.Content.{IsId, IsBlock}
-use Rattle.desk_tables.specs.Reading.{IsVolumeAt}
+use Rattle.desk_tables.specs.RowsRead.{IsVolumeAt}
 
 pub window_is : (e w : WindowParts) → ◌≡◌ {A = Result WindowParts WindowFault} (Ok w)
     (window_or_fault e) → w

@@ -14,7 +14,7 @@ use Rattle.volume4d.specs.Slabs.{AreVolumeSlabs}
 use Rattle.volume4d.specs.Volume.{Block}
 use Rattle.desk_sql.specs.Rows as sql
 use Rattle.desk_store.specs.World.{Filed}
-use Rattle.desk_tables.specs.Tables.{id_text, rows_from, volume_row, volume_rows_from, canon_bytes, cover_row, span_row, AreSpanRowsFrom}
+use Rattle.desk_tables.specs.Tables.{id_text, rows_from, row_of_volume, volume_rows_from, canon_bytes, row_of_cover, row_of_span, AreSpanRowsFrom}
 use Rattle.desk_tables.specs.PlanRows.{volume_record, slab_record}
 
 -- two lists that are shown alike are alike at each place
@@ -74,53 +74,53 @@ pub volume_put : (p : Filed) (vs : List Block) (i place : ℕ) (v d : Block) (ro
     ≡ volume_record p.operator text place v.window asked → rows ++ row ∷ []
     ≡ volume_rows_from p 0 (take (i + 1) vs)
 volume_put p vs i place v d rows row text asked h is at named bytes before put =
-    row_put volume_row p vs i place v d rows row h is at before
+    row_put row_of_volume p vs i place v d rows row h is at before
     (λ n there. put ∙ (λ k. volume_record p.operator (named k) (there k) v.window (bytes k)))
 
 pub cover_put : (p : Filed) (vs : List Block) (i place : ℕ) (v d : Block) (rows : List Row) (row : Row)
     (text : List ℕ) (canon : List ℕ) → i < length vs → v ≡ get_or vs i d → place ≡ i → text
     ≡ id_text p.row.id
-    → canon ≡ canon_bytes v.footprint → rows ≡ rows_from cover_row p 0 (take i vs) → row
+    → canon ≡ canon_bytes v.footprint → rows ≡ rows_from row_of_cover p 0 (take i vs) → row
     ≡ sql.cover_row p.operator text place canon → rows ++ row ∷ []
-    ≡ rows_from cover_row p 0 (take (i + 1) vs)
+    ≡ rows_from row_of_cover p 0 (take (i + 1) vs)
 cover_put p vs i place v d rows row text canon h is at named bytes before put =
-    row_put cover_row p vs i place v d rows row h is at before
+    row_put row_of_cover p vs i place v d rows row h is at before
     (λ n there. put ∙ (λ k. sql.cover_row p.operator (named k) (there k) (bytes k)))
 
 -- ---- spans
 
 spans_more : (p : Filed) (n : ℕ) (us : List Block) (v : Block) (rows : List Row) (spans : List Span)
     → AreSpanRowsFrom p n us rows → IsRanges (shape_positions v.footprint) spans
-    → AreSpanRowsFrom p n (us ++ v ∷ []) (rows ++ map (span_row p (n + length us) v) spans)
+    → AreSpanRowsFrom p n (us ++ v ∷ []) (rows ++ map (row_of_span p (n + length us) v) spans)
 spans_more p n [] v rows spans e ranges =
     let none : n + length {A = Block} [] ≡ n = omega arith in (
       spans,
       [],
       ranges,
-      (λ j. e j ++ map (span_row p (none j) v) spans)
-          ∙ sym (append-nil (map (span_row p n v) spans)),
+      (λ j. e j ++ map (row_of_span p (none j) v) spans)
+          ∙ sym (append-nil (map (row_of_span p n v) spans)),
       refl,
     )
 spans_more p n (u ∷ us) v rows spans (first, rest, mine, are, more) ranges =
     let next : (n + 1) + length us ≡ n + length (u ∷ us) = omega arith in
-    let added = map (span_row p (n + length (u ∷ us)) v) spans in (
+    let added = map (row_of_span p (n + length (u ∷ us)) v) spans in (
       first,
       rest ++ added,
       mine,
-      ap (λ xs. xs ++ added) are ∙ append_assoc (map (span_row p n u) first) rest added,
-      subst (λ m. AreSpanRowsFrom p (n + 1) (us ++ v ∷ []) (rest ++ map (span_row p m v) spans)) next
+      ap (λ xs. xs ++ added) are ∙ append_assoc (map (row_of_span p n u) first) rest added,
+      subst (λ m. AreSpanRowsFrom p (n + 1) (us ++ v ∷ []) (rest ++ map (row_of_span p m v) spans)) next
           (spans_more p (n + 1) us v rest spans more ranges),
     )
 
 slabs_are : (p : Filed) (place : ℕ) (v : Block) (slabs : List Slab)
     → AllByRecursion (λ s. slab_window s ≡ v.window) slabs
     → map (slab_record p.operator (id_text p.row.id) place p.row.priority) slabs
-    ≡ map (span_row p place v) (map span_of slabs)
+    ≡ map (row_of_span p place v) (map span_of slabs)
 slabs_are p place v [] h = refl
 slabs_are p place v (s ∷ slabs) h = λ j. one s h.0 j ∷ slabs_are p place v slabs h.1 j where
   one : (s : Slab) → slab_window s ≡ v.window → slab_record p.operator (id_text p.row.id) place
       p.row.priority
-      s ≡ span_row p place v (span_of s)
+      s ≡ row_of_span p place v (span_of s)
   one s e = ap (λ w. sql.span_row p.operator (id_text p.row.id) place (pos s.first) (pos s.last) w.lower
       w.upper w.start w.end p.row.priority) e
 
@@ -133,7 +133,7 @@ pub spans_put : (p : Filed) (vs : List Block) (i place : ℕ) (v d : Block) (row
 spans_put p vs i place v d rows more all text slabs h is at named are before put whole =
     let there : place ≡ 0 + length (take i vs) = at ∙ sym (length_taken vs i h)
     ∙ zeros (length (take i vs)) in
-    let spans_is : more ≡ map (span_row p (0 + length (take i vs)) v) (map span_of slabs) = put
+    let spans_is : more ≡ map (row_of_span p (0 + length (take i vs)) v) (map span_of slabs) = put
     ∙ (λ k. map (slab_record p.operator (named k) (there k) p.row.priority) slabs)
     ∙ slabs_are p (0 + length (take i vs)) v slabs
     (recursion_from_All (λ s. slab_window s ≡ v.window) slabs are.windows) in

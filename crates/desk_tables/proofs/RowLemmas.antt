@@ -14,7 +14,7 @@ use Rattle.sqlite_keyed.proofs.ListLemmas.{all_map, all_weaker, ascending-append
 use Rattle.sqlite_keyed.proofs.SortLemmas.{sorted_unique}
 use Rattle.volume4d.specs.Volume.{Block}
 use Rattle.desk_store.specs.World.{Filed, Listed, text_cmp, listed_cmp, filed_cmp}
-use Rattle.desk_tables.specs.Tables.{id_text, operator_row, plan_row, plan_rows, volume_row, rows_from, volume_rows_from, area_rows, volume_rows}
+use Rattle.desk_tables.specs.Tables.{id_text, row_of_operator, row_of_plan, plan_rows, row_of_volume, rows_from, volume_rows_from, area_rows, volume_rows}
 use Rattle.desk_store.specs.Content.{IsPlan}
 use Rattle.desk_tables.proofs.IdLemmas.{text_order, then_then}
 
@@ -69,18 +69,18 @@ place_less p n m r s h =
       ints = grind (arith, nat_tests, h)
 
 -- operators
-operator_less : (l k : Listed) → listed_cmp l k ≡ Less → Below (operator_row l) (operator_row k)
+operator_less : (l k : Listed) → listed_cmp l k ≡ Less → Below (row_of_operator l) (row_of_operator k)
 operator_less l k e =
     ap (λ o. ordering_then o (row_cmp (Int (pos l.ceiling) ∷ []) (Int (pos k.ceiling) ∷ [])))
     (value_cmp-Text l.name k.name ∙ e)
 
 pub operators_ascend : (ls : List Listed) → IsStrictlySortedBy listed_cmp ls
-    → IsAscending Below (map operator_row ls)
+    → IsAscending Below (map row_of_operator ls)
 unfolding IsStrictlySortedBy
 operators_ascend [] s = tt
 operators_ascend (l ∷ ls) s = (
-  all_map (Below (operator_row l)) operator_row ls
-      (all_weaker (λ k. listed_cmp l k ≡ Less) (λ k. Below (operator_row l) (operator_row k))
+  all_map (Below (row_of_operator l)) row_of_operator ls
+      (all_weaker (λ k. listed_cmp l k ≡ Less) (λ k. Below (row_of_operator l) (row_of_operator k))
       (operator_less l) ls s.0),
   operators_ascend ls s.1,
 )
@@ -90,10 +90,10 @@ abbrev ArePlans : List Filed → Type 0
 ArePlans ps = AllByRecursion (λ p. IsPlan p.row) ps
 
 plans_after : (p : Filed) (qs : List Filed) → IsPlan p.row → ArePlans qs
-    → AllByRecursion (λ q. filed_cmp p q ≡ Less) qs → AllByRecursion (Below (plan_row p)) (plan_rows qs)
+    → AllByRecursion (λ q. filed_cmp p q ≡ Less) qs → AllByRecursion (Below (row_of_plan p)) (plan_rows qs)
 plans_after p [] hp h s = tt
 plans_after p (q ∷ qs) hp h s = (
-  key_less p q (after_key (plan_row p)) (after_key (plan_row q)) hp h.0 s.0,
+  key_less p q (after_key (row_of_plan p)) (after_key (row_of_plan q)) hp h.0 s.0,
   plans_after p qs hp h.1
       s.1,
 )
@@ -106,10 +106,10 @@ plans_ascend (p ∷ ps) h s = (plans_after p ps h.0 h.1 s.0, plans_ascend ps h.1
 
 -- volumes
 places_after : (p : Filed) (n m : ℕ) (v : Block) (us : List Block) → n < m
-    → AllByRecursion (Below (volume_row p n v)) (volume_rows_from p m us)
+    → AllByRecursion (Below (row_of_volume p n v)) (volume_rows_from p m us)
 places_after p n m v [] h = tt
 places_after p n m v (u ∷ us) h = (
-  place_less p n m (drop 1 (after_key (volume_row p n v))) (drop 1 (after_key (volume_row p m u))) h,
+  place_less p n m (drop 1 (after_key (row_of_volume p n v))) (drop 1 (after_key (row_of_volume p m u))) h,
   places_after p n (m + 1) v us (omega arith),
 )
 
@@ -118,10 +118,10 @@ places_ascend p n [] = tt
 places_ascend p n (v ∷ vs) = (places_after p n (n + 1) v vs (omega arith), places_ascend p (n + 1) vs)
 
 one_after : (p q : Filed) (n m : ℕ) (v : Block) (us : List Block) → IsPlan p.row → IsPlan q.row
-    → filed_cmp p q ≡ Less → AllByRecursion (Below (volume_row p n v)) (volume_rows_from q m us)
+    → filed_cmp p q ≡ Less → AllByRecursion (Below (row_of_volume p n v)) (volume_rows_from q m us)
 one_after p q n m v [] hp hq e = tt
 one_after p q n m v (u ∷ us) hp hq e = (
-  key_less p q (after_key (volume_row p n v)) (after_key (volume_row q m u)) hp hq e,
+  key_less p q (after_key (row_of_volume p n v)) (after_key (row_of_volume q m u)) hp hq e,
   one_after p q n
       (m + 1) v us hp hq e,
 )
@@ -133,9 +133,9 @@ all_append P (x ∷ xs) ys h k = (h.0, all_append P xs ys h.1 k)
 
 volume_after : (p : Filed) (n : ℕ) (v : Block) (qs : List Filed) → IsPlan p.row → ArePlans qs
     → AllByRecursion (λ q. filed_cmp p q ≡ Less) qs
-    → AllByRecursion (Below (volume_row p n v)) (volume_rows qs)
+    → AllByRecursion (Below (row_of_volume p n v)) (volume_rows qs)
 volume_after p n v [] hp h s = tt
-volume_after p n v (q ∷ qs) hp h s = all_append (Below (volume_row p n v)) (area_rows q) _
+volume_after p n v (q ∷ qs) hp h s = all_append (Below (row_of_volume p n v)) (area_rows q) _
     (one_after p q n 0 v q.row.area hp h.0 s.0) (volume_after p n v qs hp h.1 s.1)
 
 volumes_after : (p : Filed) (n : ℕ) (vs : List Block) (qs : List Filed) → IsPlan p.row → ArePlans qs

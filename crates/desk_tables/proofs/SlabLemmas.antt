@@ -15,7 +15,7 @@ use Rattle.desk_store.specs.World.{Filed, World}
 use Rattle.desk_store.specs.laws.Order.{all_append, all_filter}
 use Rattle.desk_store.specs.Content.{IsBlock, IsContent}
 use Rattle.desk_tables.specs.RivalRows.{FitsColumns, IsHeldIn, IsNoHeld}
-use Rattle.desk_tables.specs.Tables.{span_row, AreSpanRowsFrom, ArePlanSpanRows, AreSpanRows, AreTables}
+use Rattle.desk_tables.specs.Tables.{row_of_span, AreSpanRowsFrom, ArePlanSpanRows, AreSpanRows, AreTables}
 use Rattle.desk_tables.proofs.FilterLemmas.{ArePlans}
 use Rattle.desk_tables.proofs.UnreadLemmas.{window_fits}
 
@@ -26,7 +26,7 @@ abbrev IsSpanOfHeld : Row → Type 0
 IsSpanOfHeld row = IsHeldRow (held_columns row)
 
 one_span : (p : Filed) (n : ℕ) (v : Block) (s : Span) → IsBlock v → p.row.priority ≤ max_priority
-    → IsSpan s → IsSpanOfHeld (span_row p n v s)
+    → IsSpan s → IsSpanOfHeld (row_of_span p n v s)
 one_span p n v s block low span = (
   record {
     slab = record {
@@ -55,7 +55,7 @@ one_span p n v s block low span = (
 )
 
 on_spans : (p : Filed) (n : ℕ) (v : Block) (spans : List Span) → IsBlock v → p.row.priority ≤ max_priority
-    → AllByRecursion IsSpan spans → AllByRecursion IsSpanOfHeld (map (span_row p n v) spans)
+    → AllByRecursion IsSpan spans → AllByRecursion IsSpanOfHeld (map (row_of_span p n v) spans)
 on_spans p n v [] block low each = tt
 on_spans p n v (s ∷ spans) block low each = (
   one_span p n v s block low each.0,
@@ -67,7 +67,7 @@ on_area : (p : Filed) (n : ℕ) (vs : List Block) (rows : List Row) → AllByRec
 on_area p n [] rows blocks low are = subst (AllByRecursion IsSpanOfHeld) (sym are) tt
 on_area p n (v ∷ vs) rows blocks low (spans, rest, ranges, are, more) =
     subst (AllByRecursion IsSpanOfHeld) (sym are)
-    (all_append IsSpanOfHeld (map (span_row p n v) spans) rest
+    (all_append IsSpanOfHeld (map (row_of_span p n v) spans) rest
     (on_spans p n v spans blocks.0 low (recursion_from_All IsSpan spans ranges.each))
     (on_area p (n + 1) vs rest blocks.1 low more))
 

@@ -16,14 +16,14 @@ use Rattle.volume4d.specs.Volume.{Block}
 use Rattle.desk_rules.specs.Plan.{is_live}
 use Rattle.desk_sql.specs.declared.opening.finding.TablesPresent.{TablesPresent}
 use Rattle.desk_sql.specs.Rows.{Tables, no_rows, tables_at}
-use Rattle.desk_sql.specs.Effects.{IsKept}
+use Rattle.desk_sql.specs.Effects.{StaysShown}
 use Rattle.desk_sql.specs.Frames.{OnlyReads}
 use Rattle.desk_sql.specs.Refusals.{IsRefusal}
 use Rattle.desk_sql.specs.Changing.{IsShort}
 use Rattle.desk_sql.specs.Making.{AreSmall, HasSmallSpans, IsSmall}
 use Rattle.desk_store.specs.World.{Filed, World}
 use Rattle.desk_store.specs.laws.Order.{all_append}
-use Rattle.desk_tables.specs.Tables.{id_text, span_row, AreSpanRowsFrom, ArePlanSpanRows, AreSpanRows}
+use Rattle.desk_tables.specs.Tables.{id_text, row_of_span, AreSpanRowsFrom, ArePlanSpanRows, AreSpanRows}
 use Rattle.desk_tables.specs.Opening.{BlamesReading, IsContentOf, open_fault_of}
 use Rattle.desk_tables.specs.Moving.{IsOldContentOf}
 use Rattle.desk_tables.specs.Records.{IsFiled}
@@ -35,7 +35,7 @@ pub id_short : (id : List ℕ) → IsShort (id_text id)
 id_short id = let long : length (id_text id) ≡ 36 = by_index_length 36 _ in omega (arith, long)
 
 module _ (p : Filed) (name : IsShort p.operator) where
-  volume_spans : (n : ℕ) (v : Block) (spans : List Span) → AreSmall (map (span_row p n v) spans)
+  volume_spans : (n : ℕ) (v : Block) (spans : List Span) → AreSmall (map (row_of_span p n v) spans)
   volume_spans n v [] = tt
   volume_spans n v (s ∷ spans) = (
     (name, (id_short p.row.id, (tt, (tt, (tt, (tt, (tt, (tt, (tt, (tt, tt)))))))))),
@@ -45,7 +45,7 @@ module _ (p : Filed) (name : IsShort p.operator) where
   area_spans : (n : ℕ) (vs : List Block) (rows : List Row) → AreSpanRowsFrom p n vs rows → AreSmall rows
   area_spans n [] rows e = subst AreSmall (sym e) tt
   area_spans n (v ∷ vs) rows (spans, rest, ranges, are, then) =
-      subst AreSmall (sym are) (all_append _ (map (span_row p n v) spans) rest (volume_spans n v spans)
+      subst AreSmall (sym are) (all_append _ (map (row_of_span p n v) spans) rest (volume_spans n v spans)
       (area_spans (n + 1) vs rest then))
 
   plan_spans : (rows : List Row) → ArePlanSpanRows p rows → AreSmall rows
@@ -89,7 +89,7 @@ blank_spans = (tt, tt)
 pub blames_completing : {S : Type 0} (g : Ghosts S) (made : TablesPresent) (w : World) (old mid new : Held S)
     (error : Error) → OnlyReads g old mid
     → (HasCleanDisk (state g mid) → IsContentOf (tables_at made (state g old).now.trees) w)
-    → doubt (state g mid).is_clean ≤ doubt (state g new).is_clean → IsKept g mid new
+    → doubt (state g mid).is_clean ≤ doubt (state g new).is_clean → StaysShown g mid new
     → (HasSmallSpans (tables_at made (state g mid).now.trees) → HasCleanDisk (state g new)
     → IsTrue (state g new).is_open → IsRefusal g mid new error)
     → BlamesReading g old new (open_fault_of error)

@@ -25,10 +25,10 @@ use Rattle.desk_store.specs.Changes.{put_row, closed, close_row, is_named, clear
 use Rattle.desk_store.specs.StoreChange.{changed_by}
 use Rattle.desk_store.specs.declared.change.Change.{Change}
 use Rattle.desk_store.specs.declared.change.Change.TheVariants.{Enrol, Put, Close, Clear}
-use Rattle.desk_tables.specs.Tables.{span_row, AreSpanRowsFrom, ArePlanSpanRows, AreSpanRows, AreTables}
+use Rattle.desk_tables.specs.Tables.{row_of_span, AreSpanRowsFrom, ArePlanSpanRows, AreSpanRows, AreTables}
 use Rattle.desk_tables.specs.declared.span_bounds.SpanBounds.{SpanBounds}
 use Rattle.desk_tables.specs.RivalRows.{reach_of, is_asked_if}
-use Rattle.desk_tables.specs.SpanBounds.{AreWhole, IsKnown, IsWithin, Keeps, begins_in, IsKnownBlock, IsKnownPlan, AreKnownPlans, Bounds, BringsKnown, IsKnownRow, HasKnownSpan}
+use Rattle.desk_tables.specs.SpanBounds.{AreWhole, IsKnown, IsWithinExtent, Keeps, begins_in, IsKnownBlock, IsKnownPlan, AreKnownPlans, Bounds, BringsKnown, IsKnownRow, HasKnownSpan}
 
 -- ---- all of some elements
 
@@ -59,7 +59,7 @@ module _ {A : Type 0} (P : A → Type 0) where
 module _ (one_list : (set : ℕ → Bool) (one other : List Span) → IsRanges set one → IsRanges set other
     → one ≡ other) (span_bounds : SpanBounds) where
   spans_near : (p : Filed) (place : ℕ) (v : Block) (spans : List Span)
-      → AllByRecursion (IsKnownRow span_bounds) (map (span_row p place v) spans)
+      → AllByRecursion (IsKnownRow span_bounds) (map (row_of_span p place v) spans)
       → AllByRecursion (IsKnown span_bounds) spans
   spans_near p place v [] h = tt
   spans_near p place v (s ∷ spans) h = (h.0 s.first s.last refl refl, spans_near p place v spans h.1)
@@ -69,7 +69,7 @@ module _ (one_list : (set : ℕ → Bool) (one other : List Span) → IsRanges s
       → AllByRecursion (IsKnownBlock span_bounds) vs
   blocks_near p place [] rows are near = tt
   blocks_near p place (v ∷ vs) rows (spans, rest, ranges, are, more) near =
-      let parts = all_parts (IsKnownRow span_bounds) (map (span_row p place v) spans) rest
+      let parts = all_parts (IsKnownRow span_bounds) (map (row_of_span p place v) spans) rest
       (subst (AllByRecursion (IsKnownRow span_bounds)) are near) in
       let mine = spans_near p place v spans parts.0 in (
         λ others other. subst (AllByRecursion (IsKnown span_bounds))
@@ -98,7 +98,7 @@ module _ (one_list : (set : ℕ → Bool) (one other : List Span) → IsRanges s
 module _ (span_bounds : SpanBounds) where
   spans_known : (p : Filed) (place : ℕ) (v : Block) (spans : List Span)
       → AllByRecursion (IsKnown span_bounds) spans
-      → AllByRecursion (HasKnownSpan span_bounds) (map (span_row p place v) spans)
+      → AllByRecursion (HasKnownSpan span_bounds) (map (row_of_span p place v) spans)
   spans_known p place v [] h = tt
   spans_known p place v (s ∷ spans) h =
       (record { span = s; begins = refl; ends = refl; known = h.0 }, spans_known p place v spans h.1)
@@ -109,7 +109,7 @@ module _ (span_bounds : SpanBounds) where
   blocks_known p place [] rows h are = subst (AllByRecursion (HasKnownSpan span_bounds)) (sym are) tt
   blocks_known p place (v ∷ vs) rows h (spans, rest, ranges, are, more) =
       subst (AllByRecursion (HasKnownSpan span_bounds)) (sym are)
-      (all_both (HasKnownSpan span_bounds) (map (span_row p place v) spans) rest
+      (all_both (HasKnownSpan span_bounds) (map (row_of_span p place v) spans) rest
       (spans_known p place v spans (h.0 spans ranges)) (blocks_known p (place + 1) vs rest h.1 more))
 
   plan_known : (p : Filed) (rows : List Row) → IsKnownPlan span_bounds p.row → ArePlanSpanRows p rows
@@ -185,7 +185,7 @@ module _ (another : Row → Bool) (least : ℕ) (extent : Slab) where
         && (is_above (column r 6) extent.lower && (is_below (column r 7) extent.end
         && (is_above (column r 8) extent.start && is_at_least (column r 9) (pos least)))))
 
-    asked_is : (question : Span) → IsWithin extent question
+    asked_is : (question : Span) → IsWithinExtent extent question
         → asked question r ≡ (begins_in span question && rival r)
     asked_is question within =
         (λ i. is_at_least (begins i) (pos question.first)
@@ -200,7 +200,7 @@ module _ (another : Row → Bool) (least : ℕ) (extent : Slab) where
         ∙ (λ i. begins_in span question
         && ((is_at_most (sym begins i) (pos extent.last) && others) && another r))
 
-    asked_any : (questions : List Span) → AllByRecursion (IsWithin extent) questions
+    asked_any : (questions : List Span) → AllByRecursion (IsWithinExtent extent) questions
         → list_any (λ question. asked question r) questions ≡ (list_any (begins_in span) questions && rival r)
     asked_any [] h = refl
     asked_any (q ∷ questions) h = (λ i. asked_is q h.0 i || asked_any questions h.1 i)
@@ -220,7 +220,7 @@ module _ (another : Row → Bool) (least : ℕ) (extent : Slab) where
 
   module _ (span_bounds : SpanBounds) (questions : List Span) (whole : AreWhole extent
       (IsKnown span_bounds) questions)
-      (within : AllByRecursion (IsWithin extent) questions) where
+      (within : AllByRecursion (IsWithinExtent extent) questions) where
     pub asked_rival : (r : Row) → HasKnownSpan span_bounds r
         → list_any (λ question. asked question r) questions ≡ rival r
     asked_rival r has = asked_any r has.span has.begins questions within ∙ go (rival r) refl where

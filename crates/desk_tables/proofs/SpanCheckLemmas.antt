@@ -15,8 +15,8 @@ use Rattle.desk_store.specs.World.{Filed}
 use Rattle.desk_tables.specs.SpanBounds.{IsKnownRow, Keeps}
 use Rattle.desk_tables.specs.declared.span_bounds.SpanBounds.{SpanBounds}
 use Rattle.desk_tables.specs.Records.{slab_row}
-use Rattle.desk_tables.specs.SpanChecks.{AreRestOf, AreAwaited, Awaits, AwaitsAlike, HasChecked, HasSlab, IsEntered, IsFound, IsNext, Place, after_plan}
-use Rattle.desk_tables.specs.Tables.{span_row, AreSpanRowsFrom, AreSpanRows}
+use Rattle.desk_tables.specs.SpanChecks.{AreRestOf, AreAwaited, Awaits, AwaitsAlike, HasChecked, HasSlab, IsEntered, IsFound, IsNextRow, Place, after_plan}
+use Rattle.desk_tables.specs.Tables.{row_of_span, AreSpanRowsFrom, AreSpanRows}
 use Rattle.desk_tables.proofs.ExactLemmas.{slabs_as_spans, cut_at}
 
 -- ---- one plan
@@ -52,7 +52,7 @@ rest_ends false p shown place done rows = ((λ e. e), λ e. e)
 module _ (one_list : (set : ℕ → Bool) (one other : List Span) → IsRanges set one → IsRanges set other
     → one ≡ other) (p : Filed) (place : ℕ) (v : Block) (vs : List Block) (slabs : List Slab)
     (are : AreVolumeSlabs v slabs) where
-  same_rows : map (span_row p place v) (map span_of slabs) ≡ map (slab_row p place) slabs
+  same_rows : map (row_of_span p place v) (map span_of slabs) ≡ map (slab_row p place) slabs
   same_rows = slabs_as_spans p place v slabs (recursion_from_All (λ s. slab_window s ≡ v.window) slabs
       are.windows)
 
@@ -63,7 +63,7 @@ module _ (one_list : (set : ℕ → Bool) (one other : List Span) → IsRanges s
   shown_first rows = (
     λ t.
         let spans = one_list _ t.0 (map span_of slabs) t.2 are.ranges in
-        (t.1, t.3 ∙ ap (λ s. map (span_row p place v) s ++ t.1) spans ∙ ap (λ r. r ++ t.1) same_rows, t.4),
+        (t.1, t.3 ∙ ap (λ s. map (row_of_span p place v) s ++ t.1) spans ∙ ap (λ r. r ++ t.1) same_rows, t.4),
     λ t. (map span_of slabs, t.0, are.ranges, t.1 ∙ ap (λ r. r ++ t.0) (sym same_rows), t.2),
   )
 
@@ -353,7 +353,7 @@ all_kept a b keeps (r ∷ rows) h = ((λ x y one two. keeps _ (h.0 x y one two))
 module _ (ps : List Filed) (old : Place) (count : ℕ) (bounds after : SpanBounds) (rows : List Row)
     (row : Row) (below : count + 1 < 2 ^ 63) (keeps : Keeps bounds after) (known : IsKnownRow after row) where
   pub checked_on : (new : Place) (is : Bool) → HasChecked ps old true count bounds rows
-      → IsNext ps old new row is → HasChecked ps new is (count + 1) after (rows ++ row ∷ [])
+      → IsNextRow ps old new row is → HasChecked ps new is (count + 1) after (rows ++ row ∷ [])
   checked_on new is h next = record {
     same = λ rest. subst (λ xs. AreSpanRows ps xs ↔ (IsTrue is × Awaits ps new rest))
         (sym (append_assoc rows (row ∷ []) rest)) (by_next is next rest);
@@ -361,7 +361,7 @@ module _ (ps : List Filed) (old : Place) (count : ℕ) (bounds after : SpanBound
     few = below;
     known = all_and_one (IsKnownRow after) rows row (all_kept bounds after keeps rows h.known) known;
   } where
-    by_next : (is : Bool) → IsNext ps old new row is → (rest : List Row)
+    by_next : (is : Bool) → IsNextRow ps old new row is → (rest : List Row)
         → AreSpanRows ps (rows ++ row ∷ rest) ↔ (IsTrue is × Awaits ps new rest)
     by_next true next rest = (
       λ are. (refl, (next rest).0 ((h.same (row ∷ rest)).0 are).1),

@@ -7,20 +7,20 @@ use Rattle.volume4d.specs.Volume.{Block}
 use Rattle.desk_rules.specs.Plan.{is_live}
 use Rattle.desk_store.specs.World.{Filed}
 use Rattle.desk_store.specs.laws.Order.{all_append}
-use Rattle.desk_tables.specs.Tables.{span_row, AreSpanRowsFrom, ArePlanSpanRows}
+use Rattle.desk_tables.specs.Tables.{row_of_span, AreSpanRowsFrom, ArePlanSpanRows}
 use Rattle.desk_tables.proofs.RowLemmas.{after_key}
 use Rattle.desk_tables.proofs.PlanLemmas.{HasKey}
 
 on_keyed : (p : Filed) (n : ℕ) (v : Block) (spans : List Span)
-    → AllByRecursion (HasKey p) (map (span_row p n v) spans)
+    → AllByRecursion (HasKey p) (map (row_of_span p n v) spans)
 on_keyed p n v [] = tt
-on_keyed p n v (s ∷ spans) = ((after_key (span_row p n v s), refl), on_keyed p n v spans)
+on_keyed p n v (s ∷ spans) = ((after_key (row_of_span p n v s), refl), on_keyed p n v spans)
 
 from_keyed : (p : Filed) (n : ℕ) (vs : List Block) (rows : List Row) → AreSpanRowsFrom p n vs rows
     → AllByRecursion (HasKey p) rows
 from_keyed p n [] rows e = subst (AllByRecursion (HasKey p)) (sym e) tt
 from_keyed p n (v ∷ vs) rows (spans, rest, ranges, are, more) =
-    subst (AllByRecursion (HasKey p)) (sym are) (all_append (HasKey p) (map (span_row p n v) spans) rest
+    subst (AllByRecursion (HasKey p)) (sym are) (all_append (HasKey p) (map (row_of_span p n v) spans) rest
     (on_keyed p n v spans) (from_keyed p (n + 1) vs rest more))
 
 pub spans_keyed : (p : Filed) (rows : List Row) → ArePlanSpanRows p rows

@@ -8,7 +8,7 @@ use Rattle.sqlite_value.specs.Order.{Row}
 use Rattle.sqlite.specs.State.{HasCleanDisk}
 use Rattle.sqlite.specs.Held.{Held, state}
 use Rattle.desk_sql.specs.Rows.{IsDesk, tables_of}
-use Rattle.desk_sql.specs.Effects.{IsKept}
+use Rattle.desk_sql.specs.Effects.{StaysShown}
 use Rattle.desk_sql.specs.Frames.{OnlyReads}
 use Rattle.desk_sql.specs.Making.{Completes}
 use Rattle.desk_sql.specs.Rows.{no_rows}
@@ -40,7 +40,7 @@ module _ {S : Type 0} (g : Ghosts S) (old new : Held S) (w : World) (stood : Sta
 
   -- so does a refusal that keeps what was there
   pub kept_stands : new.in_transaction ≡ false → new.step_limit ≡ old.step_limit
-      → doubt (state g old).is_clean ≤ doubt (state g new).is_clean → IsKept g old new → Stands g new w
+      → doubt (state g old).is_clean ≤ doubt (state g new).is_clean → StaysShown g old new → Stands g new w
   kept_stands settled limit rises kept = record {
     settled = settled;
     unlimited = limit ∙ stood.unlimited;

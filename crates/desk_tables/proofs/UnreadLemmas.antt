@@ -14,7 +14,7 @@ use Rattle.volume4d.specs.FootprintBytes.{footprint_bytes, HasValidParts, AreByt
 use Rattle.volume4d.specs.Attributes.{IsFaultOf}
 use Rattle.volume4d.specs.declared.fault.VolumeFault.{VolumeFault}
 use Rattle.volume4d.specs.declared.fault.VolumeFault.TheVariants.{Cells, TooManyCells, OutOfMemory}
-use Rattle.volume4d.specs.Limits.{within_altitudes, within_times, within_length}
+use Rattle.volume4d.specs.VolumeLimits.{within_altitudes, within_times, within_length}
 use Rattle.volume4d.specs.Shape.{Shape, cells, rectangle, is_footprint, has_count}
 use Rattle.volume4d.specs.Volume.{Block}
 use Rattle.volume4d.specs.Windows.{WindowParts, window_or_fault, is_window}
@@ -27,7 +27,7 @@ use Rattle.desk_store.specs.declared.fault.StoreFault.{StoreFault}
 use Rattle.desk_store.specs.declared.fault.StoreFault.TheVariants as store
 use Rattle.desk_tables.specs.Tables.{id_text}
 use Rattle.desk_store.specs.Content.{IsId, IsBlock}
-use Rattle.desk_tables.specs.Reading.{IsVolumeAt}
+use Rattle.desk_tables.specs.RowsRead.{IsVolumeAt}
 use Rattle.desk_tables.proofs.ReadingLemmas.{window_is, one_int, one_blob, one_more}
 
 pub on_err : {T E : Type 0} (r : Result T E) (fault : E) (P : E → Type 0) → IsErrAnd r (λ e. e ≡ fault)

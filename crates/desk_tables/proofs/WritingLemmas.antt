@@ -18,7 +18,7 @@ use Rattle.s2_cover.specs.declared.spans.Span.{Span}
 use Rattle.s2_cover.specs.CanonicalList.{canonical_list}
 use Rattle.s2_cover.specs.Ranges.{IsRanges}
 use Rattle.volume4d.specs.FootprintBytes.{HasValidParts}
-use Rattle.volume4d.specs.Limits.{max_cover}
+use Rattle.volume4d.specs.VolumeLimits.{max_cover}
 use Rattle.volume4d.specs.Shape.{Shape, is_footprint, shape_positions}
 use Rattle.volume4d.specs.Volume.{Block}
 use Rattle.desk_rules.specs.Plan.{is_live}
@@ -29,8 +29,8 @@ use Rattle.desk_sql.specs.Rows.{Tables, tables_of}
 use Rattle.desk_store.specs.World.{Filed}
 use Rattle.desk_store.specs.laws.Order.{all_append, all_weaker}
 use Rattle.desk_tables.specs.Records.{IsFiled}
-use Rattle.desk_tables.specs.Tables.{area_covers, area_rows, cover_rows, id_text, plan_row, plan_rows, span_row, volume_rows, AreSpanRowsFrom, ArePlanSpanRows, AreSpanRows}
-use Rattle.desk_tables.specs.Writing.{AreAwaited, AreWritable}
+use Rattle.desk_tables.specs.Tables.{area_covers, area_rows, cover_rows, id_text, row_of_plan, plan_rows, row_of_span, volume_rows, AreSpanRowsFrom, ArePlanSpanRows, AreSpanRows}
+use Rattle.desk_tables.specs.Writable.{AreAwaited, AreWritable}
 use Rattle.desk_tables.proofs.CauseLemmas.{name_short}
 use Rattle.desk_tables.proofs.FilterLemmas.{ArePlans}
 use Rattle.desk_tables.proofs.KeyOrderLemmas.{spans_up, volumes_up}
@@ -162,7 +162,7 @@ one_from : OneList → (p : Filed) (n : ℕ) (vs : List Block) (a b : List Row) 
 one_from one p n [] a b e f = e ∙ sym f
 one_from one p n (v ∷ vs) a b (xs, rest, r, are, then) (ys, more, q, is, later) =
     are
-    ∙ ap₂ (λ s t. map (span_row p n v) s ++ t) (one (shape_positions v.footprint) xs ys r q)
+    ∙ ap₂ (λ s t. map (row_of_span p n v) s ++ t) (one (shape_positions v.footprint) xs ys r q)
     (one_from one p (n + 1) vs rest more then later)
     ∙ sym is
 
@@ -250,9 +250,9 @@ module _ (p : Filed) (later : List Filed) (a : Database) (w : AreWritable (p ∷
 -- ---- what a move and a packed file begin with
 
 -- a row that begins with a plan's key has the key of the plan's row
-keyed_row : (p : Filed) (r : Row) → BeginsAs p r → has_same_key 2 (plan_row p) r ≡ true
+keyed_row : (p : Filed) (r : Row) → BeginsAs p r → has_same_key 2 (row_of_plan p) r ≡ true
 keyed_row p r (more, is) =
-    subst (λ r. has_same_key 2 (plan_row p) r ≡ true) (sym is)
+    subst (λ r. has_same_key 2 (row_of_plan p) r ≡ true) (sym is)
     (and_from _ _ (ap is_eq (tied_itself value_cmp_total (Text p.operator)))
     (and_from _ _ (ap is_eq (tied_itself value_cmp_total (Text (id_text p.row.id)))) refl))
 
@@ -268,7 +268,8 @@ more_planned p ps front rest keyed planned =
     (all_weaker (BeginsAs p) (λ r. HasKey 2 r (plan_rows (p ∷ ps)))
     (λ r k. ap (λ b. b || list_any (λ q. has_same_key 2 q r) (plan_rows ps)) (keyed_row p r k)) front keyed)
     (all_weaker (λ r. HasKey 2 r (plan_rows ps)) (λ r. HasKey 2 r (plan_rows (p ∷ ps)))
-    (λ r k. ap (λ b. has_same_key 2 (plan_row p) r || b) k ∙ or_true (has_same_key 2 (plan_row p) r)) rest
+    (λ r k. ap (λ b. has_same_key 2 (row_of_plan p) r || b) k
+    ∙ or_true (has_same_key 2 (row_of_plan p) r)) rest
     planned)
 
 volumes_planned : (ps : List Filed) → AllByRecursion (λ r. HasKey 2 r (plan_rows ps)) (volume_rows ps)

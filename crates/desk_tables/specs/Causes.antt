@@ -6,7 +6,7 @@ use Rattle.sqlite.specs.State.{HasCleanDisk}
 use Rattle.sqlite.specs.Held.{Held, state}
 use Rattle.sqlite.specs.Effect.{Database}
 use Rattle.desk_sql.specs.Rows.{tables_of}
-use Rattle.desk_sql.specs.Changing.{AreLow, HasRoom}
+use Rattle.desk_sql.specs.Changing.{AreLow, HasRowids}
 use Rattle.desk_sql.specs.Putting.{HasRoomFor}
 use Rattle.desk_sql.specs.Refusals.{HasDiskFailed}
 use Rattle.desk_store.specs.Changes.{filed_by}
@@ -35,7 +35,7 @@ module _ {S : Type 0} (g : Ghosts S) (old new : Held S) where
 
   -- a change: where the tables have room for what it adds
   abbrev pub BlamesChange : Change → StoreFault → Type 0
-  BlamesChange (Enrol operator ceiling) e = HasRoom 1 ((state g old).now.trees 0) → BlamesStore e
+  BlamesChange (Enrol operator ceiling) e = HasRowids 1 ((state g old).now.trees 0) → BlamesStore e
   BlamesChange (Put operator row) e = HasRoomForPlan (filed_by operator row) (state g old).now → BlamesStore e
   BlamesChange (Close operator id) e = AreLow ((state g old).now.trees 2) → BlamesStore e
   BlamesChange (Clear operator ids) e = BlamesStore e

@@ -21,7 +21,7 @@ use Rattle.desk_sql.specs.declared.opening.finding.TablesPresent.TheVariants.{No
 use Rattle.desk_sql.specs.Rows.{IsMadeTo, Tables, tables_at, has_old_rows}
 use Rattle.desk_rules.specs.Plan.{is_live}
 use Rattle.desk_store.specs.World.{Filed, Listed, World}
-use Rattle.desk_tables.specs.Tables.{operator_row, operator_rows, plan_rows, volume_rows, cover_rows, AreSpanRows}
+use Rattle.desk_tables.specs.Tables.{row_of_operator, operator_rows, plan_rows, volume_rows, cover_rows, AreSpanRows}
 use Rattle.desk_tables.specs.Counting.{HaveSpanRows, IsMostSpans}
 use Rattle.desk_tables.specs.Opening.{IsContentOf, HasNoContent, AreNoContent, BlamesDisk}
 use Rattle.desk_tables.specs.Moving.{IsOldContentOf, HasNoOldContent, AreNoOldContent}
@@ -61,7 +61,7 @@ abbrev pub live_count : List Filed → ℕ
 live_count ps = length (filter (λ p. is_live p.row.usage) ps)
 
 -- they are counted
-pub record AreCounted (h : Holdings) (w : World) : Type 0 where
+pub record AreHoldingsOf (h : Holdings) (w : World) : Type 0 where
   pub operators : h.operators ≡ length w.operators
   pub plans : h.plans ≡ length w.plans
   pub live : h.live ≡ live_count w.plans
@@ -162,7 +162,7 @@ AreNotCopied image other (copy.Unmade it) = AreNotMade other it.fault it.connect
 
 -- the rows of operators are added
 pub record AddsOperatorRows (ls : List Listed) (old new : Tables) : Type 0 where
-  pub operators : IsPermutation (map operator_row ls ++ old.operators) new.operators
+  pub operators : IsPermutation (map row_of_operator ls ++ old.operators) new.operators
   pub plans : new.plans ≡ old.plans
   pub old_volumes : new.old_volumes ≡ old.old_volumes
   pub old_spans : new.old_spans ≡ old.old_spans

@@ -9,12 +9,12 @@ use Rattle.sqlite.specs.Held.{Held, IsNew}
 use Rattle.sqlite_store.specs.FileStore.{view}
 use Rattle.sqlite.specs.Files.{over_files, file_state, IsBlankAs, IsOpened}
 use Rattle.sqlite.specs.Start.{FindsIn}
-use Rattle.desk_sql.specs.Effects.{IsKept, IsOpenIfClean}
+use Rattle.desk_sql.specs.Effects.{IsOpenIfClean, StaysShown}
 use Rattle.desk_store.specs.World.{World}
 use Rattle.desk_tables.specs.declared.opening.open.OpenFault.{OpenFault}
 use Rattle.desk_tables.specs.declared.opening.open.OpenFault.TheVariants.{NotADesk, OldSchema}
 use Rattle.desk_tables.specs.declared.opening.path.Unreached.{Unreached}
-use Rattle.desk_tables.specs.Guarding.{IsGuarded}
+use Rattle.desk_tables.specs.LyingDisk.{IsGuarded}
 use Rattle.desk_tables.specs.Leftovers.{IsLeftOf}
 use Rattle.desk_tables.specs.Opening.{BeginsWith, ShowsNoDesk, ShowsOldRows, BlamesDisk}
 use Rattle.desk_tables.specs.Moving.{BeginsMoved, KeepsRows, ShowsNoContent}
@@ -84,7 +84,7 @@ module _ {D : Type 0} {g : disk.Ghosts D} (image : Image) (e : OpenFault) where
     pub none : e ≡ NotADesk → ShowsNoDesk (over_files {D = D} {g = g}) found left
     pub old : e ≡ OldSchema → ShowsOldRows (over_files {D = D} {g = g}) found left
     pub cause : BlamesDisk (over_files {D = D} {g = g}) found left e
-    pub kept : IsKept (over_files {D = D} {g = g}) found left
+    pub kept : StaysShown (over_files {D = D} {g = g}) found left
 
   -- files of which no store comes are refused by the connection that is left; or they were not opened, and
   -- nothing in them was read

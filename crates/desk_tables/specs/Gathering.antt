@@ -7,7 +7,7 @@ use Rattle.desk_rules.specs.declared.plan.PlanRow.{PlanRow}
 use Rattle.desk_store.specs.World.{Filed}
 use Rattle.desk_tables.specs.declared.reading.values.Head.{Head}
 use Rattle.desk_store.specs.Content.{IsBlock, IsId, IsPlan}
-use Rattle.desk_tables.specs.Reading.{IsHead, IsVolumeAt, is_later, joined_from, listing_rows}
+use Rattle.desk_tables.specs.RowsRead.{IsHead, IsVolumeAt, is_later, joined_from, listing_rows}
 
 -- the plan that is this but for its area
 abbrev pub plan_with : Head → List Block → PlanRow
@@ -27,7 +27,7 @@ closed_plans plans (Some head) volumes = plans ++ plan_with head volumes ∷ []
 
 -- the plan under way is the first of some whose other rows are left; with the plans before it they
 -- are all plans
-pub record IsUnderWay (plans : List PlanRow) (head : Head) (volumes : List Block)
+pub record IsPlanUnderWay (plans : List PlanRow) (head : Head) (volumes : List Block)
     (left : List Row) (all : List PlanRow) : Type 0 where
   pub plan : Filed
   pub rest : List Block
@@ -42,7 +42,7 @@ pub record IsUnderWay (plans : List PlanRow) (head : Head) (volumes : List Block
 -- what is gathered and the rows that are left make these plans
 abbrev pub Leads : List PlanRow → Option Head → List Block → List Row → List Filed → Type 0
 Leads plans None volumes left ps = (plans ≡ []) × (left ≡ listing_rows ps)
-Leads plans (Some head) volumes left ps = IsUnderWay plans head volumes left (map (λ p. p.row) ps)
+Leads plans (Some head) volumes left ps = IsPlanUnderWay plans head volumes left (map (λ p. p.row) ps)
 
 -- whatever plans these are the first rows of a listing of: what is gathered leads to them
 abbrev pub HasCollected : List PlanRow → Option Head → List Block → List Row → Type 0

@@ -62,13 +62,14 @@ module _ {D : Type 0} {g : disk.Ghosts D} where
   MayHold h = (file.state h.store).may_leave
 
   -- files hold what a crash may have left of a connection
-  pub record IsLeftBy (last : Held (FileStore D g)) (image : Image) : Type 0 where
+  pub record IsImageLeft (last : Held (FileStore D g)) (image : Image) : Type 0 where
     pub connected : IsConnected last
     pub left : MayHold last image
 
 -- what a start does not take for a desk's tables as they are
-abbrev pub IsUntaken : Database → Type 0
-IsUntaken db = ((made : TablesPresent) × IsPart made db) ⊎ (IsMisnumbered db ⊎ (IsNoDesk db ⊎ HasOldRows db))
+abbrev pub IsNotTakenAsIs : Database → Type 0
+IsNotTakenAsIs db = ((made : TablesPresent) × IsPart made db)
+    ⊎ (IsMisnumbered db ⊎ (IsNoDesk db ⊎ HasOldRows db))
 
 -- a connection is open, on a clean disk: what it shows is what the files have
 abbrev pub IsLegible : {D : Type 0} {g : disk.Ghosts D} → Held (FileStore D g) → Type 0
@@ -78,13 +79,13 @@ module _ {D E : Type 0} {g : disk.Ghosts D} {k : disk.Ghosts E} (last : Held (Fi
   -- a start finds the database in such files
   pub record IsFoundAfter (found : Held (FileStore E k)) : Type 0 where
     pub image : Image
-    pub files : IsLeftBy last image
+    pub files : IsImageLeft last image
     pub first : FindsFirst image found
 
   -- a store begins over such files, on a clean disk
   pub record BeginsAfter (new : Held (FileStore E k)) (w : World) : Type 0 where
     pub image : Image
-    pub files : IsLeftBy last image
+    pub files : IsImageLeft last image
     pub opens : OpensIn image new w
     pub clean : HasCleanDisk (file_state new)
 
@@ -94,7 +95,7 @@ module _ {D E : Type 0} {g : disk.Ghosts D} {k : disk.Ghosts E} (last : Held (Fi
     -- such files are opened, and refused by a connection that is left open, on a clean disk
     pub record IsRefusedAfter : Type 0 where
       pub image : Image
-      pub files : IsLeftBy last image
+      pub files : IsImageLeft last image
       pub refused : IsRefusedIn image e left
       pub legible : IsLegible left
 

@@ -29,16 +29,16 @@ module _ {D : Type 0} {g : disk.Ghosts D} where
 
   -- what the crate sqlite keeps of what it leaves, and says in no clause: it takes the pages for such with
   -- sums where the first one says so; a store numbers its root pages, and a crash leaves only databases of it
-  abbrev pub IsTaken : Image → Leftover D g → Type 0
-  IsTaken image (left.Files now) = ⊤
-  IsTaken image (left.Unopened now) =
+  abbrev pub IsKeptBySqlite : Image → Leftover D g → Type 0
+  IsKeptBySqlite image (left.Files now) = ⊤
+  IsKeptBySqlite image (left.Unopened now) =
       SaysSums (stored_size (state_of now).page_size) image → IsTrue (is_summed (state_of now).page_size)
-  IsTaken image (left.Store now) =
+  IsKeptBySqlite image (left.Store now) =
       IsTrue (file.view now).is_numbered × AreDatabases (file.recovers now)
 
   -- files hold what a crash may have left of files that held this, and were not opened
   pub record RemainsOf (image : Image) (it : Leftover D g) (next : Image) : Type 0 where
     pub left : IsLeftOf image it
     pub clean : IsCleanLeft it
-    pub taken : IsTaken image it
+    pub taken : IsKeptBySqlite image it
     pub may : MayRemain it next

@@ -2,7 +2,7 @@
 pub mod Tables
 pub mod PlanRows
 pub mod TableChanges
-pub mod Reading
+pub mod RowsRead
 pub mod Gathering
 pub mod Lookups
 pub mod RivalRows
@@ -14,7 +14,7 @@ pub mod Known
 pub mod Records
 pub mod Opening
 pub mod Moving
-pub mod Writing
+pub mod Writable
 pub mod Counting
 pub mod Copying
 pub mod Causes
@@ -23,6 +23,6 @@ pub mod Files
 pub mod Leaving
 pub mod CutShort
 pub mod OpeningSteps
-pub mod Changing
-pub mod Guarding
+pub mod ChangesMade
+pub mod LyingDisk
 pub mod Closing

@@ -2,7 +2,7 @@
 use Rattle.std.specs.Prelude.{ℕ, List, [], ◌∷◌, Option, Some, None}
 use Rattle.std.specs.List.{find}
 use Rattle.desk_store.specs.World.{Filed, World}
-use Rattle.desk_store.specs.Rows.{is_own}
+use Rattle.desk_store.specs.OwnRows.{is_own}
 
 -- the operator's plan of the id, as a list of none or one
 abbrev pub one_or_none : Option Filed → List Filed

@@ -124,7 +124,7 @@ pub record OrdersRows (ps : List Filed) (old new : Tables) : Type 0 where
   pub with_spans : (rows : List Row) × AreSpanRows ps rows × IsPermutation (rows ++ []) new.spans
 
 -- all of a desk's tables are made, with the rows that there were
-pub record IsWhole {S : Type 0} (g : Ghosts S) (made : TablesPresent) (old new : Held S) : Type 0 where
+pub record HasAllTables {S : Type 0} (g : Ghosts S) (made : TablesPresent) (old new : Held S) : Type 0 where
   pub was_open : IsTrue (state g old).is_open
   pub desk : IsDesk (state g new).now
   pub same : tables_of (state g new).now.trees ≡ tables_at made (state g old).now.trees

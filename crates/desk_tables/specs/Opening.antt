@@ -24,7 +24,7 @@ use Rattle.desk_sql.specs.Rows.{IsDesk, IsMadeTo, Tables, Lists, tables_of, tabl
 use Rattle.desk_sql.specs.Refusals.{HasDiskFailed, IsMisnumbered}
 use Rattle.desk_sql.specs.Effects.{ShowsAsBefore}
 use Rattle.desk_store.specs.World.{Filed, Listed, World, IsListed, text_cmp, listed_cmp, filed_cmp, rows_by}
-use Rattle.desk_tables.specs.Tables.{operator_row, operator_rows, plan_rows, volume_rows, cover_rows, AreSpanRows}
+use Rattle.desk_tables.specs.Tables.{row_of_operator, operator_rows, plan_rows, volume_rows, cover_rows, AreSpanRows}
 use Rattle.desk_tables.specs.Tables.{AreTables}
 use Rattle.desk_store.specs.Content.{IsContent}
 use Rattle.desk_tables.specs.declared.opening.exact.RowFault.{RowFault}
@@ -35,11 +35,11 @@ use Rattle.desk_tables.specs.Records.{IsOperator, IsFiled}
 use Rattle.desk_tables.specs.Store.{IsStanding}
 
 -- why a store cannot be opened
-abbrev pub fault_text : OpenFault → List ℕ
-fault_text OutOfMemory = codes "out of memory"
-fault_text Store = codes "the database failed"
-fault_text NotADesk = codes "the tables are not a desk's"
-fault_text OldSchema = codes "the tables are of schema 1"
+abbrev pub open_fault_text : OpenFault → List ℕ
+open_fault_text OutOfMemory = codes "out of memory"
+open_fault_text Store = codes "the database failed"
+open_fault_text NotADesk = codes "the tables are not a desk's"
+open_fault_text OldSchema = codes "the tables are of schema 1"
 
 abbrev pub is_memory : Error → Bool
 is_memory (SqliteFailure code.OutOfMemory) = true
@@ -50,9 +50,9 @@ abbrev pub open_fault_of : Error → OpenFault
 open_fault_of error = if is_memory error then OutOfMemory else Store
 
 -- what rows that are not read make an opening answer
-abbrev pub refusal_of : RowFault → OpenFault
-refusal_of row.OutOfMemory = OutOfMemory
-refusal_of row.NoDesk = NotADesk
+abbrev pub fault_of_rows : RowFault → OpenFault
+fault_of_rows row.OutOfMemory = OutOfMemory
+fault_of_rows row.NoDesk = NotADesk
 
 -- ---- rows in the order of their keys
 
@@ -64,13 +64,13 @@ has_text (Text t) text = is_eq (text_cmp t text)
 has_text (Blob b) text = false
 
 -- a row of `plan`, `volume` or `span` of the operator's plan with this text for its id
-abbrev pub is_of : List ℕ → List ℕ → Row → Bool
-is_of operator id row = has_text (column row 0) operator && has_text (column row 1) id
+abbrev pub is_row_of : List ℕ → List ℕ → Row → Bool
+is_row_of operator id row = has_text (column row 0) operator && has_text (column row 1) id
 
 -- the rows of these operators
 pub record AreOperatorRows (ls : List Listed) (rows : List Row) : Type 0 where
   pub within : AllByRecursion IsOperator ls
-  pub are : rows ≡ map operator_row ls
+  pub are : rows ≡ map row_of_operator ls
 
 -- the rows of these plans, and those of their volumes
 pub record ArePlanRows (ps : List Filed) (head_rows volumes : List Row) : Type 0 where
@@ -123,7 +123,7 @@ pub record AreSortedHeads (t rows : Tables) : Type 0 where
   pub cover_part : Lists (0 ∷ 1 ∷ 2 ∷ []) t.covers rows.covers
 
 -- operators by name, plans by operator and id, and each operator's plans few
-pub record AreInOrder (ls : List Listed) (ps : List Filed) : Type 0 where
+pub record AreListedInOrder (ls : List Listed) (ps : List Filed) : Type 0 where
   pub names : IsStrictlySortedBy listed_cmp ls
   pub keys : IsStrictlySortedBy filed_cmp ps
   pub shared : AreShared ls ps
@@ -132,7 +132,7 @@ pub record AreInOrder (ls : List Listed) (ps : List Filed) : Type 0 where
 pub record AreParts (t : Tables) (ls : List Listed) (ps : List Filed) : Type 0 where
   pub operators : AreOperatorRows ls t.operators
   pub plans : ArePlanRows ps t.plans t.volumes
-  pub order : AreInOrder ls ps
+  pub order : AreListedInOrder ls ps
 
 -- and their covers
 pub record AreHeads (t : Tables) (ls : List Listed) (ps : List Filed) : Type 0 where
@@ -221,19 +221,19 @@ module _ {S : Type 0} (g : Ghosts S) (old new : Held S) where
   ShowsOldRows = HasCleanDisk (state g new) → IsTrue (state g new).is_open → HasOldRows (state g old).now
 
   -- the disk failed meanwhile, or the connection allows a statement but few steps
-  abbrev pub HasFailed : Type 0
-  HasFailed = HasDiskFailed g old new ⊎ IsSome old.step_limit
+  abbrev pub IsHindered : Type 0
+  IsHindered = HasDiskFailed g old new ⊎ IsSome old.step_limit
 
   -- why rows are not read, or not written
   abbrev pub BlamesReading : OpenFault → Type 0
   BlamesReading e =
-      HasCleanDisk (state g new) → IsTrue (state g new).is_open → e ≡ Store → HasFailed
+      HasCleanDisk (state g new) → IsTrue (state g new).is_open → e ≡ Store → IsHindered
 
   -- why an opening, a move or a look tells that the database failed
   abbrev pub BlamesDatabase : OpenFault → Type 0
   BlamesDatabase e =
       HasCleanDisk (state g new) → IsTrue (state g new).is_open → e ≡ Store →
-      HasFailed ⊎ IsMisnumbered (state g old).now
+      IsHindered ⊎ IsMisnumbered (state g old).now
 
   -- the same of a connection that has no limit on steps
   abbrev pub BlamesDisk : OpenFault → Type 0

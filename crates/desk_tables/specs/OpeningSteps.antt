@@ -5,7 +5,7 @@ use Rattle.sqlite_trees.specs.View.{doubt as doubt_of}
 use Rattle.sqlite.specs.State.{HasCleanDisk, KeepsCommit}
 use Rattle.sqlite.specs.Held.{Held, state}
 use Rattle.desk_sql.specs.declared.opening.finding.TablesPresent.{TablesPresent}
-use Rattle.desk_sql.specs.Calls.{WasOpen}
+use Rattle.desk_sql.specs.QueryEnds.{WasOpen}
 use Rattle.desk_sql.specs.Effects.{IsOpenIfClean, Makes}
 use Rattle.desk_sql.specs.Frames.{OnlyReads, Remembers}
 use Rattle.desk_sql.specs.Rows.{Tables, tables_at}
@@ -13,7 +13,7 @@ use Rattle.desk_store.specs.World.{World}
 use Rattle.desk_tables.specs.declared.opening.open.OpenFault.{OpenFault}
 use Rattle.desk_tables.specs.declared.opening.open.OpenFault.TheVariants.{NotADesk, OldSchema}
 use Rattle.desk_tables.specs.Opening.{AreNoContent, BlamesReading, BlamesDatabase, BlamesDisk, WasCompleted, WasOrdered}
-use Rattle.desk_tables.specs.Moving.{AreNoOldContent, IsWhole, WasMoved, told_count}
+use Rattle.desk_tables.specs.Moving.{AreNoOldContent, HasAllTables, WasMoved, told_count}
 use Rattle.desk_tables.specs.Leaving.{IsSettledAt}
 use Rattle.desk_tables.specs.Store.{Stands}
 
@@ -43,7 +43,7 @@ module _ {S : Type 0} (g : Ghosts S) (old new : Held S) {V : Type 0} (result : R
   -- what was missing of a desk's tables is made, over an open connection
   abbrev pub MakesWhole : TablesPresent → Type 0
   MakesWhole made =
-      HasCleanDisk (state g new) → IsTrue (state g new).is_open → OnOk result (IsWhole g made old new)
+      HasCleanDisk (state g new) → IsTrue (state g new).is_open → OnOk result (HasAllTables g made old new)
 
   -- tables that are made so far are read: what an open connection gives of them, which of them it tells to be
   -- no desk's, and why it fails; nothing is changed
@@ -89,7 +89,7 @@ module _ {S : Type 0} (g : Ghosts S) (old new : Held S) {V : Type 0} (result : R
       pub shield : (state g old).IsShielded → (state g new).IsShielded
 
     -- a whole opening, of which it may also be told that there are rows of schema 1
-    pub record IsOpened (Refuses Older Keeps : Type 0) : Type 0 where
+    pub record IsOpening (Refuses Older Keeps : Type 0) : Type 0 where
       pub begins : IfOk result Begins
       pub stands : IfOk result (λ v. Stands g new (world v))
       pub live : OnOk result (IsOpenIfClean g new)

@@ -13,7 +13,7 @@ use Rattle.desk_store.specs.declared.fault.StoreFault.{StoreFault}
 use Rattle.desk_store.specs.declared.fault.StoreFault.TheVariants as store
 use Rattle.desk_tables.specs.declared.opening.exact.RowFault.{RowFault}
 use Rattle.desk_tables.specs.declared.opening.exact.RowFault.TheVariants.{OutOfMemory, NoDesk}
-use Rattle.desk_tables.specs.Tables.{id_text, usage_number, aircraft_number, plan_row, area_rows}
+use Rattle.desk_tables.specs.Tables.{id_text, usage_number, aircraft_number, row_of_plan, area_rows}
 use Rattle.desk_store.specs.Content.{IsPlan}
 
 -- an operator within the limits
@@ -29,7 +29,7 @@ pub record IsFiled (p : Filed) : Type 0 where
 
 -- a plan's row in `plan`, and its rows in `volume`, by place
 pub record AreRowsOf (p : Filed) (head : Row) (volumes : List Row) : Type 0 where
-  pub plan : head ≡ plan_row p
+  pub plan : head ≡ row_of_plan p
   pub area : volumes ≡ area_rows p
 
 -- the columns from `priority` to `aircraft` are a plan's

@@ -51,8 +51,8 @@ AreWhole extent IsOne questions =
     → IsTrue (list_any (begins_in span) questions)
 
 -- a question is for leaves, and for none after an extent
-abbrev pub IsWithin : Slab → Span → Type 0
-IsWithin extent question = (question.first < 6 * 2 ^ 60) × (question.last ≤ extent.last)
+abbrev pub IsWithinExtent : Slab → Span → Type 0
+IsWithinExtent extent question = (question.first < 6 * 2 ^ 60) × (question.last ≤ extent.last)
 
 -- a place of the list where a long span begins at this leaf, or none is kept
 abbrev pub BeginsOrNone : ℕ → Option Span → Type 0

@@ -64,8 +64,8 @@ abbrev pub IsSpent : Place → Type 0
 IsSpent at = drop at.next at.slabs ≡ []
 
 -- a slab is found among those of a plan's volumes, or none of them is left
-abbrev pub IsFoundIn : Filed → Place → Bool → Type 0
-IsFoundIn p at found = MatchBool found (at.next < length at.slabs)
+abbrev pub IsSlabFound : Filed → Place → Bool → Type 0
+IsSlabFound p at found = MatchBool found (at.next < length at.slabs)
     (IsSpent at × (drop at.place p.row.area ≡ []))
 
 -- a slab of the plan under way is found, or the next plan is under way
@@ -75,8 +75,8 @@ IsEntered p old new found = MatchBool found
     (new.plan ≡ old.plan + 1)
 
 -- a row is the next, and those after it are to come; or no rows that begin with it are
-abbrev pub IsNext : List Filed → Place → Place → Row → Bool → Type 0
-IsNext ps old new row is = MatchBool is
+abbrev pub IsNextRow : List Filed → Place → Place → Row → Bool → Type 0
+IsNextRow ps old new row is = MatchBool is
     ((rest : List Row) → Awaits ps old (row ∷ rest) ↔ Awaits ps new rest)
     ((rest : List Row) → ¬ Awaits ps old (row ∷ rest))
 

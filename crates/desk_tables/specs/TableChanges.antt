@@ -4,14 +4,14 @@ use Rattle.std.specs.List.{filter, list_any, AllByRecursion}
 use Rattle.std.specs.List.Sorted.{IsPermutation}
 use Rattle.sqlite_value.specs.declared.value.Value.TheVariants.{Int}
 use Rattle.sqlite_value.specs.Order.{Row}
-use Rattle.desk_sql.specs.Rows.{Tables, operator_row, is_by, is_of, is_not_of}
+use Rattle.desk_sql.specs.Rows.{Tables, operator_row, is_row_by, is_of, is_not_of}
 use Rattle.desk_rules.specs.Name.{is_operator_name}
 use Rattle.desk_rules.specs.declared.words.Usage.TheVariants as usage
 use Rattle.desk_store.specs.World.{Filed}
 use Rattle.desk_store.specs.Changes.{filed_by}
 use Rattle.desk_store.specs.declared.change.Change.{Change}
 use Rattle.desk_store.specs.declared.change.Change.TheVariants.{Enrol, Put, Close, Clear}
-use Rattle.desk_tables.specs.Tables.{id_text, usage_number, plan_row, area_rows, area_covers, ArePlanSpanRows, HasNoOldRows}
+use Rattle.desk_tables.specs.Tables.{id_text, usage_number, row_of_plan, area_rows, area_covers, ArePlanSpanRows, HasNoOldRows}
 use Rattle.desk_store.specs.Content.{IsId, IsPlan}
 
 -- a row of none of an operator's plans of these ids
@@ -31,7 +31,8 @@ closed_if operator id row =
 pub record EnrolsRows (name : List ℕ) (ceiling : ℕ) (old new : Tables) : Type 0 where
   pub no_old : HasNoOldRows old → HasNoOldRows new
   pub operators :
-      IsPermutation (operator_row name ceiling ∷ filter (λ r. not (is_by name r)) old.operators) new.operators
+      IsPermutation (operator_row name ceiling
+      ∷ filter (λ r. not (is_row_by name r)) old.operators) new.operators
   pub plans : IsPermutation old.plans new.plans
   pub volumes : IsPermutation old.volumes new.volumes
   pub covers : IsPermutation old.covers new.covers
@@ -42,7 +43,7 @@ pub record PutsRows (p : Filed) (old new : Tables) : Type 0 where
   pub no_old : HasNoOldRows old → HasNoOldRows new
   pub operators : IsPermutation old.operators new.operators
   pub plans :
-      IsPermutation (plan_row p ∷ filter (is_not_of p.operator (id_text p.row.id)) old.plans) new.plans
+      IsPermutation (row_of_plan p ∷ filter (is_not_of p.operator (id_text p.row.id)) old.plans) new.plans
   pub volumes :
       IsPermutation (area_rows p ++ filter (is_not_of p.operator (id_text p.row.id)) old.volumes) new.volumes
   pub covers :
@@ -76,8 +77,8 @@ ChangesRows (Close operator id) old new = ClosesRows operator id old new
 ChangesRows (Clear operator ids) old new = ClearsRows operator ids.items old new
 
 -- the names, ids and volumes that a change brings are within their limits
-unfoldable pub IsWithin : Change → Type 0
-IsWithin (Enrol operator ceiling) = IsTrue (is_operator_name operator)
-IsWithin (Put operator row) = IsPlan row
-IsWithin (Close operator id) = IsId id
-IsWithin (Clear operator ids) = AllByRecursion IsId ids.items
+unfoldable pub IsWithinLimits : Change → Type 0
+IsWithinLimits (Enrol operator ceiling) = IsTrue (is_operator_name operator)
+IsWithinLimits (Put operator row) = IsPlan row
+IsWithinLimits (Close operator id) = IsId id
+IsWithinLimits (Clear operator ids) = AllByRecursion IsId ids.items

@@ -36,16 +36,16 @@ aircraft_number aircraft.Contingent = 2
 abbrev pub id_text : List ℕ → List ℕ
 id_text id = hyphenated_text lower id
 
-abbrev pub operator_row : Listed → Row
-operator_row l = sql.operator_row l.name l.ceiling
+abbrev pub row_of_operator : Listed → Row
+row_of_operator l = sql.operator_row l.name l.ceiling
 
-abbrev pub plan_row : Filed → Row
-plan_row p =
+abbrev pub row_of_plan : Filed → Row
+row_of_plan p =
     sql.plan_row p.operator (id_text p.row.id) p.row.priority (usage_number p.row.usage)
     (aircraft_number p.row.aircraft)
 
-abbrev pub volume_row : Filed → ℕ → Block → Row
-volume_row p place v =
+abbrev pub row_of_volume : Filed → ℕ → Block → Row
+row_of_volume p place v =
     sql.volume_row p.operator
     (id_text p.row.id) place v.window.lower v.window.upper v.window.start v.window.end
     (footprint_bytes v.footprint)
@@ -55,20 +55,20 @@ volume_row p place v =
 abbrev pub canon_bytes : Shape → List ℕ
 canon_bytes shape = flat_map (λ id. to_be_bytes w64 id) (canonical_list (shape_positions shape))
 
-abbrev pub cover_row : Filed → ℕ → Block → Row
-cover_row p place v = sql.cover_row p.operator (id_text p.row.id) place (canon_bytes v.footprint)
+abbrev pub row_of_cover : Filed → ℕ → Block → Row
+row_of_cover p place v = sql.cover_row p.operator (id_text p.row.id) place (canon_bytes v.footprint)
 
-abbrev pub span_row : Filed → ℕ → Block → Span → Row
-span_row p place v span =
+abbrev pub row_of_span : Filed → ℕ → Block → Span → Row
+row_of_span p place v span =
     sql.span_row p.operator (id_text p.row.id) place (pos span.first)
     (pos span.last) v.window.lower v.window.upper
     v.window.start v.window.end p.row.priority
 
 abbrev pub operator_rows : World → List Row
-operator_rows w = map operator_row w.operators
+operator_rows w = map row_of_operator w.operators
 
 abbrev pub plan_rows : List Filed → List Row
-plan_rows ps = map plan_row ps
+plan_rows ps = map row_of_plan ps
 
 -- a row for each volume of an area, whose places go up from a first one
 abbrev pub rows_from : (Filed → ℕ → Block → Row) → Filed → ℕ → List Block → List Row
@@ -76,7 +76,7 @@ rows_from row p place [] = []
 rows_from row p place (v ∷ vs) = row p place v ∷ rows_from row p (place + 1) vs
 
 abbrev pub volume_rows_from : Filed → ℕ → List Block → List Row
-volume_rows_from = rows_from volume_row
+volume_rows_from = rows_from row_of_volume
 
 abbrev pub area_rows : Filed → List Row
 area_rows p = volume_rows_from p 0 p.row.area
@@ -86,7 +86,7 @@ volume_rows ps = flat_map area_rows ps
 
 -- the covers of a plan's volumes, by place, and those of plans one after the other
 abbrev pub area_covers : Filed → List Row
-area_covers p = rows_from cover_row p 0 p.row.area
+area_covers p = rows_from row_of_cover p 0 p.row.area
 
 abbrev pub cover_rows : List Filed → List Row
 cover_rows ps = flat_map area_covers ps
@@ -96,7 +96,7 @@ abbrev pub AreSpanRowsFrom : Filed → ℕ → List Block → List Row → Type 
 AreSpanRowsFrom p place [] rows = rows ≡ []
 AreSpanRowsFrom p place (v ∷ vs) rows =
     (spans : List Span) × (rest : List Row) × IsRanges (shape_positions v.footprint) spans
-    × (rows ≡ map (span_row p place v) spans ++ rest) × AreSpanRowsFrom p (place + 1) vs rest
+    × (rows ≡ map (row_of_span p place v) spans ++ rest) × AreSpanRowsFrom p (place + 1) vs rest
 
 -- a closed plan has none
 abbrev pub ArePlanSpanRows : Filed → List Row → Type 0

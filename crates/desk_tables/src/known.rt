@@ -4,7 +4,7 @@ ghost use Rattle.std.specs.Prelude.{◌≡◌, [], length, IfOk, OnOk};
 ghost use Rattle.std.specs.List.Sorted.{IsStrictlySortedBy};
 ghost use Rattle.desk_store.specs.World.{World, filed_cmp};
 ghost use Rattle.desk_store.specs.StoreChange.{changed_by};
-ghost use Rattle.desk_live.specs.Live.{AreBrought, AreKept, HasRoomFor};
+ghost use Rattle.desk_live.specs.Live.{AreBrought, AreKeptOnce, HasRoomForVolumes};
 ghost use Rattle.desk_live.specs.Roll.{AreAccountsOf, IsReadyFor, accounts_of};
 ghost use Rattle.desk_tables.specs.Known.{Knows};
 ghost use Rattle.desk_tables.specs.SpanBounds.{BringsKnown, Keeps};
@@ -47,7 +47,7 @@ impl Known {
     ) -> Result<Vec<LiveVolume>, AllocError>
         ensures kept { (w : World) → Knows self.old w → Knows self.new w }
         ensures brought { IfOk result (λ fresh. AreBrought change.now fresh.items) }
-        ensures room { IfOk result (λ fresh. HasRoomFor self.new.live (length fresh.items)) }
+        ensures room { IfOk result (λ fresh. HasRoomForVolumes self.new.live (length fresh.items)) }
         ensures ready { OnOk result (IsReadyFor change.now self.new.roll) }
     {
         self.roll.prepare(alloc, change)?;
@@ -56,7 +56,7 @@ impl Known {
 
     /// Follows a change, for which there is room, with the lengths after it and the volumes that it brings.
     pub(crate) fn follow(&mut self, change: &Change, span_bounds: SpanBounds, fresh: &[LiveVolume])
-        requires room { HasRoomFor self.old.live (length fresh.now) }
+        requires room { HasRoomForVolumes self.old.live (length fresh.now) }
         requires brought { AreBrought change.now fresh.now }
         requires ready { IsReadyFor change.now self.old.roll }
         requires kept { Keeps self.old.span_bounds span_bounds }
@@ -76,7 +76,7 @@ impl Known {
 /// `AllocError` if memory runs out.
 pub(crate) fn live_among(alloc: Global, plans: &[FiledPlan]) -> Result<LiveVolumes, AllocError>
     ensures { IfOk result (λ live. (w : World) → IsStrictlySortedBy filed_cmp w.plans
-        → w.plans ≡ plans.now → AreKept live w) }
+        → w.plans ≡ plans.now → AreKeptOnce live w) }
 {
     let mut gathering = Gathering::new(alloc);
     for plan in plans {

@@ -15,19 +15,19 @@ ghost use Rattle.desk_store.specs.World.{Filed, World, text_cmp};
 ghost use Rattle.desk_store.specs.StoreChange.{changed_by, IsFitting};
 ghost use Rattle.desk_store.specs.declared.change.Change.{Change};
 ghost use Rattle.desk_store.specs.Crashes.{LeavesOnly, LeavesOldOr};
-ghost use Rattle.desk_tables.specs.Tables.{id_text, aircraft_number, plan_row, area_rows, area_covers};
+ghost use Rattle.desk_tables.specs.Tables.{id_text, aircraft_number, row_of_plan, area_rows, area_covers};
 ghost use Rattle.desk_tables.specs.Tables.{ArePlanSpanRows, AreTables};
 ghost use Rattle.desk_store.specs.Content.{IsId, IsPlan, IsContent};
 ghost use Rattle.desk_tables.specs.Lookups.{own_of};
 ghost use Rattle.desk_tables.specs.TableChanges.{ChangesRows, EnrolsRows, PutsRows};
-ghost use Rattle.desk_tables.specs.TableChanges.{ClosesRows, ClearsRows, IsWithin};
+ghost use Rattle.desk_tables.specs.TableChanges.{ClosesRows, ClearsRows, IsWithinLimits};
 ghost use Rattle.desk_tables.specs.Store.{IsStanding};
 ghost use Rattle.sqlite_disk.specs.Modelled.{calls_of, start_of};
 ghost use Rattle.desk_tables.specs.Copying.{IsMadeIn, IsUnreadIn, LooksIn};
 ghost use Rattle.desk_tables.specs.CutShort.{HasContent, IsCompletedAs, IsCutShort, IsMovedOn};
 ghost use Rattle.desk_tables.specs.CutShort.{ShowContent};
 ghost use Rattle.desk_tables.specs.Moving.{BeginsMoved};
-ghost use Rattle.desk_tables.specs.Guarding.{HasCollided, IsGuarded};
+ghost use Rattle.desk_tables.specs.LyingDisk.{HasStoreCollided, IsGuarded};
 ghost use Rattle.std.specs.Prelude.{IfOk};
 ghost use Rattle.sqlite_wal.specs.Recovery.{Image};
 ghost use Rattle.sqlite_wal.specs.Files.{outcomes};
@@ -38,7 +38,7 @@ ghost use Rattle.desk_tables.specs.declared.closing.Unclosed.{Unclosed};
 ghost use Rattle.desk_tables.specs.Files.{AreRefused, FindsFirst, IsSummed, IsUnread, OpensIn};
 ghost use Rattle.desk_tables.specs.Files.{OpensMoved};
 ghost use Rattle.desk_tables.specs.declared.opening.open.OpenFault.{OpenFault};
-ghost use Rattle.desk_tables.specs.Leaving.{MayLeave, IsFoundAfter, BeginsAfter, IsLeftBy, IsLegible};
+ghost use Rattle.desk_tables.specs.Leaving.{MayLeave, IsFoundAfter, BeginsAfter, IsImageLeft, IsLegible};
 ghost use Rattle.desk_tables.specs.Leaving.{IsRefusedAtRest};
 ghost use Rattle.desk_tables.specs.Leftovers.{RemainsOf};
 
@@ -70,13 +70,13 @@ pub fn one_content()
 
 /// Tables of a content whose rows are changed as a change asks are those of the content after it.
 pub fn changed_rows_are_the_changed_content()
-    ensures { (change : Change) (w : World) (old new : Tables) → IsContent w → IsWithin change
+    ensures { (change : Change) (w : World) (old new : Tables) → IsContent w → IsWithinLimits change
         → AreTables old w → ChangesRows change old new → AreTables new (changed_by change w) }
 {}
 
 /// A content after a change that fits it, and whose values are within their limits, is a content.
 pub fn a_changed_content_is_a_content()
-    ensures { (change : Change) (w : World) → IsContent w → IsFitting change w → IsWithin change
+    ensures { (change : Change) (w : World) → IsContent w → IsFitting change w → IsWithinLimits change
         → IsContent (changed_by change w) }
 {}
 
@@ -85,7 +85,7 @@ pub fn a_changed_content_is_a_content()
 pub fn a_plan_put_changes_rows()
     ensures { (p : Filed) (w : World) (old new : Tables) (spans : List Row) → IsContent w
         → IsPlan p.row → AreTables old w → ArePlanSpanRows p spans
-        → PutsPlan p.operator (id_text p.row.id) (plan_row p) (area_rows p) (area_covers p) spans old new
+        → PutsPlan p.operator (id_text p.row.id) (row_of_plan p) (area_rows p) (area_covers p) spans old new
         → PutsRows p old new }
 {}
 
@@ -136,11 +136,11 @@ pub fn a_store_begins_with_what_was_left<D: Disk, E: Disk>()
 /// them begins with it.
 pub fn a_start_cut_short_leaves_the_content<D: Disk, E: Disk>()
     ensures opened { (last : Held (FileStore D D.Disk)) (image : Image) (new : Held (FileStore E E.Disk))
-        (w : World) → LeavesOnly w (MayLeave over_files last) → IsLeftBy last image
+        (w : World) → LeavesOnly w (MayLeave over_files last) → IsImageLeft last image
         → IsCutShort IsCompletedAs image new → HasCleanDisk (state over_files new)
         → LeavesOnly w (MayLeave over_files new) }
     ensures moved { (last : Held (FileStore D D.Disk)) (image : Image) (new : Held (FileStore E E.Disk))
-        (w : World) → LeavesOnly w (MayLeave over_files last) → IsLeftBy last image
+        (w : World) → LeavesOnly w (MayLeave over_files last) → IsImageLeft last image
         → IsCutShort IsMovedOn image new → HasCleanDisk (state over_files new)
         → LeavesOnly w (MayLeave over_files new) }
 {
@@ -180,7 +180,7 @@ pub fn a_start_after_a_failed_opening_finds_the_database<D: Disk, E: Disk, F: Di
         (db : Trees) → HoldsDatabase image db → RemainsOf image it next → FindsFirst next found
         → ∥ FindsFirst image found ∥₁ }
     ensures after { (last : Held (FileStore D D.Disk)) (image next : Image) (it : Leftover E E.Disk)
-        (found : Held (FileStore F F.Disk)) → IsLeftBy last image → RemainsOf image it next
+        (found : Held (FileStore F F.Disk)) → IsImageLeft last image → RemainsOf image it next
         → FindsFirst next found → ∥ IsFoundAfter last found ∥₁ }
 {}
 
@@ -211,7 +211,7 @@ pub fn a_close_leaves_the_content<D: Disk, E: Disk>()
 /// had one.
 pub fn a_desk_is_not_told_as_none<D: Disk, E: Disk>(refused: &FilesFault<E>)
     ensures { (last : Held (FileStore D D.Disk)) (image : Image) (w : World)
-        → LeavesOnly w (MayLeave over_files last) → IsLeftBy last image
+        → LeavesOnly w (MayLeave over_files last) → IsImageLeft last image
         → AreRefused image refused.now.fault refused.now.connection
         → IfOk refused.now.connection IsLegible → IsUnread refused.now.fault }
 {}
@@ -254,5 +254,5 @@ pub fn a_shielded_store_is_honest<C: Calls, S: Start>(
 )
     ensures { (state over_files store.now.held).IsShielded
         → HasCleanDisk (state over_files store.now.held)
-        ⊎ HasCollided (start_of S.Start) (λ f. C.Calls.history (calls_of f)) store.now.held }
+        ⊎ HasStoreCollided (start_of S.Start) (λ f. C.Calls.history (calls_of f)) store.now.held }
 {}

@@ -4,7 +4,7 @@ ghost use Rattle.std.specs.Prelude.{◌≡◌, ◌≤◌, ◌<◌, ◌≤ℤ◌,
 ghost use Rattle.std.specs.List.{AllByRecursion, list_any};
 ghost use Rattle.s2_cover.specs.declared.spans.Span.{Span as Range};
 ghost use Rattle.desk_tables.specs.SpanBounds.{AreWhole, BeginsOrNone, IsAmong, IsKnown, IsKnownBetween, IsLow, IsRoomFor, IsBoundedBy};
-ghost use Rattle.desk_tables.specs.SpanBounds.{IsWithin, Keeps, begins_in, takes_in};
+ghost use Rattle.desk_tables.specs.SpanBounds.{IsWithinExtent, Keeps, begins_in, takes_in};
 
 use s2_cover::Span;
 use std::alloc::{AllocError, Global};
@@ -57,7 +57,7 @@ impl SpanBounds {
         ensures whole { IfOk result (λ questions.
             AreWhole extent.now (IsKnown self.now) questions.items) }
         ensures within { IfOk result (λ questions.
-            AllByRecursion (IsWithin extent.now) questions.items) }
+            AllByRecursion (IsWithinExtent extent.now) questions.items) }
         ensures some { IfOk result (λ questions. 0 < length questions.items) }
     {
         let low = self.low(extent);
@@ -169,8 +169,8 @@ fn ask_for(
         (λ span. IsTrue (takes_in span long_span.now) × (span.first < low)) questions.new.items) }
     ensures kept { OnOk result ((span : Range) → IsTrue (list_any (begins_in span) questions.old.items)
         → IsTrue (list_any (begins_in span) questions.new.items)) }
-    ensures within { OnOk result (AllByRecursion (IsWithin extent.now) questions.old.items
-        → AllByRecursion (IsWithin extent.now) questions.new.items) }
+    ensures within { OnOk result (AllByRecursion (IsWithinExtent extent.now) questions.old.items
+        → AllByRecursion (IsWithinExtent extent.now) questions.new.items) }
 {
     match long_span {
         Some(long_span) if is_apart(long_span, low, extent) => {

@@ -39,7 +39,7 @@ use Rattle.desk_run.specs.Verdicts.{Told, enrolled_ruling, plans_left, put_outco
 use Rattle.desk_run.specs.Verdicts.{shown_plan, side_left, step, told_to, verdict, world_with_plans}
 use Rattle.desk_run.specs.laws.Side.{everywhere}
 use Rattle.desk_run.specs.laws.Step.{own_stays}
-use Rattle.desk_uses.specs.Desks.{IsListed, IsPlanned, rows_in}
+use Rattle.desk_uses.specs.Desks.{IsPlanListed, IsPlanned, rows_in}
 
 -- what is said in what is told, if something is
 abbrev pub said_of : Told → ReplyParts
@@ -199,7 +199,7 @@ pub listed_after :
     (w : DeskWorld) (o : List ℕ) (moment later : ℤ) (asked : PutCall) (planned listed : ReplyParts)
     → asked.style ≢ style.Hypothetical → told_to w o moment (call.Put asked) ≡ replied planned
     → told_to (step w o moment (call.Put asked)) o later call.List ≡ replied listed → IsPlanned planned
-    → IsListed asked listed
+    → IsPlanListed asked listed
 unfolding told_to side_left
 listed_after w o moment later asked planned listed other told list is =
     ap (stored_of asked.id) (rows ∙ plans) ∙ put_found (row_asked asked) (own w.content o).plans where

@@ -47,8 +47,8 @@ abbrev pub IsPlanned : ReplyParts → Type 0
 IsPlanned reply = IsSomeAnd (given_in reply) LeavesPlan
 
 -- the plan that is asked for is listed
-abbrev pub IsListed : PutCall → ReplyParts → Type 0
-IsListed asked reply = stored_of asked.id (rows_in reply) ≡ Some (row_asked asked)
+abbrev pub IsPlanListed : PutCall → ReplyParts → Type 0
+IsPlanListed asked reply = stored_of asked.id (rows_in reply) ≡ Some (row_asked asked)
 
 -- at each point of the area that is asked for, what others hold in two worlds is the same so far as it could
 -- block the plan: plans of lower priority don't count

@@ -5,7 +5,7 @@ ghost use Rattle.desk_rules.specs.Replies.{said_in};
 ghost use Rattle.desk_store.specs.StoreFaults.{IsHonest};
 ghost use Rattle.desk_run.specs.DeskWorld.{enrolled, world_of};
 ghost use Rattle.desk_run.specs.Sides.{HoldAlike, OwnAlike};
-ghost use Rattle.desk_uses.specs.Desks.{BlockAlike, IsListed, IsPlanned, new_world};
+ghost use Rattle.desk_uses.specs.Desks.{BlockAlike, IsPlanListed, IsPlanned, new_world};
 
 use desk_rules::laws::{conflict_is_found, one_conflict};
 use desk_rules::operator::Operator;
@@ -45,7 +45,7 @@ pub fn plan_and_list<S: PlanStore>(
     asked: PutCall,
 ) -> Result<(Reply, Reply), DeskFault>
     ensures { IsHonest (S.doubt desk.new.store) → asked.style ≢ Style.Hypothetical → IfOk result (λ replies.
-        IsPlanned (said_in replies.0) → IsListed asked (said_in replies.1)) }
+        IsPlanned (said_in replies.0) → IsPlanListed asked (said_in replies.1)) }
 {
     let put = Asked {
         operator,

@@ -2,7 +2,7 @@
 use Rattle.std.proofs.Common.{◌≡◌, ℕ, ℤ, ◌+◌, ◌<◌, ◌≤◌, List, [], ◌∷◌, ◌++◌, true, false, Option, Some, None, is_some, length, take, get_or, map, refl, sym, ap, subst, ◌∙◌, arith}
 use Rattle.std.proofs.lemmas.List.{take_more, take_all, take-map, map-append, length-append, length-map}
 use Rattle.desk_run.specs.DeskWorld.{DeskWorld}
-use Rattle.desk_wire.specs.AllAnswers.{Sent, answers_to, world_left, AreFirst, AreAll, AreCut, AreBroken}
+use Rattle.desk_wire.specs.AllAnswers.{Sent, answers_to, world_left, AreFirst, AreAll, AreCutShort, AreBroken}
 use Rattle.desk_wire.proofs.BytesLemmas.{asked_read}
 use Rattle.desk_wire.specs.Bytes.{text_for, world_after, IsDone, IsServerError, IsAnsweredSo}
 use Rattle.desk_rules.specs.declared.call.Asked.{Asked}
@@ -79,7 +79,7 @@ all_answered shown items w after requests n answers h all =
 -- the next is not
 pub cut_answered : {R V : Type 0} (shown : R → Sent) (items : V → List ℕ) (w now after : DeskWorld)
     (requests : List R) (n : ℕ) (answers : List V) → HaveAnswers shown items w requests n answers now
-    → n < length requests → after ≡ now → AreCut w (map shown requests) (map items answers) after
+    → n < length requests → after ≡ now → AreCutShort w (map shown requests) (map items answers) after
 cut_answered shown items w now after requests n answers h below same =
     let count : length (map items answers) ≡ n = length-map answers items ∙ h.count in
     record {

@@ -4,9 +4,9 @@ use Rattle.desk_rules.specs.declared.call.Asked.{Asked}
 use Rattle.desk_run.specs.declared.pending.Pending.{Pending}
 use Rattle.desk_run.specs.DeskWorld.{DeskWorld}
 use Rattle.desk_run.specs.Verdicts.{Told}
-use Rattle.desk_run.specs.Calls.{IsPending, IsUnanswered, reply_in, world_committed}
+use Rattle.desk_run.specs.Calls.{HasNoReply, IsPending, reply_in, world_committed}
 use Rattle.desk_rules.specs.Replies.{said_in}
-use Rattle.desk_writing.specs.Replies.{reply_text}
+use Rattle.desk_writing.specs.ReplyText.{reply_text}
 use Rattle.desk_reading.specs.Messages.{MessageParts, message_in}
 use Rattle.desk_reading.specs.Readings.{Reading, or_met}
 use Rattle.desk_reading.specs.Requests.{asked, asked_by}
@@ -25,7 +25,7 @@ done_pending w after moment asked p answer h told left = record {
 
 -- the answer to a call that has no reply
 pub done_unanswered : (w after : DeskWorld) (moment : ℤ) (asked : Asked) (reason : Told) (answer : List ℕ)
-    → IsUnanswered w moment asked reason → answer ≡ text reason → after ≡ w
+    → HasNoReply w moment asked reason → answer ≡ text reason → after ≡ w
     → IsDone w moment (Ok asked) answer after
 done_unanswered w after moment asked reason answer h told left = record {
   told = told ∙ ap text (sym h.told);
@@ -49,12 +49,12 @@ unfolding status
 status_pending w moment asked p h = sym (ap status h.told)
 
 pub status_unanswered : (w : DeskWorld) (moment : ℤ) (asked : Asked) (reason : Told)
-    → IsUnanswered w moment asked reason → status reason ≡ status_for w moment (Ok asked)
+    → HasNoReply w moment asked reason → status reason ≡ status_for w moment (Ok asked)
 status_unanswered w moment asked reason h = sym (ap status h.told)
 
 -- what has no reply makes no change
 pub change_unanswered : (w : DeskWorld) (moment : ℤ) (asked : Asked) (reason : Told)
-    → IsUnanswered w moment asked reason → false ≡ makes_change_for w moment (Ok asked)
+    → HasNoReply w moment asked reason → false ≡ makes_change_for w moment (Ok asked)
 change_unanswered w moment asked reason h = sym h.change_is
 
 -- what a request asks, by how it was read

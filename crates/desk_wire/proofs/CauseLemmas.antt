@@ -11,11 +11,11 @@ use Rattle.desk_ends.specs.declared.serving.Served.TheVariants.{Answered}
 use Rattle.desk_wire.specs.declared.response.ServerError.{ServerError}
 use Rattle.desk_wire.specs.declared.response.ServerError.TheVariants.{OutOfMemory, Store}
 use Rattle.desk_wire.specs.Bytes.{IsServerError}
-use Rattle.desk_wire.specs.Causes.{AppendsLast, HasCause, HasFailed, IsGivenUp, IsLast}
-use Rattle.desk_wire.specs.Refusals.{server_error_text}
+use Rattle.desk_wire.specs.FailureCauses.{AppendsLast, HasFailed, HasStoreCause, IsGivenUp, IsLastAnswer}
+use Rattle.desk_wire.specs.RefusalTexts.{server_error_text}
 
 cause_of : (why : ServerError) (old new : ℕ) → (Some why ≡ Some Store → HasRisen old new)
-    → HasCause why old new
+    → HasStoreCause why old new
 cause_of OutOfMemory old new risen = tt
 cause_of Store old new risen = risen refl
 
@@ -34,14 +34,14 @@ pub not_none : {A : Type 0} (e : Option A) → is_some e ≡ true → e ≢ None
 not_none (Some a) some is = cc
 not_none None some is = cc
 
-pub cause_since : (why : ServerError) (first old new : ℕ) → first ≤ old → HasCause why old new
-    → HasCause why first new
+pub cause_since : (why : ServerError) (first old new : ℕ) → first ≤ old → HasStoreCause why old new
+    → HasStoreCause why first new
 cause_since OutOfMemory first old new below cause = tt
 cause_since Store first old new below cause = risen_since first old new below cause
 
 -- the last of the answers to a list
 pub last_said : {V : Type 0} (items : V → List ℕ) (answers : List V) (answer : V)
-    → IsLast (map items (answers ++ answer ∷ [])) (items answer)
+    → IsLastAnswer (map items (answers ++ answer ∷ [])) (items answer)
 last_said items answers answer = (map items answers, map-append items answers (answer ∷ []))
 
 -- what was served

@@ -9,7 +9,7 @@ use Rattle.desk_reading.specs.Requests.{asked}
 use Rattle.desk_run.specs.Sides.{OwnAlike, is_from}
 use Rattle.desk_wire.specs.declared.batch.AnswersEnd.{AnswersEnd}
 use Rattle.desk_wire.specs.declared.batch.AnswersEnd.TheVariants.{All, Broken, NoMemory}
-use Rattle.desk_wire.specs.Refusals.{server_error_text}
+use Rattle.desk_wire.specs.RefusalTexts.{server_error_text}
 use Rattle.desk_wire.specs.Bytes.{text_for}
 use Rattle.desk_wire.specs.AllAnswers.{Sent, answers_to, world_left, AreFirst, AreBroken, AreAnswers}
 use Rattle.desk_wire.specs.Headline.{sender, LookAlike, world_at}

@@ -16,7 +16,7 @@ use Rattle.desk_run.specs.laws.TwoRun.{tell, keep, seen, kept, same_name, told_a
 use Rattle.desk_run.specs.Verdicts.{side_left, step}
 use Rattle.desk_wire.specs.declared.refusal.Refusal.TheVariants.{Fault}
 use Rattle.desk_wire.specs.Bytes.{text, text_for, world_after}
-use Rattle.desk_wire.specs.Refusals.{refusal_text}
+use Rattle.desk_wire.specs.RefusalTexts.{refusal_text}
 use Rattle.desk_wire.specs.AllAnswers.{Sent, answers_to, world_left}
 use Rattle.desk_wire.specs.Headline.{operator_in, sender, LookAlike, OwnsAlike, world_at, Headline}
 use Rattle.desk_wire.specs.TwoRuns.{left, requests_of, met_by, IsSameFor}

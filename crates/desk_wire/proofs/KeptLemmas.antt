@@ -26,11 +26,11 @@ use Rattle.desk_wire.specs.declared.response.ServerError.{ServerError}
 use Rattle.desk_wire.specs.AllAnswers.{Sent, answers_to, world_left}
 use Rattle.desk_wire.specs.Bytes.{IsServerError, status_so, world_after}
 use Rattle.desk_wire.specs.Given.{IsNextIn, answered, told_in_play}
-use Rattle.desk_wire.specs.Crashes.{FindsBy, IsCertain, IsFoundAfter, IsFoundIn, IsFoundNow, IsKept, IsLeftBy, IsOldOrNext, IsServedKept}
+use Rattle.desk_wire.specs.RequestsKept.{FindsBy, IsCertain, IsFoundInRequests, IsFoundInStream, IsFoundNow, IsKept, IsLeftBy, IsOldOrNext, IsServedKept}
 use Rattle.desk_wire.specs.Passage.{Passage, passed}
-use Rattle.desk_wire.specs.Playing.{ArePlayed, EndsBy, IsWhole, at_moment}
+use Rattle.desk_wire.specs.Playing.{ArePlayed, EndsRunBy, IsWhole, at_moment}
 use Rattle.desk_wire.specs.Streams.{requests_in}
-use Rattle.desk_wire.specs.Serving.{IsTaken}
+use Rattle.desk_wire.specs.OneRequest.{IsTaken}
 use Rattle.desk_wire.proofs.AllLemmas.{HaveAnswers, left_more, take_map}
 use Rattle.desk_wire.proofs.BytesLemmas.{left_read}
 use Rattle.desk_wire.proofs.StreamGivenLemmas.{given_broken, given_first, given_off, given_unframed, is_next}
@@ -198,7 +198,7 @@ module _ (H : Type 0) (old out : Option (List ℕ)) (w : DeskWorld) (moment : �
   kept_by : (ended : PlayEnd) (count answered : ℕ) (input new output now : Option (List ℕ))
       (world after : DeskWorld) (found : Option World)
       → ArePlayed H count (passed old input out output) w moment world
-      → EndsBy H ended count answered (passed input new output now) world moment after
+      → EndsRunBy H ended count answered (passed input new output now) world moment after
       → FindsLast ended (IsTaken input new) world moment after found
       → Kept ended (told_in_play ended answered) new now after found
   kept_by End count answered input new output now world after found f last is =
@@ -274,7 +274,7 @@ pub kept_so : (H : Type 0) (ended : PlayEnd) (count answered : ℕ)
     (old input new out output now : Option (List ℕ)) (w world after : DeskWorld) (given moment : ℤ)
     (found : Option World) → H → given ≡ moment
     → ArePlayed H count (passed old input out output) w given world
-    → EndsBy H ended count answered (passed input new output now) world given after
+    → EndsRunBy H ended count answered (passed input new output now) world given after
     → FindsLast ended (IsTaken input new) world given after found
     → IsKept ended (told_in_play ended answered) (passed old new out now) w moment after found
 kept_so H ended count answered old input new out output now w world after given moment found p same f last
@@ -285,7 +285,7 @@ kept_so H ended count answered old input new out output now w world after given 
 -- what is found, by the number of requests that a known stream has answered
 pub found_after : (ended : PlayEnd) (n : ℕ) (q : Passage) (stream : List ℕ) (w : DeskWorld) (moment : ℤ)
     (after : DeskWorld) (found : Option World) → q.reads.before ≡ Some stream
-    → IsKept ended n q w moment after found → IsFoundAfter w moment stream n found
+    → IsKept ended n q w moment after found → IsFoundInStream w moment stream n found
 found_after ended n q stream w moment after found is_known k =
     by ended (subst (λ old. FindsBy ended (IsNextIn old n k.requests)
     (world_left w (at_moment moment k.requests)) moment found) is_known k.finds)
@@ -294,11 +294,11 @@ found_after ended n q stream w moment after found is_known k =
     begins = subst (λ old. IfSome old (λ stream. k.requests ≡ requests_in n stream)) is_known k.given.first
 
     first : found ≡ Some (world_left w (at_moment moment k.requests)).content
-        → IsFoundAfter w moment stream n found
+        → IsFoundInStream w moment stream n found
     first is = inl (is ∙ ap (λ rs. Some (world_left w (at_moment moment rs)).content) begins)
 
     either : IsOldOrNext (IsNextIn (Some stream) n k.requests) (world_left w (at_moment moment k.requests))
-        moment found → IsFoundAfter w moment stream n found
+        moment found → IsFoundInStream w moment stream n found
     either (inl is) = first is
     either (inr next) =
         inr (next.2
@@ -307,7 +307,7 @@ found_after ended n q stream w moment after found is_known k =
         ∙ ap (λ rs. Some (world_left w (at_moment moment rs)).content) (sym next.1))
 
     by : (ended : PlayEnd) → FindsBy ended (IsNextIn (Some stream) n k.requests)
-        (world_left w (at_moment moment k.requests)) moment found → IsFoundAfter w moment stream n found
+        (world_left w (at_moment moment k.requests)) moment found → IsFoundInStream w moment stream n found
     by End is = first is
     by Unframed is = first is
     by Limit is = first is
@@ -326,7 +326,7 @@ is_none_by (Some x) none = cc
 pub found_settled : {R V : Type 0} (shown : R → Sent) (items : V → List ℕ) (w now : DeskWorld)
     (requests : List R) (n : ℕ) (answers : List V) (found : Option World)
     → HaveAnswers shown items w requests n answers now → found ≡ Some now.content
-    → IsFoundIn w (map shown requests) n found
+    → IsFoundInRequests w (map shown requests) n found
 found_settled shown items w now requests n answers found h is =
     inl (is ∙ ap (λ v. Some v.content) h.first.left)
 
@@ -337,7 +337,7 @@ pub found_next : {R V : Type 0} (shown : R → Sent) (items : V → List ℕ) (w
     → shown r ≡ (moment, request) → given ≡ moment → reading ≡ message_in request
     → (before found → found ≡ Some now.content)
     → before found ⊎ (found ≡ Some (world_after now given (or_met reading asked_by)).content)
-    → IsFoundIn w (map shown requests) n found
+    → IsFoundInRequests w (map shown requests) n found
 found_next shown items w now requests n answers r before given moment request reading found h below place
     sent same read only (inl is) =
     found_settled shown items w now requests n answers found h (only is)

@@ -4,7 +4,7 @@ use Rattle.desk_rules.specs.declared.call.Asked.{Asked}
 use Rattle.desk_reading.specs.Readings.{Reading}
 use Rattle.desk_run.specs.DeskWorld.{DeskWorld}
 use Rattle.desk_run.specs.declared.fault.DeskFault.TheVariants as desk
-use Rattle.desk_wire.specs.Bytes.{IsDone, IsMade, makes_change_for, status_for}
+use Rattle.desk_wire.specs.Bytes.{IsDone, IsMadeAnswer, makes_change_for, status_for}
 use Rattle.desk_wire.specs.Failing.{failure_of}
 use Rattle.desk_wire.specs.declared.answering.Response.{Response}
 use Rattle.desk_wire.specs.declared.response.ServerError.{ServerError}
@@ -16,7 +16,7 @@ pub made_if : (H : Type 0) (r : Result Response ServerError) (w : DeskWorld) (mo
     → (H → IfOk r (λ v. IsDone w moment reading v.bytes.items after))
     → (H → IfOk r (λ v. v.status ≡ status_for w moment reading)) → IfOk r (λ v. v.status ≢ 500)
     → (H → IfOk r (λ v. v.made_change ≡ makes_change_for w moment reading))
-    → IfOk r (IsMade H w moment reading after)
+    → IfOk r (IsMadeAnswer H w moment reading after)
 made_if H (Ok v) w moment reading after bytes status other change =
     record { bytes = bytes; status = status; other = other; change = change }
 made_if H (Err e) w moment reading after bytes status other change = tt

@@ -16,7 +16,7 @@ use Rattle.desk_wire.specs.AllAnswers.{Sent, answers_to, world_left}
 use Rattle.desk_wire.specs.Bytes.{IsAnsweredSo, IsDone, IsServerError, status_so, text_for, world_after}
 use Rattle.desk_wire.specs.Passage.{passed}
 use Rattle.desk_wire.specs.Playing.{ArePlayed, IsBroken, IsWhole, at_moment}
-use Rattle.desk_wire.specs.Serving.{IsServed}
+use Rattle.desk_wire.specs.OneRequest.{IsServed}
 use Rattle.desk_wire.proofs.AllLemmas.{told_more, left_more}
 
 -- an answer with another status is what is asked

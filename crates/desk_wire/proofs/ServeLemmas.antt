@@ -18,7 +18,7 @@ use Rattle.desk_ends.specs.Writing.{BreaksOff}
 use Rattle.desk_wire.specs.declared.response.ServerError.{ServerError}
 use Rattle.desk_wire.specs.Bytes.{IsAnsweredSo, IsServerError, status_so}
 use Rattle.desk_wire.specs.Passage.{passed}
-use Rattle.desk_wire.specs.Serving.{HasServed, IsReplied, IsServed, IsTaken, IsUntouched, Stops}
+use Rattle.desk_wire.specs.OneRequest.{HasServed, IsReplied, IsServed, IsTaken, IsUntouched, Stops}
 use Rattle.desk_wire.specs.Streams.{IsCut, IsFront, front_read, is_framed, size_said, with_body}
 use Rattle.desk_wire.proofs.BytesLemmas.{asked_read}
 use Rattle.desk_wire.proofs.FrontLemmas.{is_request, message_is}

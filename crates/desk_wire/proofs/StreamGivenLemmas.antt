@@ -23,8 +23,8 @@ use Rattle.desk_wire.specs.Bytes.{IsAnsweredSo, IsDone, world_after}
 use Rattle.desk_wire.specs.Given.{AreGiven, IsNextIn, LeavesBy, FollowsBy, told_in_play}
 use Rattle.desk_wire.specs.Headline.{sender, LookAlike, world_at}
 use Rattle.desk_wire.specs.Passage.{Passage, passed}
-use Rattle.desk_wire.specs.Playing.{ArePlayed, EndsBy, HasPlayed, IsBroken, IsUnframed, IsWhole, at_moment}
-use Rattle.desk_wire.specs.Serving.{IsBrokenOff, IsTaken, IsUntouched}
+use Rattle.desk_wire.specs.Playing.{ArePlayed, EndsRunBy, HasPlayed, IsBroken, IsUnframed, IsWhole, at_moment}
+use Rattle.desk_wire.specs.OneRequest.{IsBrokenOff, IsTaken, IsUntouched}
 use Rattle.desk_wire.specs.Streams.{IsRequest, is_framed, request_len, requests_in, with_next}
 use Rattle.desk_wire.specs.TwoRuns.{SparesQuiet, requests_of}
 use Rattle.desk_wire.proofs.AllLemmas.{left_more}
@@ -243,7 +243,7 @@ module _ (H : Type 0) (old out : Option (List ℕ)) (w : DeskWorld) (moment : �
   given_by : (ended : PlayEnd) (count answered : ℕ) (input new output now : Option (List ℕ))
       (world after : DeskWorld)
       → ArePlayed H count (passed old input out output) w moment world
-      → EndsBy H ended count answered (passed input new output now) world moment after
+      → EndsRunBy H ended count answered (passed input new output now) world moment after
       → Given ended (told_in_play ended answered) new now after
   given_by End count answered input new output now world after f last =
       subst (λ n. Given End n new now after) (sym last.0)

@@ -7,7 +7,7 @@ use Rattle.desk_wire.specs.declared.batch.AnswersEnd.{AnswersEnd}
 use Rattle.desk_wire.specs.declared.batch.AnswersEnd.TheVariants.{All, Broken, NoMemory}
 use Rattle.desk_wire.specs.declared.response.ServerError.{ServerError}
 use Rattle.desk_wire.specs.Bytes.{text_for, world_after}
-use Rattle.desk_wire.specs.Refusals.{server_error_text}
+use Rattle.desk_wire.specs.RefusalTexts.{server_error_text}
 use Rattle.desk_reading.specs.Requests.{asked}
 
 -- the bytes of a request, with its moment
@@ -44,7 +44,7 @@ pub record AreAll (w : DeskWorld) (requests : List Sent) (answers : List (List �
   pub left : after ≡ world_left w requests
 
 -- memory ran out before the answer to one of them
-pub record AreCut (w : DeskWorld) (requests : List Sent) (answers : List (List ℕ)) (after : DeskWorld) :
+pub record AreCutShort (w : DeskWorld) (requests : List Sent) (answers : List (List ℕ)) (after : DeskWorld) :
     Type 0 where
   pub first : AreFirst w requests (length answers) answers after
   pub cut : length answers < length requests
@@ -63,4 +63,4 @@ pub record AreBroken (w : DeskWorld) (requests : List Sent) (answers : List (Lis
 abbrev pub AreAnswers : AnswersEnd → DeskWorld → List Sent → List (List ℕ) → DeskWorld → Type 0
 AreAnswers All w requests answers after = AreAll w requests answers after
 AreAnswers Broken w requests answers after = AreBroken w requests answers after
-AreAnswers NoMemory w requests answers after = AreCut w requests answers after
+AreAnswers NoMemory w requests answers after = AreCutShort w requests answers after

@@ -3,12 +3,12 @@ use Rattle.std.specs.Prelude.{◌≡◌, ◌≢◌, ℕ, ℤ, List, Bool, false,
 use Rattle.desk_rules.specs.declared.call.Asked.{Asked}
 use Rattle.desk_reading.specs.FaultWords.{fault_status}
 use Rattle.desk_reading.specs.Readings.{Reading}
-use Rattle.desk_writing.specs.Replies.{reply_text}
+use Rattle.desk_writing.specs.ReplyText.{reply_text}
 use Rattle.desk_wire.specs.declared.refusal.Refusal.TheVariants.{Fault, UnknownOperator, NoSuchPlan}
 use Rattle.desk_wire.specs.declared.answering.Response.{Response}
 use Rattle.desk_wire.specs.declared.response.Answer.{Answer}
 use Rattle.desk_wire.specs.declared.response.ServerError.{ServerError}
-use Rattle.desk_wire.specs.Refusals.{refusal_status, refusal_text, server_error_text}
+use Rattle.desk_wire.specs.RefusalTexts.{refusal_status, refusal_text, server_error_text}
 use Rattle.desk_run.specs.Verdicts.{Told, replied, unknown_operator, no_such_plan, makes_change, told_to, step}
 use Rattle.desk_run.specs.DeskWorld.{DeskWorld}
 
@@ -72,7 +72,8 @@ makes_change_so None w moment reading = makes_change_for w moment reading
 makes_change_so (Some why) w moment reading = false
 
 -- what was made of what is asked, where the desk didn't fail: the text and its status code, never 500
-pub record IsMade (H : Type 0) (w : DeskWorld) (moment : ℤ) (reading : Reading Asked) (after : DeskWorld)
+pub record IsMadeAnswer (H : Type 0) (w : DeskWorld) (moment : ℤ) (reading : Reading Asked)
+    (after : DeskWorld)
     (made : Response) : Type 0 where
   pub bytes : H → IsDone w moment reading made.bytes.items after
   pub status : H → made.status ≡ status_for w moment reading
@@ -80,7 +81,8 @@ pub record IsMade (H : Type 0) (w : DeskWorld) (moment : ℤ) (reading : Reading
   pub other : made.status ≢ 500
 
 -- the answer with its status code; why the desk failed is told whether the store is honest or not
-pub record IsTold (H : Type 0) (w : DeskWorld) (moment : ℤ) (reading : Reading Asked) (after : DeskWorld)
+pub record IsAnswerTold (H : Type 0) (w : DeskWorld) (moment : ℤ) (reading : Reading Asked)
+    (after : DeskWorld)
     (answer : Answer) : Type 0 where
   pub bytes : H → IsAnsweredSo answer.error w moment reading answer.bytes.items after
   pub status : H → answer.status ≡ status_so answer.error w moment reading

@@ -15,7 +15,7 @@ use Rattle.desk_wire.specs.AllAnswers.{answers_to, world_left}
 use Rattle.desk_wire.specs.Bytes.{world_after}
 use Rattle.desk_wire.specs.Passage.{Passage}
 use Rattle.desk_wire.specs.Playing.{at_moment}
-use Rattle.desk_wire.specs.Refusals.{server_error_text}
+use Rattle.desk_wire.specs.RefusalTexts.{server_error_text}
 use Rattle.desk_wire.specs.Streams.{requests_in}
 
 -- all of them, but for a last one that says why the desk failed

@@ -1,15 +1,15 @@
 -- Read first: Headline, Bytes, Streams.
-pub mod Refusals
+pub mod RefusalTexts
 pub mod Bytes
 pub mod AllAnswers
-pub mod Causes
+pub mod FailureCauses
 pub mod Failing
 pub mod Streams
 pub mod Passage
-pub mod Serving
+pub mod OneRequest
 pub mod Playing
 pub mod Headline
 pub mod TwoRuns
 pub mod Given
 pub mod GivenLaws
-pub mod Crashes
+pub mod RequestsKept

@@ -9,7 +9,7 @@ use Rattle.desk_wire.specs.declared.response.ServerError.{ServerError}
 use Rattle.desk_wire.specs.AllAnswers.{Sent, answers_to, world_left}
 use Rattle.desk_wire.specs.Bytes.{IsServerError}
 use Rattle.desk_wire.specs.Passage.{Passage, passed}
-use Rattle.desk_wire.specs.Serving.{HasServed, IsServed, IsTaken, IsUntouched}
+use Rattle.desk_wire.specs.OneRequest.{HasServed, IsServed, IsTaken, IsUntouched}
 use Rattle.desk_wire.specs.Streams.{IsRequest, is_framed}
 
 -- the most requests that one run answers: this desk's own limit
@@ -53,15 +53,15 @@ pub record IsUnframed (H : Type 0) (p : Passage) (w : DeskWorld) (moment : ℤ) 
   pub answered : status ≢ 500
 
 -- what comes after the first requests, by why the run ended; the number of requests that are answered
-abbrev pub EndsBy : Type 0 → PlayEnd → ℕ → ℕ → Passage → DeskWorld → ℤ → DeskWorld → Type 0
-EndsBy H End count answered p w moment after =
+abbrev pub EndsRunBy : Type 0 → PlayEnd → ℕ → ℕ → Passage → DeskWorld → ℤ → DeskWorld → Type 0
+EndsRunBy H End count answered p w moment after =
     (answered ≡ count) × IsAtEnd p.reads.before × IsUntouched p.writes.before p.writes.after w after
-EndsBy H Unframed count answered p w moment after =
+EndsRunBy H Unframed count answered p w moment after =
     (answered ≡ count + 1) × IsUnframed H p w moment after
-EndsBy H Broken count answered p w moment after = (answered ≡ count + 1) × IsBroken p w after
-EndsBy H Limit count answered p w moment after = (answered ≡ count) × (count ≡ max_answered)
+EndsRunBy H Broken count answered p w moment after = (answered ≡ count + 1) × IsBroken p w after
+EndsRunBy H Limit count answered p w moment after = (answered ≡ count) × (count ≡ max_answered)
     × IsUntouched p.writes.before p.writes.after w after
-EndsBy H (Fault fault) count answered p w moment after =
+EndsRunBy H (Fault fault) count answered p w moment after =
     (answered ≡ count) × HasServed H (Err fault) p w moment after
 
 -- the first requests are answered in their order, and then the run ends
@@ -72,5 +72,5 @@ pub record HasPlayed (H : Type 0) (ended : PlayEnd) (answered : ℕ) (p : Passag
   pub output : Option (List ℕ)
   pub world : DeskWorld
   pub first : ArePlayed H count (passed p.reads.before input p.writes.before output) w moment world
-  pub last : EndsBy H ended count answered (passed input p.reads.after output p.writes.after) world moment
+  pub last : EndsRunBy H ended count answered (passed input p.reads.after output p.writes.after) world moment
       after

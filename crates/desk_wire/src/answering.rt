@@ -9,12 +9,12 @@ ghost use Rattle.desk_run.specs.DeskFrames.{Leaves};
 ghost use Rattle.desk_run.specs.DeskWorld.{world_of};
 ghost use Rattle.desk_run.specs.Calls.{CanCommit, has_change, reply_in, world_committed};
 ghost use Rattle.desk_rules.specs.Replies.{said_in};
-ghost use Rattle.desk_writing.specs.Replies.{reply_text};
+ghost use Rattle.desk_writing.specs.ReplyText.{reply_text};
 ghost use Rattle.desk_ends.specs.Moments.{IsMoment};
-ghost use Rattle.desk_wire.specs.Bytes.{IsMade, IsTold, world_after};
+ghost use Rattle.desk_wire.specs.Bytes.{IsAnswerTold, IsMadeAnswer, world_after};
 ghost use Rattle.desk_wire.specs.Failing.{failure_of, failure_told};
-ghost use Rattle.desk_wire.specs.Refusals.{refusal_status, refusal_text};
-ghost use Rattle.desk_wire.specs.Serving.{IsAnswered};
+ghost use Rattle.desk_wire.specs.RefusalTexts.{refusal_status, refusal_text};
+ghost use Rattle.desk_wire.specs.OneRequest.{IsAnswered};
 
 use crate::refusal::Refusal;
 use crate::response::{Answer, ServerError};
@@ -71,7 +71,7 @@ pub fn full_answer<S: PlanStore>(
     text: &[u8],
 ) -> Result<Answer, AllocError>
     requires { IsMoment moment }
-    ensures told { IfOk result (IsTold (IsHonest (S.doubt desk.new.store)) (world_of S.content desk.old)
+    ensures told { IfOk result (IsAnswerTold (IsHonest (S.doubt desk.new.store)) (world_of S.content desk.old)
         moment (asked_in text.now) (world_of S.content desk.new)) }
     ensures leaves { Leaves S.PlanStore desk.old desk.new
         (world_after (world_of S.content desk.old) moment (asked_in text.now)) (failure_told result) }
@@ -92,7 +92,7 @@ pub fn answer_request<S: PlanStore>(
     request: &Result<Message<'_>, WireFault>,
 ) -> Result<Answer, AllocError>
     requires { IsMoment moment }
-    ensures told { IfOk result (IsTold (IsHonest (S.doubt desk.new.store)) (world_of S.content desk.old)
+    ensures told { IfOk result (IsAnswerTold (IsHonest (S.doubt desk.new.store)) (world_of S.content desk.old)
         moment (or_met (message_read request.now) asked_by) (world_of S.content desk.new)) }
     ensures leaves { Leaves S.PlanStore desk.old desk.new
         (world_after (world_of S.content desk.old) moment (or_met (message_read request.now) asked_by))
@@ -127,7 +127,7 @@ fn respond<S: PlanStore>(
     request: &Result<Message<'_>, WireFault>,
 ) -> Result<Response, ServerError>
     requires { IsMoment moment }
-    ensures made { IfOk result (IsMade (IsHonest (S.doubt desk.new.store)) (world_of S.content desk.old)
+    ensures made { IfOk result (IsMadeAnswer (IsHonest (S.doubt desk.new.store)) (world_of S.content desk.old)
         moment (or_met (message_read request.now) asked_by) (world_of S.content desk.new)) }
     ensures leaves { Leaves S.PlanStore desk.old desk.new
         (world_after (world_of S.content desk.old) moment (or_met (message_read request.now) asked_by))
@@ -147,7 +147,7 @@ fn answer_message<S: PlanStore>(
     message: &Message<'_>,
 ) -> Result<Response, ServerError>
     requires { IsMoment moment }
-    ensures made { IfOk result (IsMade (IsHonest (S.doubt desk.new.store)) (world_of S.content desk.old)
+    ensures made { IfOk result (IsMadeAnswer (IsHonest (S.doubt desk.new.store)) (world_of S.content desk.old)
         moment (asked_by (message_shown message.now)) (world_of S.content desk.new)) }
     ensures leaves { Leaves S.PlanStore desk.old desk.new
         (world_after (world_of S.content desk.old) moment (asked_by (message_shown message.now)))
@@ -168,7 +168,7 @@ fn answer_call<S: PlanStore>(
     asked: &Asked,
 ) -> Result<Response, ServerError>
     requires { IsMoment moment }
-    ensures made { IfOk result (IsMade (IsHonest (S.doubt desk.new.store)) (world_of S.content desk.old)
+    ensures made { IfOk result (IsMadeAnswer (IsHonest (S.doubt desk.new.store)) (world_of S.content desk.old)
         moment (Ok asked.now) (world_of S.content desk.new)) }
     ensures leaves { Leaves S.PlanStore desk.old desk.new
         (world_after (world_of S.content desk.old) moment (Ok asked.now)) (failure_of result) }
@@ -212,7 +212,7 @@ fn answer_pending<S: PlanStore>(
 }
 
 // The answer to a request that is refused.
-#[tactic(auto, unfolding(crate::specs::Refusals::refusal_text))]
+#[tactic(auto, unfolding(crate::specs::RefusalTexts::refusal_text))]
 fn refuse(alloc: Global, refusal: Refusal) -> Result<Response, ServerError>
     ensures bytes { IfOk result (λ r. r.bytes.items ≡ refusal_text refusal) }
     ensures status { IfOk result (λ r. r.status ≡ refusal_status refusal) }

@@ -7,9 +7,9 @@ ghost use Rattle.desk_run.specs.DeskFrames.{FindsOnly};
 ghost use Rattle.desk_run.specs.DeskWorld.{world_of};
 ghost use Rattle.desk_ends.specs.Moments.{IsMoment};
 ghost use Rattle.desk_wire.specs.AllAnswers.{AreAnswers, sent_in, texts_in};
-ghost use Rattle.desk_wire.specs.Causes.{HaveCause};
+ghost use Rattle.desk_wire.specs.FailureCauses.{HaveCause};
 ghost use Rattle.desk_wire.specs.Given.{answered};
-ghost use Rattle.desk_wire.specs.Crashes.{IsFoundIn};
+ghost use Rattle.desk_wire.specs.RequestsKept.{IsFoundInRequests};
 ghost use Rattle.desk_wire.specs.TwoRuns.{SparesQuiet};
 
 use crate::answering::answer_request;
@@ -85,7 +85,7 @@ pub fn answer_all<S: PlanStore>(
         (world_of S.content desk.old) (sent_in requests.now) (texts_in a) (world_of S.content desk.new)) }
     ensures quiet { IsHonest (S.doubt desk.new.store) → OnOk result (SparesQuiet
         (world_of S.content desk.old) (sent_in requests.now) (world_of S.content desk.new)) }
-    ensures kept { IfOk result (λ a. FindsOnly S.PlanStore desk.old desk.new (IsFoundIn
+    ensures kept { IfOk result (λ a. FindsOnly S.PlanStore desk.old desk.new (IsFoundInRequests
         (world_of S.content desk.old) (sent_in requests.now) (answered a.ended (texts_in a)))) }
     ensures err { OnErr result (world_of S.content desk.new ≡ world_of S.content desk.old) }
     ensures remembered { Remembers S.doubt S.faults S.is_shielded desk.old.store desk.new.store }

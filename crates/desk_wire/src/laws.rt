@@ -11,7 +11,7 @@ ghost use Rattle.desk_wire.specs.Bytes.{world_after};
 ghost use Rattle.desk_wire.specs.AllAnswers.{Sent};
 ghost use Rattle.desk_wire.specs.GivenLaws.{AnswersGiven, StreamGiven};
 ghost use Rattle.desk_wire.specs.Headline.{Headline};
-ghost use Rattle.desk_wire.specs.Crashes.{IsFoundAfter, IsKept};
+ghost use Rattle.desk_wire.specs.RequestsKept.{IsFoundInStream, IsKept};
 ghost use Rattle.desk_wire.specs.Passage.{Passage};
 ghost use Rattle.desk_wire.specs.Streams.{IsRequest, request_len};
 ghost use Rattle.desk_wire.specs.TwoRuns.{IsSameFor, met_by, requests_of};
@@ -55,7 +55,7 @@ pub fn kept()
     ensures { (ended : PlayEnd) (n : ℕ) (passage : Passage) (stream : List ℕ) (w : DeskWorld)
         (moment : ℤ) (after : DeskWorld) (found : Option World) →
         passage.reads.before ≡ Some stream → IsKept ended n passage w moment after found →
-        IsFoundAfter w moment stream n found }
+        IsFoundInStream w moment stream n found }
 {}
 
 /// Repeated: a request that is asked twice in a row, at one moment, leaves what it leaves once.

@@ -6,9 +6,9 @@ ghost use Rattle.desk_store.specs.StoreFaults.{IsHonest};
 ghost use Rattle.desk_run.specs.DeskFrames.{FindsOnly};
 ghost use Rattle.desk_run.specs.DeskWorld.{world_of};
 ghost use Rattle.desk_ends.specs.Moments.{IsMoment};
-ghost use Rattle.desk_wire.specs.Causes.{AppendsLast, HasFailed};
+ghost use Rattle.desk_wire.specs.FailureCauses.{AppendsLast, HasFailed};
 ghost use Rattle.desk_wire.specs.Given.{told_in_play};
-ghost use Rattle.desk_wire.specs.Crashes.{IsKept};
+ghost use Rattle.desk_wire.specs.RequestsKept.{IsKept};
 ghost use Rattle.desk_wire.specs.Passage.{passage};
 ghost use Rattle.desk_wire.specs.Playing.{HasPlayed};
 

@@ -1,7 +1,7 @@
 //! Why a request is refused before any rule is asked.
 
 ghost use Rattle.std.specs.Prelude.{◌≡◌, option_map};
-ghost use Rattle.desk_wire.specs.Refusals as spec;
+ghost use Rattle.desk_wire.specs.RefusalTexts as spec;
 
 use desk_reading::WireFault;
 use http::StatusCode;

@@ -11,10 +11,10 @@ ghost use Rattle.desk_store.specs.StoreFaults.{IsHonest};
 ghost use Rattle.desk_run.specs.DeskWorld.{world_of};
 ghost use Rattle.desk_ends.specs.Moments.{IsMoment};
 ghost use Rattle.desk_ends.specs.declared.serving.ServeFault.TheVariants as serve_fault;
-ghost use Rattle.desk_wire.specs.Causes.{HasFailed, IsGivenUp};
-ghost use Rattle.desk_wire.specs.Crashes.{IsServedKept};
+ghost use Rattle.desk_wire.specs.FailureCauses.{HasFailed, IsGivenUp};
+ghost use Rattle.desk_wire.specs.RequestsKept.{IsServedKept};
 ghost use Rattle.desk_wire.specs.Passage.{passage};
-ghost use Rattle.desk_wire.specs.Serving.{HasServed, IsTaken, Stops};
+ghost use Rattle.desk_wire.specs.OneRequest.{HasServed, IsTaken, Stops};
 ghost use Rattle.desk_wire.specs.Streams.{IsCut, IsFront, byte_list, front_read, front_reading, size_said, with_body};
 
 use crate::answering::answer_request;

@@ -10,7 +10,7 @@ use Rattle.volume4d.specs.Volume.{Block}
 use Rattle.desk_rules.specs.Replies.{ReplyParts, ready, plans, plan, answered, cleared}
 use Rattle.desk_rules.specs.declared.reply.Shown.{Shown}
 use Rattle.desk_writing.specs.PlanBody.{conflict_data, outcome_members, with_conflict}
-use Rattle.desk_writing.specs.Replies.{reply_data}
+use Rattle.desk_writing.specs.ReplyText.{reply_data}
 use Rattle.desk_writing.specs.ShownBody.{cell_data, row_members, shown_data, volume_data, with_footprint, volume_with}
 
 of_integer-whole : (z : ℤ) → is_float (of_integer z) ≡ false

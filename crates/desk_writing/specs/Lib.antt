@@ -3,4 +3,4 @@ pub mod Answer
 pub mod PlanWords
 pub mod PlanBody
 pub mod ShownBody
-pub mod Replies
+pub mod ReplyText

@@ -5,7 +5,7 @@ ghost use Rattle.serde_json.specs.View.{view};
 ghost use Rattle.desk_rules.specs.Replies.{said_in};
 ghost use Rattle.desk_writing.specs.Answer.{error_data};
 ghost use Rattle.desk_writing.specs.PlanBody.{cleared_data, conflict_data, outcome_members, put_data, ready_data};
-ghost use Rattle.desk_writing.specs.Replies.{reply_data};
+ghost use Rattle.desk_writing.specs.ReplyText.{reply_data};
 
 use crate::shown_out::{plans_value, shown_value};
 use crate::words::{notes_text, result_word, status_word};

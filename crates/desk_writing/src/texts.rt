@@ -4,7 +4,7 @@ ghost use Rattle.serde_json.specs.View.{view};
 ghost use Rattle.serde_json.specs.Written.{has_float};
 ghost use Rattle.desk_rules.specs.Replies.{said_in};
 ghost use Rattle.desk_writing.specs.Answer.{allow_line, answer_text, error_text, json_answer};
-ghost use Rattle.desk_writing.specs.Replies.{reply_text};
+ghost use Rattle.desk_writing.specs.ReplyText.{reply_text};
 
 use crate::json_out::{error_value, reply_value};
 use desk_rules::reply::Reply;
@@ -13,7 +13,7 @@ use serde_json::Value;
 use std::alloc::{AllocError, Global};
 
 /// The answer that gives a reply.
-#[tactic(auto, unfolding(crate::specs::Replies::reply_text))]
+#[tactic(auto, unfolding(crate::specs::ReplyText::reply_text))]
 pub fn reply_answer(alloc: Global, reply: &Reply) -> Result<Vec<u8>, AllocError>
     ensures { IfOk result (λ v. v.items ≡ reply_text (said_in reply.now)) }
 {

@@ -19,7 +19,7 @@ use Rattle.std.proofs.Math.Seq.{take-append_seam}
 use Rattle.s2_cellid.specs.Cell.{lowest_place, lowest_bit, IsCellId}
 use Rattle.s2_cellid.specs.laws.Block.{id_between, block_of, number_of}
 use Rattle.s2_cellid.specs.Digits.{is_hex, filled, HoldsToken, refilled}
-use Rattle.s2_cellid.specs.Token.{filled_value, IsSpelling, IsPrinted, hex_digits, is_zero, without_end_zeros, token_text}
+use Rattle.s2_cellid.specs.Token.{filled_value, IsSpelling, IsInPrintedForm, hex_digits, is_zero, without_end_zeros, token_text}
 
 pub length-hex_digits : (count n : ℕ) → length (hex_digits count n) ≡ count
 unfolding hex_digits
@@ -277,7 +277,7 @@ spelling_of-token id valid =
       value = value;
     }
 
-pub printed_token : (id : ℕ) → IsCellId id → IsPrinted (token_text id)
+pub printed_token : (id : ℕ) → IsCellId id → IsInPrintedForm (token_text id)
 printed_token id valid =
     let spelling = spelling_of-token id valid in
     let length_is : length (token_text id) ≡ kept (hex_digits 16 id) =
@@ -295,7 +295,7 @@ printed_token id valid =
     }
 
 -- and no other spelling is printed
-pub only_token : (text : List ℕ) (id : ℕ) → IsSpelling text id → IsPrinted text
+pub only_token : (text : List ℕ) (id : ℕ) → IsSpelling text id → IsInPrintedForm text
     → text ≡ token_text id
 unfolding filled_value
 only_token text id spelling printed =

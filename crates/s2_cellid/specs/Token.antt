@@ -22,7 +22,7 @@ pub record IsSpelling (text : List ℕ) (id : ℕ) : Type 0 where
   pub value : filled_value text ≡ id
 
 -- the text has no letter of upper case, and no 0 at its end
-pub record IsPrinted (text : List ℕ) : Type 0 where
+pub record IsInPrintedForm (text : List ℕ) : Type 0 where
   pub lower : IsTrue (list_all (λ c. not (is_ascii_uppercase c)) text)
   pub ended : slice_index text (length text - 1) ≢ 48
 
@@ -63,8 +63,8 @@ unfoldable pub read_token : List ℕ → Result ℕ TokenFault
 read_token text = unless (first_fault (faults text)) (filled_value text)
 
 -- what a fault prints
-abbrev pub fault_text : TokenFault → List ℕ
-fault_text Empty = codes "the token is empty"
-fault_text TooLong = codes "the token has more than 16 digits"
-fault_text NotHex = codes "the token has a byte that is no hex digit"
-fault_text NotACell = codes "the token is not that of a valid cell"
+abbrev pub token_fault_text : TokenFault → List ℕ
+token_fault_text Empty = codes "the token is empty"
+token_fault_text TooLong = codes "the token has more than 16 digits"
+token_fault_text NotHex = codes "the token has a byte that is no hex digit"
+token_fault_text NotACell = codes "the token is not that of a valid cell"

@@ -1,7 +1,7 @@
 //! The cells of leaves and squares, and the cells above and below a cell.
 
 ghost use Rattle.std.specs.Prelude.{◌≡◌, ◌↔◌, ◌+◌, ◌-◌, ◌/◌, ◌<◌, ◌≤◌, IsTrue};
-ghost use Rattle.s2_hilbert.specs.Grid.{GridLeaf, IsLeaf, IsWithin, ShareSquare, leaf_level};
+ghost use Rattle.s2_hilbert.specs.Grid.{GridLeaf, IsLeaf, LiesInSquare, ShareSquare, leaf_level};
 ghost use Rattle.s2_hilbert.specs.Curve.{position_of, leaf_count};
 ghost use Rattle.s2_cellid.specs.Cell.{IsCellId, level_of, first_leaf};
 ghost use Rattle.s2_cellid.specs.Family.{leaf_id, cell_has_leaf, square_id, parent_id, child_id};
@@ -29,7 +29,7 @@ impl CellId {
         ensures valid { IsCellId result }
         ensures level { level_of result ≡ square.now.level }
         ensures leaves { (leaf : GridLeaf) → IsLeaf leaf →
-            IsTrue (cell_has_leaf result leaf) ↔ IsWithin leaf square.now }
+            IsTrue (cell_has_leaf result leaf) ↔ LiesInSquare leaf square.now }
     {
         CellId {
             id: 2 * square.first() + lowest_bit_for(square.level),

@@ -6,7 +6,7 @@ ghost use Rattle.std.specs.List.{suffix_len};
 ghost use Rattle.std.specs.Option.{SomeIff};
 ghost use Rattle.s2_cellid.specs.Cell.{IsCellId};
 ghost use Rattle.s2_cellid.specs.Digits.{is_hex, most_digits};
-ghost use Rattle.s2_cellid.specs.Token.{filled_value, IsSpelling, IsPrinted, read_token};
+ghost use Rattle.s2_cellid.specs.Token.{filled_value, IsSpelling, IsInPrintedForm, read_token};
 ghost use Rattle.s2_cellid.specs.Token.{hex_digits, is_zero, token_text};
 
 use crate::CellId;
@@ -54,9 +54,9 @@ pub enum TokenFault {
 }
 
 impl fmt::Display for TokenFault {
-    ghost use Rattle.s2_cellid.specs.Token.{fault_text};
+    ghost use Rattle.s2_cellid.specs.Token.{token_fault_text};
 
-    ghost output = { λ fault. Some (fault_text fault) };
+    ghost output = { λ fault. Some (token_fault_text fault) };
 
     fn fmt<W: fmt::Write>(&self, f: &mut fmt::Formatter<W>) -> fmt::Result {
         f.pad(match self {
@@ -126,8 +126,8 @@ impl CellId {
     pub fn token(&self) -> Token
         ensures value { result ≡ token_text self.now }
         ensures spelling { IsSpelling result self.now }
-        ensures printed { IsPrinted result }
-        ensures only { (text : List ℕ) → IsSpelling text self.now → IsPrinted text → text ≡ result }
+        ensures printed { IsInPrintedForm result }
+        ensures only { (text : List ℕ) → IsSpelling text self.now → IsInPrintedForm text → text ≡ result }
         ensures read_back { read_token result ≡ Ok self.now }
     {
         let id = self.raw();

@@ -13,7 +13,7 @@ use Rattle.s2_hilbert.specs.Curve.{leaf_count}
 use Rattle.s2_hilbert.specs.laws.Place.{power_of_four}
 use Rattle.s2_cellid.specs.laws.Block.{zero_low, power_double, number_of}
 use Rattle.s2_cellid.specs.laws.Family.{IsCellOf, cell_of}
-use Rattle.s2_cover.specs.Laying.{IsLargestFrom, IsFitting, IsLargestFitting}
+use Rattle.s2_cover.specs.Laying.{IsLargestFrom, EndsWithin, IsLargestFitting}
 use Rattle.s2_cover.proofs.Nesting.{has_leaves, place_of}
 
 pub some_when : {T : Type 0} (o : Option T) (P : Type 0) (v : T) → SomeIff o P v → P → o ≡ Some v
@@ -114,7 +114,7 @@ abbrev pub id_from : ℕ → ℕ → ℕ
 id_from first place = 2 * first + 1 * 2 ^ place % 2 ^ 64
 
 -- a position that begins a cell of a level
-pub begun : (first last place : ℕ) → last < 6 * 2 ^ 60 → IsFitting first last place
+pub begun : (first last place : ℕ) → last < 6 * 2 ^ 60 → EndsWithin first last place
     → IsCellOf (id_from first place) (30 - place / 2) (first / 2 ^ place)
 begun first last place below is =
     let level = 30 - place / 2 in

@@ -14,7 +14,7 @@ use Rattle.s2_cellid.specs.Cell.{lowest_place, IsCellId, first_leaf, last_leaf, 
 use Rattle.s2_cellid.specs.laws.Block.{leaves_between, first_belongs}
 use Rattle.s2_cover.specs.Leaves.{leaves_of}
 use Rattle.s2_cover.specs.Canonical.{parent_of, IsLargest, IsCanonical}
-use Rattle.s2_cover.specs.Laying.{IsRun, IsLaid, IsLargestFrom}
+use Rattle.s2_cover.specs.Laying.{IsLongestRun, IsLaid, IsLargestFrom}
 use Rattle.s2_cover.specs.declared.spans.Span.{Span}
 use Rattle.s2_cover.proofs.RangeTests.{same_test, or_left, or_right}
 use Rattle.s2_cover.proofs.Nesting.{has_leaves, nested, leaves_inside, same_cell, place_of, IsParent, parent_is}
@@ -74,7 +74,7 @@ IsCutAt span position =
     → position ≤ last_leaf id → span.last < last_leaf id
 
 -- the parent of the largest cell that begins at a cut has a leaf outside the run
-outside_run : (set : ℕ → Bool) (span : Span) (position id parent : ℕ) → IsRun set span
+outside_run : (set : ℕ → Bool) (span : Span) (position id parent : ℕ) → IsLongestRun set span
     → IsCutAt span position → span.first ≤ position → IsLargestFrom position span.last id
     → IsParent id parent → (p : ℕ) × (IsTrue (cell_has parent p) × (set p ≡ false))
 outside_run set span position id parent run cut from largest is =
@@ -114,7 +114,7 @@ outside_run set span position id parent run cut from largest is =
     ]
 
 -- the largest cell that begins at a cut is one of the largest of the set
-pub largest_at : (set : ℕ → Bool) (span : Span) (position id : ℕ) → IsRun set span
+pub largest_at : (set : ℕ → Bool) (span : Span) (position id : ℕ) → IsLongestRun set span
     → IsCutAt span position → span.first ≤ position → IsLargestFrom position span.last id
     → IsLargest set id
 largest_at set span position id run cut from largest =

@@ -7,7 +7,7 @@ use Rattle.std.proofs.lemmas.Bool.Decides.{nat_tests}
 use Rattle.std.proofs.lemmas.List.Folds.{list_any_at, Any-from_list_any}
 use Rattle.std.proofs.lemmas.List.{get_or_default}
 use Rattle.s2_cover.specs.Ranges.{IsSpan, IsRanges, span_has}
-use Rattle.s2_cover.specs.Laying.{IsRun, IsLaid}
+use Rattle.s2_cover.specs.Laying.{IsLongestRun, IsLaid}
 use Rattle.s2_cover.specs.declared.spans.Span.{Span}
 use Rattle.s2_cover.proofs.Laid.{laid_upto}
 
@@ -115,7 +115,7 @@ reaches set spans (suc i) ranges there =
 
 -- each span is a longest run
 pub run_at : (set : ℕ → Bool) (spans : List Span) (i : ℕ) → IsRanges set spans → i < length spans
-    → IsRun set (span_at spans i)
+    → IsLongestRun set (span_at spans i)
 run_at set spans i ranges there =
     let is = span_is set spans i ranges there in
     record {

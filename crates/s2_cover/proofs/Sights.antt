@@ -6,7 +6,7 @@ use Rattle.std.proofs.Math.Nat.{div-mul-le_self, mul-div_cancel, mul-le-mul_righ
 use Rattle.std.proofs.lemmas.Nat.{le-div, pow_pos}
 use Rattle.std.proofs.lemmas.Bool.{cases_lt}
 use Rattle.std.proofs.lemmas.Bool.Decides.{nat_tests}
-use Rattle.s2_hilbert.specs.Grid.{GridLeaf, grid_leaf, IsLeaf, GridSquare, IsSquare, IsWithin, side_of}
+use Rattle.s2_hilbert.specs.Grid.{GridLeaf, grid_leaf, IsLeaf, GridSquare, IsSquare, LiesInSquare, side_of}
 use Rattle.s2_hilbert.specs.Curve.{position_of, grid_leaf_at, first_position, last_position}
 use Rattle.s2_hilbert.specs.laws.Curve.{leaf_is, position_undone, leaf_undone, square_leaves}
 use Rattle.s2_cover.specs.Rectangles.{WideParts, is_along, wide_set}
@@ -127,7 +127,7 @@ point_of w square i_first i_last j_first j_last p is face spans low high =
     let leaf = grid_leaf_at p in
     let leaf_here : IsLeaf leaf = leaf_is p (omega (arith, last_below square is, high)) in
     let same : position_of leaf ≡ p = position_undone p in
-    let within : IsWithin leaf square =
+    let within : LiesInSquare leaf square =
     (square_leaves leaf square leaf_here is).1 (omega (arith, same, low), omega (arith, same, high)) in
     record {
       i = leaf.i;
@@ -153,7 +153,7 @@ some_at w square i_first i_last j_first j_last i j b is face spans i_in j_in hol
       i_below = omega (arith, i_in, spans.i_below);
       j_below = omega (arith, j_in, spans.j_below);
     } in
-    let within : IsWithin leaf square = record {
+    let within : LiesInSquare leaf square = record {
       on_face = refl;
       i_within = (spans.i i).1 i_in;
       j_within = (spans.j j).1 j_in;

@@ -7,7 +7,7 @@ use Rattle.s2_cover.specs.Ranges.{IsSpan, span_has}
 use Rattle.s2_cover.specs.declared.spans.Span.{Span}
 
 -- a longest run of positions of the set
-pub record IsRun (set : ℕ → Bool) (span : Span) : Type 0 where
+pub record IsLongestRun (set : ℕ → Bool) (span : Span) : Type 0 where
   pub is : IsSpan span
   pub inside : (p : ℕ) → IsTrue (span_has span p) → IsTrue (set p)
   pub before : (p : ℕ) → p + 1 ≡ span.first → set p ≡ false
@@ -21,7 +21,7 @@ pub record IsLaid (set : ℕ → Bool) (ids : List ℕ) (upto : ℕ) : Type 0 wh
   pub covered : (p : ℕ) → p < upto → IsTrue (set p) → IsTrue (leaves_of ids p)
 
 -- a cell with its lowest bit at the place, which begins at `first`, has no leaf after `last`
-pub record IsFitting (first last place : ℕ) : Type 0 where
+pub record EndsWithin (first last place : ℕ) : Type 0 where
   pub even : place % 2 ≡ 0
   pub at_most : place ≤ 60
   pub aligned : first % 2 ^ place ≡ 0
@@ -29,8 +29,8 @@ pub record IsFitting (first last place : ℕ) : Type 0 where
 
 -- the greatest place of these
 pub record IsLargestFitting (first last place : ℕ) : Type 0 where
-  pub is : IsFitting first last place
-  pub largest : (other : ℕ) → IsFitting first last other → other ≤ place
+  pub is : EndsWithin first last place
+  pub largest : (other : ℕ) → EndsWithin first last other → other ≤ place
 
 -- a cell with this first leaf and no leaf after `last`
 pub record BeginsAt (first last id : ℕ) : Type 0 where

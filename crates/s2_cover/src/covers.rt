@@ -5,7 +5,7 @@ ghost use Rattle.std.specs.Prelude.{IfOk, OnOk, IfSome, IfNone};
 ghost use Rattle.s2_cover.specs.Leaves.{leaves_of};
 ghost use Rattle.s2_cover.specs.Canonical.{IsCanonical};
 ghost use Rattle.s2_cover.specs.Ranges.{IsRanges, spans_have};
-ghost use Rattle.s2_cover.specs.Laying.{IsRun, IsLaid, IsLargestFrom, IsLargestFitting};
+ghost use Rattle.s2_cover.specs.Laying.{IsLongestRun, IsLaid, IsLargestFrom, IsLargestFitting};
 
 use crate::spans::{Ranges, Span};
 use s2_cellid::CellId;
@@ -143,7 +143,7 @@ fn largest_cells(empty: Vec<CellId>, spans: &[Span]) -> Result<Vec<CellId>, Allo
 // Appends the largest cells that lie in the span.
 fn push_cells(cells: &mut Vec<CellId>, span: &Span) -> Result<(), AllocError>
     ghost set: { ℕ → Bool }
-    requires run { IsRun set span.now }
+    requires run { IsLongestRun set span.now }
     requires laid { IsLaid set cells.old.items span.now.first }
     ensures { OnOk result (IsLaid set cells.new.items (span.now.last + 1)) }
 {

@@ -3,7 +3,7 @@ use Rattle.std.proofs.Common.{◌≡◌, ℕ, ◌+◌, ◌-◌, ◌*◌, ◌/◌
 use Rattle.std.specs.Prelude.{◌↔◌}
 use Rattle.std.proofs.lemmas.Nat.{pow_pos, pow-add, mul-le, div-mul-add}
 use Rattle.std.proofs.Math.Nat.{mul-div_cancel}
-use Rattle.s2_hilbert.specs.Grid.{GridLeaf, IsLeaf, side_of, GridSquare, IsSquare, IsWithin, grid_square}
+use Rattle.s2_hilbert.specs.Grid.{GridLeaf, IsLeaf, side_of, GridSquare, IsSquare, LiesInSquare, grid_square}
 use Rattle.s2_hilbert.specs.Curve.{quadrant_at, turned, place, turn_at, position_of, leaf_count, turn_of, first_position}
 use Rattle.s2_hilbert.specs.laws.Quadrant.{is_place}
 use Rattle.s2_hilbert.specs.laws.Place.{turn_below, four_pow_pos, place_below, split_at}
@@ -66,7 +66,7 @@ pub child_leaves : (parent child : GridSquare) (k : ℕ) (leaf : GridLeaf) → I
     → IsSquare child
     → IsLeaf leaf → k < 4 → parent.level < 30 → child.level ≡ parent.level + 1
     → first_position child ≡ first_position parent + k * leaf_count child.level
-    → IsWithin leaf child ↔ (IsWithin leaf parent
+    → LiesInSquare leaf child ↔ (LiesInSquare leaf parent
     × ((position_of leaf - first_position parent) / leaf_count child.level ≡ k))
 child_leaves parent child k leaf parent_is child_is leaf_is k_below inside level_is first_is =
     let count = leaf_count child.level in

@@ -54,7 +54,7 @@ pub record IsSquare (square : GridSquare) : Type 0 where
   pub b_below : square.b < 2 ^ square.level
 
 -- the leaf lies in the square
-pub record IsWithin (leaf : GridLeaf) (square : GridSquare) : Type 0 where
+pub record LiesInSquare (leaf : GridLeaf) (square : GridSquare) : Type 0 where
   pub on_face : leaf.face ≡ square.face
   pub i_within : leaf.i / side_of square.level ≡ square.a
   pub j_within : leaf.j / side_of square.level ≡ square.b

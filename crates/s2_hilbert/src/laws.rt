@@ -2,7 +2,7 @@
 
 ghost use Rattle.std.specs.Prelude.{◌≡◌, ◌↔◌, ℕ, ◌*◌, ◌/◌, ◌^◌, ◌<◌, ◌≤◌};
 ghost use Rattle.std.specs.Int.{IsInRange};
-ghost use Rattle.s2_hilbert.specs.Grid.{GridLeaf, IsLeaf, GridSquare, IsSquare, IsWithin, ShareSquare};
+ghost use Rattle.s2_hilbert.specs.Grid.{GridLeaf, IsLeaf, GridSquare, IsSquare, LiesInSquare, ShareSquare};
 ghost use Rattle.s2_hilbert.specs.Curve.{position_of, grid_leaf_at, leaf_count};
 ghost use Rattle.s2_hilbert.specs.Curve.{first_position, last_position};
 
@@ -19,10 +19,10 @@ pub fn positions_are_leaves()
 /// square of its level with any of them.
 pub fn squares_are_ranges()
     ensures range { (leaf : GridLeaf) (square : GridSquare) → IsLeaf leaf → IsSquare square →
-        IsWithin leaf square
+        LiesInSquare leaf square
         ↔ IsInRange (first_position square) (last_position square) (position_of leaf) }
-    ensures share { (one other : GridLeaf) (square : GridSquare) → IsWithin one square →
-        IsWithin other square ↔ ShareSquare square.level one other }
+    ensures share { (one other : GridLeaf) (square : GridSquare) → LiesInSquare one square →
+        LiesInSquare other square ↔ ShareSquare square.level one other }
 {}
 
 /// Two leaves lie in one square of a level exactly where their positions, divided by the number of

@@ -2,7 +2,7 @@
 
 ghost use Rattle.std.specs.Prelude.{◌≡◌, ◌↔◌, ℕ, ◌+◌, ◌-◌, ◌*◌, ◌/◌, ◌^◌, ◌<◌, ◌≤◌};
 ghost use Rattle.std.specs.Int.{IsInRange};
-ghost use Rattle.s2_hilbert.specs.Grid.{GridLeaf, IsLeaf, IsSquare, IsWithin, grid_square};
+ghost use Rattle.s2_hilbert.specs.Grid.{GridLeaf, IsLeaf, IsSquare, LiesInSquare, grid_square};
 ghost use Rattle.s2_hilbert.specs.Grid as grid;
 ghost use Rattle.s2_hilbert.specs.Curve.{position_of};
 ghost use Rattle.s2_hilbert.specs.Curve as curve;
@@ -74,8 +74,8 @@ impl Square {
         // The children in curve order part the positions of their parent.
         ensures first { first_position result
             ≡ first_position self.now + k * curve.leaf_count result.level }
-        ensures leaves { (leaf : GridLeaf) → IsLeaf leaf → IsWithin leaf result
-            ↔ (IsWithin leaf self.now
+        ensures leaves { (leaf : GridLeaf) → IsLeaf leaf → LiesInSquare leaf result
+            ↔ (LiesInSquare leaf self.now
             × ((position_of leaf - first_position self.now) / curve.leaf_count result.level ≡ k)) }
     {
         let quadrant = quadrant_at(self.turn, k);
@@ -91,7 +91,7 @@ impl Square {
     /// The position of the first leaf.
     pub fn first(&self) -> u64
         ensures value { result ≡ first_position self.now }
-        ensures leaves { (leaf : GridLeaf) → IsLeaf leaf → IsWithin leaf self.now
+        ensures leaves { (leaf : GridLeaf) → IsLeaf leaf → LiesInSquare leaf self.now
             ↔ IsInRange result (last_position self.now) (position_of leaf) }
         ensures below { result < 6 * 2 ^ 60 }
         ensures square { IsSquare self.now }
@@ -103,7 +103,7 @@ impl Square {
     /// The position of the last leaf.
     pub fn last(&self) -> u64
         ensures value { result ≡ last_position self.now }
-        ensures leaves { (leaf : GridLeaf) → IsLeaf leaf → IsWithin leaf self.now
+        ensures leaves { (leaf : GridLeaf) → IsLeaf leaf → LiesInSquare leaf self.now
             ↔ IsInRange (first_position self.now) result (position_of leaf) }
         ensures below { result < 6 * 2 ^ 60 }
     {

@@ -16,7 +16,7 @@ use Rattle.desk_ends.specs.Writing.{BreaksOff}
 use Rattle.desk_ends.specs.declared.writing.Cut.{Cut}
 use Rattle.desk_line.specs.Exits.{Ending, FailsWith}
 use Rattle.desk_program.specs.declared.looking.CheckedFile.{CheckedFile}
-use Rattle.desk_tables.specs.Copying.{AreCounted, IsMadeIn, LooksIn}
+use Rattle.desk_tables.specs.Copying.{AreHoldingsOf, IsMadeIn, LooksIn}
 use Rattle.desk_tables.specs.Leaving.{IsSettledAt}
 use Rattle.desk_tables.specs.Store.{Shown}
 use Rattle.desk_tables.specs.declared.opening.looking.Holdings.{Holdings}
@@ -27,10 +27,10 @@ use Rattle.desk_tables.specs.declared.closing.Unclosed.{Unclosed}
 use Rattle.desk_tables.specs.declared.opening.files.CopyFault.{CopyFault}
 use Rattle.desk_tables.specs.declared.opening.files.FilesFault.{FilesFault}
 use Rattle.uss_desk.specs.declared.opening.Unopened.{Unopened}
-use Rattle.uss_desk.specs.Keeping.{CopyEnd, FailsAtFiles, FailsBy, FailsToCopy, FailsToLook, FailsToRead, IsCopyMade, IsNamedIf, IsReadAs, IsUncopied, IsUntold, Tells, TellsHoldings}
+use Rattle.uss_desk.specs.FilesTold.{CopyEnd, FailsAtFiles, FailsBy, FailsToCopy, FailsToLook, FailsToRead, IsCopyMade, IsNamedIf, IsReadAs, IsUncopied, IsUntold, Tells, TellsHoldings}
 use Rattle.std.specs.Result.{IsErrAnd}
 use Rattle.uss_desk.specs.Naming.{IsUnnamed, Step, free_steps}
-use Rattle.uss_desk.specs.Opening.{open_failure}
+use Rattle.uss_desk.specs.OpenedFor.{open_failure}
 use Rattle.desk_tables.specs.Copying.{AreNotCopied, AreNotRead}
 use Rattle.uss_desk.proofs.RunLemmas.{fails_over}
 
@@ -124,8 +124,9 @@ named_if P to old new (Err e) is unnamed = unnamed
 -- what was read is told as it was counted
 pub read_as : {D : Type 0} {g : disk.Ghosts D} (image : Image) (left : Held (FileStore D g))
     (file : CheckedFile) (holdings : Holdings) → file.is_old ≡ holdings.is_old
-    → ((w : World) → AreCounted holdings w → TellsHoldings file w)
-    → ((w : World) × AreCounted holdings w × LooksIn image left holdings.is_old w) → IsReadAs image left file
+    → ((w : World) → AreHoldingsOf holdings w → TellsHoldings file w)
+    → ((w : World) × AreHoldingsOf holdings w × LooksIn image left holdings.is_old w)
+    → IsReadAs image left file
 read_as {g = g} image left file holdings same counted found = record {
   w = found.0;
   told = counted found.0 found.1;
@@ -135,7 +136,7 @@ read_as {g = g} image left file holdings same counted found = record {
 -- a store of a content was made in new files and closed
 pub copy_made : {D E : Type 0} {g : disk.Ghosts D} (k : disk.Ghosts E) (image other : Image)
     (left : Held (FileStore D g)) (files : Files E) (counts : Holdings) (store : Shown (FileStore E k))
-    → AreCounted counts store.world → LooksIn image left counts.is_old store.world
+    → AreHoldingsOf counts store.world → LooksIn image left counts.is_old store.world
     → IsMadeIn other store.held → IsSettledAt over_files store.held store.world
     → (AreClean k files.log files.db → IsClosedInto store.held files)
     → IsCopyMade k image other (left, (files, counts))

@@ -2,7 +2,7 @@
 use Rattle.std.proofs.Common.{◌≡◌, ℕ, Bool, true, false, not, List, [], ◌∷◌, ◌++◌, Option, None, Some, append-nil, append_assoc, ap, inl, inr, subst, sym, ◌∙◌}
 use Rattle.std.proofs.lemmas.List.Elements.{All-append, All-cons, All-nil, All-weaker}
 use Rattle.std.specs.Prelude.{All, MatchOption}
-use Rattle.uss_desk.specs.Naming.{ChangesFound, ChangesOwn, Cleared, ClearsOwn, Failed, Follows, Free, GivesNoName, GivesUp, HasFailed, IsNotFree, IsUnnamed, LeavesNames, LeavesOthers, Ordered, Removed, Renamed, Step, Synced, Takes, TakesAll, TakesIfNone, Tried, Twinned, clearing, free_steps, log_of, named_steps, part_of}
+use Rattle.uss_desk.specs.Naming.{ChangesFound, ChangesOwn, Cleared, ClearsOwn, Failed, Follows, Free, GivesNoName, GivesUp, HasFailedStep, IsNotFree, IsUnnamed, LeavesNames, LeavesOthers, Ordered, Removed, Renamed, Step, Synced, Takes, TakesAll, TakesIfNone, Tried, Twinned, clearing, free_steps, log_of, named_steps, part_of}
 
 -- steps after steps
 pub follows_both : (old mid new : Option (List Step)) (xs ys : List Step) → Follows old mid xs
@@ -58,11 +58,11 @@ fails_after old mid new path removed failed = record {
   unnamed = All-cons GivesNoName (Removed path) (Failed ∷ []) tt (one GivesNoName Failed tt);
 }
 
-failed_now : (old new : Option (List Step)) → Follows old new (Failed ∷ []) → HasFailed old new
+failed_now : (old new : Option (List Step)) → Follows old new (Failed ∷ []) → HasFailedStep old new
 failed_now old new failed = record { before = []; after = []; made = failed }
 
 pub failed_if : (old new : Option (List Step)) (step : Step) (b : Bool) → Takes old new b step → b ≡ false
-    → HasFailed old new
+    → HasFailedStep old new
 failed_if old new step b made is = failed_now old new (subst (λ c. Takes old new c step) is made)
 
 pub made_if : (old new : Option (List Step)) (step : Step) (b : Bool) → Takes old new b step → b ≡ true
@@ -70,7 +70,7 @@ pub made_if : (old new : Option (List Step)) (step : Step) (b : Bool) → Takes 
 made_if old new step b made is = subst (λ c. Takes old new c step) is made
 
 pub failed_after : (old mid new : Option (List Step)) (xs : List Step) → Follows old mid xs
-    → HasFailed mid new → HasFailed old new
+    → HasFailedStep mid new → HasFailedStep old new
 failed_after old mid new xs first failed = record {
   before = xs ++ failed.before;
   after = failed.after;
@@ -136,7 +136,7 @@ free_chain a b c d e f h to p q r s u is_p is_q is_r is_s is_u one two clear thr
     (subst (λ v. Follows f h (Tried v ∷ [])) is_u five)))))
 
 module _ {to : List ℕ} {old new : Option (List Step)} (it : IsNotFree to old new) where
-  pub not_free_failed : HasFailed old new
+  pub not_free_failed : HasFailedStep old new
   not_free_failed = record { before = it.before; after = []; made = it.made }
 
   pub not_free_names : LeavesNames old new

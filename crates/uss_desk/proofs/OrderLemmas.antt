@@ -3,21 +3,21 @@ use Rattle.std.proofs.Common.{◌≡◌, ◌<◌, ◌≤◌, ◌+◌, ◌-◌, �
 use Rattle.std.proofs.lemmas.List.{drop_at, take_at}
 use Rattle.std.specs.Fmt.{option_append}
 use Rattle.std.specs.Io.KnownBytes.{Appends, Consumes}
-use Rattle.uss_desk.specs.Orders.{mended, ordered_file, ordered_page, with_sums, are_moved, is_moved_by_name, is_named, placed, placed_by_name, slot_from}
+use Rattle.uss_desk.specs.Orders.{mended, ordered_file, ordered_page, with_sums, are_moved, is_moved_by_name, is_slot_named, placed, placed_by_name, slot_from}
 
 less_one : (n k : ℕ) → k < n → n - k ≡ suc (n - (k + 1))
 less_one n k less = omega (arith, less)
 
 -- ---- a slot that is looked for
 
-pub found_here : (page name : List ℕ) (k n : ℕ) → k < n → is_named page k name ≡ true
+pub found_here : (page name : List ℕ) (k n : ℕ) → k < n → is_slot_named page k name ≡ true
     → slot_from page name k (n - k) ≡ Some k
 unfolding slot_from
 found_here page name k n less is =
     ap (slot_from page name k) (less_one n k less)
     ∙ ap (λ b. if b then Some k else slot_from page name (k + 1) (n - (k + 1))) is
 
-pub found_later : (page name : List ℕ) (k n : ℕ) → k < n → is_named page k name ≡ false
+pub found_later : (page name : List ℕ) (k n : ℕ) → k < n → is_slot_named page k name ≡ false
     → slot_from page name k (n - k) ≡ slot_from page name (k + 1) (n - (k + 1))
 unfolding slot_from
 found_later page name k n less is =

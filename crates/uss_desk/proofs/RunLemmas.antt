@@ -21,16 +21,16 @@ use Rattle.desk_program.specs.Outside.{Outside}
 use Rattle.desk_program.specs.Serving.{Traffic}
 use Rattle.uss_desk.specs.declared.opening.Opened.TheVariants as opened
 use Rattle.desk_tables.specs.Closing.{IsLeftUnclosed}
-use Rattle.uss_desk.specs.Closing.{IsClosed, IsEnded}
+use Rattle.uss_desk.specs.FilesLeft.{IsClosed, IsEnded}
 use Rattle.uss_desk.specs.Guarding.{Account, IsTrueOrCollided}
 use Rattle.std.specs.Option.{IsSomeAnd}
 use Rattle.desk_tables.specs.declared.opening.files.FilesFault.{FilesFault}
 use Rattle.uss_desk.specs.declared.opening.Unopened.{Unopened}
 use Rattle.uss_desk.specs.declared.watching.Closed.{Closed}
-use Rattle.uss_desk.specs.Opening.{FailsOver, FileDesk, IsOpenedFor, IsOpenedIn, open_failure, or_failure}
-use Rattle.uss_desk.specs.Replaying.{IsReplayRun, IsReplayedAt}
-use Rattle.uss_desk.specs.Running.{IsDoneAt, IsRun, StaysGuarded}
-use Rattle.uss_desk.specs.Playing.{IsInputDoneAt, IsInputRun, Stopping}
+use Rattle.uss_desk.specs.OpenedFor.{FailsOver, FileDesk, IsOpenedFor, IsOpenedIn, open_failure, or_failure}
+use Rattle.uss_desk.specs.RecordsPlayed.{IsReplayRun, IsReplayedAt}
+use Rattle.uss_desk.specs.OpenedLines.{IsDoneAt, IsLineRun, StaysGuarded}
+use Rattle.uss_desk.specs.RecordedPlays.{IsInputDoneAt, IsInputRun, Stopping}
 use Rattle.desk_line.specs.declared.line.Play.{Play as PlayWords}
 use Rattle.desk_wire.specs.Passage.{Course, Passage}
 
@@ -46,9 +46,9 @@ for_files m image (line.Migrate migrate) desk opens = absurd opens
 
 -- a run at what was opened, by another name
 pub run_at : {S : Type 0} (g : Ghosts S) (one other : Result (Parts (Shown S)) Failure) → one ≡ other
-    → {it : Line} {o : Outside} {left : Option (Parts (Shown S))} → IsRun g one it o left
-    → IsRun g other it o left
-run_at g one other same {it} {o} {left} run = subst (λ opened. IsRun g opened it o left) same run
+    → {it : Line} {o : Outside} {left : Option (Parts (Shown S))} → IsLineRun g one it o left
+    → IsLineRun g other it o left
+run_at g one other same {it} {o} {left} run = subst (λ opened. IsLineRun g opened it o left) same run
 
 -- a flag that is up leaves no doubt
 no_doubt : (clean : Bool) → IsTrue clean → doubt clean ≡ 0

@@ -10,11 +10,11 @@ use Rattle.desk_line.specs.declared.line.Database.{Database}
 use Rattle.desk_line.specs.Exits.{Ending, ending}
 use Rattle.desk_line.specs.declared.failure.Exit.{Exit}
 use Rattle.desk_tables.specs.declared.opening.looking.Holdings.{Holdings}
-use Rattle.uss_desk.specs.Keeping.{CopyEnd, IsCopied}
+use Rattle.uss_desk.specs.FilesTold.{CopyEnd, IsCopied}
 use Rattle.desk_ends.specs.Writing.{BreaksOff}
 use Rattle.desk_ends.specs.declared.writing.Cut.{Cut}
 use Rattle.uss_desk.specs.Naming.{Removed, Step, Takes, log_of}
-use Rattle.uss_desk.specs.Twins.{AreRemoved, IsAsked, IsCopiedByTwin, IsCopiedByTwinIf, IsNoted}
+use Rattle.uss_desk.specs.Twins.{AreRemoved, IsAsked, IsCopiedByTwin, IsCopiedByTwinIf, IsWrittenIfRoom}
 use Rattle.uss_desk.specs.declared.ways.Way.{Way}
 
 asked : (old new : Option (List Step)) (done : Bool) (path name : List ℕ) → path ≡ name
@@ -35,7 +35,7 @@ both_removed twin old mid new one other path log is is_log first next = record {
 -- a line is written, or broken off
 pub noted : {U E : Type 0} (line : List ℕ) (old now : Option (List ℕ)) (done : Result U (Cut E))
     → OnOk done (Appends old now line) → IfErr done (λ cut. BreaksOff line old now cut.fault)
-    → IsNoted line old now
+    → IsWrittenIfRoom line old now
 noted line old now (Ok u) whole off = inr (inl whole)
 noted line old now (Err cut) whole off = inr (inr (cut.fault, off))
 

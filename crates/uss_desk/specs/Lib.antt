@@ -1,16 +1,16 @@
 -- Read first: Running, Opening, Guarding, Closing, Keeping; Damage, Sums, Orders and Committing stand alone.
-pub mod Opening
+pub mod OpenedFor
 pub mod Operators
-pub mod Recording
+pub mod LineRecord
 pub mod Guarding
-pub mod Running
-pub mod Replaying
-pub mod Playing
+pub mod OpenedLines
+pub mod RecordsPlayed
+pub mod RecordedPlays
 pub mod Watching
-pub mod Closing
+pub mod FilesLeft
 pub mod Naming
-pub mod Keeping
-pub mod Damage
+pub mod FilesTold
+pub mod DamageTold
 pub mod Sums
 pub mod Orders
 pub mod Committing

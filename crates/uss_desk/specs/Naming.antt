@@ -127,7 +127,7 @@ abbrev pub GivesUp : List ℕ → Option (List Step) → Option (List Step) → 
 GivesUp to = TakesAll (λ step. ChangesOwn to step × GivesNoName step)
 
 -- one of the steps failed
-pub record HasFailed (old new : Option (List Step)) : Type 0 where
+pub record HasFailedStep (old new : Option (List Step)) : Type 0 where
   pub before : List Step
   pub after : List Step
   pub made : Follows old new (before ++ Failed ∷ after)

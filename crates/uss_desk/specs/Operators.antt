@@ -29,7 +29,8 @@ ok_of (Ok it) = Some it
 ok_of (Err e) = None
 
 -- enrolments are those on the lines of the text that is read at a path
-pub record IsRead (path : List ℕ) (old new : Option (List Asking)) (enrolments : List Enrolment) : Type 0
+pub record AreEnrolmentsRead (path : List ℕ) (old new : Option (List Asking))
+    (enrolments : List Enrolment) : Type 0
   where
     pub stamp : Stamp
     pub text : List ℕ
@@ -37,14 +38,14 @@ pub record IsRead (path : List ℕ) (old new : Option (List Asking)) (enrolments
     pub are : enrolments ≡ enrolments_on (lines_of text)
 
 -- the file can't be read
-abbrev pub IsUnread : List ℕ → Option (List Asking) → Option (List Asking) → Type 0
-IsUnread path old new = Grows old new (Stamped path None ∷ [])
+abbrev pub IsFileUnread : List ℕ → Option (List Asking) → Option (List Asking) → Type 0
+IsFileUnread path old new = Grows old new (Stamped path None ∷ [])
     ⊎ ((stamp : Stamp) × Grows old new (Stamped path (Some stamp) ∷ Read path None ∷ []))
 
 -- why nothing is read: memory ran out, or the file can't be read
-abbrev pub HasCause : List ℕ → Option (List Asking) → Option (List Asking) → Unread → Type 0
-HasCause path old new Memory = ⊤
-HasCause path old new (Cause text) = IsUnread path old new
+abbrev pub HasUnreadCause : List ℕ → Option (List Asking) → Option (List Asking) → Unread → Type 0
+HasUnreadCause path old new Memory = ⊤
+HasUnreadCause path old new (Cause text) = IsFileUnread path old new
 
 -- the news of a file: none if its stamp is the one that was seen; else those of its text, and its stamp is
 -- seen then; or it can't be read, and none is
@@ -54,8 +55,8 @@ pub record AreNewsAt (path : List ℕ) (seen now : Option Stamp) (old new : Opti
   pub between : Option (List Asking)
   pub stamped : Grows old between (Stamped path stamp ∷ [])
   pub told : (IsSome stamp × (stamp ≡ seen) × (now ≡ seen) × (new ≡ between) × (news ≡ []))
-      ⊎ ((IsRead path between new news × (now ≡ stamp))
-      ⊎ (IsUnread path between new × (now ≡ None) × (news ≡ [])))
+      ⊎ ((AreEnrolmentsRead path between new news × (now ≡ stamp))
+      ⊎ (IsFileUnread path between new × (now ≡ None) × (news ≡ [])))
 
 -- of no file there are none
 abbrev pub AreNews :

@@ -33,8 +33,8 @@ abbrev pub byte : List ℕ → ℕ → ℕ
 byte page at = slice_index_or page at 0
 
 -- where the tree's header on the first page says what page it is, and how many rows it has
-abbrev pub is_leaf : List ℕ → Bool
-is_leaf page = byte page 100 == 13
+abbrev pub is_leaf_page : List ℕ → Bool
+is_leaf_page page = byte page 100 == 13
 
 abbrev pub count : List ℕ → ℕ
 count page = byte page 103 * 256 + byte page 104
@@ -71,22 +71,22 @@ abbrev pub text_len : ℕ → ℕ
 text_len code = (code - 13) / 2
 
 -- a row has a name: its second value, behind the text of its kind
-abbrev pub name_from : List ℕ → ℕ
-name_from row = byte row 0 + text_len (byte row 1)
+abbrev pub name_begins : List ℕ → ℕ
+name_begins row = byte row 0 + text_len (byte row 1)
 
 abbrev pub has_name : List ℕ → List ℕ → Bool
 has_name row name =
     let len = text_len (byte row 2) in
-    nat_le (name_from row + len) (length row) && bytes_eq (take len (drop (name_from row) row)) name
+    nat_le (name_begins row + len) (length row) && bytes_eq (take len (drop (name_begins row) row)) name
 
-abbrev pub is_named : List ℕ → ℕ → List ℕ → Bool
-is_named page slot name = is_plain page slot && has_name (row page slot) name
+abbrev pub is_slot_named : List ℕ → ℕ → List ℕ → Bool
+is_slot_named page slot name = is_plain page slot && has_name (row page slot) name
 
 -- the first of so many slots whose row has a name
 unfoldable pub slot_from : List ℕ → List ℕ → ℕ → ℕ → Option ℕ
 slot_from page name from zero = None
 slot_from page name from (suc n) =
-    if is_named page from name then Some from else slot_from page name (from + 1) n
+    if is_slot_named page from name then Some from else slot_from page name (from + 1) n
 
 abbrev pub slot_of : List ℕ → List ℕ → Option ℕ
 slot_of page name = slot_from page name 0 (count page)
@@ -118,7 +118,7 @@ are_listed packed page = are_moved packed page page 0 (count page)
 -- a page of so few rows lists them neither in a desk's own order nor in that of a packed file
 abbrev pub is_other : List ℕ → Bool
 is_other page =
-    is_leaf page && nat_le (count page) 14 && not (are_listed false page)
+    is_leaf_page page && nat_le (count page) 14 && not (are_listed false page)
     && not (count page == 14 && are_listed true page)
 
 -- a slot is given the cell that another page has in one of its slots, and the row its rowid

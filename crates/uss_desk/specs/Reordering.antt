@@ -9,14 +9,14 @@ use Rattle.desk_line.specs.declared.failure.Failure.{Failure}
 use Rattle.desk_line.specs.declared.failure.Failure.TheVariants as failure
 use Rattle.desk_line.specs.declared.line.Line.{Line}
 use Rattle.desk_line.specs.declared.line.Line.TheVariants as line
-use Rattle.desk_line.specs.Exits.{IsBreakdown}
+use Rattle.desk_line.specs.Exits.{IsLineBreakdown}
 use Rattle.desk_program.specs.declared.looking.CheckedFile.{CheckedFile}
 use Rattle.uss_desk.specs.declared.opening.Unopened.{Unopened}
 use Rattle.uss_desk.specs.declared.ways.Way.{Way}
 use Rattle.uss_desk.specs.declared.ways.Way.TheVariants as way
-use Rattle.uss_desk.specs.Keeping.{FailsToRead, IsReadAs, Tells}
+use Rattle.uss_desk.specs.FilesTold.{FailsToRead, IsReadAs, Tells}
 use Rattle.uss_desk.specs.Naming.{Failed, Follows, Ordered, Step}
-use Rattle.uss_desk.specs.Twins.{AreRemoved, IsNoted, IsUntwinned, line_of, making, twin_of}
+use Rattle.uss_desk.specs.Twins.{AreRemoved, IsUntwinned, IsWrittenIfRoom, line_of, making, twin_of}
 
 -- a line takes files of schema 1
 abbrev pub takes_old : Line → Bool
@@ -91,7 +91,7 @@ module _ {D : Type 0} {g : disk.Ghosts D} (image : Image) (path : List ℕ) (tak
       → Option (List Step) → Option (List Step) → Type 0
   IsReordered done (Some judged) old new = WasJudged done judged old new
   IsReordered (Ok done) None old new = ⊥
-  IsReordered (Err f) None old new = IsBreakdown f × IsUntwinned (twin_of path) old new f
+  IsReordered (Err f) None old new = IsLineBreakdown f × IsUntwinned (twin_of path) old new f
 
   -- nothing is done of any other
   abbrev pub IsLeftAlone :
@@ -117,5 +117,5 @@ reordered_line path = line_of path reordered_text
 abbrev pub IsReorderTold :
     {X : Type 0} → List ℕ → Result ⊤ Failure → Option X → Option (List ℕ) → Option (List ℕ) → Type 0
 IsReorderTold path (Ok done) None out now = now ≡ out
-IsReorderTold path (Ok done) (Some judged) out now = IsNoted (reordered_line path) out now
+IsReorderTold path (Ok done) (Some judged) out now = IsWrittenIfRoom (reordered_line path) out now
 IsReorderTold path (Err f) judged out now = Tells out now

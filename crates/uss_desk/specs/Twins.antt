@@ -12,7 +12,7 @@ use Rattle.desk_ends.specs.declared.writing.WriteFault.{WriteFault}
 use Rattle.desk_line.specs.declared.failure.Failure.{Failure}
 use Rattle.desk_line.specs.declared.failure.Failure.TheVariants as failure
 use Rattle.desk_line.specs.declared.line.Database.{Database}
-use Rattle.desk_line.specs.Exits.{Ending, FailsWith, IsBreakdown}
+use Rattle.desk_line.specs.Exits.{Ending, FailsWith, IsLineBreakdown}
 use Rattle.desk_program.specs.Looking.{IsTextPrinted, checked_line}
 use Rattle.desk_program.specs.declared.looking.CheckedFile.{CheckedFile}
 use Rattle.desk_tables.specs.declared.opening.looking.Holdings.{Holdings}
@@ -22,9 +22,9 @@ use Rattle.uss_desk.specs.declared.twins.Rows.TheVariants as rows
 use Rattle.uss_desk.specs.declared.twins.Twin.{Twin}
 use Rattle.uss_desk.specs.declared.ways.Way.{Way}
 use Rattle.uss_desk.specs.declared.ways.Way.TheVariants as way
-use Rattle.uss_desk.specs.Keeping.{CopyEnd, FailsTelling, FailsToRead, IsCopied, IsNamedIf, IsReadAs}
+use Rattle.uss_desk.specs.FilesTold.{CopyEnd, FailsTelling, FailsToRead, IsCopied, IsNamedIf, IsReadAs}
 use Rattle.uss_desk.specs.Naming.{Cleared, Failed, Follows, LeavesOthers, Removed, Step, Takes, Twinned, log_of}
-use Rattle.uss_desk.specs.Opening.{IsInMemory}
+use Rattle.uss_desk.specs.OpenedFor.{IsInMemory}
 use Rattle.uss_desk.specs.Orders.{order_text}
 use Rattle.uss_desk.specs.Ways.{is_mended, untested}
 
@@ -55,7 +55,7 @@ pub record AreRemoved (twin : List ℕ) (old new : Option (List Step)) : Type 0 
   pub log : IsAsked (Removed (log_of twin)) between new
 
 -- the making of a twin broke off, and what there was of it is removed
-pub record IsBrokenOff (twin : List ℕ) (old new : Option (List Step)) : Type 0 where
+pub record IsMakingBrokenOff (twin : List ℕ) (old new : Option (List Step)) : Type 0 where
   pub between : Option (List Step)
   pub made : Follows old between (Cleared twin (log_of twin) ∷ Failed ∷ [])
   pub removed : AreRemoved twin between new
@@ -64,7 +64,7 @@ pub record IsBrokenOff (twin : List ℕ) (old new : Option (List Step)) : Type 0
 -- removed; or its making broke off
 abbrev pub IsUntwinned : List ℕ → Option (List Step) → Option (List Step) → Failure → Type 0
 IsUntwinned twin old new f = ((f ≡ failure.Memory) × (new ≡ old))
-    ⊎ (Follows old new (Failed ∷ []) ⊎ IsBrokenOff twin old new)
+    ⊎ (Follows old new (Failed ∷ []) ⊎ IsMakingBrokenOff twin old new)
 
 -- ---- what is told
 
@@ -97,20 +97,20 @@ taken_line path (way.Unsummed pages) = Some (rows_line path pages rows.OfADesk)
 taken_line path way.Disordered = Some (order_line path)
 
 -- a line is written, whole or up to the write that broke off; or memory ran out for it
-abbrev pub IsNoted : List ℕ → Option (List ℕ) → Option (List ℕ) → Type 0
-IsNoted line out now =
+abbrev pub IsWrittenIfRoom : List ℕ → Option (List ℕ) → Option (List ℕ) → Type 0
+IsWrittenIfRoom line out now =
     (now ≡ out) ⊎ Appends out now line ⊎ ((fault : WriteFault) × BreaksOff line out now fault)
 
 -- so, if there is a line
 abbrev pub IsNotedIf : Option (List ℕ) → Option (List ℕ) → Option (List ℕ) → Type 0
 IsNotedIf None out now = now ≡ out
-IsNotedIf (Some line) out now = IsNoted line out now
+IsNotedIf (Some line) out now = IsWrittenIfRoom line out now
 
 -- there is no twin, which is told, and nothing is printed
 pub record FailsUntwinned (twin : List ℕ) (old new : Option (List Step)) (end : Ending)
     (out now : Option (List ℕ)) : Type 0 where
   pub failure : Failure
-  pub is : IsBreakdown failure
+  pub is : IsLineBreakdown failure
   pub untwinned : IsUntwinned twin old new failure
   pub told : FailsTelling failure end
   pub unprinted : now ≡ out
@@ -118,7 +118,7 @@ pub record FailsUntwinned (twin : List ℕ) (old new : Option (List Step)) (end 
 -- the rows of a file are no desk's, which is told
 pub record FailsNoted (path : List ℕ) (pages : ℕ) (end : Ending) : Type 0 where
   pub between : Option (List ℕ)
-  pub noted : IsNoted (rows_line path pages rows.OfNoDesk) end.before between
+  pub noted : IsWrittenIfRoom (rows_line path pages rows.OfNoDesk) end.before between
   pub fails : FailsWith failure.Store (record end { before = between })
 
 -- by why they could not be read: want of memory says nothing of them
@@ -127,11 +127,11 @@ AreRowsRefused path pages f end = ((f ≡ failure.Memory) × FailsWith failure.M
     ⊎ ((f ≢ failure.Memory) × FailsNoted path pages end)
 
 -- so, if its pages lack their sums; else why is told, and then this failure
-abbrev pub IsRefused : List ℕ → Way → Failure → Ending → Type 0
-IsRefused path way.Itself f end = FailsTelling f end
-IsRefused path way.Damaged f end = FailsTelling f end
-IsRefused path (way.Unsummed pages) f end = AreRowsRefused path pages f end
-IsRefused path way.Disordered f end = FailsTelling f end
+abbrev pub IsTwinRefused : List ℕ → Way → Failure → Ending → Type 0
+IsTwinRefused path way.Itself f end = FailsTelling f end
+IsTwinRefused path way.Damaged f end = FailsTelling f end
+IsTwinRefused path (way.Unsummed pages) f end = AreRowsRefused path pages f end
+IsTwinRefused path way.Disordered f end = FailsTelling f end
 
 -- ---- a look
 
@@ -147,7 +147,7 @@ module _ {D : Type 0} {g : disk.Ghosts D} (image : Image) (path : List ℕ) (way
   -- they can't be read as a desk's, and nothing is printed
   pub record IsRefusedByRows (it : Unopened D g) (out now : Option (List ℕ)) : Type 0 where
     pub look : FailsToRead image it
-    pub told : IsRefused path way it.failure end
+    pub told : IsTwinRefused path way it.failure end
     pub unprinted : now ≡ out
 
   -- the one or the other, by what the twin showed
@@ -173,7 +173,7 @@ pub record WasTwin (source twin : List ℕ) (mended : Bool) (old new : Option (L
 -- that the sums were not tested is told, if the copy of such a file was made
 abbrev pub IsTestTold : List ℕ → Way → ℕ → Option (List ℕ) → Option (List ℕ) → Type 0
 IsTestTold path way status out now = MatchOption (untested way status) (now ≡ out)
-    (λ pages. IsNoted (rows_line path pages rows.TestedAlone) out now)
+    (λ pages. IsWrittenIfRoom (rows_line path pages rows.TestedAlone) out now)
 
 -- a database in memory has no file
 pub record HasNoFile (database : Database) (end : Ending) (old new : Option (List Step))

@@ -2,7 +2,7 @@
 //! something is told, and not what.
 
 ghost use Rattle.std.specs.Prelude.{◌≡◌, [], ◌∷◌, IfSome, None};
-ghost use Rattle.uss_desk.specs.Keeping.{AreFilesRefused, Tells};
+ghost use Rattle.uss_desk.specs.FilesTold.{AreFilesRefused, Tells};
 ghost use Rattle.uss_desk.specs.Naming.{Follows, Free, LeavesNames, TakesIfNone};
 
 use crate::naming::{Folder, IN_USE, LocalFolder, READ_ONLY, TAKEN, is_no_path};

@@ -2,7 +2,7 @@
 
 ghost use Rattle.std.specs.Prelude.{◌≡◌};
 ghost use Rattle.desk_line.specs.Exits.{ending};
-ghost use Rattle.uss_desk.specs.Closing.{IsClosed, IsEnded, IsUnclosed};
+ghost use Rattle.uss_desk.specs.FilesLeft.{IsClosed, IsEnded, IsUnclosed};
 
 use crate::opening::FileDesk;
 use crate::watching::{Closed, Paths};

@@ -4,8 +4,8 @@ ghost use Rattle.std.specs.Prelude.{◌≡◌, ℕ, false, IfErr, IfOk, IfSome, 
 ghost use Rattle.std.specs.Prelude.{string_bytes};
 ghost use Rattle.desk_line.specs.Lines as lines;
 ghost use Rattle.desk_log.specs.Damage.{IsDamaged};
-ghost use Rattle.uss_desk.specs.Damage as spec;
-ghost use Rattle.uss_desk.specs.Damage.{HasCause, IsLookedAt, IsWritten};
+ghost use Rattle.uss_desk.specs.DamageTold as spec;
+ghost use Rattle.uss_desk.specs.DamageTold.{HasUnlookedCause, IsLookedAt, IsWrittenUpTo};
 
 use crate::causes::tell_of;
 use desk_ends::{Cut, write_whole};
@@ -109,7 +109,7 @@ pub fn look_at_log<R: Read, E: Write>(
 ) -> Result<Look<E>, Unlooked>
     ensures looked { IfSome (R.remaining log.old) (λ bytes. IsLookedAt is_copied path.now bytes result
         (E.contents errors.old) (E.contents errors.new)) }
-    ensures cause { IfErr result (HasCause (R.remaining log.old)) }
+    ensures cause { IfErr result (HasUnlookedCause (R.remaining log.old)) }
 {
     match judge_log(log) {
         Ok(Verdict::Sound) => Ok(Look {
@@ -137,7 +137,7 @@ fn tell_damage<E: Write>(
     commits: u64,
     errors: &mut E,
 ) -> Result<Option<Cut<E>>, AllocError>
-    ensures told { IfOk result (λ cut. IsWritten (spec.damage_line path.now frame commits) cut
+    ensures told { IfOk result (λ cut. IsWrittenUpTo (spec.damage_line path.now frame commits) cut
         (E.contents errors.old) (E.contents errors.new)) }
     ensures untold { IfErr result (λ _. E.contents errors.new ≡ E.contents errors.old) }
 {
@@ -149,7 +149,7 @@ fn tell_damage<E: Write>(
 }
 
 // The line that tells damage.
-#[tactic(auto, unfolding(crate::specs::Damage::damage_line))]
+#[tactic(auto, unfolding(crate::specs::DamageTold::damage_line))]
 fn damage_line(alloc: Global, path: &str, frame: u64, commits: u64) -> Result<String, AllocError>
     ensures { IfOk result (λ line. string_bytes line ≡ spec.damage_line path.now frame commits) }
 {
@@ -171,7 +171,7 @@ fn is_copy(task: &Task) -> bool
 
 // The path of the file of a task, if it has one.
 fn file_of(task: &Task) -> Option<&str>
-    ensures { option_map (λ path. path.now) result ≡ spec.path_of task.now }
+    ensures { option_map (λ path. path.now) result ≡ spec.database_path task.now }
 {
     path_of(database_of(task)?)
 }

@@ -7,13 +7,13 @@ ghost use Rattle.sqlite.specs.Files.{over_files};
 ghost use Rattle.desk_store.specs.World.{World};
 ghost use Rattle.desk_line.specs.Exits.{ending};
 ghost use Rattle.desk_program.specs.Looking.{IsTextPrinted, copied_line};
-ghost use Rattle.desk_tables.specs.Copying.{AreCounted, IsMadeIn, LooksIn};
+ghost use Rattle.desk_tables.specs.Copying.{AreHoldingsOf, IsMadeIn, LooksIn};
 ghost use Rattle.desk_tables.specs.Leaving.{IsSettledAt};
-ghost use Rattle.uss_desk.specs.Keeping as spec;
-ghost use Rattle.uss_desk.specs.Keeping.{FailsAtFiles, FailsBy, FailsTelling, FailsToCopy, FailsToLook};
-ghost use Rattle.uss_desk.specs.Keeping.{FailsToRead};
-ghost use Rattle.uss_desk.specs.Keeping.{FailsUntried, IsChecked, IsCopied, IsCopyMade, IsNamedIf, IsReadAs};
-ghost use Rattle.uss_desk.specs.Keeping.{Tells, TellsHoldings};
+ghost use Rattle.uss_desk.specs.FilesTold as spec;
+ghost use Rattle.uss_desk.specs.FilesTold.{FailsAtFiles, FailsBy, FailsTelling, FailsToCopy, FailsToLook};
+ghost use Rattle.uss_desk.specs.FilesTold.{FailsToRead};
+ghost use Rattle.uss_desk.specs.FilesTold.{FailsUntried, IsChecked, IsCopied, IsCopyMade, IsNamedIf, IsReadAs};
+ghost use Rattle.uss_desk.specs.FilesTold.{Tells, TellsHoldings};
 ghost use Rattle.uss_desk.specs.Naming.{AreNames, Cleared, Follows, Free, GivesUp, IsNotFree, LeavesOthers, Takes, Tried};
 ghost use Rattle.uss_desk.specs.Naming.{free_steps};
 
@@ -73,7 +73,7 @@ impl<D: Disk + Drop, N: Disk + Drop> Uncopied<FilesFault<D>, FilesFault<N>, Uncl
 impl<D: Disk + Drop, N: Disk + Drop> From<AllocError>
     for Uncopied<FilesFault<D>, FilesFault<N>, Unclosed<N>> {
     ghost use Rattle.desk_line.specs.declared.failure.Failure.TheVariants.{Memory};
-    ghost use Rattle.uss_desk.specs.Keeping.{FailsUntried};
+    ghost use Rattle.uss_desk.specs.FilesTold.{FailsUntried};
 
     ghost from_gives = { λ _ it. FailsUntried Memory it };
 
@@ -198,7 +198,7 @@ pub fn look_in<F: Start>(
 
 // What is told of a file.
 fn told_of(holdings: &Holdings, bulk: Bulk) -> CheckedFile
-    ensures counted { (w : World) → AreCounted holdings.now w → TellsHoldings result w }
+    ensures counted { (w : World) → AreHoldingsOf holdings.now w → TellsHoldings result w }
     ensures schema { result.is_old ≡ holdings.now.is_old }
 {
     CheckedFile {
@@ -398,7 +398,7 @@ fn copy_closed<F: Start, N: Start>(
 fn close_copy<D: Disk + Drop, N: Disk + Drop>(
     copied: Copied<D, N>,
 ) -> Result<Copies<D, N>, CopyEnd<D, N>>
-    ensures made { (image other : Image) → AreCounted copied.1.1 copied.1.0.world
+    ensures made { (image other : Image) → AreHoldingsOf copied.1.1 copied.1.0.world
         → LooksIn image copied.0 copied.1.1.is_old copied.1.0.world → IsMadeIn other copied.1.0.held
         → IsSettledAt over_files copied.1.0.held copied.1.0.world
         → IfOk result (IsCopyMade N.Disk image other) }

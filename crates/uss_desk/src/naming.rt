@@ -1,7 +1,7 @@
 //! How a new file gets its name, once it is whole.
 
 ghost use Rattle.std.specs.Prelude.{◌≡◌, ℕ, ◌++◌, [], List, Option, None, false, true, IfOk, string_bytes};
-ghost use Rattle.uss_desk.specs.Naming.{AreNames, ChangesOwn, Cleared, Follows, Free, HasFailed, IsUnnamed, Ordered};
+ghost use Rattle.uss_desk.specs.Naming.{AreNames, ChangesOwn, Cleared, Follows, Free, HasFailedStep, IsUnnamed, Ordered};
 ghost use Rattle.uss_desk.specs.Naming.{Removed, Renamed, Step, Synced, Takes, TakesAll, TakesIfNone, Tried, Twinned};
 ghost use Rattle.uss_desk.specs.Naming.{named_steps};
 
@@ -256,7 +256,7 @@ pub fn put_in_place<N: Folder>(folder: &mut N, names: &Names) -> bool
         → IsUnnamed [] to (N.steps folder.old) (N.steps folder.new) }
     ensures own { (to : List ℕ) → AreNames to names.now
         → TakesAll (ChangesOwn to) (N.steps folder.old) (N.steps folder.new) }
-    ensures failed { result ≡ false → HasFailed (N.steps folder.old) (N.steps folder.new) }
+    ensures failed { result ≡ false → HasFailedStep (N.steps folder.old) (N.steps folder.new) }
 {
     if !folder.remove(&names.part_log) {
         return false;

@@ -4,9 +4,9 @@ ghost use Rattle.std.specs.Prelude.{◌≡◌, IfErr, IfOk};
 ghost use Rattle.std.specs.Option.{IsSomeAnd};
 ghost use Rattle.sqlite_wal.specs.Files.{image_at};
 ghost use Rattle.desk_line.specs.Exits.{failure_word};
-ghost use Rattle.uss_desk.specs.Opening as spec;
-ghost use Rattle.uss_desk.specs.Opening.{IsBlank, IsMemory, IsMovedAt, IsMovedIn, IsOpenedAt, IsOpenedFor};
-ghost use Rattle.uss_desk.specs.Opening.{IsOpenedIn, IsUnreadFor};
+ghost use Rattle.uss_desk.specs.OpenedFor as spec;
+ghost use Rattle.uss_desk.specs.OpenedFor.{IsBlank, IsMemory, IsMovedAt, IsMovedIn, IsOpenedAt, IsOpenedFor};
+ghost use Rattle.uss_desk.specs.OpenedFor.{IsOpenedIn, IsUnreadFor};
 
 use crate::causes::tell_unenrolled;
 use crate::naming::make_private;
@@ -61,7 +61,7 @@ impl<D: Disk + Drop> Unopened<D> {
 
 impl<D: Disk + Drop> From<AllocError> for Unopened<D> {
     ghost use Rattle.desk_tables.specs.declared.opening.open.OpenFault.TheVariants.{OutOfMemory};
-    ghost use Rattle.uss_desk.specs.Opening.{IsUnreadFor};
+    ghost use Rattle.uss_desk.specs.OpenedFor.{IsUnreadFor};
 
     ghost from_gives = { λ _ it. IsUnreadFor it OutOfMemory };
 

@@ -4,7 +4,7 @@ ghost use Rattle.std.specs.Prelude.{◌≡◌, List, [], ◌∷◌, IfErr, IfOk,
 ghost use Rattle.desk_line.specs.Lines.{AreEnrolments};
 ghost use Rattle.desk_program.specs.Serving.{Grows};
 ghost use Rattle.uss_desk.specs.Operators as spec;
-ghost use Rattle.uss_desk.specs.Operators.{AreNews, Asking, HasCause, IsRead, Read, Stamped, ok_of};
+ghost use Rattle.uss_desk.specs.Operators.{AreEnrolmentsRead, AreNews, Asking, HasUnreadCause, Read, Stamped, ok_of};
 
 use crate::causes::tell_of;
 use desk_line::{Enrolment, Failure, Line, enrolment_on, enrolments_on, lines_of};
@@ -167,8 +167,9 @@ impl<F: TextFiles + Drop> OperatorsFile<'_, F> {
     fn read_file(&mut self, alloc: Global, path: &str) -> Result<Vec<Enrolment>, Unread>
         ensures small { IfOk result (λ enrolments. AreEnrolments enrolments.items) }
         ensures read { IfOk result (λ enrolments.
-            IsRead path.now (F.asked self.old.files) (F.asked self.new.files) enrolments.items) }
-        ensures cause { IfErr result (HasCause path.now (F.asked self.old.files) (F.asked self.new.files)) }
+            AreEnrolmentsRead path.now (F.asked self.old.files) (F.asked self.new.files) enrolments.items) }
+        ensures cause { IfErr result
+            (HasUnreadCause path.now (F.asked self.old.files) (F.asked self.new.files)) }
         ensures path { self.new.path ≡ self.old.path }
         ensures seen { self.new.seen ≡ self.old.seen }
     {

@@ -175,7 +175,7 @@ fn has_name(row: &[u8], name: &[u8]) -> bool
 
 // Whether the row of a slot has a name.
 fn is_named(page: &[u8], slot: u16, name: &[u8]) -> bool
-    ensures { result ≡ spec.is_named page.now slot name.now }
+    ensures { result ≡ spec.is_slot_named page.now slot name.now }
 {
     if !is_plain(page, slot) {
         return false;

@@ -9,8 +9,8 @@ ghost use Rattle.desk_wire.specs.Passage.{course};
 ghost use Rattle.desk_recording.specs.Inputs.{IsUnrecorded};
 ghost use Rattle.desk_recording.specs.Telling.{told_by};
 ghost use Rattle.uss_desk.specs.Guarding.{account_of};
-ghost use Rattle.uss_desk.specs.Opening.{IsOpenedAt};
-ghost use Rattle.uss_desk.specs.Playing.{IsInputDone, IsInputDoneAt, IsInputKeptAt, stopping};
+ghost use Rattle.uss_desk.specs.OpenedFor.{IsOpenedAt};
+ghost use Rattle.uss_desk.specs.RecordedPlays.{IsInputDone, IsInputDoneAt, IsInputKeptAt, stopping};
 
 use crate::opening::{FileDesk, MemoryDesk, Opened, OpenedDesk, or_failure};
 use crate::watching::{Paths, Watched};

@@ -2,8 +2,8 @@
 //! tells what the operating system did.
 
 ghost use Rattle.std.specs.Prelude.{◌≡◌, ◌++◌, IfOk, option_map};
-ghost use Rattle.uss_desk.specs.Recording as spec;
-ghost use Rattle.uss_desk.specs.Recording.{enrolled_by};
+ghost use Rattle.uss_desk.specs.LineRecord as spec;
+ghost use Rattle.uss_desk.specs.LineRecord.{enrolled_by};
 
 use crate::causes::{tell, tell_of};
 use crate::closing::close_after;

@@ -4,11 +4,11 @@
 ghost use Rattle.std.specs.Prelude.{◌≡◌, IfErr, IfOk, OnErr, OnOk, false, true};
 ghost use Rattle.sqlite_wal.specs.Files.{image_at};
 ghost use Rattle.sqlite_wal.specs.Recovery.{Image};
-ghost use Rattle.uss_desk.specs.Keeping.{FailsToRead, IsReadAs, Tells};
+ghost use Rattle.uss_desk.specs.FilesTold.{FailsToRead, IsReadAs, Tells};
 ghost use Rattle.uss_desk.specs.Reordering as spec;
 ghost use Rattle.uss_desk.specs.Reordering.{IsAdmitted, IsOrderedByTwin, IsOrderedOr, IsReorderTold, IsReordered};
 ghost use Rattle.uss_desk.specs.Reordering.{IsReorderedIf};
-ghost use Rattle.uss_desk.specs.Twins.{AreTwins, IsNoted};
+ghost use Rattle.uss_desk.specs.Twins.{AreTwins, IsWrittenIfRoom};
 
 use crate::causes::{access_cause, tell, tell_of};
 use crate::damage::file_of_line;
@@ -144,7 +144,7 @@ fn order_by_twin<D: Disk + Drop, P: Folder, E: Write>(
         → IfErr found (FailsToRead image) → AreTwins file.entry.path.now twin.now
         → IsOrderedByTwin image file.entry.path.now file.entry.takes_old result.0 result.1
         (P.steps folder.old) (P.steps folder.new) }
-    ensures noted { OnOk result.0 (IsNoted (spec.reordered_line file.entry.path.now)
+    ensures noted { OnOk result.0 (IsWrittenIfRoom (spec.reordered_line file.entry.path.now)
         (E.contents errors.old) (E.contents errors.new)) }
     ensures told { OnErr result.0 (Tells (E.contents errors.old) (E.contents errors.new)) }
 {
@@ -193,7 +193,7 @@ fn order<P: Folder, E: Write>(
     errors: &mut E,
 ) -> Result<(), Failure>
     ensures ordered { IsOrderedOr path.now result (P.steps folder.old) (P.steps folder.new) }
-    ensures noted { OnOk result (IsNoted (spec.reordered_line path.now)
+    ensures noted { OnOk result (IsWrittenIfRoom (spec.reordered_line path.now)
         (E.contents errors.old) (E.contents errors.new)) }
     ensures told { OnErr result (Tells (E.contents errors.old) (E.contents errors.new)) }
 {
@@ -219,7 +219,7 @@ fn is_too_old(takes_old: bool, is_old: bool) -> bool
 
 // Tells that a file was put in order. A fault of the writer is passed over, and so is want of memory.
 fn tell_reordered<E: Write>(alloc: Global, path: &str, errors: &mut E)
-    ensures { IsNoted (spec.reordered_line path.now) (E.contents errors.old) (E.contents errors.new) }
+    ensures { IsWrittenIfRoom (spec.reordered_line path.now) (E.contents errors.old) (E.contents errors.new) }
 {
     if let Ok(line) = line_of(alloc, path, reordered_text()) {
         let _ = write_whole(errors, line.as_bytes());

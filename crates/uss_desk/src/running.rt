@@ -4,10 +4,10 @@ ghost use Rattle.sqlite_wal.specs.Files.{image_at};
 ghost use Rattle.sqlite.specs.Files.{over_files};
 ghost use Rattle.desk_line.specs.Lines.{HasDatabase, IsLine};
 ghost use Rattle.desk_wire.specs.Passage.{passage};
-ghost use Rattle.desk_program.specs.Outside.{ended, outside, written};
+ghost use Rattle.desk_program.specs.Outside.{bytes_written, ended, outside};
 ghost use Rattle.uss_desk.specs.Guarding.{account_of};
-ghost use Rattle.uss_desk.specs.Opening.{IsOpenedFor};
-ghost use Rattle.uss_desk.specs.Running.{IsDone, IsMoveTold, IsRun};
+ghost use Rattle.uss_desk.specs.OpenedFor.{IsOpenedFor};
+ghost use Rattle.uss_desk.specs.OpenedLines.{IsLineDone, IsLineRun, IsMoveTold};
 
 use crate::opening::{FileDesk, MemoryDesk, Opened, OpenedDesk, or_failure};
 use crate::watching::{Paths, Watched};
@@ -33,7 +33,7 @@ pub fn run_line<F: Start, N: Paths + Drop, P: Port, R: Read, W: Write, E: Write>
 ) -> (Exit<E>, Option<MemoryDesk>, Option<FileDesk<F, N>>)
     requires line { IsLine line.now }
     requires opened { IsOpenedFor (image_at F.Start) line.now opened }
-    ensures { IsDone (account_of F.Start) opened line.now (outside
+    ensures { IsLineDone (account_of F.Start) opened line.now (outside
         (passage R.Read W.Write input.old input.new output.old output.new) (P.traffic port.old)
         (P.traffic port.new) (ended E.Write result.0 errors.old errors.new)) result.1 result.2 }
 {
@@ -67,7 +67,7 @@ fn run_over<D: Disk + Drop, N: Paths + Drop, P: Port, R: Read, W: Write, E: Writ
 ) -> (Exit<E>, Option<Desk<Watched<FileStore<D>, N>>>)
     requires line { IsLine line.now }
     requires desk { HasDatabase line.now }
-    ensures { IsRun over_files opened line.now (outside
+    ensures { IsLineRun over_files opened line.now (outside
         (passage R.Read W.Write input.old input.new output.old output.new) (P.traffic port.old)
         (P.traffic port.new) (ended E.Write result.0 errors.old errors.new)) result.1 }
 {
@@ -82,7 +82,7 @@ fn tell_moved<F: Start, N: Paths + Drop, W: Write, E: Write>(
     errors: &mut E,
 ) -> (Exit<E>, Option<FileDesk<F, N>>)
     ensures { IsMoveTold moved (ended E.Write result.0 errors.old errors.new) result.1
-        (written W.Write output.old output.new) }
+        (bytes_written W.Write output.old output.new) }
 {
     match moved {
         Ok((desk, count)) => {

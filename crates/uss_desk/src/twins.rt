@@ -4,13 +4,13 @@
 ghost use Rattle.std.specs.Prelude.{◌≡◌, true, IfErr, IfOk, IfSome, List, OnOk, string_bytes, ℕ};
 ghost use Rattle.sqlite_wal.specs.Files.{image_at};
 ghost use Rattle.sqlite_wal.specs.Recovery.{Image};
-ghost use Rattle.desk_line.specs.Exits.{ending, IsBreakdown};
+ghost use Rattle.desk_line.specs.Exits.{ending, IsLineBreakdown};
 ghost use Rattle.desk_line.specs.Lines.{file_of};
-ghost use Rattle.uss_desk.specs.Keeping.{FailsTelling, FailsToRead, IsReadAs, Tells};
+ghost use Rattle.uss_desk.specs.FilesTold.{FailsTelling, FailsToRead, IsReadAs, Tells};
 ghost use Rattle.uss_desk.specs.Naming.{Follows};
 ghost use Rattle.uss_desk.specs.Twins as spec;
 ghost use Rattle.uss_desk.specs.Twins.{AreRemoved, AreRowsRefused, AreTwins, IsCopiedByTwinIf, IsJudged};
-ghost use Rattle.uss_desk.specs.Twins.{IsJudgedIf, IsNoted, IsNotedIf, IsRefused, IsTestTold, IsUntwinned};
+ghost use Rattle.uss_desk.specs.Twins.{IsJudgedIf, IsNotedIf, IsTestTold, IsTwinRefused, IsUntwinned, IsWrittenIfRoom};
 ghost use Rattle.uss_desk.specs.Twins.{WasTwin, making, twin_of};
 ghost use Rattle.uss_desk.specs.Ways.{is_mended};
 
@@ -162,7 +162,7 @@ fn refuse<E: Write>(
     failure: Failure,
     errors: &mut E,
 ) -> Exit<E>
-    ensures { IsRefused path.now way failure
+    ensures { IsTwinRefused path.now way failure
         (ending result (E.contents errors.old) (E.contents errors.new)) }
 {
     match way {
@@ -286,7 +286,7 @@ pub fn make_twin<P: Folder, E: Write>(
         (P.steps folder.new) (making source.now (twin_of beside.now) is_mended)) }
     ensures unmade { IfErr result (IsUntwinned (twin_of beside.now)
         (P.steps folder.old) (P.steps folder.new)) }
-    ensures failure { IfErr result IsBreakdown }
+    ensures failure { IfErr result IsLineBreakdown }
     ensures quiet { OnOk result (E.contents errors.new ≡ E.contents errors.old) }
     ensures told { Tells (E.contents errors.old) (E.contents errors.new) }
 {
@@ -312,7 +312,7 @@ fn tell_fault<E: Write>(
     fault: TwinFault,
     errors: &mut E,
 ) -> Failure
-    ensures failure { IsBreakdown result }
+    ensures failure { IsLineBreakdown result }
     ensures told { Tells (E.contents errors.old) (E.contents errors.new) }
 {
     match fault {
@@ -335,7 +335,7 @@ pub fn remove_twin<P: Folder>(folder: &mut P, twin: &Twin)
 // Tells of a file how many of its pages lack their sums, and what its rows are. A fault of the writer is
 // passed over, and so is want of memory.
 fn tell_rows<E: Write>(alloc: Global, path: &str, pages: u64, rows: Rows, errors: &mut E)
-    ensures { IsNoted (spec.rows_line path.now pages rows)
+    ensures { IsWrittenIfRoom (spec.rows_line path.now pages rows)
         (E.contents errors.old) (E.contents errors.new) }
 {
     if let Ok(line) = unsummed_line(alloc, path, pages, rows.text()) {
@@ -346,7 +346,7 @@ fn tell_rows<E: Write>(alloc: Global, path: &str, pages: u64, rows: Rows, errors
 // Tells that the tables of a file stand in another order. A fault of the writer is passed over, and so is
 // want of memory.
 fn tell_order<E: Write>(alloc: Global, path: &str, errors: &mut E)
-    ensures { IsNoted (spec.order_line path.now) (E.contents errors.old) (E.contents errors.new) }
+    ensures { IsWrittenIfRoom (spec.order_line path.now) (E.contents errors.old) (E.contents errors.new) }
 {
     if let Ok(line) = line_of(alloc, path, order_text()) {
         let _ = write_whole(errors, line.as_bytes());

@@ -11,7 +11,7 @@ use Rattle.s2_cover.specs.Canonical.{IsCanonical}
 use Rattle.s2_cover.specs.CanonicalList.{canonical_list}
 use Rattle.s2_cover.specs.Leaves.{leaves_of}
 use Rattle.s2_cover.specs.Rectangles.{RectParts, IsRect, wide_set, rect_leaves}
-use Rattle.volume4d.specs.Limits.{max_cells, max_cover}
+use Rattle.volume4d.specs.VolumeLimits.{max_cells, max_cover}
 use Rattle.volume4d.specs.Shape.{Shape, cells, rectangle, is_footprint, shape_positions}
 use Rattle.volume4d.specs.FootprintBytes.{HasValidParts}
 use Rattle.volume4d.proofs.LeafTests.{face_at, no_leaf_at}

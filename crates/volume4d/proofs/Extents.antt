@@ -1,6 +1,6 @@
 -- Extents and their faults.
 use Rattle.std.proofs.Common.{◌≡◌, Bool, true, false, cond, Ok, Err, refl, ap, ◌∙◌}
-use Rattle.volume4d.specs.Limits.{within_altitudes, within_times, within_length}
+use Rattle.volume4d.specs.VolumeLimits.{within_altitudes, within_times, within_length}
 use Rattle.volume4d.specs.Windows.{WindowParts, window_or_fault}
 
 all_pass : {A E : Type 0} (x y z : Bool) (e : A) (a b c : E) → true ≡ x → true ≡ y → true ≡ z → Ok e

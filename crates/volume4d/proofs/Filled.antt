@@ -10,7 +10,7 @@ use Rattle.std.proofs.lemmas.List.Sorted.{All-permutation, length_permutation}
 use Rattle.s2_cover.specs.declared.spans.Span.{Span}
 use Rattle.s2_cover.specs.Ranges.{IsSpan}
 use Rattle.volume4d.specs.declared.slab.Slab.{Slab}
-use Rattle.volume4d.specs.Limits.{within_altitudes, within_times, within_length}
+use Rattle.volume4d.specs.VolumeLimits.{within_altitudes, within_times, within_length}
 use Rattle.volume4d.specs.Windows.{WindowParts, is_window}
 use Rattle.volume4d.specs.Volume.{Block}
 use Rattle.volume4d.specs.Slab.{span_of, slab_window}

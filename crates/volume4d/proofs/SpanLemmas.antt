@@ -6,7 +6,7 @@ use Rattle.s2_cover.specs.Canonical.{IsCanonical}
 use Rattle.s2_cover.specs.CanonicalList.{canonical_list}
 use Rattle.s2_cover.specs.Leaves.{leaves_of}
 use Rattle.s2_cover.specs.Ranges.{range_count}
-use Rattle.volume4d.specs.Limits.{max_cover}
+use Rattle.volume4d.specs.VolumeLimits.{max_cover}
 use Rattle.volume4d.specs.Shape.{Shape, is_footprint, shape_positions}
 use Rattle.volume4d.specs.SpanCounts.{volume_spans}
 use Rattle.volume4d.specs.Volume.{Block}

@@ -15,7 +15,7 @@ use Rattle.volume4d.specs.declared.slab.Slab.{Slab}
 use Rattle.volume4d.specs.Point.{Point}
 use Rattle.volume4d.specs.Slab.{slab_has, slabs_have}
 use Rattle.volume4d.specs.Meeting.{IsFirstPoint}
-use Rattle.volume4d.specs.Sweep.{placed_have, Ascend, IsOver, Adds, IsLate, AreLate}
+use Rattle.volume4d.specs.Sweep.{placed_have, Ascend, IsPassed, Adds, IsLate, AreLate}
 use Rattle.volume4d.proofs.FirstPoints.{first_point_same}
 use Rattle.volume4d.proofs.PointsIn.{IsIn-from_has}
 
@@ -216,7 +216,7 @@ any_set p (s ∷ rest) (suc place) new d below out =
 
 -- a slab put into a lane that is over
 pub put_adds : (active : List Slab) (place position : ℕ) (slab : Slab) → place < length active
-    → ((d : Slab) → IsOver position (get_or active place d))
+    → ((d : Slab) → IsPassed position (get_or active place d))
     → Adds position active (slab_has slab) (set active place slab)
 put_adds active place position slab below over x later =
     any_set (λ s. slab_has s x) active place slab slab below (over slab x later)

@@ -4,7 +4,7 @@ use Rattle.s2_cover.specs.declared.spans.Span.{Span}
 use Rattle.s2_cover.specs.Ranges.{IsRanges}
 use Rattle.volume4d.specs.declared.fault.VolumeFault.{VolumeFault}
 use Rattle.volume4d.specs.declared.fault.VolumeFault.TheVariants.{Cells, TooManyCells, OutOfMemory}
-use Rattle.volume4d.specs.Limits.{max_cover}
+use Rattle.volume4d.specs.VolumeLimits.{max_cover}
 use Rattle.volume4d.specs.Shape.{Shape, cells, rectangle, shape_positions, is_footprint}
 
 -- a footprint within the limits, and its leaves as ranges of positions

@@ -1,5 +1,5 @@
 -- Read first: Limits, Point, Shape, Volume, Meeting. What stands in laws/ is checked and needn't be read.
-pub mod Limits
+pub mod VolumeLimits
 pub mod Windows
 pub mod Point
 pub mod Shape

@@ -7,7 +7,7 @@ use Rattle.s2_cellid.specs.Family.{cell_has_leaf}
 use Rattle.s2_cover.specs.CanonicalList.{canonical_list}
 use Rattle.s2_cover.specs.Rectangles.{RectParts, widened, wide_has, rect_leaves}
 use Rattle.volume4d.specs.Point.{is_leaf}
-use Rattle.volume4d.specs.Limits.{within_cells, within_cover}
+use Rattle.volume4d.specs.VolumeLimits.{within_cells, within_cover}
 
 -- a list of S2 cells by their ids, in the order in which they were given, or a rectangle of a face
 -- with a level of squares

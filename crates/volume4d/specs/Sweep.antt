@@ -17,8 +17,8 @@ abbrev pub Ascend : {A : Type 0} → (A → Slab) → List A → Type 0
 Ascend slab_of list = IsNonDecreasingBy (λ a. (slab_of a).first) list
 
 -- the slab has no point with a leaf at the position or after it
-abbrev pub IsOver : ℕ → Slab → Type 0
-IsOver position s = (x : Point) → position ≤ position_of x.leaf → slab_has s x ≡ false
+abbrev pub IsPassed : ℕ → Slab → Type 0
+IsPassed position s = (x : Point) → position ≤ position_of x.leaf → slab_has s x ≡ false
 
 -- from the position on, the new slabs have the points of the old ones and those that pass the test
 abbrev pub Adds : ℕ → List Slab → (Point → Bool) → List Slab → Type 0

@@ -2,7 +2,7 @@
 -- footprint with altitudes and times; a plan's area is a list of volumes.
 use Rattle.std.specs.Prelude.{List, Bool, ◌&&◌, length, int_le, int_lt}
 use Rattle.std.specs.List.{list_any}
-use Rattle.volume4d.specs.Limits.{within_volumes}
+use Rattle.volume4d.specs.VolumeLimits.{within_volumes}
 use Rattle.volume4d.specs.Windows.{WindowParts}
 use Rattle.volume4d.specs.Point.{Point}
 use Rattle.volume4d.specs.Shape.{Shape, shape_has}

@@ -1,6 +1,6 @@
 -- The altitudes and seconds of a volume.
 use Rattle.std.specs.Prelude.{ℤ, Bool, ◌&&◌, Result, Ok, Err, if◌then◌else◌}
-use Rattle.volume4d.specs.Limits.{within_altitudes, within_times, within_length}
+use Rattle.volume4d.specs.VolumeLimits.{within_altitudes, within_times, within_length}
 use Rattle.volume4d.specs.declared.window.WindowFault.{WindowFault}
 use Rattle.volume4d.specs.declared.window.WindowFault.TheVariants.{Altitude, Time, TooLong}
 

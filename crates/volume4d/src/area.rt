@@ -2,7 +2,7 @@
 
 ghost use Rattle.std.specs.Prelude.{◌≡◌, ◌*◌, ◌<◌, ◌≤◌, Some, None, if◌then◌else◌, IsTrue, IfOk, length};
 ghost use Rattle.std.specs.List.Sorted.{IsPermutation, IsNonDecreasingBy};
-ghost use Rattle.volume4d.specs.Limits.{max_cover, max_volumes, within_volumes};
+ghost use Rattle.volume4d.specs.VolumeLimits.{max_cover, max_volumes, within_volumes};
 ghost use Rattle.volume4d.specs.Point.{Point};
 ghost use Rattle.volume4d.specs.Slab.{slabs_have};
 ghost use Rattle.volume4d.specs.Bounds.{AreFilled, IsBounds};

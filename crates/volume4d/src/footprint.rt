@@ -4,7 +4,7 @@ ghost use Rattle.std.specs.Prelude.{◌≡◌, ◌+◌, ◌≤◌, [], ◌∷◌
 ghost use Rattle.std.specs.Int.{w32, w64, to_be_bytes, from_be_bytes};
 ghost use Rattle.std.specs.Option.{SomeIff};
 ghost use Rattle.s2_cellid.specs.Cell.{IsCellId};
-ghost use Rattle.volume4d.specs.Limits.{within_cells};
+ghost use Rattle.volume4d.specs.VolumeLimits.{within_cells};
 ghost use Rattle.volume4d.specs.Shape as shapes;
 ghost use Rattle.volume4d.specs.Shape.{Shape};
 ghost use Rattle.volume4d.specs.Footprint.{shape_of};

@@ -2,7 +2,7 @@
 
 ghost use Rattle.std.specs.Prelude.{◌≡◌, ◌≤◌, IsTrue, length};
 ghost use Rattle.s2_cover.specs.CanonicalList.{canonical_list};
-ghost use Rattle.volume4d.specs.Limits.{max_cover};
+ghost use Rattle.volume4d.specs.VolumeLimits.{max_cover};
 ghost use Rattle.volume4d.specs.Shape.{Shape, is_footprint, shape_positions};
 ghost use Rattle.volume4d.specs.FootprintBytes.{HasValidParts, footprint_bytes};
 ghost use Rattle.volume4d.specs.SpanCounts.{volume_spans};

@@ -6,7 +6,7 @@ ghost use Rattle.s2_hilbert.specs.Curve.{position_of};
 ghost use Rattle.volume4d.specs.Point.{Point};
 ghost use Rattle.volume4d.specs.Slab.{slab_has, slabs_have};
 ghost use Rattle.volume4d.specs.Meeting.{IsFirstPoint};
-ghost use Rattle.volume4d.specs.Sweep.{placed_have, Ascend, IsOver, Adds, IsLate, AreLate};
+ghost use Rattle.volume4d.specs.Sweep.{placed_have, Ascend, IsPassed, Adds, IsLate, AreLate};
 
 use crate::area::MAX_VOLUMES;
 use crate::corner::{Corner, earlier, least_corner};
@@ -140,7 +140,7 @@ fn put(active: &mut [Slab], slab: &Slab, position: u64) -> bool
 // The place of a lane that is over at the position.
 fn free_lane(active: &[Slab], position: u64) -> Option<usize>
     ensures { IfSome result (λ place. (place < length active.now)
-        × HoldsAt (IsOver position) active.now place) }
+        × HoldsAt (IsPassed position) active.now place) }
 {
     for (place, lane) in active.iter().enumerate() {
         if is_over(lane, position) {
@@ -231,7 +231,7 @@ fn is_beyond(position: u64, corner: &Corner) -> bool
 
 // Whether a slab has no point at the position or after it.
 fn is_over(slab: &Slab, position: u64) -> bool
-    ensures { IsTrue result → IsOver position slab.now }
+    ensures { IsTrue result → IsPassed position slab.now }
 {
     if slab.last < slab.first {
         return true;

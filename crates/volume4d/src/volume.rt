@@ -6,7 +6,7 @@ ghost use Rattle.s2_cover.specs.Ranges.{IsSpan};
 ghost use Rattle.volume4d.specs.Point.{Point};
 ghost use Rattle.volume4d.specs.Windows.{is_window};
 ghost use Rattle.volume4d.specs.Footprint.{shape_of};
-ghost use Rattle.volume4d.specs.Limits.{max_cover};
+ghost use Rattle.volume4d.specs.VolumeLimits.{max_cover};
 ghost use Rattle.volume4d.specs.SpanCounts.{volume_spans};
 ghost use Rattle.volume4d.specs.Shape.{shape_positions, is_footprint};
 ghost use Rattle.volume4d.specs.Volume.{block_has};

@@ -1,7 +1,7 @@
 //! The altitudes and times of a volume.
 
 ghost use Rattle.std.specs.Prelude.{◌≡◌, pos, ◌≤ℤ◌, ◌<ℤ◌, IsTrue};
-ghost use Rattle.volume4d.specs.Limits.{within_altitudes, within_times, within_length};
+ghost use Rattle.volume4d.specs.VolumeLimits.{within_altitudes, within_times, within_length};
 ghost use Rattle.volume4d.specs.Windows.{window_or_fault, is_window};
 
 use std::error::Error;

@@ -16,14 +16,14 @@ use Rattle.desk_rules.specs.declared.plan.PlanRow.{PlanRow}
 use Rattle.desk_rules.specs.Plan.{is_live}
 use Rattle.desk_store.specs.World.{Filed, World, text_cmp, filed_cmp, plans_of, is_by, has_id}
 use Rattle.desk_store.specs.Changes.{put_filed, filed_by, put_row, with_plans, with_operator, replaced, closed, close_row, clear_rows}
-use Rattle.desk_store.specs.Rows.{is_own}
+use Rattle.desk_store.specs.OwnRows.{is_own}
 use Rattle.desk_store.specs.laws.Order.{inserted, all_weaker, put_sorted, replaced_sorted, rows_sorted, sorted_map}
 use Rattle.desk_store.specs.laws.Change.{stays, cleared_plans, close_filed, closed_plans}
 use Rattle.desk_store.specs.StoreChange.{changed_by}
 use Rattle.desk_store.specs.declared.change.Change.{Change}
 use Rattle.desk_store.specs.declared.change.Change.TheVariants.{Enrol, Put, Close, Clear}
 use Rattle.desk_live.specs.declared.volume.LiveVolume.{LiveVolume}
-use Rattle.desk_live.specs.Live.{IsLiveVolume, AreVolumesOf, AreVolumes, AreLive, is_of, is_of_any, stays_at, AreBrought}
+use Rattle.desk_live.specs.Live.{IsLiveVolume, AreVolumesOf, AreVolumes, AreLive, is_volume_of, is_of_any, stays_at, AreBrought}
 use Rattle.desk_live.specs.laws.Lists.{along_permutation, IsPermutation-filter, filter_all, all_any}
 
 pub and_turned : (a b : Bool) → (a && b) ≡ (b && a)
@@ -34,7 +34,7 @@ and_turned false false = refl
 
 -- a volume is of an operator's plan of an id if its plan is
 pub same_key : (o id : List ℕ) (p : Filed) (v : Block) (live : LiveVolume) → IsLiveVolume p v live
-    → is_of o id live ≡ is_own o id p
+    → is_volume_of o id live ≡ is_own o id p
 same_key o id p v live h =
     (λ i. is_eq (text_cmp id (h.id i)) && is_eq (text_cmp o (h.operator i)))
     ∙ and_turned (has_id id p.row) (is_by o p)
@@ -170,15 +170,15 @@ none_live = are_live (record { operators = []; plans = [] }) [] tt refl
 -- ---- a plan closed
 
 closed_filtered : (o id : List ℕ) (ps : List Filed) (lives : List LiveVolume) → AreVolumes ps lives
-    → AreVolumes (map (close_filed o id) ps) (filter (λ live. not (is_of o id live)) lives)
-closed_filtered o id [] lives e = ap (filter (λ live. not (is_of o id live))) e
+    → AreVolumes (map (close_filed o id) ps) (filter (λ live. not (is_volume_of o id live)) lives)
+closed_filtered o id [] lives e = ap (filter (λ live. not (is_volume_of o id live))) e
 closed_filtered o id (p ∷ ps) lives (front, rest, are, mine, more) =
     go (is_own o id p) (ap (filter kept) are ∙ filter-append kept front rest
     ∙ ap (λ xs. xs ++ filter kept rest)
     (plan_filtered (λ q. not (is_own o id q)) kept (λ q v live h. ap not (same_key o id q v live h)) p front
     mine)) (closed_filtered o id ps rest more) where
       kept : LiveVolume → Bool
-      kept live = not (is_of o id live)
+      kept live = not (is_volume_of o id live)
 
       go : (b : Bool) → filter kept lives ≡ cond (not b) front [] ++ filter kept rest
           → AreVolumes (map (close_filed o id) ps) (filter kept rest)
@@ -260,7 +260,7 @@ in_any_order w ps lives now order same are there =
 put_live : (o : List ℕ) (row : PlanRow) (w : World) (old fresh : List LiveVolume) → AreLive w old
     → AreVolumesOf (filed_by o row) fresh
     → AreLive (with_plans w o (put_row row (plans_of o w)))
-    (filter (λ live. not (is_of o row.id live)) old ++ fresh)
+    (filter (λ live. not (is_volume_of o row.id live)) old ++ fresh)
 unfolding with_plans
 put_live o row w old fresh h brought =
     in_any_order (record w { plans = replaced o (put_row row (plans_of o w)) w.plans }) (p ∷ left)
@@ -287,10 +287,11 @@ put_live o row w old fresh h brought =
     left = filter (other p) w.plans
 
     kept : LiveVolume → Bool
-    kept live = not (is_of o row.id live)
+    kept live = not (is_volume_of o row.id live)
 
 close_live : (o id : List ℕ) (w : World) (old : List LiveVolume) → AreLive w old
-    → AreLive (with_plans w o (close_row id (plans_of o w))) (filter (λ live. not (is_of o id live)) old)
+    → AreLive (with_plans w o (close_row id (plans_of o w)))
+    (filter (λ live. not (is_volume_of o id live)) old)
 unfolding with_plans
 close_live o id w old h =
     record {
@@ -301,7 +302,7 @@ close_live o id w old h =
       same = IsPermutation-filter kept h.listed old h.same;
     } where
       kept : LiveVolume → Bool
-      kept live = not (is_of o id live)
+      kept live = not (is_volume_of o id live)
 
       same : map (close_filed o id) w.plans ≡ replaced o (close_row id (plans_of o w)) w.plans
       same = closed_plans o id w.plans h.order
@@ -359,8 +360,8 @@ changed_live (Enrol operator ceiling) w old fresh h none =
 changed_live (Put operator row) w old fresh h brought = put_live operator row w old fresh h brought
 changed_live (Close operator id) w old fresh h none =
     subst (AreLive (with_plans w operator (close_row id (plans_of operator w))))
-    (sym (ap (λ xs. filter (λ live. not (is_of operator id live)) old ++ xs) none
-    ∙ append-nil (filter (λ live. not (is_of operator id live)) old))) (close_live operator id w old h)
+    (sym (ap (λ xs. filter (λ live. not (is_volume_of operator id live)) old ++ xs) none
+    ∙ append-nil (filter (λ live. not (is_volume_of operator id live)) old))) (close_live operator id w old h)
 changed_live (Clear operator ids) w old fresh h none =
     subst (AreLive (with_plans w operator (clear_rows ids.items (plans_of operator w))))
     (sym (ap (λ xs. filter (λ live. not (is_of_any operator ids.items live)) old ++ xs) none

@@ -21,7 +21,7 @@ use Rattle.desk_store.specs.declared.change.Change.{Change}
 use Rattle.desk_store.specs.declared.change.Change.TheVariants.{Enrol, Put, Close, Clear}
 use Rattle.desk_live.specs.declared.account.PlanState.{PlanState}
 use Rattle.desk_live.specs.declared.account.Account.{Account}
-use Rattle.desk_live.specs.Roll.{Accounts, AreAccountsOf, account_in, ceiling_after, ceiling_in, close_if, has_id, is_named, named_by, or_else, plans_after, plans_in, plans_or_none, put_state, spans_beside, spans_unless, state_of}
+use Rattle.desk_live.specs.Roll.{Accounts, AreAccountsOf, account_in, ceiling_after, ceiling_in, close_if, is_state_named, kept_spans_beside, kept_spans_unless, named_by, or_else, plans_after, plans_in, plans_or_none, put_state, state_has_id, state_of}
 
 -- ---- names
 
@@ -189,13 +189,13 @@ close_states id (r ∷ rows) = λ i. go (is_eq (text_cmp id r.id)) i ∷ close_s
   go false = refl
 
 clear_states : (ids : List (List ℕ)) (rows : List PlanRow)
-    → filter (λ s. not (is_named ids s)) (map state_of rows) ≡ map state_of (clear_rows ids rows)
+    → filter (λ s. not (is_state_named ids s)) (map state_of rows) ≡ map state_of (clear_rows ids rows)
 clear_states ids [] = refl
 clear_states ids (r ∷ rows) = go (not (changes.is_named ids r)) (clear_states ids rows) where
   go : (b : Bool)
-      → filter (λ s. not (is_named ids s)) (map state_of rows) ≡ map state_of (clear_rows ids rows)
-      → cond b (state_of r ∷ filter (λ s. not (is_named ids s)) (map state_of rows))
-      (filter (λ s. not (is_named ids s)) (map state_of rows))
+      → filter (λ s. not (is_state_named ids s)) (map state_of rows) ≡ map state_of (clear_rows ids rows)
+      → cond b (state_of r ∷ filter (λ s. not (is_state_named ids s)) (map state_of rows))
+      (filter (λ s. not (is_state_named ids s)) (map state_of rows))
       ≡ map state_of (cond b (r ∷ clear_rows ids rows) (clear_rows ids rows))
   go true ih = ap (λ ss. state_of r ∷ ss) ih
   go false ih = ih
@@ -295,7 +295,7 @@ followed (Close o id) w old new a b writes was h is plans =
     ∙ close_states id (plans_of o w))
 followed (Clear o ids) w old new a b writes was h is plans =
     replaced_plans o (clear_rows ids.items (plans_of o w)) w old new a b writes was h is
-    (plans ∙ ap (filter (λ s. not (is_named ids.items s))) (there o old a w.operators w.plans was h).1
+    (plans ∙ ap (filter (λ s. not (is_state_named ids.items s))) (there o old a w.operators w.plans was h).1
     ∙ clear_states ids.items (plans_of o w))
 
 -- ---- what is read
@@ -310,22 +310,22 @@ absent None e = refl
 absent (Some a) e = cc
 
 pub states_found : (id : List ℕ) (rows : List PlanRow)
-    → option_map (λ s. s.states) (find (has_id id) (map state_of rows)) ≡ states_of (stored_of id rows)
+    → option_map (λ s. s.states) (find (state_has_id id) (map state_of rows)) ≡ states_of (stored_of id rows)
 unfolding stored_of
 states_found id [] = refl
 states_found id (r ∷ rows) = go (is_eq (text_cmp id r.id)) (states_found id rows) where
-  go : (b : Bool) → option_map (λ s. s.states) (find (has_id id) (map state_of rows))
+  go : (b : Bool) → option_map (λ s. s.states) (find (state_has_id id) (map state_of rows))
       ≡ option_map states_in (find (world.has_id id) rows)
       → option_map (λ (s : PlanState). s.states)
-      (cond b (Some (state_of r)) (find (has_id id) (map state_of rows)))
+      (cond b (Some (state_of r)) (find (state_has_id id) (map state_of rows)))
       ≡ option_map states_in (cond b (Some r) (find (world.has_id id) rows))
   go true ih = refl
   go false ih = ih
 
 pub spans_found : (id : List ℕ) (rows : List PlanRow)
-    → spans_beside id (map state_of rows) ≡ world.spans_beside id rows
+    → kept_spans_beside id (map state_of rows) ≡ world.spans_beside id rows
 unfolding world.spans_beside
 spans_found id [] = refl
 spans_found id (r ∷ rows) =
-    sum_by-cons (spans_unless id) (state_of r) (map state_of rows)
-    ∙ ap (λ n. spans_unless id (state_of r) + n) (spans_found id rows)
+    sum_by-cons (kept_spans_unless id) (state_of r) (map state_of rows)
+    ∙ ap (λ n. kept_spans_unless id (state_of r) + n) (spans_found id rows)

@@ -7,9 +7,9 @@ use Rattle.desk_store.specs.World.{own, text_cmp}
 use Rattle.desk_store.specs.laws.Order.{is_equal}
 use Rattle.desk_run.specs.DeskWorld.{DeskWorld, Side, side, held_in}
 use Rattle.desk_run.specs.Verdicts.{Told, verdict, side_left, told_to, step}
-use Rattle.desk_run.specs.Runs.{told_in, world_left}
+use Rattle.desk_run.specs.Runs.{told_in, world_after_calls}
 use Rattle.desk_run.specs.Sides.{OwnAlike, HoldAlike, beside, along}
-use Rattle.desk_run.specs.TwoRuns.{TimedCall, caller, left, calls_of, met_by, IsSameFor}
+use Rattle.desk_run.specs.CallRuns.{TimedCall, caller, world_after_call, calls_of, met_by_calls, AreCallsSameFor}
 use Rattle.desk_run.specs.laws.Step.{own_stays, others_stay}
 use Rattle.desk_run.specs.laws.Side.{everywhere, Levels, IsSeenBy, IsKeptBy, after_all, same_found, same_last}
 
@@ -32,12 +32,12 @@ seen o w call e =
     ap (λ name. (verdict w.terms (own w.content name) (held_in w name) call.0 call.1.call).told)
     (sym (same_name o call.1.operator e))
 
-pub kept : (o : List ℕ) → IsKeptBy caller o left keep
+pub kept : (o : List ℕ) → IsKeptBy caller o world_after_call keep
 kept o = record {
   mine = mine;
   others = λ w call e. others_stay w call.1.operator o call.0 call.1.call e;
 } where
-  mine : IsSeenBy caller o (λ w call. side (left w call) o) keep
+  mine : IsSeenBy caller o (λ w call. side (world_after_call w call) o) keep
   mine w call e =
       subst (λ name. side (step w name call.0 call.1.call) o ≡ keep (side w o) (held_in w o) call)
       (same_name o call.1.operator e) (own_stays w o call.0 call.1.call)
@@ -49,25 +49,30 @@ unfolding told_to
 told_alike v w call own_same held_same = λ i.
     tell (own_same i) (everywhere call.1.operator v w held_same i) call
 
-told_along : (w : DeskWorld) (calls : List TimedCall) → told_in w calls ≡ along left told_at w calls
+told_along : (w : DeskWorld) (calls : List TimedCall) → told_in w calls
+    ≡ along world_after_call told_at w calls
 told_along w [] = refl
-told_along w (call ∷ calls) = ap (λ ts. told_at w call ∷ ts) (told_along (left w call) calls)
+told_along w (call ∷ calls) = ap (λ ts. told_at w call ∷ ts) (told_along (world_after_call w call) calls)
 
-left_all : (w : DeskWorld) (calls : List TimedCall) → world_left w calls ≡ after_all left w calls
+left_all : (w : DeskWorld) (calls : List TimedCall) → world_after_calls w calls
+    ≡ after_all world_after_call w calls
 left_all w [] = refl
-left_all w (call ∷ calls) = left_all (left w call) calls
+left_all w (call ∷ calls) = left_all (world_after_call w call) calls
 
 pub same_for : (o : List ℕ) (v w : DeskWorld) (calls others : List TimedCall) → OwnAlike o v w
-    → calls_of o calls ≡ calls_of o others → AllZip (HoldAlike o) (met_by o v calls) (met_by o w others)
-    → IsSameFor o v calls w others
+    → calls_of o calls ≡ calls_of o others
+    → AllZip (HoldAlike o) (met_by_calls o v calls) (met_by_calls o w others)
+    → AreCallsSameFor o v calls w others
 same_for o v w calls others own_same asked held = record {
   told =
       ap (beside caller o calls) (told_along v calls)
-      ∙ same_found caller o left keep (kept o) told_at tell (seen o) v w calls others own_same asked held
+      ∙ same_found caller o world_after_call keep (kept o) told_at tell (seen o) v w calls others own_same
+      asked held
       ∙ sym (ap (beside caller o others) (told_along w others));
-  owned = same_found caller o left keep (kept o) _ keep (kept o).mine v w calls others own_same asked held;
+  owned = same_found caller o world_after_call keep (kept o) _ keep (kept o).mine v w calls others own_same
+      asked held;
   at_end =
       ap (λ u. side u o) (left_all v calls)
-      ∙ same_last caller o left keep (kept o) v w calls others own_same asked held
+      ∙ same_last caller o world_after_call keep (kept o) v w calls others own_same asked held
       ∙ sym (ap (λ u. side u o) (left_all w others));
 }

@@ -7,7 +7,7 @@ ghost use Rattle.volume4d.specs.Bounds.{AreFilled};
 ghost use Rattle.volume4d.specs.Sweep.{Ascend};
 ghost use Rattle.desk_rules.specs.Permission.{least_blocking};
 ghost use Rattle.desk_run.specs.Verdicts.{conflict_in};
-ghost use Rattle.desk_run.specs.Clusters.{IsFirstAmong};
+ghost use Rattle.desk_run.specs.ConflictParts.{IsFirstAmong};
 
 use super::pieces::first_in;
 use desk_rules::laws::conflict_among_slabs;

@@ -10,7 +10,7 @@ ghost use Rattle.volume4d.specs.Slab.{top_held};
 ghost use Rattle.volume4d.specs.Sweep.{Ascend};
 ghost use Rattle.desk_rules.specs.Conflict.{at_least};
 ghost use Rattle.desk_rules.specs.Plan.{row_holds};
-ghost use Rattle.desk_run.specs.Listing.{AddLevelAt, HaveAll, HaveLevelAt, own_top, some_hold};
+ghost use Rattle.desk_run.specs.HeldAmong.{AddLevelAt, HaveAll, HaveLevelAt, own_top, some_hold};
 ghost use Rattle.desk_run.specs.Verdicts.{conflict_shown, shown_plan};
 
 use super::conflict::least_of;

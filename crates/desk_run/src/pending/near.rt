@@ -7,7 +7,7 @@ ghost use Rattle.volume4d.specs.Point.{Point};
 ghost use Rattle.volume4d.specs.Slab.{slab_has, slabs_have, top_held};
 ghost use Rattle.volume4d.specs.Sweep.{Ascend};
 ghost use Rattle.desk_rules.specs.Conflict.{at_least};
-ghost use Rattle.desk_run.specs.Listing.{AddLevelAt, AreAfter, AreLeft};
+ghost use Rattle.desk_run.specs.HeldAmong.{AddLevelAt, AreAfter, AreLeft};
 
 use desk_store::overlap;
 use std::alloc::AllocError;

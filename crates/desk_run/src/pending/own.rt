@@ -9,7 +9,7 @@ ghost use Rattle.desk_rules.specs.Conflict.{at_least, conflict};
 ghost use Rattle.desk_rules.specs.Permission.{least_blocking};
 ghost use Rattle.desk_rules.specs.Plan.{is_live, row_holds};
 ghost use Rattle.desk_store.specs.World.{has_id};
-ghost use Rattle.desk_run.specs.Listing.{AddLevelAt, HaveAll, HaveLevelAt, Keep, own_level};
+ghost use Rattle.desk_run.specs.HeldAmong.{AddLevelAt, HaveAll, HaveLevelAt, Keep, own_level};
 
 use super::conflict::wide_gap;
 use super::near::{push_helds, push_slabs};
@@ -31,7 +31,7 @@ pub struct OwnPlan {
 
 impl Model for OwnPlan {
     ghost use Rattle.desk_rules.specs.declared.plan.PlanRow.{PlanRow};
-    ghost use Rattle.desk_run.specs.Listing.{AreSlabsHeld};
+    ghost use Rattle.desk_run.specs.HeldAmong.{AreSlabsHeld};
 
     ghost Value = { PlanRow };
 

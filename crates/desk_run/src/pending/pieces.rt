@@ -4,8 +4,8 @@ ghost use Rattle.std.specs.Prelude.{◌+◌, ◌<◌, ◌*◌, ◌^◌, IfOk, If
 ghost use Rattle.desk_store.specs.StoreFrames.{OnlyReads};
 ghost use Rattle.desk_store.specs.StoreFaults.{IsHonest, IsCounted};
 ghost use Rattle.volume4d.specs.Bounds.{AreFilled};
-ghost use Rattle.desk_run.specs.Clusters.{IsFirstAmong};
-ghost use Rattle.desk_run.specs.Pieces.{AreCut, HasPart, IsCut, IsFirstAt, IsPiece};
+ghost use Rattle.desk_run.specs.ConflictParts.{IsFirstAmong};
+ghost use Rattle.desk_run.specs.Pieces.{AreCut, HasPart, IsCutTo, IsFirstAt, IsPiece};
 
 use super::conflict::least_of;
 use desk_rules::conflict::first_conflict;
@@ -112,7 +112,7 @@ fn cut_all(helds: &mut [Held], piece: &Slab)
 
 // A slab with those of its leaves that a piece has, which may be none.
 fn cut(slab: &Slab, piece: &Slab) -> Slab
-    ensures { IsCut slab.now piece.now result }
+    ensures { IsCutTo slab.now piece.now result }
 {
     Slab {
         first: slab.first.max(piece.first),

@@ -15,7 +15,7 @@ use Rattle.sqlite_schema.specs.declared.schema.Keys.TheVariants.{Enforced}
 use Rattle.desk_sql.specs.Schema.{desk_schema, old_volume_table, old_span_table}
 use Rattle.desk_sql.specs.Rows.{IsDesk, AreNumbered, columns, cover_columns, tables_of, RemovesOldVolumes, RemovesOldSpans}
 use Rattle.desk_sql.specs.Statements.{Changes}
-use Rattle.desk_sql.specs.Putting.{TakesRoom, Takes}
+use Rattle.desk_sql.specs.Putting.{TakesRoom, TextTakes}
 use Rattle.desk_sql.proofs.old_tables.Texts.{empty_old_volumes_text, empty_old_spans_text, empty_query, empty_old_volumes_is, empty_old_spans_is}
 use Rattle.desk_sql.proofs.NumberLemmas.{unequal, removed}
 use Rattle.desk_sql.proofs.WriteLemmas.{May, did, changes_by, rows_written, task_at}
@@ -151,7 +151,7 @@ pub empty_old_spans_changes : Changes empty_old_spans_text [] RemovesOldSpans
 empty_old_spans_changes = changes_by empty_old_spans_text [] _ _ empty_old_spans_is tt
     (λ limit old new desk h. empty_old_spans limit old new desk h)
 
-pub empty_old_volumes_room : Takes empty_old_volumes_text [] (TakesRoom 0 0 0)
+pub empty_old_volumes_room : TextTakes empty_old_volumes_text [] (TakesRoom 0 0 0)
 empty_old_volumes_room = record {
   room = λ limit old new desk h.
       let a = (volumes_left limit old new desk h).1.others in
@@ -162,7 +162,7 @@ empty_old_volumes_room = record {
       };
 }
 
-pub empty_old_spans_room : Takes empty_old_spans_text [] (TakesRoom 0 0 0)
+pub empty_old_spans_room : TextTakes empty_old_spans_text [] (TakesRoom 0 0 0)
 empty_old_spans_room = record {
   room = λ limit old new desk h.
       let a = (spans_left limit old new desk h).1.others in

@@ -5,10 +5,10 @@ ghost use Rattle.std.specs.String.{string_bytes};
 ghost use Rattle.sqlite.specs.Effect.{IsDatabase};
 ghost use Rattle.sqlite.specs.State.{HasCleanDisk};
 ghost use Rattle.sqlite.specs.Held.{state};
-ghost use Rattle.desk_sql.specs.Batches.{volume_of, cover_of, span_of, AddsVolumes, AddsSpans, RemovesPlans, IsUnderWay};
+ghost use Rattle.desk_sql.specs.Batches.{volume_row_in, cover_of, span_row_in, AddsVolumes, AddsSpans, RemovesPlans, IsUnderWay};
 ghost use Rattle.desk_sql.specs.Effects.{IsReady, Makes};
 ghost use Rattle.desk_sql.specs.Frames.{Remembers};
-ghost use Rattle.desk_sql.specs.Calls.{IsChanged, IsRefused, IsUndone};
+ghost use Rattle.desk_sql.specs.QueryEnds.{HasRefusal, IsChanged, IsUndone};
 ghost use Rattle.desk_sql.specs.Finding.{Holds};
 ghost use Rattle.desk_sql.specs.Rows.{RemovesPlan};
 ghost use Rattle.desk_sql.specs.Putting.{AreNewSpans, AreNewVolumes, TakesRoom};
@@ -26,8 +26,8 @@ pub fn insert_volumes<S: Alter>(
     requires under_way { IsUnderWay S.Store tx.old.conn.now }
     ensures same_reference { tx.new.conn.ghost_name ≡ tx.old.conn.ghost_name }
     ensures changed { IsChanged S.Store tx.old.conn.now tx.new.conn.now result
-        (AddsVolumes (map volume_of rows.now) (map cover_of rows.now))
-        (AreNewVolumes (map volume_of rows.now) (map cover_of rows.now))
+        (AddsVolumes (map volume_row_in rows.now) (map cover_of rows.now))
+        (AreNewVolumes (map volume_row_in rows.now) (map cover_of rows.now))
         (TakesRoom 0 (length rows.now) 0) }
 {
     'rows: for row in rows {
@@ -44,7 +44,7 @@ pub fn insert_spans<S: Alter>(
     requires under_way { IsUnderWay S.Store tx.old.conn.now }
     ensures same_reference { tx.new.conn.ghost_name ≡ tx.old.conn.ghost_name }
     ensures changed { IsChanged S.Store tx.old.conn.now tx.new.conn.now result
-        (AddsSpans (map span_of rows.now)) (AreNewSpans (map span_of rows.now))
+        (AddsSpans (map span_row_in rows.now)) (AreNewSpans (map span_row_in rows.now))
         (TakesRoom 0 0 (length rows.now)) }
 {
     'rows: for row in rows {
@@ -67,7 +67,7 @@ pub fn remove_plans<S: Alter>(
         → OnOk result (Makes S.Store tx.old.conn.now tx.new.conn.now
         (RemovesPlans operator.now (map string_bytes ids.now))) }
     ensures undone { IsUndone S.Store tx.old.conn.now tx.new.conn.now result }
-    ensures cause { IsRefused S.Store tx.old.conn.now tx.new.conn.now result }
+    ensures cause { HasRefusal S.Store tx.old.conn.now tx.new.conn.now result }
     ensures remembered { Remembers S.Store tx.old.conn.now tx.new.conn.now }
 {
     // Refused on a connection that is shut, also if there are no ids.

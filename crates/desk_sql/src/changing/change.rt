@@ -1,6 +1,6 @@
 //! The statements that change rows.
 
-ghost use Rattle.desk_sql.specs.Changes.{IsTextOf};
+ghost use Rattle.desk_sql.specs.RowChanges.{IsTextOf};
 
 use crate::changing::writing::{PlanRecord, SpanRecord, VolumeRecord};
 

@@ -3,8 +3,8 @@
 ghost use Rattle.std.specs.Prelude.{◌≡◌};
 ghost use Rattle.sqlite.specs.Values.{bound};
 ghost use Rattle.desk_sql.specs.Effects.{IsReady};
-ghost use Rattle.desk_sql.specs.Calls.{IsChanged};
-ghost use Rattle.desk_sql.specs.Changes.{given_to, changes, fits, takes};
+ghost use Rattle.desk_sql.specs.QueryEnds.{IsChanged};
+ghost use Rattle.desk_sql.specs.RowChanges.{given_to, changes, fits, takes};
 
 use crate::changing::change::Change;
 use crate::changing::run::run;

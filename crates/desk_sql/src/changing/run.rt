@@ -4,7 +4,7 @@ ghost use Rattle.std.specs.Prelude.{◌≡◌, true, IfOk, IfErr, IsTrue, Ok, Er
 ghost use Rattle.sqlite.specs.Values.{bound};
 ghost use Rattle.sqlite.specs.State.{HasCleanDisk, Executes, ExecutesInside, Shows};
 ghost use Rattle.sqlite.specs.Held.{state};
-ghost use Rattle.desk_sql.specs.Calls.{IsUndone};
+ghost use Rattle.desk_sql.specs.QueryEnds.{IsUndone};
 ghost use Rattle.desk_sql.specs.Frames.{Remembers};
 
 use sqlite::{Alter, Error, Transaction};

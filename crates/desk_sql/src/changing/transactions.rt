@@ -1,15 +1,15 @@
 //! Whole changes of the tables, each one transaction.
 
 ghost use Rattle.std.specs.Prelude.{◌≡◌, ⊤, false, map};
-ghost use Rattle.desk_sql.specs.Rows.{PutsOperator, ClosesPlan, is_by, tables_of};
+ghost use Rattle.desk_sql.specs.Rows.{PutsOperator, ClosesPlan, is_row_by, tables_of};
 ghost use Rattle.std.specs.List.{list_any};
 ghost use Rattle.std.specs.String.{string_bytes};
-ghost use Rattle.desk_sql.specs.Batches.{PutsPlan, RemovesPlans, volume_of, cover_of, span_of};
-ghost use Rattle.desk_sql.specs.Changing.{AreLow, HasRoom, IsShort};
+ghost use Rattle.desk_sql.specs.Batches.{PutsPlan, RemovesPlans, volume_row_in, cover_of, span_row_in};
+ghost use Rattle.desk_sql.specs.Changing.{AreLow, HasRowids, IsShort};
 ghost use Rattle.desk_sql.specs.Putting.{IsPuttable};
-ghost use Rattle.desk_sql.specs.Changes.{row_of};
+ghost use Rattle.desk_sql.specs.RowChanges.{plan_row_in};
 ghost use Rattle.desk_sql.specs.Effects.{IsReady};
-ghost use Rattle.desk_sql.specs.Calls.{Answers, IsCommitted};
+ghost use Rattle.desk_sql.specs.QueryEnds.{Answers, IsCommitted};
 
 use crate::changing::batch::{insert_spans, insert_volumes, remove_plans};
 use crate::changing::change::Change;
@@ -49,10 +49,10 @@ pub fn put_plan<S: Alter>(
     requires ready { IsReady S.Store connection.old }
     requires settled { connection.old.in_transaction ≡ false }
     ensures committed { IsCommitted S.Store connection.old connection.new result
-        (PutsPlan plan.entry.operator.now plan.entry.id.now (row_of plan.entry)
-        (map volume_of volumes.now) (map cover_of volumes.now) (map span_of spans.now))
-        (IsPuttable plan.entry.operator.now plan.entry.id.now (row_of plan.entry)
-        (map volume_of volumes.now) (map cover_of volumes.now) (map span_of spans.now)) }
+        (PutsPlan plan.entry.operator.now plan.entry.id.now (plan_row_in plan.entry)
+        (map volume_row_in volumes.now) (map cover_of volumes.now) (map span_row_in spans.now))
+        (IsPuttable plan.entry.operator.now plan.entry.id.now (plan_row_in plan.entry)
+        (map volume_row_in volumes.now) (map cover_of volumes.now) (map span_row_in spans.now)) }
 {
     settled_and_sound(connection);
     let mut tx = connection.transaction();
@@ -76,7 +76,7 @@ pub fn is_enrolled<S: Alter>(connection: &mut Connection<S>, name: &str) -> Resu
     requires ready { IsReady S.Store connection.old }
     requires settled { connection.old.in_transaction ≡ false }
     ensures answers { Answers S.Store connection.old connection.new result
-        (λ db found. found ≡ list_any (is_by name.now) (tables_of db).operators) }
+        (λ db found. found ≡ list_any (is_row_by name.now) (tables_of db).operators) }
 {
     let rows = answer(connection, Query::OperatorNamed { name }, params![name])?;
     Ok(!rows.is_empty())
@@ -91,7 +91,7 @@ pub fn put_operator<S: Alter>(
     requires ready { IsReady S.Store connection.old }
     requires settled { connection.old.in_transaction ≡ false }
     ensures committed { IsCommitted S.Store connection.old connection.new result
-        (PutsOperator name.now ceiling) (λ db. IsShort name.now × HasRoom 1 (db.trees 0)) }
+        (PutsOperator name.now ceiling) (λ db. IsShort name.now × HasRowids 1 (db.trees 0)) }
 {
     let is_there = is_enrolled(connection, name)?;
     settled_and_sound(connection);

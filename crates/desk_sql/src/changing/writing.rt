@@ -3,7 +3,7 @@
 ghost use Rattle.std.specs.Prelude.{◌≡◌, ⊤};
 ghost use Rattle.desk_sql.specs.Rows.{operator_row, plan_row, AddsOperator, AddsPlan};
 ghost use Rattle.desk_sql.specs.Effects.{IsReady};
-ghost use Rattle.desk_sql.specs.Calls.{IsChanged};
+ghost use Rattle.desk_sql.specs.QueryEnds.{IsChanged};
 ghost use Rattle.desk_sql.specs.Changing.{FitsOperator, FitsPlan};
 ghost use Rattle.desk_sql.specs.Putting.{TakesOperators, TakesRoom};
 

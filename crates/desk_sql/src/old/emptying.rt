@@ -2,7 +2,7 @@
 
 ghost use Rattle.std.specs.Prelude.{◌≡◌, ⊤};
 ghost use Rattle.desk_sql.specs.Rows.{RemovesOldVolumes, RemovesOldSpans};
-ghost use Rattle.desk_sql.specs.Calls.{IsChanged};
+ghost use Rattle.desk_sql.specs.QueryEnds.{IsChanged};
 ghost use Rattle.desk_sql.specs.Effects.{IsReady};
 ghost use Rattle.desk_sql.specs.Putting.{TakesRoom};
 

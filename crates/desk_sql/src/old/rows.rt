@@ -4,7 +4,7 @@ ghost use Rattle.std.specs.Prelude.{◌≡◌, ◌&&◌, true, false};
 ghost use Rattle.desk_sql.specs.Schema.{HasTable, has_table, tree_of};
 ghost use Rattle.desk_sql.specs.Rows.{IsMadeTo, has_old_rows, has_rows, tables_at};
 ghost use Rattle.desk_sql.specs.Finding.{Holds};
-ghost use Rattle.desk_sql.specs.Calls.{WasOpen, Answers};
+ghost use Rattle.desk_sql.specs.QueryEnds.{WasOpen, Answers};
 
 use crate::opening::finding::TablesPresent;
 use crate::opening::numbers::{DeskTable, rowids_text};

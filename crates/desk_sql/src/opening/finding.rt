@@ -5,7 +5,7 @@ ghost use Rattle.sqlite.specs.State.{HasCleanDisk};
 ghost use Rattle.sqlite.specs.Held.{state};
 ghost use Rattle.desk_sql.specs.Schema.{has_table, is_packed};
 ghost use Rattle.desk_sql.specs.Frames.{OnlyReads};
-ghost use Rattle.desk_sql.specs.Refusals.{IsUnread};
+ghost use Rattle.desk_sql.specs.Refusals.{AreRowsUnread};
 ghost use Rattle.desk_sql.specs.Finding.{Holds, HasOthers};
 ghost use Rattle.desk_sql.specs.Rows.{IsMadeTo};
 
@@ -85,7 +85,7 @@ pub fn find_tables<S: Alter>(connection: &mut Connection<S>) -> Result<Option<Ta
         (λ made. Holds S.Store connection.new (IsMadeTo made))) }
     ensures cause { HasCleanDisk (state S.Store connection.new)
         → IsTrue (state S.Store connection.new).is_open
-        → IfErr result (IsUnread S.Store connection.old connection.new) }
+        → IfErr result (AreRowsUnread S.Store connection.old connection.new) }
     ensures reads { OnlyReads S.Store connection.old connection.new }
 {
     let Some(made) = tables_present(connection.schema()) else {

@@ -7,8 +7,8 @@ ghost use Rattle.sqlite.specs.Held.{state};
 ghost use Rattle.desk_sql.specs.Making.{left_to_make, Finishes, Completes, MayComplete, HasSmallSpans, IsStep};
 ghost use Rattle.desk_sql.specs.Rows.{IsMadeTo, tables_at};
 ghost use Rattle.desk_sql.specs.Finding.{Holds};
-ghost use Rattle.desk_sql.specs.Effects.{IsKept};
-ghost use Rattle.desk_sql.specs.Calls.{IsRunWithin};
+ghost use Rattle.desk_sql.specs.Effects.{StaysShown};
+ghost use Rattle.desk_sql.specs.QueryEnds.{IsRunWithin};
 ghost use Rattle.desk_sql.specs.Frames.{IsOver};
 ghost use Rattle.desk_sql.specs.Refusals.{IsRefusal};
 
@@ -134,7 +134,7 @@ pub fn complete_tables<S: Alter>(
     requires settled { connection.old.in_transaction ≡ false }
     ensures done { HasCleanDisk (state S.Store connection.new)
         → OnOk result (Completes S.Store made connection.old connection.new) }
-    ensures kept { OnErr result (IsKept S.Store connection.old connection.new) }
+    ensures kept { OnErr result (StaysShown S.Store connection.old connection.new) }
     ensures cause { HasSmallSpans (tables_at made (state S.Store connection.old).now.trees)
         → HasCleanDisk (state S.Store connection.new) → IsTrue (state S.Store connection.new).is_open
         → IfErr result (IsRefusal S.Store connection.old connection.new) }

@@ -7,7 +7,7 @@ ghost use Rattle.sqlite.specs.State.{HasCleanDisk};
 ghost use Rattle.sqlite.specs.Held.{state};
 ghost use Rattle.desk_sql.specs.Schema.{HasTable, schema_of, has_table, is_old, tree_of};
 ghost use Rattle.desk_sql.specs.Rows.{AreNumbered, IsMadeTo};
-ghost use Rattle.desk_sql.specs.Refusals.{IsUnnumbered, IsUnread, but_memory};
+ghost use Rattle.desk_sql.specs.Refusals.{AreRowsUnread, IsUnnumbered, but_memory};
 ghost use Rattle.desk_sql.specs.Statements.{SelectsAll, rowids};
 ghost use Rattle.desk_sql.specs.Finding.{Holds, next_above, rises};
 ghost use Rattle.desk_sql.specs.Frames.{OnlyReads};
@@ -176,7 +176,7 @@ fn test_made<S: Alter>(
         (λ db. AreNumbered (db.trees (tree_of table)))) }
     ensures cause { HasCleanDisk (state S.Store connection.new)
         → IsTrue (state S.Store connection.new).is_open
-        → IfErr result (IsUnread S.Store connection.old connection.new) }
+        → IfErr result (AreRowsUnread S.Store connection.old connection.new) }
     ensures reads { OnlyReads S.Store connection.old connection.new }
 {
     if made.has(table) {
@@ -200,7 +200,7 @@ pub(crate) fn test_tables<S: Alter>(
     ensures legible { OnOk result (Holds S.Store connection.new (IsMadeTo made)) }
     ensures cause { HasCleanDisk (state S.Store connection.new)
         → IsTrue (state S.Store connection.new).is_open
-        → IfErr result (IsUnread S.Store connection.old connection.new) }
+        → IfErr result (AreRowsUnread S.Store connection.old connection.new) }
     ensures reads { OnlyReads S.Store connection.old connection.new }
 {
     test_made(connection, made, DeskTable::Operator)?;

@@ -6,7 +6,7 @@ ghost use Rattle.sqlite.specs.Held.{state};
 ghost use Rattle.desk_sql.specs.Schema.{packed_schema, old_table_schema};
 ghost use Rattle.desk_sql.specs.Rows.{IsMadeTo, tables_at};
 ghost use Rattle.desk_sql.specs.Finding.{Holds};
-ghost use Rattle.desk_sql.specs.Calls.{IsRunWithin};
+ghost use Rattle.desk_sql.specs.QueryEnds.{IsRunWithin};
 ghost use Rattle.desk_sql.specs.Effects.{Makes};
 ghost use Rattle.desk_sql.specs.Making.{HasSmallSpans};
 ghost use Rattle.desk_sql.specs.Unpacking.{loose_schema, spanless_schema, Drops, Unpacks, RemakesTables};

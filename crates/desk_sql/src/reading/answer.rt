@@ -4,7 +4,7 @@ ghost use Rattle.std.specs.Prelude.{◌≡◌, false};
 ghost use Rattle.sqlite.specs.Values.{bound};
 ghost use Rattle.desk_sql.specs.Rows.{tables_of, Lists};
 ghost use Rattle.desk_sql.specs.Effects.{IsReady};
-ghost use Rattle.desk_sql.specs.Calls.{WasOpen, Answers};
+ghost use Rattle.desk_sql.specs.QueryEnds.{WasOpen, Answers};
 ghost use Rattle.desk_sql.specs.Queries.{params_of, order_of, rows_of};
 
 use crate::laws::settled_and_sound;

@@ -6,7 +6,7 @@ ghost use Rattle.sqlite.specs.Held.{state};
 ghost use Rattle.desk_sql.specs.Effects.{StaysOpen};
 ghost use Rattle.desk_sql.specs.Finding.{Holds};
 ghost use Rattle.desk_sql.specs.Refusals.{IsSure};
-ghost use Rattle.desk_sql.specs.Calls.{WasOpen, Answers};
+ghost use Rattle.desk_sql.specs.QueryEnds.{WasOpen, Answers};
 
 use crate::laws::settled_and_sound;
 use sqlite::{Alter, Connection, Error, Row};

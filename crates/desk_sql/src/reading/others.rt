@@ -3,7 +3,7 @@
 ghost use Rattle.std.specs.Prelude.{◌≡◌, [], false, filter, map, IsPermutation};
 ghost use Rattle.desk_sql.specs.Rows.{held_columns, tables_of};
 ghost use Rattle.desk_sql.specs.Effects.{IsReady};
-ghost use Rattle.desk_sql.specs.Calls.{WasOpen, HandsOut};
+ghost use Rattle.desk_sql.specs.QueryEnds.{WasOpen, HandsOut};
 ghost use Rattle.desk_sql.specs.Others.{is_others_from};
 
 use crate::reading::query::Query;

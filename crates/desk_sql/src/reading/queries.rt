@@ -1,9 +1,9 @@
 //! The queries of a running desk.
 
 ghost use Rattle.std.specs.Prelude.{◌≡◌, [], ◌∷◌, false, filter};
-ghost use Rattle.desk_sql.specs.Rows.{is_by, is_of, tables_of, with_volumes, Lists};
+ghost use Rattle.desk_sql.specs.Rows.{is_row_by, is_of, tables_of, with_volumes, Lists};
 ghost use Rattle.desk_sql.specs.Effects.{IsReady};
-ghost use Rattle.desk_sql.specs.Calls.{WasOpen, Answers, HandsOut};
+ghost use Rattle.desk_sql.specs.QueryEnds.{WasOpen, Answers, HandsOut};
 
 use crate::reading::answer::answer;
 use crate::reading::query::Query;
@@ -65,7 +65,7 @@ pub fn own_plans<S: Alter, T: RowSink>(
     requires settled { connection.old.in_transaction ≡ false }
     requires fresh { T.has_taken taker.old [] }
     ensures answers { HandsOut S.Store connection.old connection.new result
-        (λ db. Lists (1 ∷ 5 ∷ []) (with_volumes (is_by operator.now) (tables_of db)))
+        (λ db. Lists (1 ∷ 5 ∷ []) (with_volumes (is_row_by operator.now) (tables_of db)))
         (T.has_taken taker.new) T.refuses }
     ensures open { WasOpen S.Store connection.old connection.new result }
 {

@@ -7,10 +7,10 @@ ghost use Rattle.sqlite.specs.State.{HasCleanDisk, IsUnchanged, Shown};
 ghost use Rattle.sqlite.specs.Held.{state};
 ghost use Rattle.desk_sql.specs.Rows.{tables_of, Lists};
 ghost use Rattle.desk_sql.specs.Effects.{IsReady, IsOpenIfClean};
-ghost use Rattle.desk_sql.specs.Calls.{WasOpen, HandsOut};
+ghost use Rattle.desk_sql.specs.QueryEnds.{WasOpen, HandsOut};
 ghost use Rattle.desk_sql.specs.Queries.{params_of, order_of, rows_of};
 ghost use Rattle.desk_sql.specs.Finding.{Holds};
-ghost use Rattle.desk_sql.specs.Keeping.{KeepsOn};
+ghost use Rattle.desk_sql.specs.Takers.{KeepsOn};
 ghost use Rattle.desk_sql.specs.Refusals.{IsSureGiven};
 ghost use Rattle.desk_sql.specs.Taking.{FailsNext, FailsToHandAll, HandsOver, HandsAll, IsHanded, TakesOn};
 
@@ -25,7 +25,7 @@ pub trait RowSink {
     ghost use Rattle.std.specs.Prelude.{IfErr};
     ghost use Rattle.sqlite.specs.Order.{Row};
     ghost use Rattle.sqlite.specs.declared.error.Error.{Error};
-    ghost use Rattle.desk_sql.specs.Keeping.{KeepsOn};
+    ghost use Rattle.desk_sql.specs.Takers.{KeepsOn};
 
     /// Whether these rows were taken, in this order.
     ghost has_taken: { Self → List Row → Type 0 };

@@ -9,7 +9,7 @@ ghost use Rattle.desk_sql.specs.Effects.{StaysOpen};
 ghost use Rattle.desk_sql.specs.Finding.{Holds};
 ghost use Rattle.desk_sql.specs.Statements.{SelectsAll};
 ghost use Rattle.desk_sql.specs.Queries.{table_in};
-ghost use Rattle.desk_sql.specs.Calls.{WasOpen, Answers};
+ghost use Rattle.desk_sql.specs.QueryEnds.{WasOpen, Answers};
 ghost use Rattle.desk_sql.specs.Volumes.{ArePartsOf, ListVolumes, cover_part, volume_part};
 
 use crate::opening::finding::TablesPresent;

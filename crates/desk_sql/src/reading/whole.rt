@@ -8,8 +8,8 @@ ghost use Rattle.desk_sql.specs.Effects.{StaysOpen};
 ghost use Rattle.desk_sql.specs.Finding.{Holds};
 ghost use Rattle.desk_sql.specs.Statements.{SelectsAll};
 ghost use Rattle.desk_sql.specs.Queries.{table_read, table_in, key_cells, rows_read};
-ghost use Rattle.desk_sql.specs.Keeping.{KeepsOn};
-ghost use Rattle.desk_sql.specs.Calls.{WasOpen, Answers, HandsOut};
+ghost use Rattle.desk_sql.specs.Takers.{KeepsOn};
+ghost use Rattle.desk_sql.specs.QueryEnds.{WasOpen, Answers, HandsOut};
 
 use crate::opening::finding::TablesPresent;
 use crate::opening::numbers::DeskTable;

@@ -11,7 +11,7 @@ use Rattle.desk_rules.specs.laws.Plan.{top_priority-cons, top_priority-nil}
 use Rattle.desk_rules.specs.Conflict.{at_least}
 use Rattle.desk_rules.specs.Plan.{row_holds, top_priority}
 use Rattle.desk_store.specs.World.{Filed, World, rows_by, is_by, has_id, others_of, held, held_at}
-use Rattle.desk_store.specs.Rows.{is_own, rival_level, rivals_top, other_level, others_top}
+use Rattle.desk_store.specs.OwnRows.{is_own, rival_level, rivals_top, other_level, others_top}
 
 -- ---- levels
 

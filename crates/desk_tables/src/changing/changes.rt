@@ -9,13 +9,13 @@ ghost use Rattle.desk_rules.specs.Limits.{max_priority};
 ghost use Rattle.desk_store.specs.Changes.{filed_by};
 ghost use Rattle.desk_store.specs.StoreChange.{IsFitting};
 ghost use Rattle.desk_store.specs.declared.change.Change.TheVariants as change;
-ghost use Rattle.desk_sql.specs.Changing.{AreLow, HasRoom};
+ghost use Rattle.desk_sql.specs.Changing.{AreLow, HasRowids};
 ghost use Rattle.desk_rules.specs.declared.plan.PlanRow.{PlanRow as Plan};
-ghost use Rattle.desk_tables.specs.Reading.{IsHead};
+ghost use Rattle.desk_tables.specs.RowsRead.{IsHead};
 ghost use Rattle.desk_tables.specs.Causes.{BlamesChange, BlamesStore, HasRoomForPlan};
 ghost use Rattle.desk_tables.specs.Store.{Stands};
 ghost use Rattle.desk_tables.specs.SpanBounds.{IsKnownPlan, BringsKnown, Keeps};
-ghost use Rattle.desk_tables.specs.Changing.{IsMade};
+ghost use Rattle.desk_tables.specs.ChangesMade.{IsMade};
 
 use crate::canon::canons_of;
 use crate::changing::records::{
@@ -88,7 +88,7 @@ pub(crate) fn enrol<S: Alter>(
     requires low { HasCleanDisk (state S.Store connection.old) → ceiling ≤ max_priority }
     ensures made { IsMade S.Store connection.old connection.new result kept.now.world
         (change.Enrol operator.now ceiling) }
-    ensures cause { HasRoom 1 ((state S.Store connection.old).now.trees 0)
+    ensures cause { HasRowids 1 ((state S.Store connection.old).now.trees 0)
         → IfErr result (BlamesStore S.Store connection.old connection.new) }
 {
     match put_operator(connection, operator.as_str(), ceiling) {

@@ -5,7 +5,7 @@ ghost use Rattle.std.specs.List.{AllByRecursion};
 ghost use Rattle.std.specs.String.{string_bytes};
 ghost use Rattle.volume4d.specs.FootprintBytes.{footprint_bytes};
 ghost use Rattle.desk_sql.specs.Rows.{cover_row};
-ghost use Rattle.desk_sql.specs.Batches.{volume_of, cover_of, span_of};
+ghost use Rattle.desk_sql.specs.Batches.{volume_row_in, cover_of, span_row_in};
 ghost use Rattle.desk_store.specs.Changes.{filed_by};
 ghost use Rattle.desk_tables.specs.Tables as spec;
 ghost use Rattle.desk_tables.specs.Tables.{id_text, area_rows, area_covers, ArePlanSpanRows, AreSpanRowsFrom};
@@ -110,7 +110,7 @@ pub(crate) fn volume_rows<'a>(
     requires named { id.now ≡ id_text plan.now.id }
     requires same { AreAskedOf plan.now.area (map (λ bytes. bytes.items) asked.now) }
     requires covered { AreCanonOf plan.now.area (map (λ bytes. bytes.items) canon.now) }
-    ensures volumes { IfOk result (λ rows. map volume_of rows.items
+    ensures volumes { IfOk result (λ rows. map volume_row_in rows.items
         ≡ area_rows (filed_by operator.now plan.now)) }
     ensures covers { IfOk result (λ rows. map cover_of rows.items
         ≡ area_covers (filed_by operator.now plan.now)) }
@@ -135,7 +135,7 @@ fn volume_row<'a>(
     asked: &'a [u8],
     canon: &'a [u8],
 ) -> VolumeRecord<'a>
-    ensures volume { volume_of result
+    ensures volume { volume_row_in result
         ≡ volume_record operator.now id.now place volume.now.window asked.now }
     ensures cover { cover_of result ≡ cover_row operator.now id.now place canon.now }
 {
@@ -167,7 +167,7 @@ pub(crate) fn span_rows<'a>(
 ) -> Result<Vec<SpanRecord<'a>>, AllocError>
     requires { id.now ≡ id_text plan.now.id }
     ensures { IfOk result (λ rows. ArePlanSpanRows (filed_by operator.now plan.now)
-        (map span_of rows.items)) }
+        (map span_row_in rows.items)) }
 {
     if plan.usage.is_live() {
         area_spans(alloc, operator, id, plan)
@@ -185,7 +185,7 @@ fn area_spans<'a>(
 ) -> Result<Vec<SpanRecord<'a>>, AllocError>
     requires { id.now ≡ id_text plan.now.id }
     ensures { IfOk result (λ rows. AreSpanRowsFrom (filed_by operator.now plan.now) 0 plan.now.area
-        (map span_of rows.items)) }
+        (map span_row_in rows.items)) }
 {
     let volumes = plan.area.volumes();
     let mut rows = Vec::new(alloc);
@@ -207,7 +207,7 @@ fn slab_rows<'a>(
     priority: u32,
     slabs: &[Slab],
 ) -> Result<Vec<SpanRecord<'a>>, AllocError>
-    ensures { IfOk result (λ rows. map span_of rows.items
+    ensures { IfOk result (λ rows. map span_row_in rows.items
         ≡ map (slab_record operator.now id.now place priority) slabs.now) }
 {
     let mut rows = Vec::new(alloc);
@@ -225,7 +225,7 @@ fn slab_row<'a>(
     priority: u32,
     slab: &Slab,
 ) -> SpanRecord<'a>
-    ensures { span_of result ≡ slab_record operator.now id.now place priority slab.now }
+    ensures { span_row_in result ≡ slab_record operator.now id.now place priority slab.now }
 {
     SpanRecord {
         operator,
@@ -244,7 +244,7 @@ fn slab_row<'a>(
 /// Span bounds, with those of the spans of these rows.
 pub(crate) fn lengths_with(span_bounds: &SpanBounds, spans: &[SpanRecord<'_>]) -> SpanBounds
     ensures kept { Keeps span_bounds.now result }
-    ensures known { AllByRecursion (IsKnownRow result) (map span_of spans.now) }
+    ensures known { AllByRecursion (IsKnownRow result) (map span_row_in spans.now) }
 {
     let mut after = *span_bounds;
     for span in spans {
@@ -256,7 +256,7 @@ pub(crate) fn lengths_with(span_bounds: &SpanBounds, spans: &[SpanRecord<'_>]) -
 // Span bounds, with that of the span of a row.
 fn length_with(span_bounds: &SpanBounds, span: &SpanRecord<'_>) -> SpanBounds
     ensures kept { Keeps span_bounds.now result }
-    ensures known { IsKnownRow result (span_of span.now) }
+    ensures known { IsKnownRow result (span_row_in span.now) }
 {
     span_bounds.with(span.first, span.last)
 }

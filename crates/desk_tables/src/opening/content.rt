@@ -7,7 +7,7 @@ ghost use Rattle.sqlite_value.specs.Order.{column};
 ghost use Rattle.desk_rules.specs.Limits.{max_plans};
 ghost use Rattle.desk_store.specs.World as world;
 ghost use Rattle.desk_store.specs.World.{World, Listed, Filed, listed_cmp, filed_cmp};
-ghost use Rattle.desk_tables.specs.Tables.{id_text, plan_row};
+ghost use Rattle.desk_tables.specs.Tables.{id_text, row_of_plan};
 ghost use Rattle.desk_tables.specs.Opening as spec;
 ghost use Rattle.desk_tables.specs.Opening.{AreOperatorRows, ArePlanRows, AreShared};
 ghost use Rattle.desk_tables.specs.Opening.{is_below_first};
@@ -141,8 +141,8 @@ pub(crate) fn plans_in(
 
 // How many of the first rows have the key of a row of `plan`.
 fn own_volumes(head: &Row, rows: &[Row]) -> usize
-    ensures of { (p : Filed) → head.now ≡ plan_row p →
-        result ≡ prefix_len (spec.is_of p.operator (id_text p.row.id)) rows.now }
+    ensures of { (p : Filed) → head.now ≡ row_of_plan p →
+        result ≡ prefix_len (spec.is_row_of p.operator (id_text p.row.id)) rows.now }
     ensures within { result ≤ length rows.now }
 {
     let (Ok(ValueRef::Text(operator)), Ok(ValueRef::Text(id))) = (head.get_ref(0), head.get_ref(1))
@@ -155,7 +155,7 @@ fn own_volumes(head: &Row, rows: &[Row]) -> usize
 // How many of the first rows are of the operator's plan of the id.
 #[tactic(auto, using(crate::proofs::JoinLemmas::within))]
 fn count_of(rows: &[Row], operator: &[u8], id: &[u8]) -> usize
-    ensures value { result ≡ prefix_len (spec.is_of operator.now id.now) rows.now }
+    ensures value { result ≡ prefix_len (spec.is_row_of operator.now id.now) rows.now }
     ensures within { result ≤ length rows.now }
 {
     rows.iter()
@@ -165,7 +165,7 @@ fn count_of(rows: &[Row], operator: &[u8], id: &[u8]) -> usize
 
 // Whether a row is of the operator's plan of the id.
 fn is_of(row: &Row, operator: &[u8], id: &[u8]) -> bool
-    ensures { result ≡ spec.is_of operator.now id.now row.now }
+    ensures { result ≡ spec.is_row_of operator.now id.now row.now }
 {
     if !is_text(row, 0, operator) {
         return false;

@@ -15,9 +15,9 @@ ghost use Rattle.desk_tables.specs.Files.{IsUnread};
 ghost use Rattle.desk_tables.specs.Opening.{BlamesReading};
 ghost use Rattle.desk_tables.specs.OpeningSteps.{IsAdopted, IsMadeAnew};
 ghost use Rattle.desk_tables.specs.Known.{Knows};
-ghost use Rattle.desk_tables.specs.Tables.{operator_row, plan_row};
+ghost use Rattle.desk_tables.specs.Tables.{row_of_operator, row_of_plan};
 ghost use Rattle.desk_tables.specs.Copying.{AddsHeadRows, AddsOperatorRows, AddsWorldRows, BlamesNew, IsUnmade};
-ghost use Rattle.desk_tables.specs.Writing.{AreNewHeads, AreNewOperators, CanBeFilled, HaveFewRows};
+ghost use Rattle.desk_tables.specs.Writable.{AreNewHeads, AreNewOperators, CanBeFilled, HaveFewRows};
 
 use crate::changing::records::{aircraft_number, usage_number};
 use crate::kept::GhostWorld;
@@ -187,7 +187,7 @@ fn write_operator<S: Alter>(
     requires under_way { IsUnderWay S.Store tx.old.conn.now }
     ensures same_reference { tx.new.conn.ghost_name ≡ tx.old.conn.ghost_name }
     ensures done { HasCleanDisk (state S.Store tx.new.conn.now) → OnOk result
-        (Makes S.Store tx.old.conn.now tx.new.conn.now (AddsOperator (operator_row listed.now))) }
+        (Makes S.Store tx.old.conn.now tx.new.conn.now (AddsOperator (row_of_operator listed.now))) }
     ensures fault { IfErr result IsUnread }
     ensures cause { (later : List Listed)
         → AreNewOperators (listed.now ∷ later) (state S.Store tx.old.conn.now).now
@@ -224,7 +224,7 @@ fn write_head<S: Alter>(tx: &mut Transaction<'_, S>, plan: &FiledPlan) -> Result
     requires under_way { IsUnderWay S.Store tx.old.conn.now }
     ensures same_reference { tx.new.conn.ghost_name ≡ tx.old.conn.ghost_name }
     ensures done { HasCleanDisk (state S.Store tx.new.conn.now) → OnOk result
-        (Makes S.Store tx.old.conn.now tx.new.conn.now (AddsPlan (plan_row plan.now))) }
+        (Makes S.Store tx.old.conn.now tx.new.conn.now (AddsPlan (row_of_plan plan.now))) }
     ensures fault { IfErr result IsUnread }
     ensures cause { (later : List Filed) → AreNewHeads (plan.now ∷ later) (state S.Store tx.old.conn.now).now
         → IfErr result (BlamesReading S.Store tx.old.conn.now tx.new.conn.now) }

@@ -3,7 +3,7 @@
 ghost use Rattle.std.specs.Prelude.{◌≡◌, ◌≢◌, ◌↔◌, ◌++◌, List, IsTrue, IfOk, MatchOption};
 ghost use Rattle.sqlite_value.specs.declared.value.Value.TheVariants.{Blob};
 ghost use Rattle.sqlite_value.specs.Order.{Row as Columns, column};
-ghost use Rattle.desk_tables.specs.Tables.{id_text, cover_row, cover_rows, area_covers};
+ghost use Rattle.desk_tables.specs.Tables.{id_text, row_of_cover, cover_rows, area_covers};
 
 use crate::canon::canon_of;
 use crate::opening::exact::{FiledPlan, is_count_at, is_keyed};
@@ -74,7 +74,7 @@ fn is_cover(
     row: &Row,
 ) -> Result<bool, AllocError>
     requires id { id.now ≡ id_text plan.now.row.id }
-    ensures { IfOk result (λ is. IsTrue is ↔ (row.now ≡ cover_row plan.now place volume.now)) }
+    ensures { IfOk result (λ is. IsTrue is ↔ (row.now ≡ row_of_cover plan.now place volume.now)) }
 {
     if !is_keyed(row, plan.operator.as_str(), id, COVER_WIDTH) {
         return Ok(false);

@@ -10,8 +10,8 @@ ghost use Rattle.volume4d.specs.Slab.{slab_window};
 ghost use Rattle.volume4d.specs.Volume.{Block};
 ghost use Rattle.desk_rules.specs.Name.{is_operator_name};
 ghost use Rattle.desk_store.specs.World.{Filed, Listed};
-ghost use Rattle.desk_tables.specs.Tables.{id_text, operator_row, volume_row, area_rows};
-ghost use Rattle.desk_tables.specs.Reading.{IsVolumeAt};
+ghost use Rattle.desk_tables.specs.Tables.{id_text, row_of_operator, row_of_volume, area_rows};
+ghost use Rattle.desk_tables.specs.RowsRead.{IsVolumeAt};
 ghost use Rattle.desk_tables.specs.Records.{IsOperator, IsFiled, AreRowsOf, AreNumbersOf, IsKeyed};
 ghost use Rattle.desk_tables.specs.Records.{IsWindowAt, slab_row};
 
@@ -80,9 +80,9 @@ impl Model for FiledPlan {
 ///
 /// `OutOfMemory` if memory runs out. `NoDesk` if it is the row of no operator within the limits.
 pub(crate) fn listed_in(row: &Row) -> Result<ListedOperator, RowFault>
-    ensures ok { IfOk result (λ l. IsOperator l × (row.now ≡ operator_row l)) }
+    ensures ok { IfOk result (λ l. IsOperator l × (row.now ≡ row_of_operator l)) }
     ensures none { IfErr result (λ e. e ≡ RowFault.NoDesk →
-        (l : Listed) → IsOperator l → row.now ≢ operator_row l) }
+        (l : Listed) → IsOperator l → row.now ≢ row_of_operator l) }
 {
     let Some(operator) = operator_in(row) else {
         return Err(RowFault::NoDesk);
@@ -166,7 +166,7 @@ fn are_placed(plan: &FiledPlan, id: &str, rows: &[Row]) -> bool
 fn is_placed(plan: &FiledPlan, id: &str, place: usize, row: &Row) -> bool
     requires id { id.now ≡ id_text plan.now.row.id }
     ensures { (v : Block) → IsVolumeAt row.now 3 v →
-        IsTrue result ↔ (row.now ≡ volume_row plan.now place v) }
+        IsTrue result ↔ (row.now ≡ row_of_volume plan.now place v) }
 {
     if !is_keyed(row, plan.operator.as_str(), id, VOLUME_WIDTH) {
         return false;

@@ -8,14 +8,14 @@ ghost use Rattle.sqlite.specs.Files.{over_files};
 ghost use Rattle.desk_tables.specs.CutShort.{IsCompletedAs, IsCutShort, IsMovedOn};
 ghost use Rattle.desk_tables.specs.Files.{AreNotMoved, AreRefused, Finds, OpensIn, OpensMoved};
 ghost use Rattle.desk_tables.specs.Files.{no_files};
-ghost use Rattle.desk_tables.specs.Guarding.{IsGuarded};
+ghost use Rattle.desk_tables.specs.LyingDisk.{IsGuarded};
 ghost use Rattle.desk_tables.specs.Leaving.{IsSettledAt};
 ghost use Rattle.desk_store.specs.World.{World};
 ghost use Rattle.desk_store.specs.Content.{IsContent};
-ghost use Rattle.desk_tables.specs.Copying.{AreCounted, AreNotCopied, AreNotMade, AreNotRead, IsMadeIn};
+ghost use Rattle.desk_tables.specs.Copying.{AreHoldingsOf, AreNotCopied, AreNotMade, AreNotRead, IsMadeIn};
 ghost use Rattle.desk_tables.specs.Copying.{IsUnmadeOf, LooksIn};
 ghost use Rattle.desk_tables.specs.Known.{Knows};
-ghost use Rattle.desk_tables.specs.Writing.{HaveFewRows};
+ghost use Rattle.desk_tables.specs.Writable.{HaveFewRows};
 
 use crate::known::Known;
 use crate::opening::content::Content;
@@ -174,7 +174,7 @@ pub fn look_at<S: Start>(
     path: &str,
     start: S,
 ) -> Result<(Connection<FileStore<FileFrom<S>>>, Holdings), FilesFault<FileFrom<S>>>
-    ensures looks { IfOk result (λ found. (w : World) × AreCounted found.1 w
+    ensures looks { IfOk result (λ found. (w : World) × AreHoldingsOf found.1 w
         × LooksIn (image_at S.Start) found.0 found.1.is_old w) }
     ensures fault { IfErr result (λ e. AreNotRead (image_at S.Start) e.fault e.connection) }
 {
@@ -197,7 +197,7 @@ pub fn copy_from<S: Start, N: Start>(
     to: &str,
     other: N,
 ) -> Result<Copied<FileFrom<S>, FileFrom<N>>, CopyFault<FileFrom<S>, FileFrom<N>>>
-    ensures looks { IfOk result (λ copied. AreCounted copied.1.1 copied.1.0.world
+    ensures looks { IfOk result (λ copied. AreHoldingsOf copied.1.1 copied.1.0.world
         × LooksIn (image_at S.Start) copied.0 copied.1.1.is_old copied.1.0.world) }
     ensures made { IfOk result (λ copied. IsMadeIn (image_at N.Start) copied.1.0.held) }
     ensures left { IfOk result (λ copied. IsSettledAt over_files copied.1.0.held copied.1.0.world) }
@@ -221,7 +221,7 @@ fn copy_read<D: Disk + Drop, N: Start>(
     requires bounded { Knows found.2 found.1 }
     ensures same { IfOk result (λ copied. copied.0 ≡ found.0) }
     ensures world { IfOk result (λ copied. copied.1.0.world ≡ found.1) }
-    ensures counted { IfOk result (λ copied. AreCounted copied.1.1 found.1) }
+    ensures counted { IfOk result (λ copied. AreHoldingsOf copied.1.1 found.1) }
     ensures schema { IfOk result (λ copied. copied.1.1.is_old ≡ found.3) }
     ensures made { IfOk result (λ copied. IsMadeIn (image_at N.Start) copied.1.0.held) }
     ensures left { IfOk result (λ copied. IsSettledAt over_files copied.1.0.held copied.1.0.world) }

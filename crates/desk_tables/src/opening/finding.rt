@@ -4,26 +4,26 @@ ghost use Rattle.std.specs.Prelude.{◌≡◌, ◌≢◌, ◌↔◌, ◌<◌, �
 ghost use Rattle.sqlite_value.specs.Order.{Row as Values};
 ghost use Rattle.sqlite.specs.State.{HasCleanDisk};
 ghost use Rattle.sqlite.specs.Held.{state};
-ghost use Rattle.desk_sql.specs.Calls.{WasOpen};
+ghost use Rattle.desk_sql.specs.QueryEnds.{WasOpen};
 ghost use Rattle.desk_sql.specs.Schema.{has_table};
 ghost use Rattle.desk_sql.specs.Rows.{IsMadeTo, tables_at};
-ghost use Rattle.desk_sql.specs.Effects.{IsKept, IsOpenIfClean};
+ghost use Rattle.desk_sql.specs.Effects.{IsOpenIfClean, StaysShown};
 ghost use Rattle.desk_sql.specs.Frames.{OnlyReads};
 ghost use Rattle.desk_sql.specs.Finding.{Holds};
 ghost use Rattle.desk_store.specs.World.{World};
 ghost use Rattle.desk_store.specs.Content.{IsContent};
 ghost use Rattle.desk_tables.specs.CutShort.{IsCompletedAs, MayBecome};
 ghost use Rattle.desk_tables.specs.Known.{Knows};
-ghost use Rattle.desk_tables.specs.Writing.{HaveFewRows};
+ghost use Rattle.desk_tables.specs.Writable.{HaveFewRows};
 ghost use Rattle.desk_tables.specs.SpanBounds.{IsKnownRow, Keeps};
 ghost use Rattle.desk_tables.specs.Opening.{AreAllRows, IsContentOf, AreNoContent};
 ghost use Rattle.desk_tables.specs.Tables.{AreSpanRows, volume_rows};
 ghost use Rattle.desk_tables.specs.SpansHeld.{AreHeld};
-ghost use Rattle.desk_tables.specs.Opening.{AreHeads, AreInOrder, AreParts, AreRows, AreSortedHeads};
+ghost use Rattle.desk_tables.specs.Opening.{AreHeads, AreListedInOrder, AreParts, AreRows, AreSortedHeads};
 ghost use Rattle.desk_tables.specs.Opening.{BeginsWith, HasRowsOld, HasNewRows};
 ghost use Rattle.desk_tables.specs.Opening.{ShowsNoDesk, ShowsOldRows};
 ghost use Rattle.desk_tables.specs.Opening.{BlamesReading, BlamesDatabase};
-ghost use Rattle.desk_tables.specs.OpeningSteps.{BeginsCompleted, HadNone, IsOpened, IsRead, IsSetUp};
+ghost use Rattle.desk_tables.specs.OpeningSteps.{BeginsCompleted, HadNone, IsOpening, IsRead, IsSetUp};
 
 use crate::kept::GhostWorld;
 use crate::known::{Known, live_among, roll_of};
@@ -63,11 +63,11 @@ pub(crate) fn load_world<S: Alter>(
 ) -> Result<(GhostWorld, Known, bool), OpenFault>
     requires settled { connection.old.in_transaction ≡ false }
     requires unlimited { connection.old.step_limit ≡ None }
-    ensures opened { IsOpened S.Store connection.old connection.new result (λ found. found.0.world)
+    ensures opened { IsOpening S.Store connection.old connection.new result (λ found. found.0.world)
         (λ found. BeginsWith S.Store connection.old connection.new found.0.world)
         (ShowsNoDesk S.Store connection.old connection.new)
         (ShowsOldRows S.Store connection.old connection.new)
-        (IsKept S.Store connection.old connection.new) }
+        (StaysShown S.Store connection.old connection.new) }
     ensures bounded { IfOk result (λ found. Knows found.1 found.0.world) }
     ensures crash { MayBecome S.Store connection.old connection.new IsCompletedAs }
 {
@@ -115,7 +115,8 @@ pub(crate) fn world_of<S: Alter>(
     requires unlimited { connection.old.step_limit ≡ None }
     ensures set_up { IsSetUp S.Store connection.old connection.new result (λ found. found.0.world)
         (λ found. BeginsWith S.Store connection.old connection.new found.0.world)
-        (ShowsNoDesk S.Store connection.old connection.new) (IsKept S.Store connection.old connection.new) }
+        (ShowsNoDesk S.Store connection.old connection.new)
+        (StaysShown S.Store connection.old connection.new) }
     ensures bounded { IfOk result (λ found. Knows found.1 found.0.world) }
     ensures crash { MayBecome S.Store connection.old connection.new IsCompletedAs }
 {
@@ -136,7 +137,7 @@ pub(crate) fn create_tables<S: Alter>(
     requires unlimited { connection.old.step_limit ≡ None }
     ensures set_up { IsSetUp S.Store connection.old connection.new result (λ kept. kept.world)
         (λ kept. kept.world ≡ record { operators = []; plans = [] }) ⊥
-        (IsKept S.Store connection.old connection.new) }
+        (StaysShown S.Store connection.old connection.new) }
     ensures faults { (state S.Store connection.old).faults ≤ (state S.Store connection.new).faults }
     ensures crash { MayBecome S.Store connection.old connection.new IsCompletedAs }
 {
@@ -160,7 +161,8 @@ fn completed_in<S: Alter>(
     requires unlimited { connection.old.step_limit ≡ None }
     ensures set_up { IsSetUp S.Store connection.old connection.new result (λ found. found.0.world)
         (λ found. BeginsCompleted S.Store connection.old connection.new found.0.world)
-        (HadNone S.Store connection.old connection.new made) (IsKept S.Store connection.old connection.new) }
+        (HadNone S.Store connection.old connection.new made)
+        (StaysShown S.Store connection.old connection.new) }
     ensures bounded { IfOk result (λ found. Knows found.1 found.0.world) }
     ensures crash { MayBecome S.Store connection.old connection.new IsCompletedAs }
 {
@@ -255,7 +257,7 @@ fn parts_of(
 
 // Whether operators and plans are those of one content.
 fn are_in_order(operators: &[ListedOperator], plans: &[FiledPlan]) -> bool
-    ensures { IsTrue result ↔ AreInOrder operators.now plans.now }
+    ensures { IsTrue result ↔ AreListedInOrder operators.now plans.now }
 {
     if !names_ascend(operators) {
         return false;
@@ -278,7 +280,7 @@ pub(crate) fn content_with(
         × (found.0.plans ≡ check.plans.items)) }
     ensures agree { (rows : List Values) → AreHeld check rows
         → OnOk result (AreSpanRows check.plans.items rows) }
-    ensures bounded { AreInOrder operators.items check.plans.items
+    ensures bounded { AreListedInOrder operators.items check.plans.items
         → IfOk result (λ found. Knows found.1 found.0) }
     ensures none { IfErr result (λ e. e ≡ OpenFault.NotADesk → (rows : List Values)
         → AreHeld check rows → ¬ AreSpanRows check.plans.items rows) }

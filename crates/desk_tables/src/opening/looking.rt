@@ -10,9 +10,9 @@ ghost use Rattle.desk_store.specs.Content.{IsContent};
 ghost use Rattle.desk_tables.specs.Known.{Knows};
 ghost use Rattle.desk_tables.specs.Opening.{BlamesDatabase, HasRowsOld};
 ghost use Rattle.desk_tables.specs.OpeningSteps.{IsRead};
-ghost use Rattle.desk_tables.specs.Writing.{HaveFewRows};
+ghost use Rattle.desk_tables.specs.Writable.{HaveFewRows};
 ghost use Rattle.desk_tables.specs.Copying as spec;
-ghost use Rattle.desk_tables.specs.Copying.{AreCounted, AreNoContentIn, IsContentIn, ShowsContent, ShowsNone};
+ghost use Rattle.desk_tables.specs.Copying.{AreHoldingsOf, AreNoContentIn, IsContentIn, ShowsContent, ShowsNone};
 
 use crate::known::Known;
 use crate::opening::content::Content;
@@ -55,7 +55,7 @@ pub fn look_into<S: Alter>(
     connection: &mut Connection<S>,
 ) -> Result<Holdings, OpenFault>
     requires settled { connection.old.in_transaction ≡ false }
-    ensures value { IfOk result (λ holdings. (w : World) × AreCounted holdings w
+    ensures value { IfOk result (λ holdings. (w : World) × AreHoldingsOf holdings w
         × ShowsContent S.Store connection.old connection.new holdings.is_old w) }
     ensures none { IfErr result (λ e. e ≡ OpenFault.NotADesk →
         ShowsNone S.Store connection.old connection.new) }
@@ -70,7 +70,7 @@ pub fn look_into<S: Alter>(
 /// How many operators, plans and spans a content has, and whether it was read in schema 1.
 pub(crate) fn holdings_of(content: &Content, is_old: bool) -> Holdings
     requires { IsContent content.now }
-    ensures counted { AreCounted result content.now }
+    ensures counted { AreHoldingsOf result content.now }
     ensures schema { result.is_old ≡ is_old }
 {
     Holdings {

@@ -8,8 +8,8 @@ ghost use Rattle.sqlite_value.specs.Order.{Row as Values};
 ghost use Rattle.desk_sql.specs.Schema.{has_table};
 ghost use Rattle.desk_sql.specs.Rows.{IsMadeTo, tables_at, tables_of};
 ghost use Rattle.desk_sql.specs.Batches.{IsUnderWay};
-ghost use Rattle.desk_sql.specs.Calls.{WasOpen};
-ghost use Rattle.desk_sql.specs.Effects.{IsReady, IsKept, IsOpenIfClean, Makes, Commits, MayMake};
+ghost use Rattle.desk_sql.specs.QueryEnds.{WasOpen};
+ghost use Rattle.desk_sql.specs.Effects.{IsReady, StaysShown, IsOpenIfClean, Makes, Commits, MayMake};
 ghost use Rattle.desk_sql.specs.Making.{MayComplete};
 ghost use Rattle.desk_sql.specs.Frames.{IsOver, OnlyReads, Remembers};
 ghost use Rattle.desk_sql.specs.Finding.{Holds};
@@ -20,14 +20,14 @@ ghost use Rattle.desk_tables.specs.CutShort.{IsMovedAs, IsMovedOn, MayBecome};
 ghost use Rattle.desk_tables.specs.Known.{Knows};
 ghost use Rattle.desk_tables.specs.Tables as tables;
 ghost use Rattle.desk_tables.specs.Opening.{AreRows, BlamesReading, HasRowsOld};
-ghost use Rattle.desk_tables.specs.OpeningSteps.{BeginsAllMoved, HadNoOld, IsAdded, IsOpened, IsRead, IsSetUp};
+ghost use Rattle.desk_tables.specs.OpeningSteps.{BeginsAllMoved, HadNoOld, IsAdded, IsOpening, IsRead, IsSetUp};
 ghost use Rattle.desk_tables.specs.OpeningSteps.{MakesWhole};
 ghost use Rattle.desk_tables.specs.Moving.{AddsPlanRows, AddsPlansRows, MovesRows, RemovesOldRows, AreNoOldContent};
 ghost use Rattle.desk_tables.specs.Moving.{BeginsMoved, KeepsRows, IsOldArea, IsOldContent};
 ghost use Rattle.desk_tables.specs.Moving.{HasNoNewRows};
 ghost use Rattle.desk_tables.specs.Moving.{AreOldParts, AreSortedOld, IsOldContentOf, IsOldShape};
 ghost use Rattle.desk_tables.specs.Moving.{ShowsNoContent};
-ghost use Rattle.desk_tables.specs.Writing.{AreAwaited, AreWritable, HasSpansToIndex, HaveFewRows};
+ghost use Rattle.desk_tables.specs.Writable.{AreAwaited, AreWritable, HasSpansToIndex, HaveFewRows};
 
 use crate::canon::canons_of;
 use crate::changing::records::{asked_of, span_rows, volume_rows};
@@ -72,7 +72,7 @@ pub(crate) fn moved_world_in<S: Alter>(
 ) -> Result<(GhostWorld, Known, u32), OpenFault>
     requires settled { connection.old.in_transaction ≡ false }
     requires unlimited { connection.old.step_limit ≡ None }
-    ensures opened { IsOpened S.Store connection.old connection.new result (λ moved. moved.0.world)
+    ensures opened { IsOpening S.Store connection.old connection.new result (λ moved. moved.0.world)
         (λ moved. BeginsMoved S.Store connection.old connection.new moved.0.world moved.2)
         (ShowsNoContent S.Store connection.old connection.new) ⊥
         (KeepsRows S.Store connection.old connection.new) }
@@ -122,7 +122,7 @@ fn make_whole<S: Alter>(
     requires empty { Holds S.Store connection.old (λ db. HasNoNewRows (tables_at made db.trees)) }
     requires settled { connection.old.in_transaction ≡ false }
     ensures done { MakesWhole S.Store connection.old connection.new result made }
-    ensures kept { OnErr result (IsKept S.Store connection.old connection.new) }
+    ensures kept { OnErr result (StaysShown S.Store connection.old connection.new) }
     ensures cause { Holds S.Store connection.old (HasSpansToIndex made)
         → IfErr result (BlamesReading S.Store connection.old connection.new) }
     ensures fault { IfErr result (λ e. (e ≢ OpenFault.NotADesk) × (e ≢ OpenFault.OldSchema)) }
@@ -149,7 +149,7 @@ fn rewrite<S: Alter>(
     requires settled { connection.old.in_transaction ≡ false }
     ensures done { HasCleanDisk (state S.Store connection.new)
         → OnOk result (Commits S.Store connection.old connection.new (MovesRows plans.now)) }
-    ensures kept { OnErr result (IsKept S.Store connection.old connection.new) }
+    ensures kept { OnErr result (StaysShown S.Store connection.old connection.new) }
     ensures cause { Holds S.Store connection.old (λ db. AreAwaited plans.now (tables_of db.trees))
         → IfErr result (BlamesReading S.Store connection.old connection.new) }
     ensures fault { IfErr result (λ e. (e ≢ OpenFault.NotADesk) × (e ≢ OpenFault.OldSchema)) }

@@ -1,7 +1,7 @@
 //! Stores of plans made over connections.
 
 ghost use Rattle.std.specs.Prelude.{◌≡◌, [], false, IfOk, IfErr, MatchResult, None};
-ghost use Rattle.desk_sql.specs.Effects.{IsKept};
+ghost use Rattle.desk_sql.specs.Effects.{StaysShown};
 ghost use Rattle.desk_tables.specs.CutShort.{IsCompletedAs, IsMovedOn, LeavesShownOr};
 ghost use Rattle.desk_tables.specs.Moving.{BeginsMoved, KeepsRows, ShowsNoContent};
 ghost use Rattle.desk_tables.specs.Opening.{BeginsWith, ShowsNoDesk, ShowsOldRows};
@@ -57,9 +57,9 @@ pub enum OpenFault {
 
 impl fmt::Display for OpenFault {
     ghost use Rattle.std.specs.Prelude.{Some};
-    ghost use Rattle.desk_tables.specs.Opening.{fault_text};
+    ghost use Rattle.desk_tables.specs.Opening.{open_fault_text};
 
-    ghost output = { λ fault. Some (fault_text fault) };
+    ghost output = { λ fault. Some (open_fault_text fault) };
 
     fn fmt<W: fmt::Write>(&self, f: &mut fmt::Formatter<W>) -> fmt::Result {
         f.pad(match self {
@@ -100,9 +100,9 @@ impl From<AllocError> for OpenFault {
 
 impl From<RowFault> for OpenFault {
     ghost use Rattle.std.specs.Prelude.{◌≡◌};
-    ghost use Rattle.desk_tables.specs.Opening.{refusal_of};
+    ghost use Rattle.desk_tables.specs.Opening.{fault_of_rows};
 
-    ghost from_gives = { λ rows fault. fault ≡ refusal_of rows };
+    ghost from_gives = { λ rows fault. fault ≡ fault_of_rows rows };
 
     fn from(rows: RowFault) -> OpenFault {
         match rows {
@@ -159,7 +159,7 @@ impl<S: Alter> SqliteStore<S> {
             IsNotAdopted S.Store connection refused.connection refused.fault
             (ShowsNoDesk S.Store connection refused.connection)
             (ShowsOldRows S.Store connection refused.connection)
-            (IsKept S.Store connection refused.connection)) }
+            (StaysShown S.Store connection refused.connection)) }
         ensures cut { MatchResult result
             (λ store. LeavesShownOr S.Store connection store.held IsCompletedAs)
             (λ refused. LeavesShownOr S.Store connection refused.connection IsCompletedAs) }

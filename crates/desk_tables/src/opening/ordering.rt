@@ -4,7 +4,7 @@ ghost use Rattle.std.specs.Prelude.{◌≡◌, ◌≢◌, false, IfOk, IfErr, On
 ghost use Rattle.sqlite.specs.State.{HasCleanDisk};
 ghost use Rattle.sqlite.specs.Held.{state};
 ghost use Rattle.desk_sql.specs.Rows.{IsMadeTo};
-ghost use Rattle.desk_sql.specs.Effects.{Commits, IsKept, MayMake};
+ghost use Rattle.desk_sql.specs.Effects.{Commits, MayMake, StaysShown};
 ghost use Rattle.desk_sql.specs.Finding.{Holds};
 ghost use Rattle.desk_sql.specs.Frames.{IsOver};
 ghost use Rattle.desk_sql.specs.Unpacking.{RemakesTables};
@@ -13,7 +13,7 @@ ghost use Rattle.desk_tables.specs.Known.{Knows};
 ghost use Rattle.desk_tables.specs.Moving.{OrdersRows};
 ghost use Rattle.desk_tables.specs.Opening.{BlamesReading, HasNewRows};
 ghost use Rattle.desk_tables.specs.OpeningSteps.{BeginsOrdered, HadNone, IsSetUp};
-ghost use Rattle.desk_tables.specs.Writing.{HasSpansToIndex, IsToOrder};
+ghost use Rattle.desk_tables.specs.Writable.{HasSpansToIndex, IsToOrder};
 
 use crate::kept::GhostWorld;
 use crate::known::Known;
@@ -41,7 +41,7 @@ pub(crate) fn ordered_in<S: Alter>(
     ensures set_up { IsSetUp S.Store connection.old connection.new result (λ found. found.0.world)
         (λ found. BeginsOrdered S.Store connection.old connection.new found.0.world)
         (HadNone S.Store connection.old connection.new TablesPresent.Packed)
-        (IsKept S.Store connection.old connection.new) }
+        (StaysShown S.Store connection.old connection.new) }
     ensures bounded { IfOk result (λ found. Knows found.1 found.0.world) }
     ensures crash { MayBecome S.Store connection.old connection.new IsCompletedAs }
 {
@@ -62,7 +62,7 @@ fn put_in_order<S: Alter>(
     requires settled { connection.old.in_transaction ≡ false }
     ensures done { HasCleanDisk (state S.Store connection.new)
         → OnOk result (Commits S.Store connection.old connection.new (OrdersRows plans.now)) }
-    ensures kept { OnErr result (IsKept S.Store connection.old connection.new) }
+    ensures kept { OnErr result (StaysShown S.Store connection.old connection.new) }
     ensures cause { Holds S.Store connection.old (IsToOrder plans.now)
         → IfErr result (BlamesReading S.Store connection.old connection.new) }
     ensures fault { IfErr result (λ e. (e ≢ OpenFault.NotADesk) × (e ≢ OpenFault.OldSchema)) }
@@ -85,7 +85,7 @@ pub(crate) fn unpack<S: Alter>(connection: &mut Connection<S>) -> Result<(), Ope
     requires settled { connection.old.in_transaction ≡ false }
     ensures done { HasCleanDisk (state S.Store connection.new)
         → OnOk result (Commits S.Store connection.old connection.new RemakesTables) }
-    ensures kept { OnErr result (IsKept S.Store connection.old connection.new) }
+    ensures kept { OnErr result (StaysShown S.Store connection.old connection.new) }
     ensures cause { Holds S.Store connection.old (HasSpansToIndex TablesPresent.Packed)
         → IfErr result (BlamesReading S.Store connection.old connection.new) }
     ensures fault { IfErr result (λ e. (e ≢ OpenFault.NotADesk) × (e ≢ OpenFault.OldSchema)) }

@@ -19,8 +19,8 @@ ghost use Rattle.desk_tables.specs.SpanChecks.{
   AwaitsAlike,
   IsEntered,
   IsFound,
-  IsFoundIn,
-  IsNext,
+  IsNextRow,
+  IsSlabFound,
   after_plan,
 };
 ghost use Rattle.desk_tables.specs.SpansHeld.{AreHeld};
@@ -89,7 +89,7 @@ impl Cursor {
             self.old.place rows
             ↔ AreAwaited (plan.now ∷ later) (drop self.new.next self.new.slabs) self.new.shown
             self.new.place rows) }
-        ensures found { IfOk result (IsFoundIn plan.now self.new) }
+        ensures found { IfOk result (IsSlabFound plan.now self.new) }
         ensures plan { self.new.plan ≡ self.old.plan }
     {
         one_list_of_ranges();
@@ -150,7 +150,7 @@ impl Cursor {
 
     // Whether a row is the next, which is passed then.
     fn take(&mut self, plans: &[FiledPlan], row: &Row) -> Result<bool, AllocError>
-        ensures { IfOk result (IsNext plans.now self.old self.new row.now) }
+        ensures { IfOk result (IsNextRow plans.now self.old self.new row.now) }
     {
         if !self.find(plans)? {
             return Ok(false);

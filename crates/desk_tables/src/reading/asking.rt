@@ -5,12 +5,12 @@ ghost use Rattle.std.specs.List.{AllByRecursion};
 ghost use Rattle.sqlite.specs.State.{HasCleanDisk};
 ghost use Rattle.sqlite.specs.Held.{state};
 ghost use Rattle.desk_store.specs.Content.{IsId};
-ghost use Rattle.desk_sql.specs.Calls.{WasOpen};
+ghost use Rattle.desk_sql.specs.QueryEnds.{WasOpen};
 ghost use Rattle.desk_sql.specs.Frames.{OnlyReads};
 ghost use Rattle.desk_sql.specs.Rows.{tables_of};
 ghost use Rattle.desk_tables.specs.Causes.{BlamesSpans};
 ghost use Rattle.desk_tables.specs.RivalRows.{AreWanted, HaveTaken, HaveTakenAll, is_asked};
-ghost use Rattle.desk_tables.specs.SpanBounds.{Bounds, IsWithin};
+ghost use Rattle.desk_tables.specs.SpanBounds.{Bounds, IsWithinExtent};
 ghost use Rattle.desk_tables.specs.Store.{Stands};
 
 use crate::kept::GhostWorld;
@@ -75,7 +75,7 @@ fn asked_all<S: Alter>(
     questions: &[Span],
 ) -> Result<Vec<Held>, StoreFault>
     requires stands { Stands S.Store connection.old kept.now.world }
-    requires within { AllByRecursion (IsWithin extent.now) questions.now }
+    requires within { AllByRecursion (IsWithinExtent extent.now) questions.now }
     ensures value { HasCleanDisk (state S.Store connection.new) → IfOk result (λ helds.
         HaveTakenAll (is_asked wanted.now extent.now) questions.now
         (tables_of (state S.Store connection.old).now.trees).spans helds.items) }
@@ -103,7 +103,7 @@ fn asked<S: Alter>(
     question: &Span,
 ) -> Result<Vec<Held>, StoreFault>
     requires stands { Stands S.Store connection.old kept.now.world }
-    requires within { IsWithin extent.now question.now }
+    requires within { IsWithinExtent extent.now question.now }
     ensures value { HasCleanDisk (state S.Store connection.new) → IfOk result (λ helds.
         HaveTaken (is_asked wanted.now extent.now question.now)
         (tables_of (state S.Store connection.old).now.trees).spans helds.items) }

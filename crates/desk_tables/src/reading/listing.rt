@@ -6,8 +6,8 @@ ghost use Rattle.sqlite_value.specs.Order.{Row as Values};
 ghost use Rattle.desk_rules.specs.declared.plan.PlanRow.{PlanRow as Plan};
 ghost use Rattle.desk_store.specs.World.{Filed};
 ghost use Rattle.desk_store.specs.Content.{IsId, IsPlan};
-ghost use Rattle.desk_tables.specs.Reading as spec;
-ghost use Rattle.desk_tables.specs.Reading.{IsHead, listing_rows};
+ghost use Rattle.desk_tables.specs.RowsRead as spec;
+ghost use Rattle.desk_tables.specs.RowsRead.{IsHead, listing_rows};
 ghost use Rattle.desk_tables.specs.Gathering.{Leads, HasCollected, HasNoArea, IsNoHead, IsUngathered, closed_plans, plan_with};
 
 use crate::reading::values::{Head, head_in, volume_in};

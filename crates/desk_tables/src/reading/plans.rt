@@ -12,7 +12,7 @@ ghost use Rattle.desk_live.specs.Near.{listed_top};
 ghost use Rattle.desk_tables.specs.Causes.{BlamesSpans};
 ghost use Rattle.desk_tables.specs.Store.{Stands};
 ghost use Rattle.desk_tables.specs.RivalRows.{HaveTaken, is_asked_of_plan};
-ghost use Rattle.desk_sql.specs.Calls.{WasOpen};
+ghost use Rattle.desk_sql.specs.QueryEnds.{WasOpen};
 ghost use Rattle.desk_sql.specs.Frames.{OnlyReads};
 ghost use Rattle.desk_sql.specs.Rows.{tables_of};
 

@@ -9,7 +9,7 @@ ghost use Rattle.desk_rules.specs.declared.plan.PlanRow.{PlanRow as Plan};
 ghost use Rattle.desk_store.specs.World.{Filed, plans_of, stored_of};
 ghost use Rattle.desk_tables.specs.Tables.{plan_rows, volume_rows};
 ghost use Rattle.desk_store.specs.Content.{IsBlock, IsContent, IsId, IsPlan};
-ghost use Rattle.desk_tables.specs.Reading.{IsHead, IsVolumeAt, listing_rows};
+ghost use Rattle.desk_tables.specs.RowsRead.{IsHead, IsVolumeAt, listing_rows};
 ghost use Rattle.desk_tables.specs.Gathering.{HasCollected, HasNoArea};
 ghost use Rattle.desk_tables.specs.Lookups.{own_of};
 ghost use Rattle.desk_tables.specs.Causes.{BlamesSpans, BlamesStore};

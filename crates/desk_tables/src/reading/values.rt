@@ -13,7 +13,7 @@ ghost use Rattle.desk_rules.specs.declared.words.Usage.{Usage as Use};
 ghost use Rattle.desk_rules.specs.declared.words.Aircraft.{Aircraft as State};
 ghost use Rattle.desk_tables.specs.Tables.{id_text, usage_number, aircraft_number};
 ghost use Rattle.desk_store.specs.Content.{IsId, IsBlock};
-ghost use Rattle.desk_tables.specs.Reading.{IsVolumeAt, IsHead};
+ghost use Rattle.desk_tables.specs.RowsRead.{IsVolumeAt, IsHead};
 ghost use Rattle.desk_tables.specs.Records.{AreNumbersOf};
 ghost use Rattle.desk_tables.specs.Gathering.{plan_with};
 

@@ -11,7 +11,7 @@ use Rattle.std.proofs.Math.Nat.{lt_of_mul-lt-mul_right, mul-le-mul_right, mul_as
 use Rattle.s2_cellid.specs.Cell.{lowest_place, lowest_bit, face_of, IsCellId, first_leaf_id, last_leaf_id, first_leaf, last_leaf, leaf_id_at, cell_has}
 
 -- the id stands in the middle of the block, and the block lies within the six faces
-pub record IsBlock (id unit number : ℕ) : Type 0 where
+pub record IsCellBlock (id unit number : ℕ) : Type 0 where
   pub positive : 0 < unit
   pub id_is : id ≡ 2 * (number * unit) + unit
   pub within : number * unit + unit ≤ 6 * 2 ^ 60
@@ -61,7 +61,7 @@ abbrev pub number_of : ℕ → ℕ
 number_of id = id / lowest_bit id / 2
 
 -- what a valid id is, as arithmetic
-pub block_of : (id : ℕ) → IsCellId id → IsBlock id (lowest_bit id) (number_of id)
+pub block_of : (id : ℕ) → IsCellId id → IsCellBlock id (lowest_bit id) (number_of id)
 block_of id valid =
     let on_face : face_of id < 6 = grind (arith, nat_tests, valid) in
     let place : lowest_place id ≤ 60 = grind (arith, nat_tests, valid) in
@@ -92,7 +92,7 @@ pub record HasEnds (id : ℕ) : Type 0 where
   pub ordered : first_leaf_id id ≤ id × id ≤ last_leaf_id id
   pub below : last_leaf_id id < 12 * 2 ^ 60
 
-ends_of_block : (id unit number : ℕ) → IsBlock id unit number → lowest_bit id ≡ unit → HasEnds id
+ends_of_block : (id unit number : ℕ) → IsCellBlock id unit number → lowest_bit id ≡ unit → HasEnds id
 ends_of_block id unit number block is =
     let first : first_leaf_id id ≡ 2 * (number * unit) + 1 = omega (arith, is, block) in
     let last : last_leaf_id id + 1 ≡ 2 * (number * unit) + 2 * unit = omega (arith, is, block) in

@@ -8,7 +8,7 @@ use Rattle.std.proofs.Math.Nat.{div-div-eq-div-mul, pow-le-pow_right}
 use Rattle.std.proofs.lemmas.Nat.Bits.{bit_at-trailing_zeros, and_high_mask}
 use Rattle.std.proofs.lemmas.Bool.{cases_lt}
 use Rattle.std.proofs.lemmas.Bool.Decides.{nat_tests}
-use Rattle.s2_hilbert.specs.Grid.{GridLeaf, IsLeaf, ShareSquare, GridSquare, IsSquare, IsWithin}
+use Rattle.s2_hilbert.specs.Grid.{GridLeaf, IsLeaf, ShareSquare, GridSquare, IsSquare, LiesInSquare}
 use Rattle.s2_hilbert.specs.Curve.{position_of, grid_leaf_at, leaf_count}
 use Rattle.s2_hilbert.specs.laws.Place.{power_of_four}
 use Rattle.s2_hilbert.specs.laws.Curve.{powers, position_is, place_on_face_below, position_below, position_undone, leaf_is, same_leaf, square_number, first_is}
@@ -175,7 +175,7 @@ square_cell square is =
     (omega (arith, first, facts.last_below, facts.count_positive)) (omega (arith, first))
 
 pub square_cell_has : (leaf : GridLeaf) (square : GridSquare) → IsLeaf leaf → IsSquare square
-    → IsTrue (cell_has_leaf (square_id square) leaf) ↔ IsWithin leaf square
+    → IsTrue (cell_has_leaf (square_id square) leaf) ↔ LiesInSquare leaf square
 square_cell_has leaf square is square_is =
     let has = (square_cell square square_is).has (position_of leaf) in
     let quotient = square_quotient leaf square is square_is in

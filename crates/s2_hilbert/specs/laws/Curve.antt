@@ -4,7 +4,7 @@ use Rattle.std.specs.Prelude.{◌↔◌}
 use Rattle.std.specs.Int.{IsInRange}
 use Rattle.std.proofs.lemmas.Nat.{pow-add, same_from_place, div-add-mod', shr_below}
 use Rattle.std.proofs.Math.Nat.{mod-eq_of_lt}
-use Rattle.s2_hilbert.specs.Grid.{GridLeaf, grid_leaf, IsLeaf, side_of, GridSquare, IsSquare, IsWithin}
+use Rattle.s2_hilbert.specs.Grid.{GridLeaf, grid_leaf, IsLeaf, side_of, GridSquare, IsSquare, LiesInSquare}
 use Rattle.s2_hilbert.specs.Curve.{place, turn_at, position_of, grid_leaf_at, leaf_count, first_position, last_position}
 use Rattle.s2_hilbert.specs.laws.Place.{place_below, turn_below, split_at, same_point, is_point, four_pow_pos}
 
@@ -123,7 +123,7 @@ abbrev pub number_round : ℕ → GridLeaf → ℕ
 number_round level leaf =
     leaf.face * 4 ^ level + place level (leaf.face % 2) (leaf.i / side_of level) (leaf.j / side_of level)
 
-number_within : (leaf : GridLeaf) (square : GridSquare) → IsWithin leaf square
+number_within : (leaf : GridLeaf) (square : GridSquare) → LiesInSquare leaf square
     → number_round square.level leaf ≡ square_number square
 number_within leaf square within = rw (within.on_face, within.i_within, within.j_within) refl
 
@@ -133,7 +133,7 @@ coordinate_below i level at_most below =
     shr_below i level (30 - level) (subst (λ n. i < 2 ^ n) sum below)
 
 within_number : (leaf : GridLeaf) (square : GridSquare) → IsLeaf leaf → IsSquare square
-    → number_round square.level leaf ≡ square_number square → IsWithin leaf square
+    → number_round square.level leaf ≡ square_number square → LiesInSquare leaf square
 within_number leaf square leaf_is square_is same =
     let i = leaf.i / side_of square.level in
     let j = leaf.j / side_of square.level in
@@ -157,7 +157,7 @@ within_number leaf square leaf_is square_is same =
 
 -- a leaf lies in a square exactly where its position is one of the square's
 pub square_leaves : (leaf : GridLeaf) (square : GridSquare) → IsLeaf leaf → IsSquare square
-    → IsWithin leaf square ↔ IsInRange (first_position square) (last_position square) (position_of leaf)
+    → LiesInSquare leaf square ↔ IsInRange (first_position square) (last_position square) (position_of leaf)
 square_leaves leaf square leaf_is square_is =
     let count = leaf_count square.level in
     let first = first_is square square_is.level_at_most in
@@ -183,14 +183,14 @@ unfolding position_of
 position_at position i j undone = rw undone (div-add-mod' position (2 ^ 60))
 
 -- what is known of the leaf that a walk found at a position
-pub record IsFound (position : ℕ) (leaf : GridLeaf) : Type 0 where
+pub record IsLeafFound (position : ℕ) (leaf : GridLeaf) : Type 0 where
   pub is : IsLeaf leaf
   pub undone : position_of leaf ≡ position
   pub value : leaf ≡ grid_leaf_at position
   pub only : (other : GridLeaf) → IsLeaf other → position_of other ≡ position → other ≡ leaf
 
 pub found_at : (position i j : ℕ) → position < 6 * 2 ^ 60 → i < 2 ^ 30 → j < 2 ^ 30
-    → place 30 (position / 2 ^ 60 % 2) i j ≡ position % 2 ^ 60 → IsFound position (grid_leaf
+    → place 30 (position / 2 ^ 60 % 2) i j ≡ position % 2 ^ 60 → IsLeafFound position (grid_leaf
     (position / 2 ^ 60) i j)
 found_at position i j below i_below j_below place_is =
     let leaf = grid_leaf (position / 2 ^ 60) i j in

@@ -3,7 +3,7 @@ use Rattle.std.proofs.Common.{◌≡◌, ℕ, ◌+◌, ◌-◌, ◌*◌, ◌/◌
 use Rattle.std.specs.Prelude.{◌↔◌}
 use Rattle.std.specs.Int.{IsInRange}
 use Rattle.std.proofs.lemmas.Nat.{pow-add, mul-le, div-mul-add, div-add-mod', mod_below}
-use Rattle.s2_hilbert.specs.Grid.{GridLeaf, IsLeaf, side_of, GridSquare, IsSquare, IsWithin, ShareSquare, grid_square}
+use Rattle.s2_hilbert.specs.Grid.{GridLeaf, IsLeaf, side_of, GridSquare, IsSquare, LiesInSquare, ShareSquare, grid_square}
 use Rattle.s2_hilbert.specs.Curve.{position_of, leaf_count, first_position, last_position}
 use Rattle.s2_hilbert.specs.laws.Place.{place_below, four_pow_pos}
 use Rattle.s2_hilbert.specs.laws.Curve.{powers, square_place, square_leaves, square_number, first_is, coordinate_below}
@@ -55,8 +55,8 @@ quotient_range n count k positive = (
 )
 
 -- the leaves of a square are those that share it with any of them
-pub share_square : (one other : GridLeaf) (square : GridSquare) → IsWithin one square
-    → IsWithin other square ↔ ShareSquare square.level one other
+pub share_square : (one other : GridLeaf) (square : GridSquare) → LiesInSquare one square
+    → LiesInSquare other square ↔ ShareSquare square.level one other
 share_square one other square within = (
   λ both. record {
     same_face = within.on_face ∙ sym both.on_face;
@@ -85,7 +85,7 @@ square_round_is level leaf at_most is = record {
 
 -- a leaf lies in a square exactly where its position, divided by the number of leaves, is the square's number
 pub square_quotient : (leaf : GridLeaf) (square : GridSquare) → IsLeaf leaf → IsSquare square
-    → IsWithin leaf square ↔ (position_of leaf / leaf_count square.level ≡ square_number square)
+    → LiesInSquare leaf square ↔ (position_of leaf / leaf_count square.level ≡ square_number square)
 square_quotient leaf square is square_is =
     let positive = four_pow_pos (30 - square.level) in
     let first = first_is square square_is.level_at_most in
@@ -107,7 +107,7 @@ pub same_square : (level : ℕ) (one other : GridLeaf) → level ≤ 30 → IsLe
 same_square level one other at_most one_is other_is =
     let square = square_round level one in
     let square_is = square_round_is level one at_most one_is in
-    let within : IsWithin one square = record { on_face = refl; i_within = refl; j_within = refl } in
+    let within : LiesInSquare one square = record { on_face = refl; i_within = refl; j_within = refl } in
     let shares = share_square one other square within in
     let here = (square_quotient one square one_is square_is).0 within in
     let there = square_quotient other square other_is square_is in (

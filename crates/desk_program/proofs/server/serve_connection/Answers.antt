@@ -3,9 +3,9 @@ use Rattle.desk_store.specs.StoreFaults.{IsHonest}
 use Rattle.desk_store.specs.laws.Fault.{was_honest}
 use Rattle.desk_run.specs.DeskWorld.{world_of}
 use Rattle.desk_ends.specs.laws.Moment.{same_moment}
-use Rattle.desk_wire.specs.Crashes.{IsFoundNow}
+use Rattle.desk_wire.specs.RequestsKept.{IsFoundNow}
 use Rattle.desk_wire.specs.Passage.{passed}
-use Rattle.desk_wire.specs.Serving.{HasServed, IsTaken}
+use Rattle.desk_wire.specs.OneRequest.{HasServed, IsTaken}
 use Rattle.desk_line.specs.Exits.{enrolment_failure, failure_at}
 use Rattle.desk_program.specs.Enrolling.{AreEnrolled, AreListedSoFar}
 use Rattle.desk_program.specs.Keeping.{FindsNews}

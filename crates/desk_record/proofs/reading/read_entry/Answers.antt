@@ -1,7 +1,7 @@
 use Rattle.std.proofs.Common.{◌≡◌, arith, length, ap, sym, ◌∙◌}
 use Rattle.std.specs.Option.{option_map}
 use Rattle.desk_record.specs.Reading.{has_bytes}
-use Rattle.desk_record.specs.Lines.{line_in, line_shown}
+use Rattle.desk_record.specs.EntryLines.{line_in, line_shown}
 use Rattle.desk_record.proofs.ReadLemmas.{lacks_bytes, none_there, not_line, some_there, sound, unsound}
 use Rattle.desk_record.proofs.reading.read_entry.Goals as goal
 

@@ -1,18 +1,18 @@
 use Rattle.std.proofs.Common.{◌≤◌}
 use Rattle.desk_store.specs.StoreFaults.{IsHonest}
 use Rattle.desk_run.specs.DeskWorld.{world_of}
-use Rattle.desk_replay.specs.Replaying.{state_of}
-use Rattle.desk_replay.specs.Running.{ArePlayed}
+use Rattle.desk_replay.specs.Replaying.{progress_state}
+use Rattle.desk_replay.specs.Running.{AreEntriesPlayed}
 use Rattle.desk_replay.proofs.stream.replay.Given as goal
 
 -- the entries so far are played
 abbrev pub invariant-loop : goal.invariant-loop
 invariant-loop g l =
     record {
-      played : ArePlayed (IsHonest (g.S.PlanStore.doubt l.desk.store)) l.place
+      played : AreEntriesPlayed (IsHonest (g.S.PlanStore.doubt l.desk.store)) l.place
           (g.R.Read.remaining l.fn.input) (g.R.Read.remaining l.input)
           (world_of g.S.PlanStore.content l.fn.desk)
-          (state_of (world_of g.S.PlanStore.content l.desk) l.progress);
+          (progress_state (world_of g.S.PlanStore.content l.desk) l.progress);
       doubt : g.S.PlanStore.doubt l.fn.desk.store ≤ g.S.PlanStore.doubt l.desk.store;
       counted : g.S.PlanStore.faults l.fn.desk.store ≤ g.S.PlanStore.faults l.desk.store;
       shield : g.S.PlanStore.is_shielded l.fn.desk.store → g.S.PlanStore.is_shielded l.desk.store;

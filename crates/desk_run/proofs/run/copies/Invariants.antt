@@ -1,7 +1,7 @@
 use Rattle.std.proofs.Common.{◌≡◌, map, take}
-use Rattle.desk_run.specs.Runs.{told_by}
+use Rattle.desk_run.specs.Runs.{as_told}
 use Rattle.desk_run.proofs.run.copies.Given as goal
 
 -- the outcomes so far
 abbrev pub invariant-loop-outcome : goal.invariant-loop-outcome
-invariant-loop-outcome l = map told_by l.copies.items ≡ map told_by (take l.outcome-index l.outcomes.items)
+invariant-loop-outcome l = map as_told l.copies.items ≡ map as_told (take l.outcome-index l.outcomes.items)

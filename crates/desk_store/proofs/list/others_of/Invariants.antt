@@ -2,7 +2,7 @@ use Rattle.std.proofs.Common.{◌≡◌}
 use Rattle.volume4d.specs.Point.{Point}
 use Rattle.volume4d.specs.Slab.{top_held}
 use Rattle.volume4d.specs.Level.{greater}
-use Rattle.desk_store.specs.Rows.{others_top}
+use Rattle.desk_store.specs.OwnRows.{others_top}
 use Rattle.desk_store.specs.Listing.{filed_all}
 use Rattle.desk_store.proofs.list.others_of.Given as goal
 

@@ -3,7 +3,7 @@ use Rattle.volume4d.specs.Point.{Point}
 use Rattle.volume4d.specs.Slab.{slab_has, top_held}
 use Rattle.volume4d.specs.Level.{greater}
 use Rattle.desk_rules.specs.Conflict.{at_least}
-use Rattle.desk_store.specs.Rows.{rivals_top}
+use Rattle.desk_store.specs.OwnRows.{rivals_top}
 use Rattle.desk_store.specs.Listing.{filed_all}
 use Rattle.desk_store.proofs.list.rivals_of.Given as goal
 

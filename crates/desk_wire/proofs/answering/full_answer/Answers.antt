@@ -5,7 +5,7 @@ use Rattle.desk_reading.specs.Requests.{asked}
 use Rattle.desk_store.specs.StoreFaults.{IsHonest}
 use Rattle.desk_run.specs.DeskFrames.{Leaves}
 use Rattle.desk_run.specs.DeskWorld.{world_of}
-use Rattle.desk_wire.specs.Bytes.{IsTold}
+use Rattle.desk_wire.specs.Bytes.{IsAnswerTold}
 use Rattle.desk_wire.specs.Failing.{failure_told}
 use Rattle.desk_wire.proofs.BytesLemmas.{asked_read, left_read}
 use Rattle.desk_wire.proofs.answering.full_answer.Goals as goal
@@ -17,9 +17,9 @@ returns-clause-told g c =
     let after = world_of g.S.PlanStore.content new in
     let H = IsHonest (g.S.PlanStore.doubt new.store) in
     let text = c.args.text.now in
-    subst (λ m. IfOk c.answer_request.result (IsTold H w m (asked text) after))
+    subst (λ m. IfOk c.answer_request.result (IsAnswerTold H w m (asked text) after))
     (to_z-of_z w64 c.args.moment c.ranges.moment)
-    (subst (λ r. IfOk c.answer_request.result (IsTold H w (to_z w64 (of_z w64 c.args.moment)) r after))
+    (subst (λ r. IfOk c.answer_request.result (IsAnswerTold H w (to_z w64 (of_z w64 c.args.moment)) r after))
     (asked_read text text (message_read c.read_message.result) c.read_message.ensures refl)
     c.answer_request.ensures.told)
 

@@ -7,8 +7,8 @@ use Rattle.desk_ends.specs.laws.Moment.{moment_at, is_moment_at, same_moment}
 use Rattle.desk_wire.specs.AllAnswers.{AreBroken}
 use Rattle.desk_wire.specs.declared.batch.AnswersEnd.TheVariants.{All, Broken, NoMemory}
 use Rattle.desk_wire.proofs.GivenLemmas.{given_quiet}
-use Rattle.desk_wire.specs.Crashes.{IsFoundIn}
-use Rattle.desk_wire.specs.Causes.{IsLast}
+use Rattle.desk_wire.specs.RequestsKept.{IsFoundInRequests}
+use Rattle.desk_wire.specs.FailureCauses.{IsLastAnswer}
 use Rattle.desk_run.specs.laws.Crash.{risen_since}
 use Rattle.desk_wire.specs.Failing.{desk_fault}
 use Rattle.desk_wire.proofs.CauseLemmas.{failed_there, last_said, not_none}
@@ -133,7 +133,7 @@ returns-in_default-clause-kept g c = λ honest settled found may.
     (c.answer_request-answer.ensures.leaves.crash honest found may) in
     let count : n ≡ length (map (λ v. v.items) c.loop-moment.answers.items) =
     sym (length-map c.loop-moment.answers.items (λ v. v.items) ∙ c.loop-moment.invariant.count) in
-    subst (λ k. IsFoundIn w (map (λ q. (q.0, q.1.items)) requests) k found) count finds
+    subst (λ k. IsFoundInRequests w (map (λ q. (q.0, q.1.items)) requests) k found) count finds
 
 pub returns-then-is_some-clause-kept : goal.returns-then-is_some-clause-kept
 returns-then-is_some-clause-kept g c = λ honest settled found may.
@@ -161,7 +161,7 @@ returns-then-is_some-clause-kept g c = λ honest settled found may.
       c.loop-moment.invariant.count,
       length-map c.push_reserved.new.self.items (λ v. v.items),
     ) in
-    subst (λ k. IsFoundIn w (map (λ q. (q.0, q.1.items)) requests) k found) count finds
+    subst (λ k. IsFoundInRequests w (map (λ q. (q.0, q.1.items)) requests) k found) count finds
 
 pub returns-clause-kept : goal.returns-clause-kept
 returns-clause-kept g c = λ honest settled found may.
@@ -169,7 +169,7 @@ returns-clause-kept g c = λ honest settled found may.
     let requests = c.args.requests.now in
     let count : c.loop-moment.moment-index ≡ length (map (λ v. v.items) c.loop-moment.answers.items) =
     sym (length-map c.loop-moment.answers.items (λ v. v.items) ∙ c.loop-moment.invariant.count) in
-    subst (λ k. IsFoundIn w (map (λ q. (q.0, q.1.items)) requests) k found) count
+    subst (λ k. IsFoundInRequests w (map (λ q. (q.0, q.1.items)) requests) k found) count
     (found_settled (λ q. (q.0, q.1.items)) (λ v. v.items) w
     (world_of g.S.PlanStore.content c.loop-moment.desk) requests c.loop-moment.moment-index
     c.loop-moment.answers.items found (c.loop-moment.invariant.answered honest)
@@ -182,12 +182,12 @@ returns-then-is_some-clause-cause g c = λ broken.
     let first = g.S.PlanStore.faults c.args.desk.now.store in
     let old = g.S.PlanStore.faults c.loop-moment.desk.store in
     let new = g.S.PlanStore.faults c.answer_request-answer.new.desk.store in
-    failed_there (IsLast (map (λ v. v.items) c.push_reserved.new.self.items)) c.in-Ok.field-0.error
+    failed_there (IsLastAnswer (map (λ v. v.items) c.push_reserved.new.self.items)) c.in-Ok.field-0.error
     (world_of g.S.PlanStore.content c.loop-moment.desk)
     (world_of g.S.PlanStore.content c.answer_request-answer.new.desk) c.in-Ok.field-0.bytes.items
     first new (not_none c.in-Ok.field-0.error some) c.in-Ok.ensures.told.failed
     (λ store. risen_since first old new c.loop-moment.invariant.counted
     (c.in-Ok.ensures.leaves.cause (ap (option_map desk_fault) store)))
-    (subst (λ xs. IsLast (map (λ v. v.items) xs) c.in-Ok.field-0.bytes.items)
+    (subst (λ xs. IsLastAnswer (map (λ v. v.items) xs) c.in-Ok.field-0.bytes.items)
     (sym c.push_reserved.ensures.items)
     (last_said (λ v. v.items) c.loop-moment.answers.items c.in-Ok.field-0.bytes))

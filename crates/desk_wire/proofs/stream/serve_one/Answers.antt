@@ -6,7 +6,7 @@ use Rattle.desk_store.specs.StoreFaults.{IsHonest}
 use Rattle.desk_run.specs.DeskWorld.{world_of}
 use Rattle.desk_wire.specs.Streams.{front_read, front_reading, size_said, with_body}
 use Rattle.desk_wire.proofs.FrontLemmas.{some_count, told_cut_body}
-use Rattle.desk_wire.specs.Crashes.{IsCertain}
+use Rattle.desk_wire.specs.RequestsKept.{IsCertain}
 use Rattle.desk_wire.specs.Failing.{desk_fault}
 use Rattle.desk_wire.proofs.KeptLemmas.{if_some_all, kept_answered, kept_failed, left_served, no_failure, uncertain_memory, uncertain_write, unsure_500}
 use Rattle.std.specs.Io.KnownBytes.{Appends}

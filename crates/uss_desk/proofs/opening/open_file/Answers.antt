@@ -2,7 +2,7 @@ use Rattle.std.proofs.Common.{ap, sym, subst, ◌∙◌}
 use Rattle.sqlite_wal.specs.Files.{image_at}
 use Rattle.sqlite.specs.Files.{over_files}
 use Rattle.desk_tables.specs.Files.{AreRefused, OpensIn}
-use Rattle.desk_tables.specs.Guarding.{IsGuarded}
+use Rattle.desk_tables.specs.LyingDisk.{IsGuarded}
 use Rattle.desk_tables.specs.Leaving.{IsSettledAt}
 use Rattle.uss_desk.proofs.RunLemmas.{fails_over}
 use Rattle.uss_desk.proofs.opening.open_file.Goals as goal

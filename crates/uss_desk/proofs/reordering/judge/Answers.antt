@@ -1,5 +1,5 @@
 use Rattle.std.proofs.Common.{IfOk, refl, subst}
-use Rattle.uss_desk.specs.Keeping.{IsReadAs}
+use Rattle.uss_desk.specs.FilesTold.{IsReadAs}
 use Rattle.uss_desk.proofs.reordering.judge.Goals as goal
 
 pub returns-then-is_too_old-clause-admitted : goal.returns-then-is_too_old-clause-admitted

@@ -2,7 +2,7 @@ use Rattle.std.proofs.Common.{refl, subst}
 use Rattle.sqlite_wal.specs.Files.{image_at}
 use Rattle.sqlite.specs.Files.{over_files}
 use Rattle.uss_desk.specs.Guarding.{account_of}
-use Rattle.uss_desk.specs.Opening.{IsOpenedAt}
+use Rattle.uss_desk.specs.OpenedFor.{IsOpenedAt}
 use Rattle.uss_desk.proofs.RunLemmas.{played_at, replay_guarded}
 use Rattle.uss_desk.proofs.replaying.replay_line.Goals as goal
 

@@ -3,7 +3,7 @@ use Rattle.std.specs.Prelude.{IfErr, IfOk}
 use Rattle.sqlite_wal.specs.Files.{image_at}
 use Rattle.sqlite.specs.Files.{over_files}
 use Rattle.uss_desk.specs.Guarding.{account_of}
-use Rattle.uss_desk.specs.Opening.{IsOpenedFor}
+use Rattle.uss_desk.specs.OpenedFor.{IsOpenedFor}
 use Rattle.uss_desk.proofs.RunLemmas.{for_files, run_at, stays_guarded}
 use Rattle.uss_desk.proofs.running.run_line.Goals as goal
 

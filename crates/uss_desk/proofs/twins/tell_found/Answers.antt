@@ -1,6 +1,6 @@
 use Rattle.std.proofs.Common.{subst}
 use Rattle.std.specs.Prelude.{IfOk}
-use Rattle.uss_desk.specs.Keeping.{IsReadAs}
+use Rattle.uss_desk.specs.FilesTold.{IsReadAs}
 use Rattle.uss_desk.proofs.twins.tell_found.Goals as goal
 
 pub returns-in-Ok : goal.returns-in-Ok

@@ -1,6 +1,6 @@
 use Rattle.std.proofs.Common.{◌≡◌, ◌*◌, ◌≤◌, take}
 use Rattle.std.specs.List.{sum_by}
-use Rattle.volume4d.specs.Limits.{max_cover}
+use Rattle.volume4d.specs.VolumeLimits.{max_cover}
 use Rattle.volume4d.specs.SpanCounts.{volume_spans}
 use Rattle.volume4d.proofs.area.spans_in.Given as goal
 

@@ -1,5 +1,5 @@
 use Rattle.std.proofs.Common.{◌≡◌, ◌%◌, ◌/◌, length, arith, IsTrue}
-use Rattle.volume4d.specs.Limits.{within_cells}
+use Rattle.volume4d.specs.VolumeLimits.{within_cells}
 use Rattle.volume4d.proofs.Readings.{counted, valid_id, one_more, all_read}
 use Rattle.volume4d.proofs.footprint.cells_of.Goals as goal
 use Rattle.volume4d.proofs.footprint.cells_of.Goals.{then-not-is_empty-via-then-not-is_empty, then-not-is_empty-via-else-not-is_empty+then-not-is_count}

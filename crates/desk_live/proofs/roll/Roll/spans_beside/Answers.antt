@@ -1,6 +1,6 @@
 use Rattle.std.proofs.Common.{◌<◌, ◌^◌, ◌∙◌, ap, subst, sym}
 use Rattle.desk_store.specs.World.{plans_of}
-use Rattle.desk_live.specs.Roll.{plans_or_none, spans_beside}
+use Rattle.desk_live.specs.Roll.{kept_spans_beside, plans_or_none}
 use Rattle.desk_live.specs.laws.Roll.{spans_found}
 use Rattle.desk_live.proofs.roll.Roll.spans_beside.Goals as goal
 
@@ -9,7 +9,7 @@ returns-in-Some c = λ w h few.
     let o = c.args.operator.now in
     let id = c.args.id.now in
     let same =
-    ap (spans_beside id) (ap plans_or_none c.in-Some.ensures.value ∙ h.states o)
+    ap (kept_spans_beside id) (ap plans_or_none c.in-Some.ensures.value ∙ h.states o)
     ∙ spans_found id (plans_of o w) in
     c.spans_beside.ensures (subst (λ n. n < 2 ^ 32) (sym same) few) ∙ same
 
@@ -17,5 +17,5 @@ pub returns-in-None : goal.returns-in-None
 returns-in-None c = λ w h few.
     let o = c.args.operator.now in
     let id = c.args.id.now in
-    ap (spans_beside id) (ap plans_or_none c.in-None.ensures.value ∙ h.states o)
+    ap (kept_spans_beside id) (ap plans_or_none c.in-None.ensures.value ∙ h.states o)
     ∙ spans_found id (plans_of o w)

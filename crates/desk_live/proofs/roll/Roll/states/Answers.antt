@@ -3,7 +3,7 @@ use Rattle.std.specs.List.{find}
 use Rattle.std.specs.Option.{option_map}
 use Rattle.desk_store.specs.World.{plans_of}
 use Rattle.desk_live.specs.declared.account.PlanState.{PlanState}
-use Rattle.desk_live.specs.Roll.{has_id, plans_or_none}
+use Rattle.desk_live.specs.Roll.{plans_or_none, state_has_id}
 use Rattle.desk_live.specs.laws.Roll.{states_found}
 use Rattle.desk_live.proofs.roll.Roll.states.Goals as goal
 
@@ -11,7 +11,7 @@ pub returns-in_err-account : goal.returns-in_err-account
 returns-in_err-account c = λ w h.
     let id = c.args.id.now in
     c.from_residual.ensures
-    ∙ ap (λ (ps : List PlanState). option_map (λ (s : PlanState). s.states) (find (has_id id) ps))
+    ∙ ap (λ (ps : List PlanState). option_map (λ (s : PlanState). s.states) (find (state_has_id id) ps))
     (ap plans_or_none c.in_err-account.ensures.value ∙ h.states c.args.operator.now)
     ∙ states_found id (plans_of c.args.operator.now w)
 
@@ -19,6 +19,6 @@ pub returns : goal.returns
 returns c = λ w h.
     let id = c.args.id.now in
     c.states.ensures
-    ∙ ap (λ (ps : List PlanState). option_map (λ (s : PlanState). s.states) (find (has_id id) ps))
+    ∙ ap (λ (ps : List PlanState). option_map (λ (s : PlanState). s.states) (find (state_has_id id) ps))
     (ap plans_or_none c.in_ok-account.ensures.value ∙ h.states c.args.operator.now)
     ∙ states_found id (plans_of c.args.operator.now w)

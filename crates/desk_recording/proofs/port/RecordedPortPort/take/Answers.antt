@@ -1,7 +1,7 @@
 use Rattle.std.proofs.Common.{Some, of_z, subst, sym, to_z, true, w64}
 use Rattle.desk_ends.specs.Moments.{IsMoment}
 use Rattle.desk_ends.specs.laws.Moment.{same_moment}
-use Rattle.desk_program.specs.Serving.{Denies, Takes, arrived}
+use Rattle.desk_program.specs.Serving.{Denies, TakesArrival, arrived}
 use Rattle.desk_recording.specs.Telling.{told_by}
 use Rattle.desk_recording.proofs.StepLemmas.{none_taken, takes_one}
 use Rattle.desk_recording.proofs.port.RecordedPortPort.take.Goals as goal
@@ -13,7 +13,7 @@ returns-then-keep_request-clause-taken g c =
     let moment = c.in_ok-taken.taken.moment in
     let request = c.in-Ok.request.items in
     rw (c.new.ensures.position, c.new.ensures.inner)
-    (subst (λ b. Takes (told_by g.R.Record old b) (told_by g.R.Record new b)
+    (subst (λ b. TakesArrival (told_by g.R.Record old b) (told_by g.R.Record new b)
     (arrived (to_z w64 (of_z w64 moment)) (Some request))) (sym c.if-self.false)
     (takes_one (g.R.Record.steps old) (g.R.Record.steps new) (g.R.Record.noted old) (g.R.Record.noted new)
     (to_z w64 (of_z w64 moment)) request (rw c.deref.ensures.value at c.if-keep_request.ensures.steps)

@@ -2,7 +2,7 @@ use Rattle.std.proofs.Common.{◌≡◌, ◌∙◌, ◌++◌, ap, nat_abs, subst
 use Rattle.std.proofs.lemmas.Int.{to_z-of_z}
 use Rattle.desk_record.specs.Record.{entry}
 use Rattle.desk_program.specs.Recorded.{request_entry, with_request}
-use Rattle.desk_recording.specs.Writing.{Extends}
+use Rattle.desk_recording.specs.RecordWrites.{AppendsKnown}
 use Rattle.desk_recording.proofs.WritingLemmas.{notes_synced, request_noted}
 use Rattle.desk_recording.proofs.written.WrittenRecordRecord.keep_request.Goals as goal
 
@@ -19,5 +19,6 @@ returns-then-append-clause-noted g c =
     (λ old. request_noted (record { text = old; second = c.args.self.now.second }) c.args.moment bytes
     c.if-is_empty.ensures ∙ ap (λ s. record { text = old ++ text; second = s })
     (sym (c.append.ensures.second ∙ second))) mid (g.J.Journal.writes c.sync.new.self) c.sync.result
-    (subst (λ s. Extends before mid true (entry (request_entry s bytes))) second c.if-append.ensures.text)
+    (subst (λ s. AppendsKnown before mid true (entry (request_entry s bytes))) second
+    c.if-append.ensures.text)
     c.sync.ensures

@@ -1,7 +1,7 @@
 use Rattle.std.proofs.Common.{◌≡◌, length, sym, ◌∙◌, subst, arith, None}
 use Rattle.std.proofs.lemmas.Bool.Decides.{nat_tests}
 use Rattle.desk_store.specs.World.{plans_of, held, held_at}
-use Rattle.desk_run.specs.Clusters.{IsFirstAmong}
+use Rattle.desk_run.specs.ConflictParts.{IsFirstAmong}
 use Rattle.desk_run.proofs.ClusterLemmas.{met, passed, none_among, later_filled, later_order}
 use Rattle.desk_run.proofs.pending.conflict.first_among.Goals as goal
 

@@ -5,7 +5,7 @@ use Rattle.volume4d.specs.Sweep.{Ascend}
 use Rattle.volume4d.specs.Meeting.{Spot}
 use Rattle.desk_store.specs.StoreFaults.{IsHonest}
 use Rattle.desk_store.specs.Crashes.{LeavesNoMore}
-use Rattle.desk_run.specs.Clusters.{IsFirstAmong}
+use Rattle.desk_run.specs.ConflictParts.{IsFirstAmong}
 use Rattle.desk_run.proofs.pending.conflict.first_among.Given as goal
 
 -- no point of the slabs before the rest is blocked, and the store has changed nothing

@@ -1,6 +1,6 @@
 use Rattle.std.proofs.Common.{◌≡◌, ℕ, Option, map, take}
 use Rattle.volume4d.specs.Point.{Point}
-use Rattle.desk_run.specs.Listing.{HaveLevelAt, some_hold}
+use Rattle.desk_run.specs.HeldAmong.{HaveLevelAt, some_hold}
 use Rattle.desk_run.specs.Verdicts.{shown_plan}
 use Rattle.desk_run.proofs.pending.listing.all_shown.Given as goal
 

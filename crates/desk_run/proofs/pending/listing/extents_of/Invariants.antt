@@ -1,5 +1,5 @@
 use Rattle.std.proofs.Common.{take}
-use Rattle.desk_run.specs.Listing.{HaveAll, some_hold}
+use Rattle.desk_run.specs.HeldAmong.{HaveAll, some_hold}
 use Rattle.desk_run.proofs.pending.listing.extents_of.Given as goal
 
 -- the extents have each point that one of the plans so far holds

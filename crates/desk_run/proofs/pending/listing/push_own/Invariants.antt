@@ -4,7 +4,7 @@ use Rattle.volume4d.specs.Slab.{top_held}
 use Rattle.volume4d.specs.Level.{greater}
 use Rattle.desk_rules.specs.Conflict.{at_least}
 use Rattle.desk_rules.specs.Plan.{row_holds}
-use Rattle.desk_run.specs.Listing.{own_top}
+use Rattle.desk_run.specs.HeldAmong.{own_top}
 use Rattle.desk_run.proofs.pending.listing.push_own.Given as goal
 
 -- the levels so far and those of the plans that are left are the levels of all

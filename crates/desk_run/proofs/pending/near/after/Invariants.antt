@@ -1,6 +1,6 @@
 use Rattle.std.proofs.Common.{length}
 use Rattle.volume4d.specs.Sweep.{Ascend}
-use Rattle.desk_run.specs.Listing.{AreLeft}
+use Rattle.desk_run.specs.HeldAmong.{AreLeft}
 use Rattle.desk_run.proofs.pending.near.after.Given as goal
 
 abbrev pub invariant-loop-first : goal.invariant-loop-first

@@ -4,7 +4,7 @@ use Rattle.volume4d.specs.Slab.{slabs_have, top_held}
 use Rattle.volume4d.specs.Level.{greater}
 use Rattle.volume4d.specs.Sweep.{Ascend}
 use Rattle.desk_rules.specs.Conflict.{at_least}
-use Rattle.desk_run.specs.Listing.{AreLeft}
+use Rattle.desk_run.specs.HeldAmong.{AreLeft}
 use Rattle.desk_run.proofs.pending.near.push_helds.Given as goal
 
 -- what is left of the slabs, and the levels before with those of the held slabs so far

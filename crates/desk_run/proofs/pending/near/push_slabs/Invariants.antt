@@ -3,7 +3,7 @@ use Rattle.volume4d.specs.Point.{Point}
 use Rattle.volume4d.specs.Slab.{slabs_have, top_held}
 use Rattle.volume4d.specs.Level.{greater, level_where}
 use Rattle.volume4d.specs.Sweep.{Ascend}
-use Rattle.desk_run.specs.Listing.{AreLeft}
+use Rattle.desk_run.specs.HeldAmong.{AreLeft}
 use Rattle.desk_run.proofs.pending.near.push_slabs.Given as goal
 
 -- what is left of the slabs, and the levels before with the priority where a slab so far has the point

@@ -3,7 +3,7 @@ use Rattle.volume4d.specs.Bounds.{IsFilled}
 use Rattle.volume4d.specs.Point.{Point}
 use Rattle.volume4d.specs.Slab.{slabs_have}
 use Rattle.volume4d.specs.Sweep.{Ascend}
-use Rattle.desk_run.specs.Listing.{Keep}
+use Rattle.desk_run.specs.HeldAmong.{Keep}
 use Rattle.desk_run.proofs.pending.own.push_clusters.Given as goal
 
 -- each point of the slabs is in an extent or in the rest

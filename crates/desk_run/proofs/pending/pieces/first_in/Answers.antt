@@ -2,7 +2,7 @@ use Rattle.std.proofs.Common.{refl, sym, ◌∙◌, subst, arith}
 use Rattle.std.proofs.lemmas.Result.{IfOk-weaker}
 use Rattle.desk_store.specs.World.{plans_of, held, held_at}
 use Rattle.desk_run.specs.Pieces.{IsFirstAt}
-use Rattle.desk_run.specs.Clusters.{IsFirstAmong}
+use Rattle.desk_run.specs.ConflictParts.{IsFirstAmong}
 use Rattle.desk_run.proofs.PieceLemmas.{NoneBlockedBefore, has_part, begins, met, passed, ended}
 use Rattle.desk_run.proofs.pending.pieces.first_in.Goals as goal
 

@@ -2,7 +2,7 @@ use Rattle.std.proofs.Common.{◌≡◌, refl, map, take, length, subst, ◌∙�
 use Rattle.std.proofs.lemmas.List.{map_more, take_all}
 use Rattle.sqlite.specs.State.{HasCleanDisk}
 use Rattle.sqlite.specs.Held.{state}
-use Rattle.desk_sql.specs.Batches.{span_of, AddsSpans}
+use Rattle.desk_sql.specs.Batches.{span_row_in, AddsSpans}
 use Rattle.desk_sql.specs.Putting.{AreNewSpans, TakesRoom}
 use Rattle.desk_sql.specs.Refusals.{IsRefusal}
 use Rattle.desk_sql.proofs.BatchLemmas.{begins, goes_on, no_spans, more_spans, refused_on, way_on, all_changed, refused_changed, HasAdded}
@@ -13,7 +13,7 @@ pub rows-init : goal.rows-init
 rows-init g c = (
   refl,
   begins g.S.Store c.args.tx.now.conn.now
-      (AddsSpans (map span_of (take 0 c.args.rows.now))) no_spans c.requires.under_way,
+      (AddsSpans (map span_row_in (take 0 c.args.rows.now))) no_spans c.requires.under_way,
   λ clean. takes_none (state g.S.Store c.args.tx.now.conn.now).now.trees,
 )
 
@@ -26,9 +26,9 @@ rows-preserved g c =
     let at = c.rows.row-index in (
       c.execute.ensures.same_reference ∙ c.rows.invariant.0,
       goes_on g.S.Store c.args.tx.now.conn.now c.rows.tx.conn.now c.execute.new.tx.conn.now
-          (AddsSpans (map span_of (take at rows))) _ (AddsSpans (map span_of (take (at + 1) rows)))
-          (more_spans (map span_of (take at rows)) _ (map span_of (take (at + 1) rows))
-          (map_more span_of rows at _ c.rows-test.true))
+          (AddsSpans (map span_row_in (take at rows))) _ (AddsSpans (map span_row_in (take (at + 1) rows)))
+          (more_spans (map span_row_in (take at rows)) _ (map span_row_in (take (at + 1) rows))
+          (map_more span_row_in rows at _ c.rows-test.true))
           c.rows.invariant.1 c.execute.ensures.changed.remembered
           c.in_ok-execute.ensures.changed.done,
       λ clean. takes_both 0 0 at 0 0 1 (state g.S.Store c.args.tx.now.conn.now).now.trees
@@ -45,8 +45,8 @@ returns-in_err-execute-clause-changed g c =
     let new = c.execute.new.tx.conn.now in
     let rows = c.args.rows.now in
     let at = c.rows.row-index in
-    let changes = AddsSpans (map span_of (take at rows)) in
-    let refused : AreNewSpans (map span_of rows) (state g.S.Store old).now
+    let changes = AddsSpans (map span_row_in (take at rows)) in
+    let refused : AreNewSpans (map span_row_in rows) (state g.S.Store old).now
     → HasCleanDisk (state g.S.Store new) → IsRefusal g.S.Store old new c.in_err-execute.field-0.0 =
     λ are_new clean.
     (let early : HasCleanDisk (state g.S.Store mid) =
@@ -67,6 +67,6 @@ returns-clause-changed g c =
     let all : take at rows ≡ rows = take_all at rows (omega (arith, c.rows-test.false)) in
     let count : at ≡ length rows = omega arith in
     all_changed g.S.Store old new
-    (subst (λ xs. HasAdded g.S.Store old new (AddsSpans (map span_of xs))) all c.rows.invariant.1)
+    (subst (λ xs. HasAdded g.S.Store old new (AddsSpans (map span_row_in xs))) all c.rows.invariant.1)
     (subst (λ n. HasCleanDisk (state g.S.Store new) → TakesRoom 0 0 n (state g.S.Store old).now.trees
     (state g.S.Store new).now.trees) count c.rows.invariant.2)

@@ -6,7 +6,7 @@ use Rattle.std.proofs.lemmas.List.{map_more}
 use Rattle.desk_sql.specs.Rows.{RemovesPlan}
 use Rattle.desk_sql.specs.Batches.{RemovesPlans}
 use Rattle.desk_sql.specs.Refusals.{IsRefusal}
-use Rattle.desk_sql.specs.Changes.{key_row}
+use Rattle.desk_sql.specs.RowChanges.{key_row}
 use Rattle.desk_sql.proofs.StopLemmas.{refused_unprepared}
 use Rattle.desk_sql.proofs.BatchLemmas.{begins_prepared, goes_on, keeps_unprepared, refused_on, way_on}
 use Rattle.desk_sql.proofs.ClearLemmas.{none_removed, one_removed}

@@ -3,9 +3,9 @@ use Rattle.sqlite.specs.Values.{bound}
 use Rattle.sqlite.specs.State.{HasCleanDisk}
 use Rattle.sqlite.specs.Held.{state}
 use Rattle.desk_sql.specs.Batches.{IsUnderWay}
-use Rattle.desk_sql.specs.Changes.{changes, fits, takes}
+use Rattle.desk_sql.specs.RowChanges.{changes, fits, takes}
 use Rattle.desk_sql.specs.Changing.{IsSureChange}
-use Rattle.desk_sql.specs.Putting.{Takes}
+use Rattle.desk_sql.specs.Putting.{TextTakes}
 use Rattle.desk_sql.specs.Statements.{Changes}
 use Rattle.desk_sql.specs.Refusals.{IsRefusal}
 use Rattle.desk_sql.proofs.StopLemmas.{refused_change}
@@ -36,7 +36,7 @@ returns-clause-changed g c =
     omega (arith, c.run.ensures.remembered.doubt, clean) in
     let known : Changes c.text.result.now (bound c.args.params.now) (changes change) =
     rw c.requires.given c.text.ensures.changed in
-    let room : Takes c.text.result.now (bound c.args.params.now) (takes change) =
+    let room : TextTakes c.text.result.now (bound c.args.params.now) (takes change) =
     rw c.requires.given c.text.ensures.room in record {
       done = λ clean. makes g.S.Store old new c.requires.ready (early clean) (changes change)
           (c.in_ok-run.ensures.shown clean)

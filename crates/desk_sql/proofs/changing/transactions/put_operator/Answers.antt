@@ -2,7 +2,7 @@ use Rattle.std.proofs.Common.{rules, IsTrue, sym, subst}
 use Rattle.sqlite.specs.State.{HasCleanDisk}
 use Rattle.sqlite.specs.Held.{state}
 use Rattle.desk_sql.specs.Rows.{operator_row}
-use Rattle.desk_sql.specs.Changing.{FitsOperator, HasRoom, IsShort}
+use Rattle.desk_sql.specs.Changing.{FitsOperator, HasRowids, IsShort}
 use Rattle.desk_sql.proofs.EnrolLemmas.{fits_unlisted}
 use Rattle.desk_sql.proofs.changing.transactions.put_operator.Goals as goal
 
@@ -13,7 +13,7 @@ returns-in_err-insert_operator g c =
     let start = (state g.S.Store c.args.connection.now).now in
     let mid = c.is_enrolled.new.connection in
     let begun = c.transaction-tx.result.conn.now in
-    let fits : IsShort name × HasRoom 1 (start.trees 0) → HasCleanDisk (state g.S.Store mid)
+    let fits : IsShort name × HasRowids 1 (start.trees 0) → HasCleanDisk (state g.S.Store mid)
     → IsTrue (state g.S.Store mid).is_open → FitsOperator name row (state g.S.Store begun).now =
     λ room clean live.
     subst (λ h. FitsOperator name row (state g.S.Store h).now) (sym c.transaction-tx.ensures.begun)

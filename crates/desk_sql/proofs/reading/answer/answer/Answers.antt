@@ -2,7 +2,7 @@ use Rattle.std.proofs.Common.{arith, rules, IsTrue}
 use Rattle.sqlite.specs.Values.{bound}
 use Rattle.sqlite.specs.State.{HasCleanDisk}
 use Rattle.sqlite.specs.Held.{state}
-use Rattle.desk_sql.specs.Effects.{IsKept, Spares}
+use Rattle.desk_sql.specs.Effects.{Spares, StaysShown}
 use Rattle.desk_sql.specs.Frames.{OnlyReads}
 use Rattle.desk_sql.specs.Rows.{tables_of, Lists}
 use Rattle.desk_sql.specs.Queries.{order_of, rows_of}
@@ -20,7 +20,7 @@ pub returns-in_err-statement-clause-answers : goal.returns-in_err-statement-clau
 returns-in_err-statement-clause-answers g c =
     let old = c.args.connection.now in
     let new = c.prepare.new.self in
-    let kept : IsKept g.S.Store old new = λ clean live.
+    let kept : StaysShown g.S.Store old new = λ clean live.
     (if_either g.S.Store old new (c.settled_and_sound.ensures.settled c.requires.settled)
     live (unprepared _ _ _ _ _ (c.in_err-statement.ensures.err clean (bound c.args.params.now)))) in
     let reads : OnlyReads g.S.Store old new =
@@ -50,7 +50,7 @@ returns-clause-answers g c =
     rw c.requires.given c.text.ensures in
     let sure = sure_here g.S.Store old sql params c.requires.ready known.sure in
     let plain = plain_if g.S.Store old sql params sure in
-    let kept : IsKept g.S.Store old new = λ clean live.
+    let kept : StaysShown g.S.Store old new = λ clean live.
     (let it = c.in_ok-statement.ensures.ok (early clean) in
     kept_by_query g.S.Store old mid new sql text params (start clean) (plain (start clean)) it.1 it.0
     (c.settled_and_sound.ensures.settled c.requires.settled)

@@ -1,7 +1,7 @@
 use Rattle.std.proofs.Common.{[], rules, arith, IsTrue}
 use Rattle.sqlite.specs.State.{HasCleanDisk}
 use Rattle.sqlite.specs.Held.{state}
-use Rattle.desk_sql.specs.Effects.{IsKept, Spares}
+use Rattle.desk_sql.specs.Effects.{Spares, StaysShown}
 use Rattle.desk_sql.specs.Frames.{OnlyReads}
 use Rattle.desk_sql.specs.Refusals.{IsRefusal}
 use Rattle.desk_sql.proofs.ReadLemmas.{open_after, open_if, if_either, sure_plain, unprepared}
@@ -14,7 +14,7 @@ pub returns-in_err-statement-clause-answers : goal.returns-in_err-statement-clau
 returns-in_err-statement-clause-answers g c =
     let old = c.args.connection.now in
     let new = c.prepare.new.self in
-    let kept : IsKept g.S.Store old new = λ clean live.
+    let kept : StaysShown g.S.Store old new = λ clean live.
     (if_either g.S.Store old new (c.settled_and_sound.ensures.settled c.requires.settled)
     live (unprepared _ _ _ _ _ (c.in_err-statement.ensures.err clean []))) in
     let reads : OnlyReads g.S.Store old new =
@@ -38,7 +38,7 @@ returns-clause-answers g c =
     omega (arith, c.query_all.ensures.survives.clean, clean) in
     let start : HasCleanDisk (state g.S.Store new) → HasCleanDisk (state g.S.Store old) = λ clean.
     omega (arith, c.prepare.ensures.survives.clean, early clean) in
-    let kept : IsKept g.S.Store old new = λ clean live.
+    let kept : StaysShown g.S.Store old new = λ clean live.
     (let it = c.in_ok-statement.ensures.ok (early clean) in
     kept_by_query g.S.Store old mid new sql text [] (start clean)
     (λ live. sure_plain _ sql [] (c.requires.sure (start clean) live)) it.1 it.0

@@ -1,6 +1,6 @@
 use Rattle.std.proofs.Common.{◌≡◌, false}
 use Rattle.desk_sql.specs.Frames.{Remembers}
-use Rattle.desk_sql.specs.Keeping.{KeepsOn}
+use Rattle.desk_sql.specs.Takers.{KeepsOn}
 use Rattle.desk_sql.specs.Taking.{TakesOn}
 use Rattle.desk_sql.proofs.TakingLemmas.{IsUnderWay}
 use Rattle.desk_sql.proofs.reading.taking.hand_all.Given as goal

@@ -3,10 +3,10 @@ use Rattle.sqlite.specs.Values.{bound}
 use Rattle.sqlite.specs.Order.{Row}
 use Rattle.sqlite.specs.State.{HasCleanDisk, Shown}
 use Rattle.sqlite.specs.Held.{state}
-use Rattle.desk_sql.specs.Effects.{IsKept, Spares}
+use Rattle.desk_sql.specs.Effects.{Spares, StaysShown}
 use Rattle.desk_sql.specs.Frames.{OnlyReads}
 use Rattle.desk_sql.specs.Refusals.{IsRefusal}
-use Rattle.desk_sql.specs.Taking.{IsCutShort}
+use Rattle.desk_sql.specs.Taking.{IsTakenInPart}
 use Rattle.desk_sql.proofs.AskLemmas.{plain_if, refused_unprepared}
 use Rattle.desk_sql.proofs.HandLemmas.{cut_short, refused_begun}
 use Rattle.desk_sql.proofs.LeavingLemmas.{begun_after, plain_text, was_prepared, handed_after, kept_after, kept_refused, spared_handed, reads_unprepared, reads_prepared, reads_handed}
@@ -19,7 +19,7 @@ pub returns-in_err-statement-clause-answers : goal.returns-in_err-statement-clau
 returns-in_err-statement-clause-answers g c =
     let old = c.args.connection.now in
     let new = c.prepare.new.self in
-    let kept : IsKept g.S.Store old new = λ clean live.
+    let kept : StaysShown g.S.Store old new = λ clean live.
     (if_either g.S.Store old new (c.settled_and_sound.ensures.settled c.requires.settled)
     live (unprepared _ _ _ _ _ (c.in_err-statement.ensures.err clean (bound c.args.params.now)))) in
     let reads : OnlyReads g.S.Store old new =
@@ -43,7 +43,7 @@ returns-in_err-rows-clause-answers g c =
     let settled = c.settled_and_sound.ensures.settled c.requires.settled in
     let begins = rw c.in_err-rows.was at c.query_prepared.follows.holds-at-none in
     let plain = plain_if g.S.Store old sql params c.requires.sure in
-    let kept : IsKept g.S.Store old new = λ clean live.
+    let kept : StaysShown g.S.Store old new = λ clean live.
     (kept_refused g.S.Store sql text params old mid plain c.in_ok-statement.ensures.ok
     c.prepare.ensures.survives new begins.survives clean settled live _ (begins.err clean)) in
     let reads : OnlyReads g.S.Store old new = reads_prepared g.S.Store old mid new _ kept
@@ -95,7 +95,7 @@ returns-clause-answers g c =
     (g.T.RowSink.has_taken c.args.taker.now) has c.requires.fresh c.hand_all.result
     (c.hand_all.ensures.handed.handed clean)) in
     let cause : HasCleanDisk (state g.S.Store new) → IsTrue (state g.S.Store new).is_open
-    → IfErr c.hand_all.result (IsCutShort g.S.Store old new
+    → IfErr c.hand_all.result (IsTakenInPart g.S.Store old new
     (Shown sql params (state g.S.Store old) (state g.S.Store new)) g.T.RowSink.refuses) = λ clean live.
     (let here : HasCleanDisk (state g.S.Store mid) = omega (arith, early clean, survives.clean) in
     let prepared = c.in_ok-statement.ensures.ok here in
@@ -106,7 +106,7 @@ returns-clause-answers g c =
     c.prepare.ensures.survives (start clean) first new given.0 given.1 survives.counts survives.limit
     g.T.RowSink.refuses live (g.T.RowSink.has_taken c.args.taker.now) c.requires.fresh c.hand_all.result
     (c.hand_all.ensures.handed.cause clean)) in
-    let kept : IsKept g.S.Store old new = λ clean live.
+    let kept : StaysShown g.S.Store old new = λ clean live.
     (kept_after g.S.Store sql text params old mid plain c.in_ok-statement.ensures.ok
     c.prepare.ensures.survives first (early clean) survives
     (begins.begun (early clean)) new settled live (c.hand_all.ensures.handed.left clean)) in

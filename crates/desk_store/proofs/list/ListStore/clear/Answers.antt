@@ -2,7 +2,7 @@ use Rattle.std.proofs.Common.{◌∙◌, ap, sym, refl}
 use Rattle.desk_store.specs.Changes.{clear_rows}
 use Rattle.desk_store.specs.declared.change.Change.TheVariants.{Clear}
 use Rattle.desk_store.specs.StoreChange.{changed_by}
-use Rattle.desk_store.specs.Listing.{world_of, with_count, without}
+use Rattle.desk_store.specs.Listing.{world_in_lists, with_count, without}
 use Rattle.desk_store.proofs.ChangeLemmas.{cleared, changed}
 use Rattle.desk_store.proofs.CountLemmas.{listed_same}
 use Rattle.desk_store.proofs.KeptLemmas.{clear_kept, clear_within}
@@ -25,7 +25,7 @@ returns c =
     let plans = c.self.inside.plans.entries in
     let more = c.remove_all.new.plans.entries in
     let left = c.remove_all.ensures ∙ ap (λ js. without o js plans) c.deref.ensures.value in
-    ap (λ es. world_of es more) c.set_count.ensures
+    ap (λ es. world_in_lists es more) c.set_count.ensures
     ∙ changed (clear_rows ids) c.args.self.now ops (with_count o c.count_of-count.result ops) plans more o
     c.self.view_is (listed_same o c.count_of-count.result ops)
     (cleared o ids plans more c.self.invariant.0.world.plans left)
@@ -41,4 +41,4 @@ invariant_of-self c =
     rw c.set_count.ensures (clear_kept c.args.self.now ops plans more o c.count_of-count.result
     ids (Clear o c.args.ids.now) refl c.self.view_is
     c.self.invariant c.requires
-    (ap (λ es. world_of es more) (sym c.set_count.ensures) ∙ returns c) c.count_of-count.ensures)
+    (ap (λ es. world_in_lists es more) (sym c.set_count.ensures) ∙ returns c) c.count_of-count.ensures)

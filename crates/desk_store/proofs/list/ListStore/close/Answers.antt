@@ -3,7 +3,7 @@ use Rattle.std.specs.BTreeMap.{is_at}
 use Rattle.std.specs.Map.{set_value}
 use Rattle.desk_store.specs.Changes.{close_row}
 use Rattle.desk_store.specs.StoreChange.{changed_by}
-use Rattle.desk_store.specs.Listing.{world_of}
+use Rattle.desk_store.specs.Listing.{world_in_lists}
 use Rattle.desk_store.proofs.EntryLemmas.{key_cmp}
 use Rattle.desk_store.proofs.ChangeLemmas.{found_closed, none_closed, changed}
 use Rattle.desk_store.proofs.KeptLemmas.{close_kept}
@@ -19,11 +19,11 @@ returns c =
     let plans = c.self.inside.plans.entries in
     let sorted = c.get_mut.ensures.ordered in
     elim c.match-get_mut.branch [
-      | in-Some w ↦ ap (λ s. world_of s.operators.entries s.plans.entries) w.self-inside-is
+      | in-Some w ↦ ap (λ s. world_in_lists s.operators.entries s.plans.entries) w.self-inside-is
           ∙ changed (close_row id) c.args.self.now ops ops plans _ o c.self.view_is refl
           (found_closed o id w.in-Some.plan.now plans _ sorted (sym w.in-Some.ensures.value)
           ((c.get_mut.follows.holds _).0 ∙ ap (set_value (is_at (key_cmp (o, id))) plans) w.close.ensures))
-      | in_default w ↦ ap (λ s. world_of s.operators.entries s.plans.entries) w.self-inside-is
+      | in_default w ↦ ap (λ s. world_in_lists s.operators.entries s.plans.entries) w.self-inside-is
           ∙ changed (close_row id) c.args.self.now ops ops plans _ o c.self.view_is refl
           (none_closed o id plans _ sorted (sym w.in_default.ensures.value)
           (ap (λ m. m.entries) c.get_mut.follows.holds-at-none))
@@ -39,9 +39,9 @@ invariant_of-self c =
     c.self.view_is c.self.invariant c.requires in
     elim c.match-get_mut.branch [
       | in-Some w ↦ let same = ap (λ s. s.operators.entries) w.self-inside-is
-          in rw same (kept (ap (λ es. world_of es c.match-get_mut.self-inside.plans.entries) (sym same)
+          in rw same (kept (ap (λ es. world_in_lists es c.match-get_mut.self-inside.plans.entries) (sym same)
           ∙ returns c))
       | in_default w ↦ let same = ap (λ s. s.operators.entries) w.self-inside-is
-          in rw same (kept (ap (λ es. world_of es c.match-get_mut.self-inside.plans.entries) (sym same)
+          in rw same (kept (ap (λ es. world_in_lists es c.match-get_mut.self-inside.plans.entries) (sym same)
           ∙ returns c))
     ]

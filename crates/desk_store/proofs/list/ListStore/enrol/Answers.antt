@@ -1,7 +1,7 @@
 use Rattle.std.proofs.Common.{◌∙◌}
 use Rattle.desk_store.specs.StoreChange.{changed_by}
 use Rattle.desk_store.specs.declared.change.Change.TheVariants.{Enrol}
-use Rattle.desk_store.specs.Listing.{world_of, filed_all}
+use Rattle.desk_store.specs.Listing.{world_in_lists, filed_all}
 use Rattle.desk_store.specs.laws.Content.{enrol_content}
 use Rattle.desk_store.proofs.StoreLemmas.{enrolled}
 use Rattle.desk_store.proofs.CountLemmas.{count_is, count_enrolled}
@@ -21,8 +21,8 @@ invariant_of-self-2 c =
     let ops = c.self.inside.operators.entries in
     let plans = c.self.inside.plans.entries in
     let o = c.args.operator in (
-      kept_by (Enrol o c.args.ceiling) (world_of ops plans) c.args.self.now
-          (world_of c.insert.new.self.entries plans) c.self.view_is c.self.invariant.0
+      kept_by (Enrol o c.args.ceiling) (world_in_lists ops plans) c.args.self.now
+          (world_in_lists c.insert.new.self.entries plans) c.self.view_is c.self.invariant.0
           (λ content. enrol_content o c.args.ceiling c.args.self.now content c.requires c.name_within.ensures)
           (returns-clause-ok c),
       rw c.in_ok-insert.ensures.entries (count_enrolled o

@@ -1,6 +1,6 @@
 use Rattle.std.proofs.Common.{◌≤◌, ◌∙◌, ap, arith}
 use Rattle.desk_rules.specs.Limits.{max_plans}
-use Rattle.desk_store.specs.Listing.{world_of}
+use Rattle.desk_store.specs.Listing.{world_in_lists}
 use Rattle.desk_store.proofs.EntryLemmas.{key_cmp}
 use Rattle.std.specs.BTreeMap.{insert_entry}
 use Rattle.desk_store.proofs.KeptLemmas.{put_first, put_again, count_within}
@@ -46,7 +46,7 @@ returns-clause-ok c =
     let put = c.in_ok-before.ensures.entries ∙ ap (insert_entry key_cmp plans (o, c.args.row.id))
     c.in_ok-plan.ensures in
     elim c.if-is_none.branch [
-      | then-is_none w ↦ w.self-is ∙ ap (λ es. world_of es more) w.set_count.ensures
+      | then-is_none w ↦ w.self-is ∙ ap (λ es. world_in_lists es more) w.set_count.ensures
           ∙ (put_first c.args.self.now ops plans more o c.args.row c.in_ok-before.before
           w.count_in-count.result c.self.view_is c.self.invariant c.requires c.row_within.ensures
           c.in_ok-before.ensures.was_ordered put c.in_ok-before.ensures.old w.if-is_none.ensures

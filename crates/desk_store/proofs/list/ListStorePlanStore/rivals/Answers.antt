@@ -1,7 +1,7 @@
 use Rattle.std.proofs.Common.{◌∙◌, ap}
 use Rattle.desk_rules.specs.Conflict.{at_least}
 use Rattle.desk_store.specs.World.{plans_of, held, held_at}
-use Rattle.desk_store.specs.Listing.{world_of}
+use Rattle.desk_store.specs.Listing.{world_in_lists}
 use Rattle.desk_store.specs.laws.Rival.{held_by_rivals}
 use Rattle.desk_store.proofs.list.ListStorePlanStore.rivals.Goals as goal
 
@@ -9,6 +9,6 @@ pub returns-clause-value : goal.returns-clause-value
 returns-clause-value c = λ _ x inside.
     let o = c.args.operator.now in
     let id = c.args.id.now in
-    let before = world_of c.self.inside.operators.entries c.self.inside.plans.entries in
+    let before = world_in_lists c.self.inside.operators.entries c.self.inside.plans.entries in
     c.in_ok-rivals_of.ensures x inside ∙ ap (at_least c.args.least) (held_by_rivals o id before x)
     ∙ ap (λ w. at_least c.args.least (held_at (plans_of o w) (held w o) id x)) c.self.view_is

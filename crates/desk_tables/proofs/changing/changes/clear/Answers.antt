@@ -5,13 +5,13 @@ use Rattle.desk_sql.specs.Batches.{RemovesPlans}
 use Rattle.desk_store.specs.declared.change.Change.TheVariants.{Clear}
 use Rattle.desk_tables.specs.Tables.{id_text}
 use Rattle.desk_store.specs.Content.{IsId}
-use Rattle.desk_tables.specs.TableChanges.{ChangesRows, IsWithin}
+use Rattle.desk_tables.specs.TableChanges.{ChangesRows, IsWithinLimits}
 use Rattle.desk_tables.proofs.AfterLemmas.{committed_as, made_cleared}
 use Rattle.desk_tables.proofs.CauseLemmas.{blamed}
 use Rattle.desk_tables.proofs.changing.changes.clear.Goals as goal
 
 pub returns-in-Ok-clause-made : goal.returns-in-Ok-clause-made
-unfolding ChangesRows IsWithin
+unfolding ChangesRows IsWithinLimits
 returns-in-Ok-clause-made g c =
     let operator = c.args.operator.now in
     let texts = map string_bytes c.deref-2.result.now in
@@ -24,7 +24,7 @@ returns-in-Ok-clause-made g c =
     c.requires.fits
 
 pub returns-clause-made : goal.returns-clause-made
-unfolding ChangesRows IsWithin
+unfolding ChangesRows IsWithinLimits
 returns-clause-made g c =
     let operator = c.args.operator.now in
     let texts = map string_bytes c.deref-2.result.now in

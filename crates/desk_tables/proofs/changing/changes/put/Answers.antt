@@ -4,7 +4,7 @@ use Rattle.sqlite.specs.State.{HasCleanDisk}
 use Rattle.sqlite.specs.Held.{state}
 use Rattle.desk_sql.specs.Rows as sql
 use Rattle.desk_sql.specs.Putting.{IsPuttable}
-use Rattle.desk_sql.specs.Batches.{PutsPlan, volume_of, cover_of, span_of}
+use Rattle.desk_sql.specs.Batches.{PutsPlan, volume_row_in, cover_of, span_row_in}
 use Rattle.desk_store.specs.Changes.{filed_by}
 use Rattle.desk_tables.specs.Tables.{usage_number, aircraft_number, area_rows, area_covers, ArePlanSpanRows}
 use Rattle.desk_store.specs.Content.{IsBlock}
@@ -22,17 +22,17 @@ returns-in-Ok-clause-made g c =
     let operator = c.args.operator.now in
     let row = c.args.row.now in
     let text = c.encode-id.result.now in
-    let volumes = map volume_of c.deref-3.result.now in
+    let volumes = map volume_row_in c.deref-3.result.now in
     let covers = map cover_of c.deref-3.result.now in
-    let spans = map span_of c.deref-4.result.now in
+    let spans = map span_row_in c.deref-4.result.now in
     made_put g.S.Store c.args.connection.now c.put_plan.new.connection c.args.kept.now.world
     c.requires.stands _ _ tt operator row text volumes covers spans c.encode-id.ensures.text
-    (ap (map volume_of) c.deref-3.ensures.value ∙ c.in_ok-volumes.ensures.volumes
+    (ap (map volume_row_in) c.deref-3.ensures.value ∙ c.in_ok-volumes.ensures.volumes
     ∙ ap (λ name. area_rows (filed_by name row)) c.as_str.ensures.value)
     (ap (map cover_of) c.deref-3.ensures.value ∙ c.in_ok-volumes.ensures.covers
     ∙ ap (λ name. area_covers (filed_by name row)) c.as_str.ensures.value)
-    (subst (ArePlanSpanRows (filed_by operator row)) (sym (ap (map span_of) c.deref-4.ensures.value))
-    (subst (λ name. ArePlanSpanRows (filed_by name row) (map span_of c.in_ok-spans.spans.items))
+    (subst (ArePlanSpanRows (filed_by operator row)) (sym (ap (map span_row_in) c.deref-4.ensures.value))
+    (subst (λ name. ArePlanSpanRows (filed_by name row) (map span_row_in c.in_ok-spans.spans.items))
     c.as_str-2.ensures.value c.in_ok-spans.ensures))
     (record {
       id = parsed_id text row.id c.encode-id.ensures.parsed;
@@ -52,12 +52,12 @@ pub returns-in-Ok-clause-known : goal.returns-in-Ok-clause-known
 returns-in-Ok-clause-known g c =
     let operator = c.args.operator.now in
     let row = c.args.row.now in
-    let spans = map span_of c.in_ok-spans.spans.items in (
+    let spans = map span_row_in c.in_ok-spans.spans.items in (
       c.lengths_with.ensures.kept,
       plan_near c.one_list_of_ranges.ensures c.lengths_with.result (filed_by operator row) spans
           (subst (λ name. ArePlanSpanRows (filed_by name row) spans) c.as_str-2.ensures.value
           c.in_ok-spans.ensures)
-          (subst (λ records. AllByRecursion (IsKnownRow c.lengths_with.result) (map span_of records))
+          (subst (λ records. AllByRecursion (IsKnownRow c.lengths_with.result) (map span_row_in records))
           c.deref-in-Ok.ensures.value c.lengths_with.ensures.known),
     )
 
@@ -66,17 +66,17 @@ returns-clause-made g c =
     let operator = c.args.operator.now in
     let row = c.args.row.now in
     let text = c.encode-id.result.now in
-    let volumes = map volume_of c.deref-3.result.now in
+    let volumes = map volume_row_in c.deref-3.result.now in
     let covers = map cover_of c.deref-3.result.now in
-    let spans = map span_of c.deref-4.result.now in
+    let spans = map span_row_in c.deref-4.result.now in
     made_put g.S.Store c.args.connection.now c.put_plan.new.connection c.args.kept.now.world
     c.requires.stands _ _ tt operator row text volumes covers spans c.encode-id.ensures.text
-    (ap (map volume_of) c.deref-3.ensures.value ∙ c.in_ok-volumes.ensures.volumes
+    (ap (map volume_row_in) c.deref-3.ensures.value ∙ c.in_ok-volumes.ensures.volumes
     ∙ ap (λ name. area_rows (filed_by name row)) c.as_str.ensures.value)
     (ap (map cover_of) c.deref-3.ensures.value ∙ c.in_ok-volumes.ensures.covers
     ∙ ap (λ name. area_covers (filed_by name row)) c.as_str.ensures.value)
-    (subst (ArePlanSpanRows (filed_by operator row)) (sym (ap (map span_of) c.deref-4.ensures.value))
-    (subst (λ name. ArePlanSpanRows (filed_by name row) (map span_of c.in_ok-spans.spans.items))
+    (subst (ArePlanSpanRows (filed_by operator row)) (sym (ap (map span_row_in) c.deref-4.ensures.value))
+    (subst (λ name. ArePlanSpanRows (filed_by name row) (map span_row_in c.in_ok-spans.spans.items))
     c.as_str-2.ensures.value c.in_ok-spans.ensures))
     (record {
       id = parsed_id text row.id c.encode-id.ensures.parsed;
@@ -99,9 +99,9 @@ returns-clause-cause g c room clean live =
     let operator = c.args.operator.now in
     let row = c.args.row.now in
     let text = c.encode-id.result.now in
-    let volumes = map volume_of c.deref-3.result.now in
+    let volumes = map volume_row_in c.deref-3.result.now in
     let covers = map cover_of c.deref-3.result.now in
-    let spans = map span_of c.deref-4.result.now in
+    let spans = map span_row_in c.deref-4.result.now in
     let early : HasCleanDisk (state g.S.Store old) = omega (
       arith,
       c.put_plan.ensures.committed.over.doubt,
@@ -111,12 +111,12 @@ returns-clause-cause g c room clean live =
     let it = puttable c.covers_are_few.ensures operator row text volumes covers spans
     c.args.kept.now.world (state g.S.Store old).now row.priority c.usage_number.result
     c.aircraft_number.result c.encode-id.ensures.text
-    (ap (map volume_of) c.deref-3.ensures.value ∙ c.in_ok-volumes.ensures.volumes
+    (ap (map volume_row_in) c.deref-3.ensures.value ∙ c.in_ok-volumes.ensures.volumes
     ∙ ap (λ name. area_rows (filed_by name row)) c.as_str.ensures.value)
     (ap (map cover_of) c.deref-3.ensures.value ∙ c.in_ok-volumes.ensures.covers
     ∙ ap (λ name. area_covers (filed_by name row)) c.as_str.ensures.value)
-    (subst (ArePlanSpanRows (filed_by operator row)) (sym (ap (map span_of) c.deref-4.ensures.value))
-    (subst (λ name. ArePlanSpanRows (filed_by name row) (map span_of c.in_ok-spans.spans.items))
+    (subst (ArePlanSpanRows (filed_by operator row)) (sym (ap (map span_row_in) c.deref-4.ensures.value))
+    (subst (λ name. ArePlanSpanRows (filed_by name row) (map span_row_in c.in_ok-spans.spans.items))
     c.as_str-2.ensures.value c.in_ok-spans.ensures))
     (record {
       id = parsed_id text row.id c.encode-id.ensures.parsed;

@@ -1,5 +1,5 @@
 use Rattle.std.proofs.Common.{◌≡◌, map, take}
-use Rattle.desk_sql.specs.Batches.{span_of}
+use Rattle.desk_sql.specs.Batches.{span_row_in}
 use Rattle.desk_store.specs.Changes.{filed_by}
 use Rattle.desk_tables.specs.Tables.{AreSpanRowsFrom}
 use Rattle.desk_tables.proofs.changing.records.area_spans.Given as goal
@@ -8,4 +8,4 @@ use Rattle.desk_tables.proofs.changing.records.area_spans.Given as goal
 abbrev pub invariant-loop-volume : goal.invariant-loop-volume
 invariant-loop-volume l =
     (l.place ≡ l.volume-index) × AreSpanRowsFrom (filed_by l.operator l.plan) 0
-    (take l.volume-index l.volumes) (map span_of l.rows.items)
+    (take l.volume-index l.volumes) (map span_row_in l.rows.items)

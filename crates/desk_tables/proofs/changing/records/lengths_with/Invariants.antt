@@ -1,10 +1,10 @@
 use Rattle.std.proofs.Common.{drop}
-use Rattle.desk_sql.specs.Batches.{span_of}
+use Rattle.desk_sql.specs.Batches.{span_row_in}
 use Rattle.desk_tables.specs.SpanBounds.{IsKnownRow, Keeps}
 use Rattle.desk_tables.proofs.SpanBoundLemmas.{AreLeft}
 use Rattle.desk_tables.proofs.changing.records.lengths_with.Given as goal
 
 abbrev pub invariant-loop-span : goal.invariant-loop-span
 invariant-loop-span l =
-    AreLeft (λ n s. IsKnownRow n (span_of s)) l.spans (drop l.span-index l.spans) l.after
+    AreLeft (λ n s. IsKnownRow n (span_row_in s)) l.spans (drop l.span-index l.spans) l.after
     × Keeps l.span_bounds l.after

@@ -1,6 +1,6 @@
 use Rattle.std.proofs.Common.{get_or, [], ◌∷◌, map, ap, sym, ◌∙◌, ◌+◌}
 use Rattle.volume4d.specs.FootprintBytes.{footprint_bytes}
-use Rattle.desk_sql.specs.Batches.{volume_of, cover_of}
+use Rattle.desk_sql.specs.Batches.{volume_row_in, cover_of}
 use Rattle.desk_store.specs.Changes.{filed_by}
 use Rattle.desk_tables.specs.Tables.{canon_bytes}
 use Rattle.desk_tables.proofs.RecordLemmas.{map_append, at_both, volume_put, cover_put}
@@ -28,10 +28,10 @@ loop-volume-preserved c =
     ∙ at_both (λ b. b.items) (λ v. canon_bytes v.footprint) c.args.canon.now volumes i canon volume covered
     c.loop-volume-test.true ∙ ap (λ v. canon_bytes v.footprint) (sym c.volume-item.is) in (
       ap (λ n. n + 1) c.loop-volume.invariant.0,
-      ap (map volume_of) c.in_ok-push.ensures.items
-          ∙ map_append volume_of c.loop-volume.rows.items (c.volume_row.result ∷ [])
+      ap (map volume_row_in) c.in_ok-push.ensures.items
+          ∙ map_append volume_row_in c.loop-volume.rows.items (c.volume_row.result ∷ [])
           ∙ volume_put p volumes i place c.volume-item.result c.volume-item.result
-          (map volume_of c.loop-volume.rows.items) (volume_of c.volume_row.result) c.args.id.now
+          (map volume_row_in c.loop-volume.rows.items) (volume_row_in c.volume_row.result) c.args.id.now
           c.deref.result.now
           c.loop-volume-test.true c.volume-item.is c.loop-volume.invariant.0 c.requires.named bytes
           c.loop-volume.invariant.1 c.volume_row.ensures.volume,

@@ -3,7 +3,7 @@ use Rattle.desk_sql.specs.Effects.{Commits}
 use Rattle.desk_store.specs.World.{World}
 use Rattle.desk_tables.specs.Copying.{AddsWorldRows, BlamesNew}
 use Rattle.desk_tables.specs.Store.{Stands}
-use Rattle.desk_tables.specs.Writing.{CanBeFilled}
+use Rattle.desk_tables.specs.Writable.{CanBeFilled}
 use Rattle.desk_sql.specs.Finding.{Holds}
 use Rattle.desk_tables.proofs.CopyLemmas.{written_stands}
 use Rattle.desk_tables.proofs.FillLemmas.{blames_later, can_fill}

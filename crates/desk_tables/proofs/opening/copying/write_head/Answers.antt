@@ -4,7 +4,7 @@ use Rattle.desk_sql.specs.Rows as sql
 use Rattle.desk_sql.specs.Rows.{AddsPlan, tables_of}
 use Rattle.desk_store.specs.World.{Filed}
 use Rattle.desk_tables.specs.Opening.{BlamesReading}
-use Rattle.desk_tables.specs.Tables.{aircraft_number, id_text, plan_row, usage_number}
+use Rattle.desk_tables.specs.Tables.{aircraft_number, id_text, row_of_plan, usage_number}
 use Rattle.desk_tables.proofs.FillLemmas.{head_fits, heads_left}
 use Rattle.desk_tables.proofs.OpeningLemmas.{blames_reading, told_as}
 use Rattle.desk_tables.proofs.opening.copying.write_head.Goals as goal
@@ -25,7 +25,7 @@ returns-in_err-insert_plan-clause-cause g c later all =
     let priority : c.plan.inside.row.priority ≡ p.row.priority =
     ap (λ (q : Filed). q.row.priority) c.plan.view_is in
     let row : sql.plan_row c.as_str.result.now c.encode.result.now c.plan.inside.row.priority
-    c.usage_number.result c.aircraft_number.result ≡ plan_row p =
+    c.usage_number.result c.aircraft_number.result ≡ row_of_plan p =
     λ i. sql.plan_row (name i) (text i) (priority i) (usage i) (aircraft i) in
     told_as (BlamesReading g.S.Store old new) c.from_residual.result _ c.from_residual.ensures.1
     (blames_reading g.S.Store old old new c.in_err-insert_plan.field-0.0 (omega arith) refl
@@ -48,7 +48,7 @@ returns-clause-left g c later all clean =
     let priority : c.plan.inside.row.priority ≡ p.row.priority =
     ap (λ (q : Filed). q.row.priority) c.plan.view_is in
     let row : sql.plan_row c.as_str.result.now c.encode.result.now c.plan.inside.row.priority
-    c.usage_number.result c.aircraft_number.result ≡ plan_row p =
+    c.usage_number.result c.aircraft_number.result ≡ row_of_plan p =
     λ i. sql.plan_row (name i) (text i) (priority i) (usage i) (aircraft i) in
     let changed = c.in_ok-insert_plan.ensures.changed in
     heads_left p later (state g.S.Store old).now all (state g.S.Store new).now

@@ -5,8 +5,8 @@ use Rattle.sqlite.specs.Held.{state}
 use Rattle.desk_sql.specs.Rows.{AddsPlan}
 use Rattle.desk_tables.specs.Copying.{AddsHeadRows}
 use Rattle.desk_tables.specs.Opening.{BlamesReading}
-use Rattle.desk_tables.specs.Tables.{plan_row}
-use Rattle.desk_tables.specs.Writing.{AreNewHeads}
+use Rattle.desk_tables.specs.Tables.{row_of_plan}
+use Rattle.desk_tables.specs.Writable.{AreNewHeads}
 use Rattle.desk_tables.proofs.CopyLemmas.{no_heads, more_heads}
 use Rattle.desk_tables.proofs.MovingLemmas.{begins, goes_on, way_on}
 use Rattle.desk_tables.proofs.OpeningLemmas.{blames_since, told_as}
@@ -37,7 +37,7 @@ plans-preserved g c =
     drop_more all at one c.plans-test.true ∙ ap (λ p. p ∷ drop (at + 1) all) (sym c.plan-item.is) in (
       c.write_head.ensures.same_reference ∙ c.plans.invariant.0,
       goes_on g.S.Store c.args.tx.now.conn.now mid new
-          (AddsHeadRows (take at all)) (AddsPlan (plan_row one)) (AddsHeadRows (take (at + 1) all))
+          (AddsHeadRows (take at all)) (AddsPlan (row_of_plan one)) (AddsHeadRows (take (at + 1) all))
           (more_heads (take at all) one (take (at + 1) all)
           (take_more all at one c.plans-test.true
           ∙ ap (λ p. take at all ++ p ∷ []) (sym c.plan-item.is)))

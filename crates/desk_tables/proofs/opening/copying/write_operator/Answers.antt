@@ -4,7 +4,7 @@ use Rattle.desk_sql.specs.Changing.{FitsOperator}
 use Rattle.desk_sql.specs.Rows.{AddsOperator, tables_of}
 use Rattle.desk_store.specs.World.{Listed}
 use Rattle.desk_tables.specs.Opening.{BlamesReading}
-use Rattle.desk_tables.specs.Tables.{operator_row}
+use Rattle.desk_tables.specs.Tables.{row_of_operator}
 use Rattle.desk_tables.proofs.FillLemmas.{operator_fits, operators_left}
 use Rattle.desk_tables.proofs.OpeningLemmas.{blames_reading, told_as}
 use Rattle.desk_tables.proofs.opening.copying.write_operator.Goals as goal
@@ -19,7 +19,7 @@ returns-in_err-insert_operator-clause-cause g c later all =
     told_as (BlamesReading g.S.Store old new) c.from_residual.result _ c.from_residual.ensures.1
     (blames_reading g.S.Store old old new c.in_err-insert_operator.field-0.0 (omega arith) refl
     (λ clean live. c.in_err-insert_operator.ensures.changed.cause c.requires.under_way
-    (subst (λ (l : Listed). FitsOperator l.name (operator_row l) (state g.S.Store old).now) (sym is)
+    (subst (λ (l : Listed). FitsOperator l.name (row_of_operator l) (state g.S.Store old).now) (sym is)
     (operator_fits c.args.listed.now later (state g.S.Store old).now all)) clean))
 
 pub returns-clause-left : goal.returns-clause-left
@@ -31,6 +31,6 @@ returns-clause-left g c later all clean =
     ap (λ n. record { name = n; ceiling = ceiling }) c.as_str.ensures.value ∙ c.listed.view_is in
     let changed = c.in_ok-insert_operator.ensures.changed in
     operators_left c.args.listed.now later (state g.S.Store old).now all (state g.S.Store new).now
-    (subst (λ (l : Listed). AddsOperator (operator_row l) (tables_of (state g.S.Store old).now.trees)
+    (subst (λ (l : Listed). AddsOperator (row_of_operator l) (tables_of (state g.S.Store old).now.trees)
     (tables_of (state g.S.Store new).now.trees)) is (changed.done clean).changed)
     (changed.room clean)

@@ -5,8 +5,8 @@ use Rattle.sqlite.specs.Held.{state}
 use Rattle.desk_sql.specs.Rows.{AddsOperator}
 use Rattle.desk_tables.specs.Copying.{AddsOperatorRows}
 use Rattle.desk_tables.specs.Opening.{BlamesReading}
-use Rattle.desk_tables.specs.Tables.{operator_row}
-use Rattle.desk_tables.specs.Writing.{AreNewOperators}
+use Rattle.desk_tables.specs.Tables.{row_of_operator}
+use Rattle.desk_tables.specs.Writable.{AreNewOperators}
 use Rattle.desk_tables.proofs.CopyLemmas.{no_operators, more_operators}
 use Rattle.desk_tables.proofs.MovingLemmas.{begins, goes_on, way_on}
 use Rattle.desk_tables.proofs.OpeningLemmas.{blames_since, told_as}
@@ -37,7 +37,7 @@ operators-preserved g c =
     drop_more all at one c.operators-test.true ∙ ap (λ p. p ∷ drop (at + 1) all) (sym c.listed-item.is) in (
       c.write_operator.ensures.same_reference ∙ c.operators.invariant.0,
       goes_on g.S.Store c.args.tx.now.conn.now mid new
-          (AddsOperatorRows (take at all)) (AddsOperator (operator_row one))
+          (AddsOperatorRows (take at all)) (AddsOperator (row_of_operator one))
           (AddsOperatorRows (take (at + 1) all))
           (more_operators (take at all) one (take (at + 1) all)
           (take_more all at one c.operators-test.true

@@ -1,6 +1,6 @@
 use Rattle.std.proofs.Common.{◌≡◌, ◌*◌, ◌≤◌, take}
 use Rattle.std.specs.List.{sum_by}
-use Rattle.volume4d.specs.Limits.{max_cover, max_volumes}
+use Rattle.volume4d.specs.VolumeLimits.{max_cover, max_volumes}
 use Rattle.desk_rules.specs.Plan.{row_spans}
 use Rattle.desk_tables.proofs.opening.counting.spans_of.Given as goal
 

@@ -1,6 +1,6 @@
 use Rattle.sqlite.specs.State.{HasCleanDisk}
 use Rattle.sqlite.specs.Held.{state}
-use Rattle.desk_tables.specs.Writing.{AreWritable}
+use Rattle.desk_tables.specs.Writable.{AreWritable}
 use Rattle.desk_tables.proofs.OrderingLemmas.{writable_moved}
 use Rattle.std.proofs.Common.{◌≡◌, rules, subst}
 use Rattle.desk_sql.specs.Effects.{MayMake}

@@ -4,7 +4,7 @@ use Rattle.sqlite.specs.State.{HasCleanDisk}
 use Rattle.sqlite.specs.Held.{state}
 use Rattle.desk_tables.specs.Moving.{AddsPlanRows, AddsPlansRows}
 use Rattle.desk_tables.specs.Opening.{BlamesReading}
-use Rattle.desk_tables.specs.Writing.{AreWritable}
+use Rattle.desk_tables.specs.Writable.{AreWritable}
 use Rattle.desk_tables.proofs.MovingLemmas.{begins, goes_on, no_plans, more_plans, way_on}
 use Rattle.desk_tables.proofs.OpeningLemmas.{blames_since, told_as}
 use Rattle.desk_tables.proofs.opening.moving.write_plans.Goals as goal

@@ -3,7 +3,7 @@ use Rattle.sqlite.specs.State.{HasCleanDisk}
 use Rattle.sqlite.specs.Held.{state}
 use Rattle.desk_tables.proofs.MovingLemmas.{HasAdded}
 use Rattle.desk_tables.specs.Moving.{AddsPlansRows}
-use Rattle.desk_tables.specs.Writing.{AreWritable}
+use Rattle.desk_tables.specs.Writable.{AreWritable}
 use Rattle.desk_tables.proofs.opening.moving.write_plans.Given as goal
 
 -- the rows of the plans so far were added, and those of the others can be, if all could

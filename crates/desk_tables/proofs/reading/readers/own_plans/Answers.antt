@@ -24,7 +24,7 @@ returns-clause-value g c = λ clean.
     let tables = tables_of (state g.S.Store c.args.connection.now).now.trees in
     let (rows, by_name, taken) = handed in
     let collector = c.own_plans-taken.new.taker in
-    let lists = subst (λ name. Lists (1 ∷ 5 ∷ []) (with_volumes (sql.is_by name) tables) rows)
+    let lists = subst (λ name. Lists (1 ∷ 5 ∷ []) (with_volumes (sql.is_row_by name) tables) rows)
     c.as_str.ensures.value by_name in
     let listing = own_listing tables c.args.kept.now.world c.args.operator.now rows standing.content
     standing.tables lists in
@@ -54,11 +54,11 @@ returns-clause-cause g c =
       standing.content.world.rows o,
     ) in
     listing_blamed g.S.Store c.args.connection.now c.own_plans-taken.new.connection c.requires.unlimited
-    (Lists (1 ∷ 5 ∷ []) (with_volumes (sql.is_by c.as_str.result.now) tables)) mine
+    (Lists (1 ∷ 5 ∷ []) (with_volumes (sql.is_row_by c.as_str.result.now) tables)) mine
     (own_plans_are w o standing.content)
     (all_filter (λ p. p.row.priority < 2 ^ 32) (is_by o) w.plans
     (within_bits w.plans standing.content.world.priorities)) few
     (λ rows by_name. own_listing tables w o rows standing.content standing.tables
-    (subst (λ name. Lists (1 ∷ 5 ∷ []) (with_volumes (sql.is_by name) tables) rows) c.as_str.ensures.value
+    (subst (λ name. Lists (1 ∷ 5 ∷ []) (with_volumes (sql.is_row_by name) tables) rows) c.as_str.ensures.value
     by_name)) c.own_plans-taken.result collector.plans.items collector.head collector.volumes.items (why is)
     (c.own_plans-taken.ensures.answers.cause clean live) (c.own_plans-taken.ensures.answers.value clean)))

@@ -1,5 +1,5 @@
 use Rattle.std.proofs.Common.{sym, subst}
-use Rattle.desk_sql.specs.Changes.{IsTextOf}
+use Rattle.desk_sql.specs.RowChanges.{IsTextOf}
 use Rattle.desk_sql.proofs.InsertLemmas.{insert_operator_changes, insert_plan_changes, insert_volume_changes, insert_span_changes}
 use Rattle.desk_sql.proofs.Added.{insert_operator_sure, insert_plan_sure, insert_volume_sure, insert_span_sure}
 use Rattle.desk_sql.proofs.SetLemmas.{set_ceiling_changes, set_closed_changes}

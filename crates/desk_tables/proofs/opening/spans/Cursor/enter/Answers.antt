@@ -1,5 +1,5 @@
 use Rattle.std.proofs.Common.{sym, ◌∙◌, subst}
-use Rattle.desk_tables.specs.SpanChecks.{IsFoundIn}
+use Rattle.desk_tables.specs.SpanChecks.{IsSlabFound}
 use Rattle.desk_tables.proofs.SpanCheckLemmas.{leaves_closed, leaves_done, stays}
 use Rattle.desk_tables.proofs.opening.spans.Cursor.enter.Goals as goal
 
@@ -15,7 +15,7 @@ returns-then-branch-clause-same c plans is rows =
 
 pub returns-clause-same : goal.returns-clause-same
 returns-clause-same c plans is =
-    let found = subst (IsFoundIn c.args.plan.now c.find_in.new.self) c.if-branch.false
+    let found = subst (IsSlabFound c.args.plan.now c.find_in.new.self) c.if-branch.false
     c.in_ok-find_in.ensures.found in
     leaves_done plans c.args.self.now c.find_in.new.self c.args.plan.now is c.in_ok-find_in.ensures.plan
     c.in_ok-find_in.ensures.same found.0 found.1

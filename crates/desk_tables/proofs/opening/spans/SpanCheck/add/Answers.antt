@@ -1,5 +1,5 @@
 use Rattle.std.proofs.Common.{◌+◌, ◌<◌, ◌^◌, ◌++◌, ◌∷◌, [], arith, subst, sym}
-use Rattle.desk_tables.specs.SpanChecks.{HasChecked, IsNext}
+use Rattle.desk_tables.specs.SpanChecks.{HasChecked, IsNextRow}
 use Rattle.desk_tables.proofs.SpanCheckLemmas.{checked_on, checked_off}
 use Rattle.desk_tables.proofs.opening.spans.SpanCheck.add.Goals as goal
 
@@ -11,7 +11,7 @@ returns-in_ok-self-clause-taken c rows h =
     c.args.row.now below c.length_with-self.ensures.kept c.length_with-self.ensures.known c.take.new.self
     c.in_ok-self.field-0
     (subst (λ b. HasChecked own.plans.items own.cursor b own.count own.span_bounds rows) c.if-self.true h)
-    (subst (λ ps. IsNext ps own.cursor c.take.new.self c.args.row.now c.in_ok-self.field-0)
+    (subst (λ ps. IsNextRow ps own.cursor c.take.new.self c.args.row.now c.in_ok-self.field-0)
     c.deref.ensures.value c.in_ok-self.ensures)
 
 pub returns-else-self-clause-taken : goal.returns-else-self-clause-taken

@@ -1,6 +1,6 @@
 use Rattle.std.proofs.Common.{[], ◌∙◌}
 use Rattle.std.proofs.lemmas.List.{append-nil}
-use Rattle.desk_tables.specs.Reading.{listing_rows}
+use Rattle.desk_tables.specs.RowsRead.{listing_rows}
 use Rattle.desk_tables.proofs.JoinLemmas.{ended}
 use Rattle.desk_tables.proofs.reading.listing.PlanCollector.finish.Goals as goal
 

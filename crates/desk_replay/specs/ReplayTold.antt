@@ -1,4 +1,4 @@
--- Telling: what a line tells of a replay, and how it ends.
+-- ReplayTold: what a line tells of a replay, and how it ends.
 use Rattle.std.specs.Prelude.{◌≡◌, ◌⊎◌, ⊤, ℕ, Bool, List, [], ◌++◌, codes, decimal, Option, Some, None, Result, Ok, Err}
 use Rattle.std.specs.Io.KnownBytes.{Appends}
 use Rattle.desk_record.specs.declared.reading.ReadFault.TheVariants as unread
@@ -55,19 +55,19 @@ replayed_line requests changes =
     ++ codes " changes, all answers alike\n")))
 
 -- a line is printed; or a write of it failed, or memory ran out for it
-abbrev pub IsPrinted : Result ⊤ Failure → List ℕ → Option (List ℕ) → Option (List ℕ) → Type 0
-IsPrinted (Ok done) line out now = Appends out now line
-IsPrinted (Err f) line out now =
+abbrev pub IsLinePrinted : Result ⊤ Failure → List ℕ → Option (List ℕ) → Option (List ℕ) → Type 0
+IsLinePrinted (Ok done) line out now = Appends out now line
+IsLinePrinted (Err f) line out now =
     ((f ≡ failure.Write) × HasBegun line out now) ⊎ ((f ≡ failure.Memory) × (now ≡ out))
 
 -- all was played, and the line that tells it is printed
-pub record IsDone (line : List ℕ) (end : Ending) (writes : Course (Option (List ℕ))) : Type 0 where
+pub record IsAllPlayed (line : List ℕ) (end : Ending) (writes : Course (Option (List ℕ))) : Type 0 where
   pub done : Result ⊤ Failure
   pub ends : EndsWith done end
-  pub printed : IsPrinted done line writes.before writes.after
+  pub printed : IsLinePrinted done line writes.before writes.after
 
 -- a line is written, or a beginning of it if a write broke off
-pub record IsWritten (line : List ℕ) (out now : Option (List ℕ)) : Type 0 where
+pub record IsLineWritten (line : List ℕ) (out now : Option (List ℕ)) : Type 0 where
   pub is_cut : Bool
   pub written : HasWritten is_cut line out now
 
@@ -76,18 +76,18 @@ pub record IsWritten (line : List ℕ) (out now : Option (List ℕ)) : Type 0 wh
 pub record IsFailed (f : Failure) (line : List ℕ) (end : Ending) (writes : Course (Option (List ℕ))) :
     Type 0 where
   pub mid : Option (List ℕ)
-  pub told : IsWritten line end.before mid ⊎ (mid ≡ end.before)
+  pub told : IsLineWritten line end.before mid ⊎ (mid ≡ end.before)
   pub fails : FailsWith f (record end { before = mid })
   pub unwritten : writes.after ≡ writes.before
 
 -- what is told of a replay, by the failure that its end means
 abbrev pub IsToldBy :
     Option Failure → List ℕ → List ℕ → Ending → Course (Option (List ℕ)) → Type 0
-IsToldBy None line cause end writes = IsDone line end writes
+IsToldBy None line cause end writes = IsAllPlayed line end writes
 IsToldBy (Some f) line cause end writes = IsFailed f cause end writes
 
-abbrev pub IsTold : ReplayEnd → ℕ → ℕ → ℕ → Ending → Course (Option (List ℕ)) → Type 0
-IsTold ended requests changes place end writes =
+abbrev pub IsReplayTold : ReplayEnd → ℕ → ℕ → ℕ → Ending → Course (Option (List ℕ)) → Type 0
+IsReplayTold ended requests changes place end writes =
     IsToldBy (failure_of_end ended) (replayed_line requests changes)
     (place_line requests place (cause_of_end ended)) end writes
 
@@ -99,4 +99,4 @@ pub record IsReplayed (H : Type 0) (until : Option ℕ) (p : Passage) (end : End
   pub state : State
   pub replayed : HasReplayed H until ended place p.reads.before p.reads.after w state
   pub left : state.world ≡ after
-  pub told : IsTold ended state.requests state.changes place end p.writes
+  pub told : IsReplayTold ended state.requests state.changes place end p.writes

@@ -1,4 +1,4 @@
--- Running: what comes of a line that is carried out at a desk.
+-- CarryingOut: what comes of a line that is carried out at a desk.
 use Rattle.std.specs.Prelude.{◌≡◌, Option, None}
 use Rattle.desk_store.specs.declared.store.PlanStore.{Ghosts}
 use Rattle.desk_store.specs.StoreFaults.{IsHonest}
@@ -9,10 +9,10 @@ use Rattle.desk_line.specs.declared.failure.Failure.{Failure}
 use Rattle.desk_line.specs.declared.line.Line.{Line}
 use Rattle.desk_line.specs.declared.line.Line.TheVariants as line
 use Rattle.desk_line.specs.Exits.{FailsWith}
-use Rattle.desk_program.specs.Causes.{HasCause}
+use Rattle.desk_program.specs.EndCauses.{HasCause}
 use Rattle.desk_program.specs.Keeping.{IsLineKept}
 use Rattle.desk_program.specs.Outside.{Outside}
-use Rattle.desk_program.specs.Playing.{IsLinePlayed}
+use Rattle.desk_program.specs.PlayLines.{IsLinePlayed}
 use Rattle.desk_program.specs.Serving.{IsLineServed}
 
 -- `play` and `enrol` take no connection; `serve` reads no input, and prints that it listens

@@ -13,7 +13,7 @@ use Rattle.desk_sql.specs.declared.opening.finding.TablesPresent.TheVariants.{Pa
 use Rattle.desk_store.specs.World.{Filed, Listed, World, filed_cmp}
 use Rattle.desk_store.specs.Content.{IsContent}
 use Rattle.desk_tables.specs.Records.{IsFiled}
-use Rattle.desk_tables.specs.Tables.{AreSpanRows, cover_rows, operator_row, plan_rows, volume_rows}
+use Rattle.desk_tables.specs.Tables.{AreSpanRows, cover_rows, plan_rows, row_of_operator, volume_rows}
 
 -- fewer than 2 ^ 63 rows of volumes, and of spans
 pub record HaveFewRows (ps : List Filed) : Type 0 where
@@ -49,7 +49,7 @@ pub record AreNewKeys (width : ℕ) (rows stored shown : List Row) : Type 0 wher
 -- those of operators
 pub record AreNewOperators (ls : List Listed) (db : Database) : Type 0 where
   pub names : AllByRecursion (λ l. IsShort l.name) ls
-  pub new : AreNewKeys 1 (map operator_row ls) (db.trees 0) (tables_of db.trees).operators
+  pub new : AreNewKeys 1 (map row_of_operator ls) (db.trees 0) (tables_of db.trees).operators
 
 -- those of plans in `plan`, whose operators are there
 pub record AreNewHeads (ps : List Filed) (db : Database) : Type 0 where

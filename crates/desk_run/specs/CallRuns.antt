@@ -3,7 +3,7 @@ use Rattle.std.specs.Prelude.{◌≡◌, ℕ, ℤ, List, Option, Some}
 use Rattle.desk_run.specs.DeskWorld.{DeskWorld, Side, side}
 use Rattle.desk_rules.specs.declared.call.Asked.{Asked}
 use Rattle.desk_run.specs.Verdicts.{Told, step}
-use Rattle.desk_run.specs.Runs.{told_in, world_left}
+use Rattle.desk_run.specs.Runs.{told_in, world_after_calls}
 use Rattle.desk_run.specs.Sides.{OwnAlike, beside, along}
 
 -- a call, with its moment
@@ -14,8 +14,8 @@ abbrev pub caller : TimedCall → Option (List ℕ)
 caller call = Some call.1.operator
 
 -- the world that it leaves
-abbrev pub left : DeskWorld → TimedCall → DeskWorld
-left w call = step w call.1.operator call.0 call.1.call
+abbrev pub world_after_call : DeskWorld → TimedCall → DeskWorld
+world_after_call w call = step w call.1.operator call.0 call.1.call
 
 -- the operator's calls, in their order
 abbrev pub calls_of : List ℕ → List TimedCall → List TimedCall
@@ -26,18 +26,19 @@ abbrev pub told_for : List ℕ → DeskWorld → List TimedCall → List Told
 told_for o w calls = beside caller o calls (told_in w calls)
 
 -- the worlds that its calls meet
-abbrev pub met_by : List ℕ → DeskWorld → List TimedCall → List DeskWorld
-met_by o w calls = beside caller o calls (along left (λ u call. u) w calls)
+abbrev pub met_by_calls : List ℕ → DeskWorld → List TimedCall → List DeskWorld
+met_by_calls o w calls = beside caller o calls (along world_after_call (λ u call. u) w calls)
 
 -- what it owns after each of its calls, and the desk's terms
-abbrev pub owned_by : List ℕ → DeskWorld → List TimedCall → List Side
-owned_by o w calls = beside caller o calls (along left (λ u call. side (left u call) o) w calls)
+abbrev pub owned_by_calls : List ℕ → DeskWorld → List TimedCall → List Side
+owned_by_calls o w calls =
+    beside caller o calls (along world_after_call (λ u call. side (world_after_call u call) o) w calls)
 
 -- two runs are the same for an operator: it is told the same, and it owns the same after each of its
 -- calls and at the end
-pub record IsSameFor (o : List ℕ) (v : DeskWorld) (calls : List TimedCall) (w : DeskWorld)
+pub record AreCallsSameFor (o : List ℕ) (v : DeskWorld) (calls : List TimedCall) (w : DeskWorld)
     (others : List TimedCall) :
     Type 0 where
   pub told : told_for o v calls ≡ told_for o w others
-  pub owned : owned_by o v calls ≡ owned_by o w others
-  pub at_end : OwnAlike o (world_left v calls) (world_left w others)
+  pub owned : owned_by_calls o v calls ≡ owned_by_calls o w others
+  pub at_end : OwnAlike o (world_after_calls v calls) (world_after_calls w others)

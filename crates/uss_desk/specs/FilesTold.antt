@@ -1,4 +1,4 @@
--- Keeping: what a keeper is told of a file, and what is copied of it.
+-- FilesTold: what a keeper is told of a file, and what is copied of it.
 use Rattle.std.specs.Prelude.{◌≡◌, ⊤, ℕ, List, length, Option, Result, Ok, Err, ◌⊎◌, None}
 use Rattle.std.specs.Option.{IsSomeAnd}
 use Rattle.std.specs.Io.KnownBytes.{Appends}
@@ -19,7 +19,7 @@ use Rattle.desk_program.specs.Looking.{IsTextPrinted, checked_line, copied_line}
 use Rattle.desk_program.specs.declared.looking.CheckedFile.{CheckedFile}
 use Rattle.desk_tables.specs.Counting.{HaveSpanRows, IsMostSpans}
 use Rattle.desk_tables.specs.Closing.{IsLeftUnclosed}
-use Rattle.desk_tables.specs.Copying.{AreCounted, AreNotCopied, AreNotRead, IsMadeIn, LooksIn, live_count}
+use Rattle.desk_tables.specs.Copying.{AreHoldingsOf, AreNotCopied, AreNotRead, IsMadeIn, LooksIn, live_count}
 use Rattle.desk_tables.specs.declared.closing.Unclosed.{Unclosed}
 use Rattle.desk_tables.specs.declared.opening.files.CopyFault.{CopyFault}
 use Rattle.desk_tables.specs.declared.opening.files.CopyFault.TheVariants as copy
@@ -31,8 +31,8 @@ use Rattle.uss_desk.specs.declared.keeping.Uncopied.{Uncopied}
 use Rattle.uss_desk.specs.declared.opening.Unopened.{Unopened}
 use Rattle.uss_desk.specs.declared.opening.Opened.{Opened}
 use Rattle.uss_desk.specs.declared.opening.Opened.TheVariants as opened
-use Rattle.uss_desk.specs.Naming.{IsNamed, IsUnnamed, Step, free_steps, HasFailed}
-use Rattle.uss_desk.specs.Opening.{open_failure, FailsOver, IsInMemory, IsUnreadFor}
+use Rattle.uss_desk.specs.Naming.{IsNamed, IsUnnamed, Step, free_steps, HasFailedStep}
+use Rattle.uss_desk.specs.OpenedFor.{open_failure, FailsOver, IsInMemory, IsUnreadFor}
 
 -- files were refused over which a line was to be carried out, or from which plans were to be moved
 abbrev pub AreFilesRefused : {M D V U W : Type 0} → Opened M (Result D U) (Result V W) → Type 0
@@ -87,7 +87,8 @@ module _ {D : Type 0} {g : disk.Ghosts D} (image : Image) where
     pub unprinted : now ≡ out
 
   -- what they hold is told
-  pub record IsTold (end : Ending) (left : Held (FileStore D g)) (out now : Option (List ℕ)) : Type 0 where
+  pub record IsFileTold (end : Ending) (left : Held (FileStore D g)) (out now : Option (List ℕ)) : Type
+      0 where
     pub file : CheckedFile
     pub read : IsReadAs left file
     pub printed : IsTextPrinted (checked_line file) end out now
@@ -96,7 +97,7 @@ module _ {D : Type 0} {g : disk.Ghosts D} (image : Image) where
   abbrev pub IsChecked :
       Database → Ending → Result (Held (FileStore D g)) (Unopened D g) → Option (List ℕ)
       → Option (List ℕ) → Type 0
-  IsChecked database end (Ok left) out now = IsTold end left out now
+  IsChecked database end (Ok left) out now = IsFileTold end left out now
   IsChecked database end (Err it) out now = IsUntold database end it out now
 
 -- ---- a copy
@@ -142,7 +143,7 @@ module _ {D E : Type 0} {g : disk.Ghosts D} {k : disk.Ghosts E} (image other : I
   abbrev pub FailsToCopy : Database → Option (List Step) → Option (List Step) → CopyEnd g k → Type 0
   FailsToCopy database old new it = (IsInMemory database × FailsUntried failure.Store it)
       ⊎ (FailsUntried failure.Memory it
-      ⊎ ((HasFailed old new × FailsUntried failure.Store it) ⊎ FailsAtFiles it))
+      ⊎ ((HasFailedStep old new × FailsUntried failure.Store it) ⊎ FailsAtFiles it))
 
   -- a failure is told, and nothing is printed
   pub record IsUncopied (database : Database) (old new : Option (List Step)) (end : Ending)
@@ -157,7 +158,7 @@ module _ {D E : Type 0} {g : disk.Ghosts D} (k : disk.Ghosts E) (image other : I
   pub record IsCopyMade (copies : Held (FileStore D g) × (Files E × Holdings)) : Type 0 where
     pub w : World
     pub held : Held (FileStore E k)
-    pub counted : AreCounted copies.1.1 w
+    pub counted : AreHoldingsOf copies.1.1 w
     pub looks : LooksIn image copies.0 copies.1.1.is_old w
     pub made : IsMadeIn other held
     pub settled : IsSettledAt over_files held w

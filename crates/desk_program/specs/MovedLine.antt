@@ -1,4 +1,4 @@
--- Moving: the line that tells how many plans were moved, and what is printed of it.
+-- MovedLine: the line that tells how many plans were moved, and what is printed of it.
 use Rattle.std.specs.Prelude.{◌≡◌, ◌⊎◌, ℕ, List, ◌++◌, codes, decimal, Option}
 use Rattle.std.specs.Io.KnownBytes.{Appends}
 use Rattle.desk_line.specs.declared.failure.Failure.TheVariants as failure

@@ -1,4 +1,4 @@
--- Lines: what stands at their places, and which texts are lines.
+-- EntryLines: what stands at their places, and which texts are lines.
 use Rattle.std.specs.Prelude.{◌≡◌, ◌<◌, ◌^◌, ℕ, ◌+◌, ◌-◌, ◌*◌, nat_lt, ◌&&◌, List, [], ◌∷◌, length, take, drop, codes, Option, Some, None, option_and_then, if◌then◌else◌}
 use Rattle.std.specs.Char.{is_ascii_digit}
 use Rattle.std.specs.Str.{bytes_eq}
@@ -44,8 +44,8 @@ abbrev pub line_said : LineParts → List ℕ
 line_said l = line l.kind l.number l.size l.sum
 
 -- what stands at the places of a line
-unfoldable pub said_in : List ℕ → Option LineParts
-said_in bytes =
+unfoldable pub line_parts_in : List ℕ → Option LineParts
+line_parts_in bytes =
     option_and_then (λ told.
     option_and_then (λ n.
     option_and_then (λ size.
@@ -57,10 +57,10 @@ said_in bytes =
 -- what a line says, if this is its text
 unfoldable pub line_in : List ℕ → Option LineParts
 line_in bytes =
-    option_and_then (λ l. if bytes_eq (line_said l) bytes then Some l else None) (said_in bytes)
+    option_and_then (λ l. if bytes_eq (line_said l) bytes then Some l else None) (line_parts_in bytes)
 
 -- this is a line with numbers of 64 bits
-pub record IsLine (bytes : List ℕ) (l : LineParts) : Type 0 where
+pub record IsEntryLine (bytes : List ℕ) (l : LineParts) : Type 0 where
   pub text : bytes ≡ line_said l
   pub number : l.number < 2 ^ 64
   pub size : l.size < 2 ^ 64

@@ -18,7 +18,7 @@ use Rattle.desk_wire.specs.Given.{AreGiven, IsNextIn}
 use Rattle.desk_wire.specs.Headline.{world_at}
 use Rattle.desk_wire.specs.Passage.{Passage}
 use Rattle.desk_wire.specs.Playing.{at_moment}
-use Rattle.desk_wire.specs.Serving.{IsTaken}
+use Rattle.desk_wire.specs.OneRequest.{IsTaken}
 use Rattle.desk_wire.specs.Streams.{requests_in}
 
 -- what is found is the content that the next request leaves
@@ -81,8 +81,8 @@ pub record IsKept (ended : PlayEnd) (n : ℕ) (p : Passage) (w : DeskWorld) (mom
       (world_left w (at_moment moment requests)) moment found
 
 -- after n answers, what is found is what the first n requests of a list left, or what the first n + 1 left
-abbrev pub IsFoundIn : DeskWorld → List Sent → ℕ → Option World → Type 0
-IsFoundIn w requests n found = (found ≡ Some (world_at w requests n).content)
+abbrev pub IsFoundInRequests : DeskWorld → List Sent → ℕ → Option World → Type 0
+IsFoundInRequests w requests n found = (found ≡ Some (world_at w requests n).content)
     ⊎ (found ≡ Some (world_at w requests (n + 1)).content)
 
 -- the content that the first n requests of a stream leave
@@ -90,6 +90,6 @@ abbrev pub content_after : DeskWorld → ℤ → List ℕ → ℕ → World
 content_after w moment stream n = (world_left w (at_moment moment (requests_in n stream))).content
 
 -- the same of the requests of a stream
-abbrev pub IsFoundAfter : DeskWorld → ℤ → List ℕ → ℕ → Option World → Type 0
-IsFoundAfter w moment stream n found = (found ≡ Some (content_after w moment stream n))
+abbrev pub IsFoundInStream : DeskWorld → ℤ → List ℕ → ℕ → Option World → Type 0
+IsFoundInStream w moment stream n found = (found ≡ Some (content_after w moment stream n))
     ⊎ (found ≡ Some (content_after w moment stream (n + 1)))

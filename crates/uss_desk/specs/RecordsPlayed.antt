@@ -1,4 +1,4 @@
--- Replaying: what comes of a record that is played at what was opened for it, to the exit status.
+-- RecordsPlayed: what comes of a record that is played at what was opened for it, to the exit status.
 use Rattle.std.specs.Prelude.{◌≡◌, ◌≤◌, ℕ, Option, None, Result, IfErr, IfOk}
 use Rattle.std.specs.Option.{IsSomeAnd}
 use Rattle.sqlite_trees.specs.declared.store.Store.{Ghosts}
@@ -12,11 +12,11 @@ use Rattle.desk_tables.specs.Store.{Shown}
 use Rattle.desk_line.specs.declared.failure.Failure.{Failure}
 use Rattle.desk_line.specs.Exits.{Ending, FailsWith}
 use Rattle.desk_wire.specs.Passage.{Passage}
-use Rattle.desk_replay.specs.Telling.{IsReplayed}
+use Rattle.desk_replay.specs.ReplayTold.{IsReplayed}
 use Rattle.uss_desk.specs.declared.opening.Opened.TheVariants as opened
 use Rattle.uss_desk.specs.Guarding.{Account}
-use Rattle.uss_desk.specs.Opening.{OpenedDesk, load_world, or_failure}
-use Rattle.uss_desk.specs.Running.{IsSound, StaysGuarded}
+use Rattle.uss_desk.specs.OpenedFor.{OpenedDesk, load_world, or_failure}
+use Rattle.uss_desk.specs.OpenedLines.{IsSound, StaysGuarded}
 
 -- a record is played at the desk that was opened: its disk was then in no more doubt than it is now, and if
 -- each later read was tested then, each is

@@ -1,4 +1,4 @@
--- Running: what comes of a line at what was opened for it, to the exit status.
+-- OpenedLines: what comes of a line at what was opened for it, to the exit status.
 use Rattle.std.specs.Prelude.{◌≡◌, ◌≤◌, ℕ, List, Option, None, Some, Result, Ok, Err, IfErr, IfOk, IfSome}
 use Rattle.std.specs.Option.{IsSomeAnd}
 use Rattle.sqlite_trees.specs.declared.store.Store.{Ghosts}
@@ -20,12 +20,12 @@ use Rattle.desk_line.specs.declared.line.Line.{Line}
 use Rattle.desk_line.specs.Exits.{Ending, FailsWith}
 use Rattle.desk_line.specs.Printing.{IsPrinted}
 use Rattle.desk_program.specs.Keeping.{IsLineKept}
-use Rattle.desk_program.specs.Moving.{IsCountPrinted}
+use Rattle.desk_program.specs.MovedLine.{IsCountPrinted}
 use Rattle.desk_program.specs.Outside.{Outside}
-use Rattle.desk_program.specs.Running.{IsCarriedOut, IsUnopened}
+use Rattle.desk_program.specs.CarryingOut.{IsCarriedOut, IsUnopened}
 use Rattle.uss_desk.specs.declared.opening.Opened.TheVariants as opened
 use Rattle.uss_desk.specs.Guarding.{Account, IsTrueOrCollided}
-use Rattle.uss_desk.specs.Opening.{OpenedDesk, load_world, or_failure}
+use Rattle.uss_desk.specs.OpenedFor.{OpenedDesk, load_world, or_failure}
 
 -- the store of a desk over tables is honest: its disk has returned what was written
 abbrev pub IsSound : {S : Type 0} → Ghosts S → Parts (Shown S) → Type 0
@@ -54,7 +54,7 @@ abbrev pub IsKeptAt :
 IsKeptAt g line o left desk = IsSomeAnd left (IsKeptSince g line o desk)
 
 -- a line at the desk that was opened for it, or at none
-pub record IsRun {S : Type 0} (g : Ghosts S) (opened : Result (Parts (Shown S)) Failure) (line : Line)
+pub record IsLineRun {S : Type 0} (g : Ghosts S) (opened : Result (Parts (Shown S)) Failure) (line : Line)
     (o : Outside) (left : Option (Parts (Shown S))) : Type 0 where
   pub done : IfOk opened (IsDoneAt g line o left)
   pub kept : IfOk opened (IsKeptAt g line o left)
@@ -85,15 +85,15 @@ IsAlone o = (o.port.after ≡ o.port.before) × (o.bytes.reads.after ≡ o.bytes
 module _ {M : Type 0} {m : disk.Ghosts M} {D : Type 0} {g : disk.Ghosts D} (account : Account D) where
   -- what a line says is done: by printing alone, at a desk in memory, at one over files, which stays guarded,
   -- or by telling how many plans were moved
-  abbrev pub IsDone :
+  abbrev pub IsLineDone :
       OpenedDesk m g → Line → Outside → Option (Parts (Shown (FileStore M m)))
       → Option (Parts (Shown (FileStore D g))) → Type 0
-  IsDone opened.Nothing line o memory files = (memory ≡ None) × (files ≡ None) × IsAlone o
+  IsLineDone opened.Nothing line o memory files = (memory ≡ None) × (files ≡ None) × IsAlone o
       × IsPrinted line o.end o.bytes.writes.before o.bytes.writes.after
-  IsDone (opened.Memory desk) line o memory files =
-      (files ≡ None) × IsRun over_files desk line o memory
-  IsDone (opened.Files desk) line o memory files =
-      (memory ≡ None) × IsRun over_files (or_failure desk) line o files
+  IsLineDone (opened.Memory desk) line o memory files =
+      (files ≡ None) × IsLineRun over_files desk line o memory
+  IsLineDone (opened.Files desk) line o memory files =
+      (memory ≡ None) × IsLineRun over_files (or_failure desk) line o files
       × StaysGuarded account (or_failure desk) files
-  IsDone (opened.Moved moved) line o memory files =
+  IsLineDone (opened.Moved moved) line o memory files =
       (memory ≡ None) × IsAlone o × IsMoveTold (or_failure moved) o.end files o.bytes.writes

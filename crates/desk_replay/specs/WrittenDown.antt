@@ -1,4 +1,4 @@
--- Written: what a desk writes down of the requests that it answers.
+-- WrittenDown: what a desk writes down of the requests that it answers.
 use Rattle.std.specs.Prelude.{◌≤◌, ℕ, pos, List, [], ◌∷◌, map}
 use Rattle.desk_record.specs.Record.{EntryParts}
 use Rattle.desk_record.specs.declared.kind.Kind.TheVariants as kind
@@ -22,8 +22,8 @@ IsTimely r = r.second ≤ last_moment
 abbrev pub asking_entry : Heard → EntryParts
 asking_entry r = record { kind = kind.Request; number = r.second; bytes = r.request }
 
-abbrev pub answer_entry : DeskWorld → Heard → EntryParts
-answer_entry w r = record {
+abbrev pub answering_entry : DeskWorld → Heard → EntryParts
+answering_entry w r = record {
   kind = kind.Answer;
   number = r.second;
   bytes = text_for w (pos r.second) (asked r.request);
@@ -33,4 +33,4 @@ answer_entry w r = record {
 abbrev pub written : DeskWorld → List Heard → List EntryParts
 written w [] = []
 written w (r ∷ rs) =
-    asking_entry r ∷ answer_entry w r ∷ written (world_after w (pos r.second) (asked r.request)) rs
+    asking_entry r ∷ answering_entry w r ∷ written (world_after w (pos r.second) (asked r.request)) rs

@@ -1,4 +1,4 @@
--- Recording: what the record of a line begins with.
+-- LineRecord: what the record of a line begins with.
 use Rattle.std.specs.Prelude.{List, [], ◌∷◌, ◌==◌, ℕ, Option, None, Some, codes, if◌then◌else◌, option_map, string_bytes}
 use Rattle.desk_rules.specs.Terms.{no_terms}
 use Rattle.desk_rules.specs.declared.terms.Terms.{Terms}

@@ -8,11 +8,11 @@ use Rattle.sqlite.specs.Store.{Ghosts}
 use Rattle.sqlite.specs.State.{HasCleanDisk, KeepsCommit}
 use Rattle.sqlite.specs.Held.{Held, state}
 use Rattle.desk_sql.specs.Rows.{Tables}
-use Rattle.desk_sql.specs.Effects.{IsKept, Makes, Commits, MayMake}
+use Rattle.desk_sql.specs.Effects.{StaysShown, Makes, Commits, MayMake}
 use Rattle.desk_sql.specs.Frames.{OnlyReads, Remembers, IsOver}
 use Rattle.desk_sql.specs.Batches.{IsUnderWay}
 use Rattle.desk_sql.specs.Refusals.{IsRefusal}
-use Rattle.desk_sql.specs.Taking.{Refusing, IsCutShort}
+use Rattle.desk_sql.specs.Taking.{Refusing, IsTakenInPart}
 
 -- an open connection answered
 abbrev pub WasOpen : {S V E : Type 0} → Ghosts S → Held S → Held S → Result V E → Type 0
@@ -20,8 +20,8 @@ WasOpen g old new result = HasCleanDisk (state g new) → OnOk result (IsTrue (s
 
 module _ {S : Type 0} (g : Ghosts S) (old new : Held S) {V : Type 0} (result : Result V Error) where
   -- over an open connection only memory, the disk and a limit on steps refuse it
-  abbrev pub IsRefused : Type 0
-  IsRefused = HasCleanDisk (state g new) → IsTrue (state g new).is_open → IfErr result (IsRefusal g old new)
+  abbrev pub HasRefusal : Type 0
+  HasRefusal = HasCleanDisk (state g new) → IsTrue (state g new).is_open → IfErr result (IsRefusal g old new)
 
   -- what failed commits nothing
   abbrev pub IsUndone : Type 0
@@ -40,7 +40,7 @@ module _ {S : Type 0} (g : Ghosts S) (old new : Held S) {V : Type 0} (result : R
   -- one whose rows are handed over, one at a time
   abbrev pub HandsOut : (Trees → List Row → Type 0) → (List Row → Type 0) → Refusing → Type 0
   HandsOut IsAnswer has refuses = Asks (λ db _. (rows : List Row) × IsAnswer db rows × has rows)
-      (IsCutShort g old new (IsAnswer (state g old).now.trees) refuses)
+      (IsTakenInPart g old new (IsAnswer (state g old).now.trees) refuses)
 
   -- a change within a transaction, which goes on: it takes such room, and why it is refused if it fits
   pub record IsChanged (Changes : Tables → Tables → Type 0) (Fits : Database → Type 0)
@@ -65,7 +65,7 @@ module _ {S : Type 0} (g : Ghosts S) (old new : Held S) {V : Type 0} (result : R
   -- a change as a transaction of its own, made as a whole or not at all, and why it is refused if it fits
   pub record IsCommitted (Changes : Tables → Tables → Type 0) (Fits : Database → Type 0) : Type 0 where
     pub done : HasCleanDisk (state g new) → OnOk result (Commits g old new Changes)
-    pub kept : OnErr result (IsKept g old new)
+    pub kept : OnErr result (StaysShown g old new)
     pub cause : Fits (state g old).now → HasCleanDisk (state g new) → IsTrue (state g new).is_open
         → IfErr result (IsRefusal g old new)
     pub over : IsOver g old new

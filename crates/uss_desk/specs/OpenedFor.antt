@@ -1,4 +1,4 @@
--- Opening: what a line is carried out at, and what a database that can't be opened means.
+-- OpenedFor: what a line is carried out at, and what a database that can't be opened means.
 use Rattle.std.specs.Prelude.{◌≡◌, ℕ, [], None, Result, Ok, Err, IfErr, IfOk, MatchResult, ⊤}
 use Rattle.std.specs.Option.{IsSomeAnd}
 use Rattle.sqlite_disk.specs.declared.Disk as disk
@@ -16,7 +16,7 @@ use Rattle.desk_line.specs.declared.line.Database.TheVariants.{InMemory, File}
 use Rattle.desk_line.specs.declared.line.Line.{Line}
 use Rattle.desk_line.specs.declared.line.Line.TheVariants as line
 use Rattle.desk_tables.specs.Files.{AreNotMoved, AreRefused, OpensIn, OpensMoved}
-use Rattle.desk_tables.specs.Guarding.{IsGuarded}
+use Rattle.desk_tables.specs.LyingDisk.{IsGuarded}
 use Rattle.desk_tables.specs.Leaving.{MayLeave}
 use Rattle.desk_tables.specs.Store.{Shown}
 use Rattle.desk_tables.specs.declared.opening.files.FilesFault.{FilesFault}

@@ -15,10 +15,10 @@ IsGuarded h = HasCleanDisk (file_state h) → (file_state h).IsShielded
 -- a read of the log or of the database file returned other bytes than had been written there, of the same
 -- digest of 64 bits under the key that came with the files. `start` is what a file held before its first
 -- call, and `calls` are its calls since with their answers, the newest first
-abbrev pub HasCollided :
+abbrev pub HasStoreCollided :
     {D : Type 0} {g : disk.Ghosts D} → (start : D → List ℕ) → (calls : D → List Event)
     → Held (FileStore D g) → Type 0
-HasCollided {D} {g} start calls h =
+HasStoreCollided {D} {g} start calls h =
     let log = (files h.store).0 in
     let db = (files h.store).1 in
     HasCollision (g.key_of log) (start log) (calls log) ⊎ HasCollision (g.key_of log) (start db) (calls db)

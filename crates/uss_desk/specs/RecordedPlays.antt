@@ -1,4 +1,5 @@
--- Playing: what comes of a line of `play` that is recorded, at what was opened for it, to the exit status.
+-- RecordedPlays: what comes of a line of `play` that is recorded, at what was opened for it, to the exit
+-- status.
 use Rattle.std.specs.Prelude.{◌≡◌, ◌≤◌, ⊤, Bool, Option, None, Result, IfErr, IfOk}
 use Rattle.std.specs.Option.{IsSomeAnd}
 use Rattle.sqlite_trees.specs.declared.store.Store.{Ghosts}
@@ -20,8 +21,8 @@ use Rattle.desk_program.specs.Serving.{Traffic}
 use Rattle.desk_recording.specs.Inputs.{IsPlayRecorded, IsRecordedKept, IsUnrecorded}
 use Rattle.uss_desk.specs.declared.opening.Opened.TheVariants as opened
 use Rattle.uss_desk.specs.Guarding.{Account}
-use Rattle.uss_desk.specs.Opening.{OpenedDesk, load_world, or_failure}
-use Rattle.uss_desk.specs.Running.{IsSound, StaysGuarded}
+use Rattle.uss_desk.specs.OpenedFor.{OpenedDesk, load_world, or_failure}
+use Rattle.uss_desk.specs.OpenedLines.{IsSound, StaysGuarded}
 
 -- how the input of a line ended, if it did, and whether the place of its next request is not known
 pub record Stopping : Type 0 where

@@ -1,4 +1,4 @@
--- Playing: what comes of a line of `play` or of `enrol` at a desk.
+-- PlayLines: what comes of a line of `play` or of `enrol` at a desk.
 use Rattle.std.specs.Prelude.{◌≡◌, ◌⊎◌, ⊤, ℕ, List, Option, None, Some, Result, Ok, Err}
 use Rattle.std.specs.Io.KnownBytes.{Appends}
 use Rattle.desk_run.specs.DeskWorld.{DeskWorld}
@@ -12,7 +12,7 @@ use Rattle.desk_line.specs.declared.line.Play.{Play as PlayWords}
 use Rattle.desk_line.specs.declared.line.Enrolment.{Enrolment}
 use Rattle.desk_line.specs.declared.failure.Failure.TheVariants as failure
 use Rattle.desk_line.specs.Exits.{Ending, EndsWell, EndsWith, FailsWith, IsBrokenDown, failure_after}
-use Rattle.desk_program.specs.Enrolling.{AreListedSoFar, IsCutOff, Lists, enrolled_line, on_terms, with_operators}
+use Rattle.desk_program.specs.Enrolling.{AreListedSoFar, IsCutOff, ListsOperator, enrolled_line, on_terms, with_operators}
 
 -- what was done, if this is why it did not end well
 abbrev pub done_unless : Option Failure → Result ⊤ Failure
@@ -46,9 +46,10 @@ IsPlayDone H play end p w after = IsPlayed H play end p w after ⊎ IsNotPlayed 
 abbrev pub IsEnrolled :
     Type 0 → Enrolment → Ending → Course (Option (List ℕ)) → DeskWorld → DeskWorld → Type 0
 IsEnrolled H enrolment end writes w after =
-    (EndsWell end × Appends writes.before writes.after (enrolled_line enrolment) × Lists H enrolment w after)
+    (EndsWell end × Appends writes.before writes.after (enrolled_line enrolment)
+    × ListsOperator H enrolment w after)
     ⊎ (FailsWith failure.Write end × IsCutOff (enrolled_line enrolment) writes.before writes.after
-    × Lists H enrolment w after)
+    × ListsOperator H enrolment w after)
     ⊎ (IsBrokenDown end × (writes.after ≡ writes.before) × (after ≡ w))
 
 abbrev pub IsLinePlayed : Type 0 → Line → Ending → Passage → DeskWorld → DeskWorld → Type 0

@@ -1,4 +1,4 @@
--- Closing: what is left of a desk's files once its line has ended.
+-- FilesLeft: what is left of a desk's files once its line has ended.
 use Rattle.std.specs.Prelude.{◌≡◌, ◌≢◌, ◌⊎◌, ℕ, Bool, true, false, Option, None, Some, Result, Ok, Err, IfOk, IfErr}
 use Rattle.sqlite_disk.specs.declared.Disk as disk
 use Rattle.sqlite_wal.specs.Reads.{AreClean}

@@ -1,4 +1,4 @@
--- Inputs: a line of `play` whose requests are taken from a port, one after the other.
+-- PortPlays: a line of `play` whose requests are taken from a port, one after the other.
 use Rattle.std.specs.Prelude.{◌≡◌, ◌⊎◌, Option, Result}
 use Rattle.std.specs.Result.{IsErrAnd}
 use Rattle.desk_store.specs.World.{World}
@@ -7,7 +7,7 @@ use Rattle.desk_wire.specs.Passage.{Course}
 use Rattle.desk_wire.specs.Playing.{max_answered}
 use Rattle.desk_line.specs.declared.failure.Failure.{Failure}
 use Rattle.desk_line.specs.declared.line.Play.{Play as PlayWords}
-use Rattle.desk_line.specs.Exits.{IsBreakdown}
+use Rattle.desk_line.specs.Exits.{IsLineBreakdown}
 use Rattle.desk_program.specs.Enrolling.{AreListedSoFar, on_terms, with_operators}
 use Rattle.desk_program.specs.Keeping.{AreKeptSoFar, IsFoundServed}
 use Rattle.desk_program.specs.Serving.{AreTaken, Traffic}
@@ -22,7 +22,7 @@ pub record AreInputsTaken {A : Type 0} (H : Type 0) (done : Result A Failure) (p
 -- an operator could not be listed: those before it are, and no request is taken
 pub record AreNoneTaken {A : Type 0} (H : Type 0) (done : Result A Failure) (play : PlayWords)
     (port : Course Traffic) (w after : DeskWorld) : Type 0 where
-  pub broken : IsErrAnd done IsBreakdown
+  pub broken : IsErrAnd done IsLineBreakdown
   pub untaken : port.after ≡ port.before
   pub listed : AreListedSoFar H play.enrolments.items (on_terms w play.terms) after
 

@@ -1,4 +1,4 @@
--- Causes: why a desk failed to answer a request. Memory was refused, or its store counted a fault.
+-- FailureCauses: why a desk failed to answer a request. Memory was refused, or its store counted a fault.
 use Rattle.std.specs.Prelude.{◌≡◌, ℕ, ⊤, List, [], ◌∷◌, ◌++◌, Option}
 use Rattle.std.specs.Io.KnownBytes.{Appends}
 use Rattle.desk_store.specs.StoreFaults.{HasRisen}
@@ -9,26 +9,26 @@ use Rattle.desk_wire.specs.declared.batch.AnswersEnd.TheVariants.{Broken}
 use Rattle.desk_wire.specs.declared.response.ServerError.{ServerError}
 use Rattle.desk_wire.specs.declared.response.ServerError.TheVariants.{OutOfMemory, Store}
 use Rattle.desk_wire.specs.AllAnswers.{texts_in}
-use Rattle.desk_wire.specs.Refusals.{server_error_text}
+use Rattle.desk_wire.specs.RefusalTexts.{server_error_text}
 
 -- a store that is said to have failed has counted a fault
-abbrev pub HasCause : ServerError → ℕ → ℕ → Type 0
-HasCause OutOfMemory old new = ⊤
-HasCause Store old new = HasRisen old new
+abbrev pub HasStoreCause : ServerError → ℕ → ℕ → Type 0
+HasStoreCause OutOfMemory old new = ⊤
+HasStoreCause Store old new = HasRisen old new
 
 -- it was said, in a place that is given, why the desk failed, and that has its cause
 pub record HasFailed (IsSaid : List ℕ → Type 0) (old new : ℕ) : Type 0 where
   pub why : ServerError
   pub said : IsSaid (server_error_text why)
-  pub cause : HasCause why old new
+  pub cause : HasStoreCause why old new
 
 -- the last of some answers
-abbrev pub IsLast : List (List ℕ) → List ℕ → Type 0
-IsLast answers last = (before : List (List ℕ)) × (answers ≡ before ++ last ∷ [])
+abbrev pub IsLastAnswer : List (List ℕ) → List ℕ → Type 0
+IsLastAnswer answers last = (before : List (List ℕ)) × (answers ≡ before ++ last ∷ [])
 
 -- if a list of answers ended since the desk failed, its last answer says why
 abbrev pub HaveCause : Answers → ℕ → ℕ → Type 0
-HaveCause answers old new = answers.ended ≡ Broken → HasFailed (IsLast (texts_in answers)) old new
+HaveCause answers old new = answers.ended ≡ Broken → HasFailed (IsLastAnswer (texts_in answers)) old new
 
 -- the last bytes that were written to an output
 abbrev pub AppendsLast : Option (List ℕ) → Option (List ℕ) → List ℕ → Type 0

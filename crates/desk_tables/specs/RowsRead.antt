@@ -9,7 +9,7 @@ use Rattle.volume4d.specs.Volume.{Block}
 use Rattle.desk_rules.specs.declared.plan.PlanRow.{PlanRow}
 use Rattle.desk_sql.specs.Rows.{joined}
 use Rattle.desk_store.specs.World.{Filed}
-use Rattle.desk_tables.specs.Tables.{id_text, usage_number, aircraft_number, plan_row, volume_rows_from, area_rows}
+use Rattle.desk_tables.specs.Tables.{id_text, usage_number, aircraft_number, row_of_plan, volume_rows_from, area_rows}
 
 -- the columns from `lower` on, of which this is the first, are a volume's
 pub record IsVolumeAt (row : Row) (at : ℕ) (v : Block) : Type 0 where
@@ -39,11 +39,11 @@ is_later row = is_positive (column row 5)
 
 -- a plan with each of its volumes, and plans one after the other
 abbrev pub joined_rows : Filed → List Row
-joined_rows p = map (joined (plan_row p)) (area_rows p)
+joined_rows p = map (joined (row_of_plan p)) (area_rows p)
 
 abbrev pub listing_rows : List Filed → List Row
 listing_rows ps = flat_map joined_rows ps
 
 -- of the volumes from one on
 abbrev pub joined_from : Filed → ℕ → List Block → List Row
-joined_from p place vs = map (joined (plan_row p)) (volume_rows_from p place vs)
+joined_from p place vs = map (joined (row_of_plan p)) (volume_rows_from p place vs)

@@ -1,4 +1,4 @@
--- Damage: what is told of a damaged log, and which files are opened.
+-- DamageTold: what is told of a damaged log, and which files are opened.
 use Rattle.std.specs.Prelude.{◌≡◌, ◌⊎◌, ⊤, ℕ, Bool, true, false, if◌then◌else◌, List, ◌++◌, codes, decimal}
 use Rattle.std.specs.Prelude.{Option, None, Some, IfSome, option_and_then, Result, Ok, Err}
 use Rattle.std.specs.Io.KnownBytes.{Appends}
@@ -25,9 +25,9 @@ damage_line path frame commits =
     ++ (decimal commits ++ codes " commits from there on can't be read\n")))))
 
 -- a line is written, whole or up to the write that broke off
-abbrev pub IsWritten : {E : Type 0} → List ℕ → Option (Cut E) → Option (List ℕ) → Option (List ℕ) → Type 0
-IsWritten line None out now = Appends out now line
-IsWritten line (Some cut) out now = BreaksOff line out now cut.fault
+abbrev pub IsWrittenUpTo : {E : Type 0} → List ℕ → Option (Cut E) → Option (List ℕ) → Option (List ℕ) → Type 0
+IsWrittenUpTo line None out now = Appends out now line
+IsWrittenUpTo line (Some cut) out now = BreaksOff line out now cut.fault
 
 -- a log is damaged, and that is told, up to the write that broke off
 pub record IsLossTold {E : Type 0} (path log : List ℕ) (cut : Option (Cut E)) (out now : Option (List ℕ)) :
@@ -35,7 +35,7 @@ pub record IsLossTold {E : Type 0} (path log : List ℕ) (cut : Option (Cut E)) 
   pub frame : ℕ
   pub commits : ℕ
   pub damaged : IsDamaged log frame commits
-  pub told : IsWritten (damage_line path frame commits) cut out now
+  pub told : IsWrittenUpTo (damage_line path frame commits) cut out now
 
 -- a log is not damaged, and nothing is told
 abbrev pub IsUndamaged : List ℕ → Option (List ℕ) → Option (List ℕ) → Type 0
@@ -53,9 +53,10 @@ IsLookedAt copied path log (Ok look) out now =
 IsLookedAt copied path log (Err it) out now = now ≡ out
 
 -- why nothing is known of a log: memory ran out for the line that tells its damage, or it can't be read
-abbrev pub HasCause : Option (List ℕ) → Unlooked → Type 0
-HasCause log unlooked.OutOfMemory = IfSome log (λ bytes. (frame commits : ℕ) × IsDamaged bytes frame commits)
-HasCause log (unlooked.Unread fault) = IsUnjudged log fault
+abbrev pub HasUnlookedCause : Option (List ℕ) → Unlooked → Type 0
+HasUnlookedCause log unlooked.OutOfMemory =
+    IfSome log (λ bytes. (frame commits : ℕ) × IsDamaged bytes frame commits)
+HasUnlookedCause log (unlooked.Unread fault) = IsUnjudged log fault
 
 -- whether a task is begun at a file, by what came of the look at its log, and whether that is damaged
 abbrev pub admission_of : {E : Type 0} → Result (Look E) Unlooked → Result Bool Failure
@@ -88,5 +89,5 @@ database_of (task.Replay words) = Some words.database
 abbrev pub path_of_line : Line → Option (List ℕ)
 path_of_line line = option_and_then file_of (database_of_line line)
 
-abbrev pub path_of : Task → Option (List ℕ)
-path_of task = option_and_then file_of (database_of task)
+abbrev pub database_path : Task → Option (List ℕ)
+database_path task = option_and_then file_of (database_of task)

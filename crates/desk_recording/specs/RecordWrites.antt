@@ -1,4 +1,4 @@
--- Writing: what is done to the file of a record, so that something is kept.
+-- RecordWrites: what is done to the file of a record, so that something is kept.
 use Rattle.std.specs.Prelude.{◌≡◌, ⊤, ℕ, Bool, true, false, List, [], ◌∷◌, ◌++◌, map, Option, None, Some, option_map}
 use Rattle.desk_line.specs.declared.line.Enrolment.{Enrolment}
 use Rattle.desk_record.specs.Record.{EntryParts, entries, entry}
@@ -11,13 +11,13 @@ pub data Write : Type 0 where
   Failed : Write
 
 -- known writes are followed by these
-abbrev pub Follows : Option (List Write) → Option (List Write) → List Write → Type 0
-Follows old new more = new ≡ option_map (λ writes. writes ++ more) old
+abbrev pub FollowsWrites : Option (List Write) → Option (List Write) → List Write → Type 0
+FollowsWrites old new more = new ≡ option_map (λ writes. writes ++ more) old
 
 -- a write is made, or fails
-abbrev pub Makes : Option (List Write) → Option (List Write) → Bool → Write → Type 0
-Makes old new true write = Follows old new (write ∷ [])
-Makes old new false write = Follows old new (Failed ∷ [])
+abbrev pub MakesWrite : Option (List Write) → Option (List Write) → Bool → Write → Type 0
+MakesWrite old new true write = FollowsWrites old new (write ∷ [])
+MakesWrite old new false write = FollowsWrites old new (Failed ∷ [])
 
 -- an entry is appended, and all is on the disk; an entry is appended
 abbrev pub kept_writes : EntryParts → List Write
@@ -52,10 +52,10 @@ abbrev pub text_in : Option (List Write) → Option (List ℕ)
 text_in writes = option_map appended_in writes
 
 -- bytes are appended to a text that is known, or none are
-abbrev pub Extends : Option (List Write) → Option (List Write) → Bool → List ℕ → Type 0
-Extends None now done bytes = ⊤
-Extends (Some writes) now true bytes = text_in now ≡ Some (appended_in writes ++ bytes)
-Extends (Some writes) now false bytes = text_in now ≡ Some (appended_in writes)
+abbrev pub AppendsKnown : Option (List Write) → Option (List Write) → Bool → List ℕ → Type 0
+AppendsKnown None now done bytes = ⊤
+AppendsKnown (Some writes) now true bytes = text_in now ≡ Some (appended_in writes ++ bytes)
+AppendsKnown (Some writes) now false bytes = text_in now ≡ Some (appended_in writes)
 
 -- what is noted by these writes, the last request at a second
 abbrev pub noted_in : ℕ → Option (List Write) → Option Noted
