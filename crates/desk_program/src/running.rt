@@ -2,13 +2,13 @@
 
 ghost use Rattle.std.specs.Prelude.{IfErr, IfOk};
 ghost use Rattle.std.specs.Option.{IsSomeAnd};
-ghost use Rattle.desk_line.specs.Lines.{HasDatabase, IsLine};
+ghost use Rattle.desk_line.specs.Lines.{IsLine};
 ghost use Rattle.desk_wire.specs.Passage.{passage};
 ghost use Rattle.desk_program.specs.Outside.{ended, outside};
 ghost use Rattle.desk_program.specs.CarryingOut.{CarriesOut, IsUnopened};
 
 use crate::port::Port;
-use crate::program::with_desk;
+use crate::program::{enrol, play};
 use crate::server::serve;
 use desk_line::{Exit, Failure, Line, conclude};
 use desk_run::Desk;
@@ -27,8 +27,7 @@ pub fn run_opened<S: PlanStore + Drop, P: Port, R: Read, W: Write, E: Write>(
     output: &mut W,
     errors: &mut E,
 ) -> (Exit<E>, Option<Desk<S>>)
-    requires line { IsLine line.now }
-    requires desk { HasDatabase line.now }
+    requires { IsLine line.now }
     ensures opened { IfOk opened (λ desk. IsSomeAnd result.1 (CarriesOut S.PlanStore line.now (outside
         (passage R.Read W.Write input.old input.new output.old output.new) (P.traffic port.old)
         (P.traffic port.new) (ended E.Write result.0 errors.old errors.new)) desk)) }
@@ -55,14 +54,14 @@ fn carry_out<S: PlanStore, P: Port, R: Read, W: Write, E: Write>(
     output: &mut W,
     errors: &mut E,
 ) -> Exit<E>
-    requires line { IsLine line.now }
-    requires desk { HasDatabase line.now }
+    requires { IsLine line.now }
     ensures { CarriesOut S.PlanStore line.now (outside
         (passage R.Read W.Write input.old input.new output.old output.new) (P.traffic port.old)
         (P.traffic port.new) (ended E.Write result errors.old errors.new)) desk.old desk.new }
 {
     match line {
+        Line::Play(words) => play(alloc, words, desk, input, output, errors),
         Line::Serve(words) => serve(alloc, port, words, desk, output, errors),
-        _ => with_desk(alloc, line, desk, input, output, errors),
+        Line::Enrol(words) => enrol(alloc, &words.enrolment, desk, output, errors),
     }
 }

@@ -1,4 +1,4 @@
--- What was opened for a line says of that line, and what comes of a desk over files whose reads are tested.
+-- What was opened over a database says of that, and what comes of a desk over files whose reads are tested.
 use Rattle.std.proofs.Common.{◌≡◌, ℕ, List, Option, None, Some, Result, Ok, Err, IfOk, IfErr, Bool, true, IsTrue, inl, inr, refl, sym, ap, ◌∙◌, subst}
 use Rattle.sqlite_trees.specs.View.{doubt}
 use Rattle.sqlite_trees.specs.declared.store.Store.{Ghosts}
@@ -16,7 +16,8 @@ use Rattle.desk_line.specs.declared.failure.Failure.{Failure}
 use Rattle.desk_line.specs.Exits.{Ending, ending}
 use Rattle.desk_line.specs.declared.failure.Exit.{Exit}
 use Rattle.desk_line.specs.declared.line.Line.{Line}
-use Rattle.desk_line.specs.declared.line.Line.TheVariants as line
+use Rattle.desk_line.specs.declared.line.Database.{Database}
+use Rattle.desk_line.specs.declared.line.Database.TheVariants.{InMemory, File}
 use Rattle.desk_program.specs.Outside.{Outside}
 use Rattle.desk_program.specs.Serving.{Traffic}
 use Rattle.uss_desk.specs.declared.opening.Opened.TheVariants as opened
@@ -27,22 +28,19 @@ use Rattle.std.specs.Option.{IsSomeAnd}
 use Rattle.desk_tables.specs.declared.opening.files.FilesFault.{FilesFault}
 use Rattle.uss_desk.specs.declared.opening.Unopened.{Unopened}
 use Rattle.uss_desk.specs.declared.watching.Closed.{Closed}
-use Rattle.uss_desk.specs.OpenedFor.{FailsOver, FileDesk, IsOpenedFor, IsOpenedIn, open_failure, or_failure}
+use Rattle.uss_desk.specs.OpenedFor.{FailsOver, FileDesk, IsOpenedAt, IsOpenedIn, open_failure, or_failure}
 use Rattle.uss_desk.specs.RecordsPlayed.{IsReplayRun, IsReplayedAt}
 use Rattle.uss_desk.specs.OpenedLines.{IsDoneAt, IsLineRun, StaysGuarded}
 use Rattle.uss_desk.specs.RecordedPlays.{IsInputDoneAt, IsInputRun, Stopping}
 use Rattle.desk_line.specs.declared.line.Play.{Play as PlayWords}
 use Rattle.desk_wire.specs.Passage.{Course, Passage}
 
--- a desk over files is opened for a line that names them, and they held this
-pub for_files : {M : Type 0} (m : disk.Ghosts M) {D : Type 0} {g : disk.Ghosts D} (image : Image) (it : Line)
-    → (desk : FileDesk g) → IsOpenedFor {m = m} {g = g} image it (opened.Files desk) → IsOpenedIn image desk
-for_files m image (line.Play play) desk opens = opens.1
-for_files m image (line.Token token) desk opens = absurd opens
-for_files m image (line.Serve serve) desk opens = opens.1
-for_files m image (line.Cover cover) desk opens = absurd opens
-for_files m image (line.Enrol enrol) desk opens = opens.1
-for_files m image (line.Migrate migrate) desk opens = absurd opens
+-- a desk over files is opened over a database in them, and they held this
+pub for_files : {M : Type 0} (m : disk.Ghosts M) {D : Type 0} {g : disk.Ghosts D} (image : Image)
+    (database : Database) (desk : FileDesk g)
+    → IsOpenedAt {m = m} {g = g} image database (opened.Files desk) → IsOpenedIn image desk
+for_files m image InMemory desk opens = absurd opens
+for_files m image (File path) desk opens = opens
 
 -- a run at what was opened, by another name
 pub run_at : {S : Type 0} (g : Ghosts S) (one other : Result (Parts (Shown S)) Failure) → one ≡ other

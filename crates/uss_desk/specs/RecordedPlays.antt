@@ -64,10 +64,8 @@ module _ {M : Type 0} {m : disk.Ghosts M} {D : Type 0} {g : disk.Ghosts D} (acco
   abbrev pub IsInputDone :
       OpenedDesk m g → Option (Parts (Shown (FileStore M m))) → Option (Parts (Shown (FileStore D g)))
       → Type 0
-  IsInputDone opened.Nothing memory files = ⊥
   IsInputDone (opened.Memory desk) memory files =
       (files ≡ None) × IsInputRun over_files play stop end port desk memory
   IsInputDone (opened.Files desk) memory files =
       (memory ≡ None) × IsInputRun over_files play stop end port (or_failure desk) files
       × StaysGuarded account (or_failure desk) files
-  IsInputDone (opened.Moved moved) memory files = ⊥

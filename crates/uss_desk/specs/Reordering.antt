@@ -7,8 +7,6 @@ use Rattle.sqlite_store.specs.declared.store.FileStore.{FileStore}
 use Rattle.sqlite.specs.Held.{Held}
 use Rattle.desk_line.specs.declared.failure.Failure.{Failure}
 use Rattle.desk_line.specs.declared.failure.Failure.TheVariants as failure
-use Rattle.desk_line.specs.declared.line.Line.{Line}
-use Rattle.desk_line.specs.declared.line.Line.TheVariants as line
 use Rattle.desk_line.specs.Exits.{IsLineBreakdown}
 use Rattle.desk_program.specs.declared.looking.CheckedFile.{CheckedFile}
 use Rattle.uss_desk.specs.declared.opening.Unopened.{Unopened}
@@ -17,15 +15,6 @@ use Rattle.uss_desk.specs.declared.ways.Way.TheVariants as way
 use Rattle.uss_desk.specs.FilesTold.{FailsToRead, IsReadAs, Tells}
 use Rattle.uss_desk.specs.Naming.{Failed, Follows, Ordered, Step}
 use Rattle.uss_desk.specs.Twins.{AreRemoved, IsUntwinned, IsWrittenIfRoom, line_of, making, twin_of}
-
--- a line takes files of schema 1
-abbrev pub takes_old : Line → Bool
-takes_old (line.Play words) = false
-takes_old (line.Token text) = false
-takes_old (line.Serve words) = false
-takes_old (line.Cover words) = false
-takes_old (line.Enrol words) = false
-takes_old (line.Migrate words) = true
 
 -- what is told of a file that is put in order
 abbrev pub reordered_text : List ℕ

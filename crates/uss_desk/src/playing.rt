@@ -57,7 +57,6 @@ where
             let (exit, left) = play_over(alloc, words, desk, port, errors);
             (exit, None, left)
         }
-        Opened::Nothing | Opened::Moved(_) => unreachable!(),
     }
 }
 

@@ -7,11 +7,10 @@ ghost use Rattle.uss_desk.specs.LineRecord.{enrolled_by};
 
 use crate::causes::{tell, tell_of};
 use crate::closing::close_after;
-use crate::damage::file_of_line;
 use crate::folders::{FoundRecord, Unkept, last_record, make_part, move_rest, name_part, tail_of};
 use crate::naming::IN_USE;
 use crate::opening::{open_file, or_failure};
-use crate::paths::paths_of;
+use crate::paths::paths_at;
 use crate::rolls::Roll;
 use crate::watching::{Closed, Paths, Watched};
 use desk_line::{Enrolment, Exit, Failure, Line};
@@ -90,7 +89,7 @@ pub fn recover_for<'s>(
         return Ok(None);
     };
     let last = told(rt, path, last_record(rt, path))?;
-    let Some(file) = file_of_line(line) else {
+    let Some(file) = line.database().path() else {
         return Ok(Some(begin_alone(rt, line, path, last)?));
     };
     match last {
@@ -130,7 +129,6 @@ fn folder_of(line: &Line) -> Option<&str>
         Line::Play(words) => words.folder.as_deref(),
         Line::Serve(words) => words.folder.as_deref(),
         Line::Enrol(words) => words.folder.as_deref(),
-        _ => None,
     }
 }
 
@@ -206,7 +204,7 @@ fn recover_at<'s>(
     tail: Tail,
     ended: TailEnd,
 ) -> Result<RecordFolder<'s>, Failure> {
-    let paths = paths_of(rt, line)?;
+    let paths = paths_at(rt, line.database())?;
     let mut roll = Roll::new(true);
     let mut desk = match or_failure(open_file(rt, file, false, Unknown, paths, &mut roll)) {
         Ok(desk) => desk,
@@ -313,7 +311,7 @@ fn terms_of(line: &Line) -> Terms
     match line {
         Line::Play(words) => words.terms,
         Line::Serve(words) => words.terms,
-        _ => Terms::none(),
+        Line::Enrol(_) => Terms::none(),
     }
 }
 
@@ -325,7 +323,6 @@ fn operators_with(line: &Line, mut operators: Vec<Enrolment>) -> Result<Vec<Enro
         Line::Play(words) => operators.extend_from_slice(&words.enrolments)?,
         Line::Serve(words) => operators.extend_from_slice(&words.enrolments)?,
         Line::Enrol(words) => operators.push(words.enrolment)?,
-        _ => {}
     }
     Ok(operators)
 }
