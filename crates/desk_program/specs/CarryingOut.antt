@@ -15,7 +15,7 @@ use Rattle.desk_program.specs.Outside.{Outside}
 use Rattle.desk_program.specs.PlayLines.{IsEnrolled, IsPlayDone}
 use Rattle.desk_program.specs.Serving.{IsLineServed}
 
--- `play` and `enrol` take no connection; `serve` and `enrol` read no input, and `serve` prints that it listens
+-- `play` and `enrol` take no connection; `serve` and `enrol` read no input; `serve` prints that it listens
 abbrev pub IsCarriedOut : Type 0 → Line → Outside → DeskWorld → DeskWorld → Type 0
 IsCarriedOut H (line.Play play) o w after =
     (o.port.after ≡ o.port.before) × IsPlayDone H play o.end o.bytes w after

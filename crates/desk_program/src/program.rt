@@ -39,8 +39,8 @@ fn failure_after(ended: PlayEnd) -> Option<Failure>
     }
 }
 
-/// Does what a line of `play` says at a desk: permits the line's priorities, enrols its operators, answers the
-/// requests of the input, and answers how it ended. The word of a failure goes to `errors`; a fault there is
+/// Does what a line of `play` says at a desk: permits the line's priorities, enrols its operators and answers
+/// the requests of the input. Answers how it ended. The word of a failure goes to `errors`; a fault there is
 /// passed over.
 pub fn play<S: PlanStore, R: Read, W: Write, E: Write>(
     alloc: Global,

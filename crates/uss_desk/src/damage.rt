@@ -56,9 +56,9 @@ impl From<AllocError> for Unlooked {
     }
 }
 
-/// Refuses a file whose log is damaged, or is there without it, and tells why. If it is to be copied, a copy is
-/// made of what can be read, and the loss is told: then the log is damaged, which is the answer. A file that
-/// another program has open is not looked at: to open it tells that.
+/// Refuses a file whose log is damaged, or is there without it, and tells why. If it is to be copied, a copy
+/// is made of what can be read, and the loss is told: then the log is damaged, which is the answer. A file
+/// that another program has open is not looked at: to open it tells that.
 ///
 /// # Errors
 ///

@@ -34,8 +34,8 @@ pub fn migrate_here(rt: &HostRuntime, alloc: Global, database: &Database) -> Res
     Ok(status_closed(close_after(exit.status, desk, &mut errors)))
 }
 
-/// Prints how many plans were moved, or the word of why none were, and answers how that ended and the desk over
-/// the files. A fault of `errors` is passed over.
+/// Prints how many plans were moved, or the word of why none were, and answers how that ended and the desk
+/// over the files. A fault of `errors` is passed over.
 pub fn tell_moved<F: Start, N: Paths + Drop, W: Write, E: Write>(
     alloc: Global,
     moved: MovedDesk<F, N>,

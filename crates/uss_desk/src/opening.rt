@@ -92,8 +92,8 @@ pub type FoundDesk<F, N> = Result<FileDesk<F, N>, Unread<F>>;
 /// A desk over files and how many plans were moved to it from schema 1, or why there is none.
 pub type MovedDesk<F, N> = Result<(FileDesk<F, N>, u32), Unread<F>>;
 
-/// Opens the desk of a line; `start` stands for what the files that it names held, and `paths` are theirs. The
-/// operators that a desk over files has then are noted in `roll`.
+/// Opens the desk of a line; `start` stands for what the files that it names held, and `paths` are theirs.
+/// The operators that a desk over files has then are noted in `roll`.
 pub fn open_for<F: Start, N: Paths + Drop>(
     rt: &HostRuntime,
     line: &Line,
@@ -195,12 +195,13 @@ pub fn open_file<F: Start, N: Paths + Drop>(
     }
 }
 
-/// The desk over a database that may be of schema 1, and how many plans were moved; `start` stands for what its
-/// files held, and `paths` are theirs.
+/// The desk over a database that may be of schema 1, and how many plans were moved; `start` stands for what
+/// its files held, and `paths` are theirs.
 ///
 /// # Errors
 ///
-/// The failure is that of `open_failure`; `Store` of a database in memory, which can't have plans of schema 1.
+/// The failure is that of `open_failure`, and `Store` of a database in memory, which can't have plans of
+/// schema 1.
 pub fn open_old<F: Start, N: Paths + Drop>(
     rt: &HostRuntime,
     database: &Database,

@@ -39,8 +39,8 @@ pub struct Incoming<'p> {
     pub takes_old: bool,
 }
 
-/// Puts the file of a database in order, if its tables stand in another, and tells that. A file of schema 1 is
-/// taken, or not (`takes_old`). Of files nothing is known.
+/// Puts the file of a database in order, if its tables stand in another, and tells that. A file of schema 1
+/// is taken, or not (`takes_old`). Of files nothing is known.
 ///
 /// # Errors
 ///
