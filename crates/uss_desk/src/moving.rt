@@ -1,6 +1,8 @@
 //! The plans of a database of schema 1 moved to schema 2.
 
+ghost use Rattle.std.specs.Prelude.{◌≡◌, OnOk};
 ghost use Rattle.desk_program.specs.Outside.{bytes_written, ended};
+ghost use Rattle.uss_desk.specs.FilesTold.{Tells};
 ghost use Rattle.uss_desk.specs.OpenedFor.{or_failure};
 ghost use Rattle.uss_desk.specs.OpenedLines.{IsMoveTold};
 
@@ -27,11 +29,26 @@ pub fn migrate_here(rt: &HostRuntime, alloc: Global, database: &Database) -> Res
     reorder_for(rt, database, true)?;
     let mut errors = rt.stderr();
     let moved = open_old(rt, database, Unknown, paths);
-    if let Err(unread) = &moved {
-        tell_database(rt, database, unread.failure, &mut errors);
-    }
+    tell_unmoved(rt, database, &moved, &mut errors);
     let (exit, desk) = tell_moved(alloc, moved, &mut rt.stdout(), &mut errors);
     Ok(status_closed(close_after(exit.status, desk, &mut errors)))
+}
+
+/// Tells why no plans of a database were moved, if none were.
+#[tactic(auto, using(crate::proofs::KeepLemmas::tells_nothing))]
+pub fn tell_unmoved<F: Start, N: Paths + Drop, E: Write>(
+    rt: &HostRuntime,
+    database: &Database,
+    moved: &MovedDesk<F, N>,
+    errors: &mut E,
+)
+    ensures tells { Tells (E.contents errors.old) (E.contents errors.new) }
+    ensures silent { OnOk moved.now (E.contents errors.new ≡ E.contents errors.old) }
+{
+    match moved {
+        Ok(_) => {}
+        Err(unread) => tell_database(rt, database, unread.failure, errors),
+    }
 }
 
 /// Prints how many plans were moved, or the word of why none were, and answers how that ended and the desk
