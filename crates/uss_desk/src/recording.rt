@@ -71,6 +71,15 @@ pub struct RecordFolder<'s> {
     len: u64,
 }
 
+// What the last record of a folder left undone: what it says as it ends, and what stands behind that.
+#[derive(Drop)]
+struct Undone<'s> {
+    folder: &'s str,
+    record: FoundRecord,
+    tail: Tail,
+    ended: TailEnd,
+}
+
 // The desk, over whatever disk its files are, at which a record's last request is asked again.
 type DeskAt<D, N> = Desk<Watched<FileStore<D>, N>>;
 
@@ -169,7 +178,13 @@ fn go_on<'s>(
             len: record.len,
         });
     }
-    recover_at(rt, line, folder, file, record, tail, ended)
+    let undone = Undone {
+        folder,
+        record,
+        tail,
+        ended,
+    };
+    recover_at(rt, line, file, undone)
 }
 
 // What the last record of a folder says as it ends.
@@ -198,11 +213,8 @@ fn cause_of_tail(number: u64, begun: Option<u64>, ended: TailEnd) -> Option<&'st
 fn recover_at<'s>(
     rt: &'s HostRuntime,
     line: &Line,
-    folder: &'s str,
     file: &str,
-    record: FoundRecord,
-    tail: Tail,
-    ended: TailEnd,
+    undone: Undone<'s>,
 ) -> Result<RecordFolder<'s>, Failure> {
     let paths = paths_at(rt, line.database())?;
     let mut roll = Roll::new(true);
@@ -213,7 +225,7 @@ fn recover_at<'s>(
             return Err(failure);
         }
     };
-    let done = recover_desk(rt, folder, &record, tail, ended, roll, &mut desk);
+    let done = recover_desk(rt, undone, roll, &mut desk);
     if !is_closed(close_after(1, Some(desk), &mut rt.stderr())) {
         return Err(store_failure(rt, file, "it can't be closed"));
     }
@@ -231,13 +243,16 @@ fn is_closed<D: Disk + Drop, E>(ended: (Exit<E>, Option<Closed<D>>)) -> bool {
 // Does at a desk what a record left undone, and answers which record is the last one then.
 fn recover_desk<'s, D: Disk + Drop, N: Paths + Drop>(
     rt: &'s HostRuntime,
-    folder: &'s str,
-    record: &FoundRecord,
-    tail: Tail,
-    ended: TailEnd,
+    undone: Undone<'s>,
     roll: Roll,
     desk: &mut DeskAt<D, N>,
 ) -> Result<RecordFolder<'s>, Failure> {
+    let Undone {
+        folder,
+        record,
+        tail,
+        ended,
+    } = undone;
     let Tail {
         terms,
         operators,
@@ -247,7 +262,7 @@ fn recover_desk<'s, D: Disk + Drop, N: Paths + Drop>(
     } = tail;
     is_last(rt, folder, record.number, record.len)?;
     if ended == TailEnd::Short {
-        told(rt, folder, move_rest(rt, record, size))?;
+        told(rt, folder, move_rest(rt, &record, size))?;
     }
     let Some(roll) = roll.into_operators() else {
         return Err(Failure::Memory);
