@@ -86,17 +86,13 @@ module _ {D : Type 0} {g : disk.Ghosts D} (image : Image) (path : List ℕ) (tak
   abbrev pub IsLeftAlone :
       Result ⊤ Failure → Option (Result (Held (FileStore D g)) (Unopened D g))
       → Option (List Step) → Option (List Step) → Type 0
-  IsLeftAlone (Ok done) None old new = new ≡ old
-  IsLeftAlone (Ok done) (Some judged) old new = ⊥
-  IsLeftAlone (Err f) judged old new = ⊥
+  IsLeftAlone done judged old new = (done ≡ Ok tt) × (judged ≡ None) × (new ≡ old)
 
   abbrev pub IsReorderedIf :
       Way → Result ⊤ Failure → Option (Result (Held (FileStore D g)) (Unopened D g))
       → Option (List Step) → Option (List Step) → Type 0
-  IsReorderedIf way.Itself done judged old new = IsLeftAlone done judged old new
-  IsReorderedIf way.Damaged done judged old new = IsLeftAlone done judged old new
-  IsReorderedIf (way.Unsummed pages) done judged old new = IsLeftAlone done judged old new
   IsReorderedIf way.Disordered done judged old new = IsReordered done judged old new
+  IsReorderedIf _ done judged old new = IsLeftAlone done judged old new
 
 -- the line that tells that a file was put in order
 abbrev pub reordered_line : List ℕ → List ℕ
