@@ -19,7 +19,6 @@ use Rattle.desk_line.specs.declared.line.Line.{Line}
 use Rattle.desk_line.specs.declared.line.Database.{Database}
 use Rattle.desk_line.specs.declared.line.Database.TheVariants.{InMemory, File}
 use Rattle.desk_program.specs.Outside.{Outside}
-use Rattle.desk_program.specs.Serving.{Traffic}
 use Rattle.uss_desk.specs.declared.opening.Opened.TheVariants as opened
 use Rattle.desk_tables.specs.Closing.{IsLeftUnclosed}
 use Rattle.uss_desk.specs.FilesLeft.{IsClosed, IsEnded}
@@ -31,9 +30,10 @@ use Rattle.uss_desk.specs.declared.watching.Closed.{Closed}
 use Rattle.uss_desk.specs.OpenedFor.{FailsOver, FileDesk, IsOpenedAt, IsOpenedIn, open_failure, or_failure}
 use Rattle.uss_desk.specs.RecordsPlayed.{IsReplayRun, IsReplayedAt}
 use Rattle.uss_desk.specs.OpenedLines.{IsDoneAt, IsLineRun, StaysGuarded}
-use Rattle.uss_desk.specs.RecordedPlays.{IsInputDoneAt, IsInputRun, Stopping}
+use Rattle.desk_recording.specs.Inputs.{InputOutside}
+use Rattle.uss_desk.specs.RecordedPlays.{IsInputDoneAt, IsInputRun}
 use Rattle.desk_line.specs.declared.line.Play.{Play as PlayWords}
-use Rattle.desk_wire.specs.Passage.{Course, Passage}
+use Rattle.desk_wire.specs.Passage.{Passage}
 
 -- a desk over files is opened over a database in them, and they held this
 pub for_files : {M : Type 0} (m : disk.Ghosts M) {D : Type 0} {g : disk.Ghosts D} (image : Image)
@@ -112,21 +112,19 @@ played_at g one other same {until} {p} {end} {left} run =
 pub input_guarded : {D : Type 0} {g : disk.Ghosts D} (account : Account D)
     → ((d : D) → g.is_fair d ≡ (replay (account.start d) (account.calls d)).is_fair)
     → ((d : D) → g.is_clean d ≡ (replay (account.start d) (account.calls d)).is_honest)
-    → (image : Image) (play : PlayWords) (stop : Stopping) (end : Ending) (port : Course Traffic)
+    → (image : Image) (play : PlayWords) (o : InputOutside)
     → (opened : FileDesk g) (left : Option (Parts (Shown (FileStore D g)))) → IsOpenedIn image opened
-    → IfOk (or_failure opened) (IsInputDoneAt over_files play stop end port left)
+    → IfOk (or_failure opened) (IsInputDoneAt over_files play o left)
     → StaysGuarded account (or_failure opened) left
-input_guarded account fair clean image play stop end port (Ok desk) (Some left) opens done =
+input_guarded account fair clean image play o (Ok desk) (Some left) opens done =
     λ honest. true_or_collided account fair clean left (done.2 (opens.guarded honest))
-input_guarded account fair clean image play stop end port (Ok desk) None opens done = done
-input_guarded account fair clean image play stop end port (Err unread) left opens done = tt
+input_guarded account fair clean image play o (Ok desk) None opens done = done
+input_guarded account fair clean image play o (Err unread) left opens done = tt
 
 pub input_at : {S : Type 0} (g : Ghosts S) (one other : Result (Parts (Shown S)) Failure) → one ≡ other
-    → {play : PlayWords} {stop : Stopping} {end : Ending} {port : Course Traffic}
-    → {left : Option (Parts (Shown S))} → IsInputRun g play stop end port one left
-    → IsInputRun g play stop end port other left
-input_at g one other same {play} {stop} {end} {port} {left} run =
-    subst (λ o. IsInputRun g play stop end port o left) same run
+    → {play : PlayWords} {o : InputOutside} {left : Option (Parts (Shown S))} → IsInputRun g play o one left
+    → IsInputRun g play o other left
+input_at g one other same {play} {o} {left} run = subst (λ opened. IsInputRun g play o opened left) same run
 
 -- a desk whose store was closed, by what the store is
 pub is_closed : {D : Type 0} {g : disk.Ghosts D} (desk : Parts (Shown (FileStore D g)))

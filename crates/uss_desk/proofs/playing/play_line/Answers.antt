@@ -13,14 +13,10 @@ returns-in-Files g c =
     let database = c.args.words.now.database in
     let opens = for_files _ image database c.in-Files.desk
     (subst (IsOpenedAt image database) c.in-Files.is c.requires.opened) in
-    let run = input_at over_files _ _ c.or_failure-desk.ensures (record {
-      done = ended.ensures.opened;
-      kept = ended.ensures.kept;
-      undone = ended.ensures.unopened;
-    }) in
+    let run = input_at over_files _ _ c.or_failure-desk.ensures ended.ensures in
     rw c.in-Files.is (
       refl,
       run,
-      input_guarded (account_of g.F.Start) (λ _. refl) (λ _. refl) image _ _ _ _ c.in-Files.desk
+      input_guarded (account_of g.F.Start) (λ _. refl) (λ _. refl) image _ _ c.in-Files.desk
           ended.result.1 opens run.done,
     )
