@@ -11,6 +11,7 @@ use Rattle.desk_rules.specs.Terms.{no_terms}
 use Rattle.desk_run.specs.DeskWorld.{DeskWorld, Parts, with_content, world_of}
 use Rattle.desk_line.specs.declared.failure.Failure.{Failure}
 use Rattle.desk_line.specs.declared.failure.Failure.TheVariants as failure
+use Rattle.desk_line.specs.Lines.{file_of}
 use Rattle.desk_line.specs.declared.line.Database.{Database}
 use Rattle.desk_line.specs.declared.line.Database.TheVariants.{InMemory, File}
 use Rattle.desk_tables.specs.Files.{AreNotMoved, AreRefused, OpensIn, OpensMoved}
@@ -104,6 +105,10 @@ module _ {D : Type 0} {g : disk.Ghosts D} (image : Image) where
 abbrev pub or_failure : {D T : Type 0} {g : disk.Ghosts D} → Result T (Unopened D g) → Result T Failure
 or_failure (Ok it) = Ok it
 or_failure (Err unread) = Err unread.failure
+
+-- a database in memory has no file
+abbrev pub IsInMemory : Database → Type 0
+IsInMemory database = file_of database ≡ None
 
 -- what is opened for a line: a desk in memory or one over files
 abbrev pub OpenedDesk : {M : Type 0} → disk.Ghosts M → {D : Type 0} → disk.Ghosts D → Type 0
