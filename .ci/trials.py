@@ -204,14 +204,21 @@ def link_tree(folder: pathlib.Path, to: pathlib.Path) -> None:
 def only_names(edit: Edit, index: Index) -> list[str]:
     """What `rt check --only` takes for the functions that the edit's clause names: their paths, in which a trait's name
     stands behind the type's, and behind that the trait's own type; nothing if there are none, and all is checked."""
-    return [path_in_kit(item) for item in named(edit, index)]
+    return [path_in_kit(item, index) for item in named(edit, index)]
 
 
-def path_in_kit(item: Item) -> str:
+def module_in_kit(item: Item, index: Index) -> str:
+    """The module of a function as the kit has it: that of the type, of a method without a trait."""
+    same = [one for one in index.by_name[item.owner] if one.name == item.owner and one.kind in ("struct", "enum")]
+    types = [one for one in same if one.source.crate == item.source.crate and not item.trait]
+    return types[0].source.module if types else item.source.module
+
+
+def path_in_kit(item: Item, index: Index) -> str:
     """A function's path as the kit has it, as `serving::ServeFaultFromAllocError::from`."""
     of = re.search(rf"\b{item.trait}<(?:\w+::)*(\w+)", item.header) if item.trait else None
     owner = f"{item.owner}{item.trait}{of[1] if of else ''}"
-    return "::".join(part for part in (item.source.module, owner, item.name) if part)
+    return "::".join(part for part in (module_in_kit(item, index), owner, item.name) if part)
 
 
 def functions_of(edit: Edit, index: Index) -> list[Item]:
