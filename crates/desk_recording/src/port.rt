@@ -93,6 +93,7 @@ impl<P: Port + Drop, R: Record + Drop> Port for RecordedPort<P, R> {
         }
     }
 
+    // Long: what each port owes, and what this one adds of the port below and of its record.
     #[tactic(auto, using(crate::proofs::StepLemmas::takes_one))]
     fn take(
         &mut self,
@@ -140,6 +141,7 @@ impl<P: Port + Drop, R: Record + Drop> Port for RecordedPort<P, R> {
         Err(Failure::Broken)
     }
 
+    // Long: what each port owes, and what this one adds of the port below and of its record.
     #[tactic(auto, using(crate::proofs::StepLemmas::closes_so, crate::proofs::StepLemmas::is_open))]
     fn close(
         &mut self,
