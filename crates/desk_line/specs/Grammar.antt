@@ -258,7 +258,7 @@ enrolment_given rows =
 
 pub record IsPlayGiven (rows : List Row) (play : PlayWords) : Type 0 where
   pub database : file_of play.database ≡ file_given rows
-  pub moment : IsSecondGiven (codes "moment") rows play.moment
+  pub moment : IsSecondGiven (codes "moment") rows play.moment.second
   pub terms : AreTermsOf rows play.terms
   pub enrolments : AreEnrolmentsGiven play.enrolments.items rows
   pub folder : option_map string_bytes play.folder ≡ first_of (codes "record") rows

@@ -52,9 +52,8 @@ abbrev pub AreEnrolments : List Enrolment → Type 0
 AreEnrolments enrolments = All (λ e. e.ceiling ≤ max_priority) enrolments
 
 -- the words of `play`
-pub record IsPlay (play : PlayWords) : Type 0 where
-  pub moment : IsMoment play.moment
-  pub enrolments : AreEnrolments play.enrolments.items
+abbrev pub IsPlay : PlayWords → Type 0
+IsPlay play = AreEnrolments play.enrolments.items
 
 -- the words of `serve`
 pub record IsServe (serve : ServeWords) : Type 0 where

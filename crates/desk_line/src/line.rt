@@ -33,6 +33,7 @@ use crate::command::make_command;
 use crate::equal::{permitted_by, priority_of};
 use clap::ArgMatches;
 use clap::error::ErrorKind;
+use desk_ends::Moment;
 use desk_rules::operator::Operator;
 use desk_rules::permission::Permitted;
 use desk_rules::terms::{MAX_SPANS, Terms};
@@ -141,8 +142,8 @@ pub enum Database {
 pub struct Play {
     /// Where operators and plans are kept.
     pub database: Database,
-    /// The moment of all requests, a Unix second from 0 to 253,370,764,800.
-    pub moment: i64,
+    /// The moment of all requests.
+    pub moment: Moment,
     /// The terms of the desk: the priorities of which plans may overlap, and the most spans of an operator's
     /// live plans, 1 to 5,000,000.
     pub terms: Terms,
@@ -396,20 +397,13 @@ fn read_play(alloc: Global, given: &ArgMatches<'_>) -> Result<Play, WordsFault>
 }
 
 // The moment of all requests.
-fn read_moment(given: &ArgMatches<'_>) -> Option<i64>
-    ensures valid { IfSome result IsMoment }
-    ensures given { IfSome result (IsSecondGiven (codes "moment") (rows_of (found_of given.now))) }
+fn read_moment(given: &ArgMatches<'_>) -> Option<Moment>
+    ensures given { IfSome result (λ moment.
+        IsSecondGiven (codes "moment") (rows_of (found_of given.now)) moment.second) }
     ensures none { result ≡ None → (z : ℤ) → IsMoment z
         → IsSecondGiven (codes "moment") (rows_of (found_of given.now)) z → ⊥ }
 {
-    let moment = read_second(given, "moment")?;
-    if moment < 0 {
-        return None;
-    }
-    if moment > MAX_SECOND {
-        return None;
-    }
-    Some(moment)
+    Moment::try_new(read_second(given, "moment")?)
 }
 
 // A second, or another number of 64 bits and a sign.

@@ -55,7 +55,7 @@ abbrev pub IsPlayKept :
 IsPlayKept H play end p w after found =
     ((run : IsPlayed H play end p w after)
     × IsKept run.ended (told_in_play run.ended run.answered) p
-    (with_operators (on_terms w play.terms) play.enrolments.items) play.moment after found)
+    (with_operators (on_terms w play.terms) play.enrolments.items) play.moment.second after found)
     ⊎ (IsNotPlayed H play end p w after
     × AreKeptSoFar H play.enrolments.items (on_terms w play.terms) after found)
 

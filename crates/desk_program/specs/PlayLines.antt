@@ -25,7 +25,7 @@ pub record IsPlayed (H : Type 0) (play : PlayWords) (end : Ending) (p : Passage)
   pub answered : ℕ
   pub ends : EndsWith (done_unless (failure_after ended)) end
   pub played : H → HasPlayed H ended answered p
-      (with_operators (on_terms w play.terms) play.enrolments.items) play.moment after
+      (with_operators (on_terms w play.terms) play.enrolments.items) play.moment.second after
 
 -- an operator could not be listed: those before it are, and nothing is read or written
 pub record IsNotPlayed (H : Type 0) (play : PlayWords) (end : Ending) (p : Passage) (w after : DeskWorld) :

@@ -4,7 +4,6 @@
 ghost use Rattle.std.specs.Prelude.{◌≡◌, ⊤, Err, IfErr, IfOk, IsSome, Ok, OnErr, OnOk, Some, not};
 ghost use Rattle.std.specs.Option.{IsSomeAnd};
 ghost use Rattle.std.specs.Io.Cursor.{cursor_inner, cursor_remaining};
-ghost use Rattle.desk_ends.specs.Moments.{IsMoment};
 ghost use Rattle.desk_wire.specs.OneRequest.{IsTaken};
 ghost use Rattle.desk_line.specs.Lines.{IsPlay};
 ghost use Rattle.desk_program.specs.Recorded.{IsOpen};
@@ -15,7 +14,7 @@ ghost use Rattle.desk_recording.specs.Recording.{Sends};
 
 use crate::port::RecordedPort;
 use crate::record::Record;
-use desk_ends::write_whole;
+use desk_ends::{Moment, write_whole};
 use desk_line::{Enrolment, Exit, Failure, Play, conclude};
 use desk_program::{Connection, Outcome, Port, play_port};
 use desk_run::Desk;
@@ -23,7 +22,6 @@ use desk_store::PlanStore;
 use desk_wire::receive_request;
 use std::alloc::Global;
 use std::io::{Cursor, Read, Write};
-use volume4d::MAX_SECOND;
 
 /// A port whose connections are the requests of an input, one after the other, all at one moment. Their
 /// answers go to an output.
@@ -31,7 +29,7 @@ use volume4d::MAX_SECOND;
 pub struct InputPort<R: Drop, W: Drop> {
     input: R,
     output: W,
-    moment: i64,
+    moment: Moment,
     // Whether the place of the next request is not known.
     is_unframed: bool,
     // How the input ended, or the output, if one did.
@@ -39,8 +37,8 @@ pub struct InputPort<R: Drop, W: Drop> {
 }
 
 impl<R: Read + Drop, W: Write + Drop> InputPort<R, W> {
-    /// A port over an input and an output, whose requests are all asked at this moment (a Unix second).
-    pub fn new(input: R, output: W, moment: i64) -> InputPort<R, W>
+    /// A port over an input and an output, whose requests are all asked at this moment.
+    pub fn new(input: R, output: W, moment: Moment) -> InputPort<R, W>
         ensures input { result.input ≡ input }
         ensures output { result.output ≡ output }
         ensures moment { result.moment ≡ moment }
@@ -81,9 +79,8 @@ impl<R: Read + Drop, W: Write + Drop> Port for InputPort<R, W> {
     }
 
     fn take(&mut self, alloc: Global) -> Result<Connection<Cursor<Vec<u8>>, Vec<u8>>, Failure>
-        ensures moment { IfOk result (λ c. IsMoment c.moment) }
         ensures taken { IfOk result (λ c. TakesArrival untold untold
-            (arrived c.moment (cursor_remaining (λ v. Some v.items) c.input))) }
+            (arrived c.moment.second (cursor_remaining (λ v. Some v.items) c.input))) }
         ensures unsent { IfOk result (λ c. IsFresh untold (Some c.output.items)) }
         ensures same { OnErr result (Denies untold untold) }
         ensures fault { IfErr result IsDenied }
@@ -94,9 +91,6 @@ impl<R: Read + Drop, W: Write + Drop> Port for InputPort<R, W> {
     {
         if self.ended.is_some() {
             return Err(Failure::Network);
-        }
-        if !(0..=MAX_SECOND).contains(&self.moment) {
-            return Err(Failure::Clock);
         }
         match next_of(alloc, self.is_unframed, &mut self.input) {
             Ok(request) => Ok(Connection {

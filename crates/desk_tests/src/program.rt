@@ -5,6 +5,7 @@ ghost use Rattle.std.specs.Prelude.{◌≤◌};
 ghost use Rattle.desk_rules.specs.Limits.{max_priority};
 ghost use Rattle.desk_line.specs.Lines.{IsPlay};
 
+use desk_ends::Moment;
 use desk_line::{Database, Enrolment, Play};
 use desk_program::{enrol, play};
 use desk_rules::operator::Operator;
@@ -38,7 +39,7 @@ fn play_line(alloc: Global) -> Result<Play, Fail>
     };
     Ok(Play {
         database: Database::InMemory,
-        moment: 0,
+        moment: Moment { second: 0 },
         terms: Terms::none(),
         enrolments: vec![in alloc; alfa, bravo]?,
         folder: None,

@@ -47,7 +47,7 @@ fn reads_play(rt: HostRuntime) -> Result<(), Fail> {
     let Some(Line::Play(play)) = line_of(rt.alloc(), &words)? else {
         return Err(Fail::from("no line"));
     };
-    assert_eq!(rt; play.moment, 1_780_315_000);
+    assert_eq!(rt; play.moment.second, 1_780_315_000);
     assert_eq!(rt; play.enrolments.len(), 3);
     assert_eq!(rt; play.enrolments[1].ceiling, 1_000);
     let last = &play.enrolments[2];

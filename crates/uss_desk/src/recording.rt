@@ -13,6 +13,7 @@ use crate::opening::{open_file, or_failure};
 use crate::paths::paths_at;
 use crate::rolls::Roll;
 use crate::watching::{Closed, Paths, Watched};
+use desk_ends::Moment;
 use desk_line::{Enrolment, Exit, Failure, Line};
 use desk_recording::{
     Journal, Parted, Record, Tail, TailEnd, WrittenRecord, begin_record, missing_of, recover,
@@ -412,7 +413,7 @@ struct AskedRecord<'s> {
 
 impl<'s> AskedRecord<'s> {
     // The record, with the request in it, under its name.
-    fn begin(&mut self, moment: i64, bytes: &[u8]) -> Result<LocalRecord<'s>, Failure> {
+    fn begin(&mut self, moment: Moment, bytes: &[u8]) -> Result<LocalRecord<'s>, Failure> {
         let journal = begin_part(
             self.rt,
             self.folder,
@@ -439,7 +440,7 @@ impl Record for AskedRecord<'_> {
         false
     }
 
-    fn keep_request(&mut self, moment: i64, bytes: &[u8]) -> bool {
+    fn keep_request(&mut self, moment: Moment, bytes: &[u8]) -> bool {
         self.record = self.begin(moment, bytes).ok();
         self.record.is_some()
     }

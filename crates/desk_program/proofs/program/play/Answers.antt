@@ -1,8 +1,7 @@
-use Rattle.std.proofs.Common.{ap, ◌∙◌, inl, inr, subst, to_z, of_z, w64}
+use Rattle.std.proofs.Common.{ap, ◌∙◌, inl, inr, subst}
 use Rattle.desk_store.specs.StoreFaults.{IsHonest}
 use Rattle.desk_store.specs.laws.Fault.{was_honest}
 use Rattle.desk_run.specs.DeskWorld.{world_of}
-use Rattle.desk_ends.specs.laws.Moment.{same_moment}
 use Rattle.desk_wire.specs.Passage.{passage}
 use Rattle.desk_wire.specs.Playing.{HasPlayed}
 use Rattle.desk_line.specs.Exits.{EndsWith, ending}
@@ -52,7 +51,6 @@ returns-clause-played g c =
     let w = world_of g.S.PlanStore.content c.args.desk.now in
     let begun = on_terms w c.args.line.now.terms in
     let after = world_of g.S.PlanStore.content c.play_all-played.new.desk in
-    let moment = c.args.line.now.moment in
     inl (record {
       ended = played.ended;
       answered = played.answered;
@@ -62,11 +60,8 @@ returns-clause-played g c =
       played = λ h.
           let listed = c.in_default.ensures.listed (was_honest c.play_all-played.ensures.remembered.doubt h)
           ∙ ap (with_operators begun) c.deref.ensures.value in
-          subst (λ m. HasPlayed honest played.ended played.answered bytes
-          (with_operators begun c.args.line.now.enrolments.items) m after)
-          (same_moment moment c.requires.moment)
-          (subst (λ v. HasPlayed honest played.ended played.answered bytes v
-          (to_z w64 (of_z w64 moment)) after) listed c.play_all-played.ensures.played);
+          subst (λ v. HasPlayed honest played.ended played.answered bytes v c.args.line.now.moment.second after)
+          listed c.play_all-played.ensures.played;
     })
 
 pub returns-clause-kept : goal.returns-clause-kept
@@ -82,7 +77,6 @@ returns-clause-kept g c = λ p settled found may.
     (world_of g.S.PlanStore.content c.play_all-played.new.desk) _
     (subst (λ d. EndsWith d end) c.done_after.ensures
     (c.conclude-2.ensures.status, c.conclude-2.ensures.told))
-    (same_moment c.args.line.now.moment c.requires.moment)
     (λ h. c.in_default.ensures.listed (was_honest c.play_all-played.ensures.remembered.doubt h)
     ∙ ap (with_operators (on_terms w c.args.line.now.terms)) c.deref.ensures.value)
     c.play_all-played.ensures.played p found
