@@ -385,7 +385,8 @@ module _ (H : Type 0) (play : PlayWords) (end : Ending) (ended : PlayEnd) (answe
           ended = ended;
           answered = answered;
           ends = ends;
-          played = λ h. subst (λ v. HasPlayed H ended answered q v play.moment.second after) (listed h) played;
+          played = λ h.
+              subst (λ v. HasPlayed H ended answered q v play.moment.second after) (listed h) played;
         },
         subst (λ v. IsKept ended (told_in_play ended answered) q v play.moment.second after found) (listed p)
             kept,

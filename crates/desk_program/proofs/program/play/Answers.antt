@@ -60,7 +60,8 @@ returns-clause-played g c =
       played = λ h.
           let listed = c.in_default.ensures.listed (was_honest c.play_all-played.ensures.remembered.doubt h)
           ∙ ap (with_operators begun) c.deref.ensures.value in
-          subst (λ v. HasPlayed honest played.ended played.answered bytes v c.args.line.now.moment.second after)
+          let second = c.args.line.now.moment.second in
+          subst (λ v. HasPlayed honest played.ended played.answered bytes v second after)
           listed c.play_all-played.ensures.played;
     })
 

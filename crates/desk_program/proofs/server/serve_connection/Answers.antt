@@ -128,8 +128,9 @@ returns-clause-kept g c =
     }) c.close-closed.result _ _ w listed after before mid
     (g.S.PlanStore.may_leave c.serve_one-served.new.desk.store)
     (closes.2 ∙ taken.2 ∙ brings.3)
-    (subst (λ v. Grows v (g.P.Port.traffic c.close-closed.new.self).taken (arrived client.moment.second bytes ∷ []))
-    brings.1 (subst (λ v. Grows (g.P.Port.traffic c.news.new.self).taken v (arrived client.moment.second bytes ∷ []))
+    (subst (λ v. Grows v (g.P.Port.traffic c.close-closed.new.self).taken
+    (arrived client.moment.second bytes ∷ [])) brings.1
+    (subst (λ v. Grows (g.P.Port.traffic c.news.new.self).taken v (arrived client.moment.second bytes ∷ []))
     (sym closes.1) taken.0))
     (subst (λ v. Grows v (g.P.Port.traffic c.close-closed.new.self).closed
     (parted unread now c.outcome_of.result ∷ [])) (taken.1 ∙ brings.2) closes.0)

@@ -13,7 +13,8 @@ returns-then-append-clause-noted g c =
     let bytes = c.args.bytes.now in
     let text = entry (request_entry (nat_abs c.args.moment.second) bytes) in
     let second : c.unsigned_abs-self.result ≡ nat_abs c.args.moment.second =
-    c.unsigned_abs-self.ensures.value ∙ ap nat_abs (same_moment c.args.moment.second c.args.moment.in_range) in
+    c.unsigned_abs-self.ensures.value
+    ∙ ap nat_abs (same_moment c.args.moment.second c.args.moment.in_range) in
     notes_synced c.args.self.now.second c.append.new.self.second before text
     (λ n. with_request n c.args.moment.second bytes)
     (λ old. request_noted (record { text = old; second = c.args.self.now.second }) c.args.moment.second bytes
