@@ -75,7 +75,7 @@ returns-clause-kept g c = λ p settled found may.
     run_kept (IsHonest (g.S.PlanStore.doubt c.play_all-played.new.desk.store)) c.args.line.now end
     played.ended played.answered (passage g.R.Read g.W.Write c.args.input.now c.play_all-played.new.input
     c.args.output.now c.play_all-played.new.output) w (world_of g.S.PlanStore.content c.set_up.new.desk)
-    (world_of g.S.PlanStore.content c.play_all-played.new.desk) _
+    (world_of g.S.PlanStore.content c.play_all-played.new.desk)
     (subst (λ d. EndsWith d end) c.done_after.ensures
     (c.conclude-2.ensures.status, c.conclude-2.ensures.told))
     (λ h. c.in_default.ensures.listed (was_honest c.play_all-played.ensures.remembered.doubt h)
