@@ -208,9 +208,11 @@ def only_names(edit: Edit, index: Index) -> list[str]:
 
 
 def path_in_kit(item: Item) -> str:
-    """A function's path as the kit has it, as `serving::ServeFaultFromAllocError::from`."""
-    of = re.search(rf"\b{item.trait}<(?:\w+::)*(\w+)", item.header) if item.trait else None
-    owner = f"{item.owner}{item.trait}{of[1] if of else ''}"
+    """A function's path as the kit has it, as `serving::ServeFaultFromAllocError::from`, in which the words of a path
+    run together: what is from `sqlite::Error` is `OpenFaultFromSqliteError`."""
+    of = re.search(rf"\b{item.trait}<((?:\w+::)*\w+)", item.header) if item.trait else None
+    words = re.split("::|_", of[1]) if of else []
+    owner = "".join([item.owner, item.trait, *(word[:1].upper() + word[1:] for word in words)])
     return "::".join(part for part in (item.source.module, owner, item.name) if part)
 
 
