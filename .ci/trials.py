@@ -208,12 +208,24 @@ def only_names(edit: Edit, index: Index) -> list[str]:
 
 
 def path_in_kit(item: Item) -> str:
-    """A function's path as the kit has it, as `serving::ServeFaultFromAllocError::from`, in which the words of a path
-    run together: what is from `sqlite::Error` is `OpenFaultFromSqliteError`."""
-    of = re.search(rf"\b{item.trait}<((?:\w+::)*\w+)", item.header) if item.trait else None
-    words = re.split("::|_", of[1]) if of else []
-    owner = "".join([item.owner, item.trait, *(word[:1].upper() + word[1:] for word in words)])
+    """A function's path as the kit has it, as `serving::ServeFaultFromAllocError::from`."""
+    owner = owner_of_trait(item) if item.trait else owner_with_types(item)
     return "::".join(part for part in (item.source.module, owner, item.name) if part)
+
+
+def owner_of_trait(item: Item) -> str:
+    """The name of an `impl` of a trait; the words of a path run together, as in `OpenFaultFromSqliteError`."""
+    of = re.search(rf"\b{item.trait}<((?:\w+::)*\w+)", item.header)
+    words = re.split("::|_", of[1]) if of else []
+    return "".join([item.owner, item.trait, *(word[:1].upper() + word[1:] for word in words)])
+
+
+def owner_with_types(item: Item) -> str:
+    """The name of a type's own `impl`, with the types that it is for if not for all, as `SqliteStore+FileStore+D`."""
+    before, _, behind = item.header.partition(f" {item.owner}<")
+    words = re.findall(r"\w+", behind.partition(" where ")[0])
+    is_for_all = set(words) <= set(re.findall(r"\w+", before))
+    return item.owner if is_for_all else "+".join([item.owner, *words])
 
 
 def functions_of(edit: Edit, index: Index) -> list[Item]:
