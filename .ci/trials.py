@@ -208,9 +208,11 @@ def only_names(edit: Edit, index: Index) -> list[str]:
 
 
 def path_in_kit(item: Item) -> str:
-    """A function's path as the kit has it, as `serving::ServeFaultFromAllocError::from`."""
+    """A function's path as the kit has it, as `serving::ServeFaultFromAllocError::from`, or the end of the path: of a
+    method whose type stands in another file the kit names the type's module."""
     owner = owner_of_trait(item) if item.trait else owner_with_types(item)
-    return "::".join(part for part in (item.source.module, owner, item.name) if part)
+    is_here = not owner or re.search(rf"\b(?:struct|enum|trait) {item.owner}\b", item.source.bare)
+    return "::".join(part for part in (item.source.module if is_here else "", owner, item.name) if part)
 
 
 def owner_of_trait(item: Item) -> str:
