@@ -21,16 +21,20 @@ use Rattle.desk_rules.specs.Name.{is_operator_name}
 use Rattle.desk_rules.specs.declared.terms.Terms.{Terms}
 use Rattle.volume4d.specs.VolumeLimits.{max_second}
 use Rattle.desk_line.specs.Equal.{ArePermittedBy, priority_in}
-use Rattle.desk_line.specs.Lines.{IsLine, IsPlay, IsReplay, IsServe, IsTask}
+use Rattle.desk_line.specs.Lines.{IsCellLine, IsKeeperLine, IsLine, IsPlay, IsReplay, IsServe, IsTask}
 use Rattle.desk_line.specs.Lines.{file_of, max_connections, max_port}
 use Rattle.desk_line.specs.Lines.{min_connections, min_port, min_spans, named_file}
+use Rattle.desk_line.specs.declared.line.CellLine.{CellLine}
+use Rattle.desk_line.specs.declared.line.CellLine.TheVariants as cells
 use Rattle.desk_line.specs.declared.line.Copying.{Copying as CopyWords}
 use Rattle.desk_line.specs.declared.line.Cover.{Cover as CoverWords}
+use Rattle.desk_line.specs.declared.line.Database.{Database}
 use Rattle.desk_line.specs.declared.line.Enrol.{Enrol as EnrolWords}
 use Rattle.desk_line.specs.declared.line.Enrolment.{Enrolment}
+use Rattle.desk_line.specs.declared.line.KeeperLine.{KeeperLine}
+use Rattle.desk_line.specs.declared.line.KeeperLine.TheVariants as keeper
 use Rattle.desk_line.specs.declared.line.Line.{Line}
 use Rattle.desk_line.specs.declared.line.Line.TheVariants as line
-use Rattle.desk_line.specs.declared.line.Migrate.{Migrate as MigrateWords}
 use Rattle.desk_line.specs.declared.line.Play.{Play as PlayWords}
 use Rattle.desk_line.specs.declared.line.Replaying.{Replaying as ReplayWords}
 use Rattle.desk_line.specs.declared.line.Serve.{Serve as ServeWords}
@@ -254,7 +258,7 @@ enrolment_given rows =
 
 pub record IsPlayGiven (rows : List Row) (play : PlayWords) : Type 0 where
   pub database : file_of play.database ≡ file_given rows
-  pub moment : IsSecondGiven (codes "moment") rows play.moment
+  pub moment : IsSecondGiven (codes "moment") rows play.moment.second
   pub terms : AreTermsOf rows play.terms
   pub enrolments : AreEnrolmentsGiven play.enrolments.items rows
   pub folder : option_map string_bytes play.folder ≡ first_of (codes "record") rows
@@ -285,9 +289,6 @@ pub record IsEnrolGiven (rows : List Row) (enrol : EnrolWords) : Type 0 where
 abbrev pub IsTextGiven : List Row → Text → Type 0
 IsTextGiven rows text = first_of (codes "token") rows ≡ Some text
 
-abbrev pub IsMigrateGiven : List Row → MigrateWords → Type 0
-IsMigrateGiven rows migrate = file_of migrate.database ≡ file_given rows
-
 pub record IsCopyGiven (rows : List Row) (copy : CopyWords) : Type 0 where
   pub database : file_of copy.database ≡ file_given rows
   pub to : first_of (codes "to") rows ≡ Some (string_bytes copy.to)
@@ -297,35 +298,49 @@ pub record IsReplayGiven (rows : List Row) (replay : ReplayWords) : Type 0 where
   pub until : IsNumberOrNone (codes "until") rows replay.until
 
 -- the first word of a line
+abbrev pub cells_name : CellLine → Text
+cells_name (cells.Token text) = codes "token"
+cells_name (cells.Cover cover) = codes "cover"
+
 abbrev pub name_of : Line → Text
 name_of (line.Play play) = codes "play"
-name_of (line.Token text) = codes "token"
 name_of (line.Serve serve) = codes "serve"
-name_of (line.Cover cover) = codes "cover"
 name_of (line.Enrol enrol) = codes "enrol"
-name_of (line.Migrate migrate) = codes "migrate"
+
+abbrev pub keeper_name : KeeperLine → Text
+keeper_name (keeper.Check place) = codes "check"
+keeper_name (keeper.Copy copy) = codes "copy"
+keeper_name (keeper.Migrate place) = codes "migrate"
+keeper_name (keeper.Replay replay) = codes "replay"
+
+abbrev pub word_of : Task → Text
+word_of (task.Print it) = cells_name it
+word_of (task.Run it) = name_of it
+word_of (task.Keep it) = keeper_name it
 
 -- each field of a line has the value that was given
+abbrev pub HasCellsGiven : List Row → CellLine → Type 0
+HasCellsGiven rows (cells.Token text) = IsTextGiven rows (string_bytes text)
+HasCellsGiven rows (cells.Cover cover) = IsCoverGiven rows cover
+
 abbrev pub HasGiven : List Row → Line → Type 0
 HasGiven rows (line.Play play) = IsPlayGiven rows play
-HasGiven rows (line.Token text) = IsTextGiven rows (string_bytes text)
 HasGiven rows (line.Serve serve) = IsServeGiven rows serve
-HasGiven rows (line.Cover cover) = IsCoverGiven rows cover
 HasGiven rows (line.Enrol enrol) = IsEnrolGiven rows enrol
-HasGiven rows (line.Migrate migrate) = IsMigrateGiven rows migrate
 
--- the first word of a task
-abbrev pub word_of : Task → Text
-word_of (task.Run it) = name_of it
-word_of (task.Check place) = codes "check"
-word_of (task.Copy copy) = codes "copy"
-word_of (task.Replay replay) = codes "replay"
+abbrev pub IsDatabaseGiven : List Row → Database → Type 0
+IsDatabaseGiven rows database = file_of database ≡ file_given rows
+
+abbrev pub HasKeeperGiven : List Row → KeeperLine → Type 0
+HasKeeperGiven rows (keeper.Check place) = IsDatabaseGiven rows place
+HasKeeperGiven rows (keeper.Copy copy) = IsCopyGiven rows copy
+HasKeeperGiven rows (keeper.Migrate place) = IsDatabaseGiven rows place
+HasKeeperGiven rows (keeper.Replay replay) = IsReplayGiven rows replay
 
 abbrev pub HasTaskGiven : List Row → Task → Type 0
+HasTaskGiven rows (task.Print it) = HasCellsGiven rows it
 HasTaskGiven rows (task.Run it) = HasGiven rows it
-HasTaskGiven rows (task.Check place) = file_of place ≡ file_given rows
-HasTaskGiven rows (task.Copy copy) = IsCopyGiven rows copy
-HasTaskGiven rows (task.Replay replay) = IsReplayGiven rows replay
+HasTaskGiven rows (task.Keep it) = HasKeeperGiven rows it
 
 -- one with its numbers in range
 abbrev pub IsPlayOf : List Row → PlayWords → Type 0
@@ -340,6 +355,12 @@ IsReplayOf rows replay = IsReplay replay × IsReplayGiven rows replay
 -- the line or the task of a name
 abbrev pub IsLineOf : Text → List Row → Line → Type 0
 IsLineOf name rows it = IsLine it × (name_of it ≡ name) × HasGiven rows it
+
+abbrev pub IsCellLineOf : Text → List Row → CellLine → Type 0
+IsCellLineOf name rows it = IsCellLine it × (cells_name it ≡ name) × HasCellsGiven rows it
+
+abbrev pub IsKeeperLineOf : Text → List Row → KeeperLine → Type 0
+IsKeeperLineOf name rows it = IsKeeperLine it × (keeper_name it ≡ name) × HasKeeperGiven rows it
 
 abbrev pub IsTaskOf : Text → List Row → Task → Type 0
 IsTaskOf name rows it = IsTask it × (word_of it ≡ name) × HasTaskGiven rows it

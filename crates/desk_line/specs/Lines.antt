@@ -6,16 +6,20 @@ use Rattle.desk_rules.specs.Limits.{max_priority}
 use Rattle.desk_ends.specs.Moments.{IsMoment}
 use Rattle.desk_line.specs.declared.line.Database.{Database}
 use Rattle.desk_line.specs.declared.line.Database.TheVariants.{InMemory, File}
+use Rattle.desk_line.specs.declared.line.CellLine.{CellLine}
+use Rattle.desk_line.specs.declared.line.CellLine.TheVariants.{Token, Cover}
 use Rattle.desk_line.specs.declared.line.Cover.{Cover as CoverWords}
 use Rattle.desk_line.specs.declared.line.Enrol.{Enrol as EnrolWords}
 use Rattle.desk_line.specs.declared.line.Enrolment.{Enrolment}
+use Rattle.desk_line.specs.declared.line.KeeperLine.{KeeperLine}
+use Rattle.desk_line.specs.declared.line.KeeperLine.TheVariants.{Check, Copy, Migrate, Replay}
 use Rattle.desk_line.specs.declared.line.Line.{Line}
-use Rattle.desk_line.specs.declared.line.Line.TheVariants.{Play, Token, Serve, Cover, Enrol, Migrate}
+use Rattle.desk_line.specs.declared.line.Line.TheVariants.{Play, Serve, Enrol}
 use Rattle.desk_line.specs.declared.line.Play.{Play as PlayWords}
 use Rattle.desk_line.specs.declared.line.Replaying.{Replaying as ReplayWords}
 use Rattle.desk_line.specs.declared.line.Serve.{Serve as ServeWords}
 use Rattle.desk_line.specs.declared.line.Task.{Task}
-use Rattle.desk_line.specs.declared.line.Task.TheVariants.{Run, Check, Copy, Replay}
+use Rattle.desk_line.specs.declared.line.Task.TheVariants.{Print, Run, Keep}
 
 abbrev pub min_port : ℕ
 min_port = 1
@@ -48,9 +52,8 @@ abbrev pub AreEnrolments : List Enrolment → Type 0
 AreEnrolments enrolments = All (λ e. e.ceiling ≤ max_priority) enrolments
 
 -- the words of `play`
-pub record IsPlay (play : PlayWords) : Type 0 where
-  pub moment : IsMoment play.moment
-  pub enrolments : AreEnrolments play.enrolments.items
+abbrev pub IsPlay : PlayWords → Type 0
+IsPlay play = AreEnrolments play.enrolments.items
 
 -- the words of `serve`
 pub record IsServe (serve : ServeWords) : Type 0 where
@@ -87,43 +90,34 @@ abbrev pub IsReplay : ReplayWords → Type 0
 IsReplay replay = IsLastSecond replay.until
 
 -- each number of a line is in its range
+abbrev pub IsCellLine : CellLine → Type 0
+IsCellLine (Token token) = ⊤
+IsCellLine (Cover cover) = IsCover cover
+
 abbrev pub IsLine : Line → Type 0
 IsLine (Play play) = IsPlay play
-IsLine (Token token) = ⊤
 IsLine (Serve serve) = IsServe serve
-IsLine (Cover cover) = IsCover cover
 IsLine (Enrol enrol) = IsEnrol enrol
-IsLine (Migrate migrate) = ⊤
+
+abbrev pub IsKeeperLine : KeeperLine → Type 0
+IsKeeperLine (Check database) = ⊤
+IsKeeperLine (Copy copy) = ⊤
+IsKeeperLine (Migrate database) = ⊤
+IsKeeperLine (Replay replay) = IsReplay replay
 
 abbrev pub IsTask : Task → Type 0
+IsTask (Print line) = IsCellLine line
 IsTask (Run line) = IsLine line
-IsTask (Check database) = ⊤
-IsTask (Copy copy) = ⊤
-IsTask (Replay replay) = IsReplay replay
+IsTask (Keep line) = IsKeeperLine line
 
--- a line that is carried out at a desk, by reading and writing alone
-abbrev pub HasDesk : Line → Type 0
-HasDesk (Play play) = ⊤
-HasDesk (Token token) = ⊥
-HasDesk (Serve serve) = ⊥
-HasDesk (Cover cover) = ⊥
-HasDesk (Enrol enrol) = ⊤
-HasDesk (Migrate migrate) = ⊥
+-- the database of a line at a desk, and of one by which a keeper does something
+abbrev pub database_of : Line → Database
+database_of (Play play) = play.database
+database_of (Serve serve) = serve.database
+database_of (Enrol enrol) = enrol.database
 
--- a line that is carried out at a desk over a database
-abbrev pub HasDatabase : Line → Type 0
-HasDatabase (Play play) = ⊤
-HasDatabase (Token token) = ⊥
-HasDatabase (Serve serve) = ⊤
-HasDatabase (Cover cover) = ⊥
-HasDatabase (Enrol enrol) = ⊤
-HasDatabase (Migrate migrate) = ⊥
-
--- a line that is carried out by printing alone
-abbrev pub IsPrintable : Line → Type 0
-IsPrintable (Play play) = ⊥
-IsPrintable (Token token) = ⊤
-IsPrintable (Serve serve) = ⊥
-IsPrintable (Cover cover) = ⊤
-IsPrintable (Enrol enrol) = ⊥
-IsPrintable (Migrate migrate) = ⊥
+abbrev pub database_kept : KeeperLine → Database
+database_kept (Check database) = database
+database_kept (Copy copy) = copy.database
+database_kept (Migrate database) = database
+database_kept (Replay replay) = replay.database

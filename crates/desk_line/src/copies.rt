@@ -1,11 +1,11 @@
 //! Copies of lines and of their parts.
 
 ghost use Rattle.std.specs.Prelude.{◌≡◌, IfOk, option_map, string_bytes};
-ghost use Rattle.desk_line.specs.Copies.{SameCopying, SameDatabase, SameEnrol, SameLine, SamePlay, SameReplay};
-ghost use Rattle.desk_line.specs.Copies.{SameServe, SameTask};
+ghost use Rattle.desk_line.specs.Copies.{SameCellLine, SameCopying, SameDatabase, SameEnrol, SameKeeperLine};
+ghost use Rattle.desk_line.specs.Copies.{SameLine, SamePlay, SameReplay, SameServe, SameTask};
 
 use crate::line::{
-    Copying, Database, Enrol, Enrolment, Line, Migrate, Play, Replaying, Serve, Task,
+    CellLine, Copying, Database, Enrol, Enrolment, KeeperLine, Line, Play, Replaying, Serve, Task,
 };
 use std::alloc::AllocError;
 
@@ -82,21 +82,6 @@ impl Enrol {
     }
 }
 
-impl Migrate {
-    /// The same words.
-    ///
-    /// # Errors
-    ///
-    /// `AllocError` if memory runs out.
-    pub fn copy(&self) -> Result<Migrate, AllocError>
-        ensures { IfOk result (λ copy. SameDatabase self.now.database copy.database) }
-    {
-        Ok(Migrate {
-            database: self.database.copy()?,
-        })
-    }
-}
-
 impl Copying {
     /// The same words.
     ///
@@ -129,6 +114,22 @@ impl Replaying {
     }
 }
 
+impl CellLine {
+    /// The same line.
+    ///
+    /// # Errors
+    ///
+    /// `AllocError` if memory runs out.
+    pub fn copy(&self) -> Result<CellLine, AllocError>
+        ensures { IfOk result (SameCellLine self.now) }
+    {
+        match self {
+            CellLine::Token(token) => Ok(CellLine::Token(token.clone()?)),
+            CellLine::Cover(cover) => Ok(CellLine::Cover(*cover)),
+        }
+    }
+}
+
 impl Line {
     /// The same line.
     ///
@@ -140,11 +141,26 @@ impl Line {
     {
         match self {
             Line::Play(play) => Ok(Line::Play(play.copy()?)),
-            Line::Token(token) => Ok(Line::Token(token.clone()?)),
             Line::Serve(serve) => Ok(Line::Serve(serve.copy()?)),
-            Line::Cover(cover) => Ok(Line::Cover(*cover)),
             Line::Enrol(enrol) => Ok(Line::Enrol(enrol.copy()?)),
-            Line::Migrate(migrate) => Ok(Line::Migrate(migrate.copy()?)),
+        }
+    }
+}
+
+impl KeeperLine {
+    /// The same line.
+    ///
+    /// # Errors
+    ///
+    /// `AllocError` if memory runs out.
+    pub fn copy(&self) -> Result<KeeperLine, AllocError>
+        ensures { IfOk result (SameKeeperLine self.now) }
+    {
+        match self {
+            KeeperLine::Check(database) => Ok(KeeperLine::Check(database.copy()?)),
+            KeeperLine::Copy(words) => Ok(KeeperLine::Copy(words.copy()?)),
+            KeeperLine::Migrate(database) => Ok(KeeperLine::Migrate(database.copy()?)),
+            KeeperLine::Replay(words) => Ok(KeeperLine::Replay(words.copy()?)),
         }
     }
 }
@@ -159,10 +175,9 @@ impl Task {
         ensures { IfOk result (SameTask self.now) }
     {
         match self {
+            Task::Print(line) => Ok(Task::Print(line.copy()?)),
             Task::Run(line) => Ok(Task::Run(line.copy()?)),
-            Task::Check(database) => Ok(Task::Check(database.copy()?)),
-            Task::Copy(words) => Ok(Task::Copy(words.copy()?)),
-            Task::Replay(words) => Ok(Task::Replay(words.copy()?)),
+            Task::Keep(line) => Ok(Task::Keep(line.copy()?)),
         }
     }
 }

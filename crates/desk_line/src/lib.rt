@@ -14,8 +14,8 @@ mod register;
 
 pub use failure::{Exit, Failure, conclude};
 pub use line::{
-    Copying, Cover, Database, Enrol, Enrolment, Line, Migrate, Play, Replaying, Serve, Task,
-    WordsFault, read_words,
+    CellLine, Copying, Cover, Database, Enrol, Enrolment, KeeperLine, Line, Play, Replaying, Serve,
+    Task, WordsFault, read_words,
 };
 pub use malformed::malformed_word;
 pub use printed::print_line;

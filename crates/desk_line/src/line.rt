@@ -13,15 +13,17 @@ ghost use Rattle.desk_ends.specs.Moments.{IsMoment};
 ghost use Rattle.desk_line.specs.Equal.{ArePermittedBy};
 ghost use Rattle.desk_line.specs.Grammar as spec;
 ghost use Rattle.desk_line.specs.Grammar.{AreTermsOf, IsMostOf, IsNumberOrNone};
-ghost use Rattle.desk_line.specs.Grammar.{AreEnrolmentsGiven, HasGiven, HasTaskGiven, IsCopyGiven};
-ghost use Rattle.desk_line.specs.Grammar.{IsCoverGiven, IsEnrolGiven, IsGiven, IsLineOf, IsMigrateGiven};
+ghost use Rattle.desk_line.specs.Grammar.{AreEnrolmentsGiven, HasCellsGiven, HasGiven, HasKeeperGiven};
+ghost use Rattle.desk_line.specs.Grammar.{HasTaskGiven, IsCellLineOf, IsCopyGiven, IsCoverGiven, IsEnrolGiven};
+ghost use Rattle.desk_line.specs.Grammar.{IsGiven, IsKeeperLineOf, IsLineOf, cells_name, keeper_name};
 ghost use Rattle.desk_line.specs.Grammar.{AreWordsRefused, IsNumberGiven, IsPlayGiven, IsPlayOf, IsSecondGiven};
 ghost use Rattle.desk_line.specs.Grammar.{IsReplayGiven, IsReplayOf};
 ghost use Rattle.desk_line.specs.Grammar.{IsServeGiven, IsServeOf, IsTaskOf, IsTextGiven, IsUntaken, Lacks};
 ghost use Rattle.desk_line.specs.Grammar.{enrolment_given, enrolment_in, file_given, name_of};
 ghost use Rattle.desk_line.specs.Grammar.{program, word_of};
-ghost use Rattle.desk_line.specs.Lines.{AreEnrolments, IsCover, IsEnrol, IsLastSecond, IsLine, IsPlay, IsReplay};
-ghost use Rattle.desk_line.specs.Lines.{IsServe, IsTask};
+ghost use Rattle.desk_line.specs.Lines.{AreEnrolments, IsCellLine, IsCover, IsEnrol, IsKeeperLine, IsLastSecond};
+ghost use Rattle.desk_line.specs.Lines.{IsLine, IsPlay, IsReplay, IsServe, IsTask};
+ghost use Rattle.desk_line.specs.Lines as lines;
 ghost use Rattle.desk_line.specs.Lines.{file_of, max_connections, max_port, min_connections, min_port, min_spans};
 ghost use Rattle.desk_line.specs.Lines.{named_file};
 ghost use Rattle.desk_line.specs.declared.line.Cover.{Cover as CoverWords};
@@ -31,6 +33,7 @@ use crate::command::make_command;
 use crate::equal::{permitted_by, priority_of};
 use clap::ArgMatches;
 use clap::error::ErrorKind;
+use desk_ends::Moment;
 use desk_rules::operator::Operator;
 use desk_rules::permission::Permitted;
 use desk_rules::terms::{MAX_SPANS, Terms};
@@ -43,34 +46,86 @@ const IN_MEMORY: &str = ":memory:";
 /// The most connections that are served.
 pub(crate) const MAX_CONNECTIONS: u32 = 1_000_000;
 
-/// What the program is asked to do.
+/// What the program is asked for, by what that needs.
+#[derive(Debug, Drop)]
+pub enum Task {
+    /// A line that needs no desk.
+    Print(CellLine),
+    /// A line at a desk.
+    Run(Line),
+    /// What a keeper does to a database.
+    Keep(KeeperLine),
+}
+
+/// A line that tells of cells.
+#[derive(Debug, Drop)]
+pub enum CellLine {
+    /// `token`: tells the cell of this text.
+    Token(String),
+    /// `cover`: tells the cells of a rectangle.
+    Cover(Cover),
+}
+
+/// A line that is carried out at a desk.
 #[derive(Debug, Drop)]
 pub enum Line {
     /// `play`: enrols the names, and answers the requests of the standard input.
     Play(Play),
-    /// `token`: tells the cell of this text.
-    Token(String),
     /// `serve`: enrols the names, and answers one request a connection.
     Serve(Serve),
-    /// `cover`: tells the cells of a rectangle.
-    Cover(Cover),
     /// `enrol`: enrols one operator.
     Enrol(Enrol),
-    /// `migrate`: moves the plans of a database of schema 1 to schema 2.
-    Migrate(Migrate),
 }
 
-/// What the program is asked for: a line at a desk or without one, or what a keeper does to a file.
+/// A line by which a keeper looks at a database, or makes another of it.
 #[derive(Debug, Drop)]
-pub enum Task {
-    /// A line.
-    Run(Line),
+pub enum KeeperLine {
     /// `check`: tells what a database holds.
     Check(Database),
     /// `copy`: makes a new file of what a database holds.
     Copy(Copying),
+    /// `migrate`: moves the plans of a database of schema 1 to schema 2.
+    Migrate(Database),
     /// `replay`: plays the record of the standard input, and compares each answer with the recorded one.
     Replay(Replaying),
+}
+
+impl Database {
+    /// The path of its file, if it is in one.
+    pub fn path(&self) -> Option<&str>
+        ensures { option_map (λ path. path.now) result ≡ file_of self.now }
+    {
+        match self {
+            Database::InMemory => None,
+            Database::File(path) => Some(path),
+        }
+    }
+}
+
+impl Line {
+    /// Where its operators and plans are kept.
+    pub fn database(&self) -> &Database
+        ensures { result.now ≡ lines.database_of self.now }
+    {
+        match self {
+            Line::Play(words) => &words.database,
+            Line::Serve(words) => &words.database,
+            Line::Enrol(words) => &words.database,
+        }
+    }
+}
+
+impl KeeperLine {
+    /// What is looked at, or copied, or moved, or played at.
+    pub fn database(&self) -> &Database
+        ensures { result.now ≡ lines.database_kept self.now }
+    {
+        match self {
+            KeeperLine::Check(database) | KeeperLine::Migrate(database) => database,
+            KeeperLine::Copy(words) => &words.database,
+            KeeperLine::Replay(words) => &words.database,
+        }
+    }
 }
 
 /// Where operators and plans are kept.
@@ -87,8 +142,8 @@ pub enum Database {
 pub struct Play {
     /// Where operators and plans are kept.
     pub database: Database,
-    /// The moment of all requests, a Unix second from 0 to 253,370,764,800.
-    pub moment: i64,
+    /// The moment of all requests.
+    pub moment: Moment,
     /// The terms of the desk: the priorities of which plans may overlap, and the most spans of an operator's
     /// live plans, 1 to 5,000,000.
     pub terms: Terms,
@@ -146,13 +201,6 @@ pub struct Enrol {
     pub enrolment: Enrolment,
     /// The path of the folder of the desk's records, if there is one.
     pub folder: Option<String>,
-}
-
-/// The words of `migrate`.
-#[derive(Debug, Drop)]
-pub struct Migrate {
-    /// Where the plans are.
-    pub database: Database,
 }
 
 /// The words of `copy`.
@@ -276,14 +324,46 @@ fn read_task(alloc: Global, name: &str, given: &ArgMatches<'_>) -> Result<Task, 
     ensures lacks { Lacks (IsTaskOf name.now (rows_of (found_of given.now))) result }
 {
     match name {
-        "check" => Ok(Task::Check(read_database(alloc, given)?)),
-        "copy" => Ok(Task::Copy(read_copy(alloc, given)?)),
-        "replay" => Ok(Task::Replay(read_replay(alloc, given)?)),
-        _ => Ok(Task::Run(read_line(alloc, name, given)?)),
+        "token" | "cover" => Ok(Task::Print(read_cells(alloc, name, given)?)),
+        "play" | "serve" | "enrol" => Ok(Task::Run(read_line(alloc, name, given)?)),
+        _ => Ok(Task::Keep(read_keeper(alloc, name, given)?)),
     }
 }
 
-// The line of this name, by the values that were given.
+// The line of this name that needs no desk, by the values that were given.
+fn read_cells(alloc: Global, name: &str, given: &ArgMatches<'_>) -> Result<CellLine, WordsFault>
+    ensures valid { IfOk result IsCellLine }
+    ensures name { IfOk result (λ line. cells_name line ≡ name.now) }
+    ensures given { IfOk result (HasCellsGiven (rows_of (found_of given.now))) }
+    ensures lacks { Lacks (IsCellLineOf name.now (rows_of (found_of given.now))) result }
+{
+    match name {
+        "token" => Ok(CellLine::Token(read_token(alloc, given)?)),
+        "cover" => match read_cover(given) {
+            Some(cover) => Ok(CellLine::Cover(cover)),
+            None => Err(WordsFault::Value),
+        },
+        _ => Err(WordsFault::Value),
+    }
+}
+
+// The line of this name by which a keeper does something, by the values that were given.
+fn read_keeper(alloc: Global, name: &str, given: &ArgMatches<'_>) -> Result<KeeperLine, WordsFault>
+    ensures valid { IfOk result IsKeeperLine }
+    ensures name { IfOk result (λ line. keeper_name line ≡ name.now) }
+    ensures given { IfOk result (HasKeeperGiven (rows_of (found_of given.now))) }
+    ensures lacks { Lacks (IsKeeperLineOf name.now (rows_of (found_of given.now))) result }
+{
+    match name {
+        "check" => Ok(KeeperLine::Check(read_database(alloc, given)?)),
+        "copy" => Ok(KeeperLine::Copy(read_copy(alloc, given)?)),
+        "migrate" => Ok(KeeperLine::Migrate(read_database(alloc, given)?)),
+        "replay" => Ok(KeeperLine::Replay(read_replay(alloc, given)?)),
+        _ => Err(WordsFault::Value),
+    }
+}
+
+// The line at a desk of this name, by the values that were given.
 fn read_line(alloc: Global, name: &str, given: &ArgMatches<'_>) -> Result<Line, WordsFault>
     ensures valid { IfOk result IsLine }
     ensures name { IfOk result (λ line. name_of line ≡ name.now) }
@@ -292,14 +372,8 @@ fn read_line(alloc: Global, name: &str, given: &ArgMatches<'_>) -> Result<Line, 
 {
     match name {
         "play" => Ok(Line::Play(read_play(alloc, given)?)),
-        "token" => Ok(Line::Token(read_token(alloc, given)?)),
         "serve" => Ok(Line::Serve(read_serve(alloc, given)?)),
-        "cover" => match read_cover(given) {
-            Some(cover) => Ok(Line::Cover(cover)),
-            None => Err(WordsFault::Value),
-        },
         "enrol" => Ok(Line::Enrol(read_enrol(alloc, given)?)),
-        "migrate" => Ok(Line::Migrate(read_migrate(alloc, given)?)),
         _ => Err(WordsFault::Value),
     }
 }
@@ -323,20 +397,13 @@ fn read_play(alloc: Global, given: &ArgMatches<'_>) -> Result<Play, WordsFault>
 }
 
 // The moment of all requests.
-fn read_moment(given: &ArgMatches<'_>) -> Option<i64>
-    ensures valid { IfSome result IsMoment }
-    ensures given { IfSome result (IsSecondGiven (codes "moment") (rows_of (found_of given.now))) }
+fn read_moment(given: &ArgMatches<'_>) -> Option<Moment>
+    ensures given { IfSome result (λ moment.
+        IsSecondGiven (codes "moment") (rows_of (found_of given.now)) moment.second) }
     ensures none { result ≡ None → (z : ℤ) → IsMoment z
         → IsSecondGiven (codes "moment") (rows_of (found_of given.now)) z → ⊥ }
 {
-    let moment = read_second(given, "moment")?;
-    if moment < 0 {
-        return None;
-    }
-    if moment > MAX_SECOND {
-        return None;
-    }
-    Some(moment)
+    Moment::try_new(read_second(given, "moment")?)
 }
 
 // A second, or another number of 64 bits and a sign.
@@ -505,15 +572,6 @@ fn read_enrol(alloc: Global, given: &ArgMatches<'_>) -> Result<Enrol, WordsFault
         database: read_database(alloc, given)?,
         enrolment,
         folder: read_folder(alloc, given)?,
-    })
-}
-
-// The words of `migrate`.
-fn read_migrate(alloc: Global, given: &ArgMatches<'_>) -> Result<Migrate, AllocError>
-    ensures { IfOk result (IsMigrateGiven (rows_of (found_of given.now))) }
-{
-    Ok(Migrate {
-        database: read_database(alloc, given)?,
     })
 }
 

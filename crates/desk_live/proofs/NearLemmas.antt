@@ -1,21 +1,23 @@
 -- Plans whose volumes are near: how they are gathered, and what they hold.
-use Rattle.std.proofs.Common.{◌≡◌, ℕ, zero, suc, ◌+◌, ◌<◌, Bool, true, false, true≢false, MatchBool, ◌&&◌, ◌||◌, not, cond, List, [], ◌∷◌, ◌++◌, length, get_or, take, Option, Some, None, Result, Ok, Err, IfOk, refl, sym, ap, subst, ◌∙◌, arith}
+use Rattle.std.proofs.Common.{◌≡◌, ℕ, zero, suc, ◌+◌, ◌≤◌, ◌<◌, Bool, true, false, true≢false, MatchBool, ◌&&◌, ◌||◌, not, cond, List, [], ◌∷◌, ◌++◌, length, get_or, take, Option, Some, None, Result, Ok, Err, IfOk, refl, sym, ap, subst, ◌∙◌, arith}
 use Rattle.std.specs.Prelude.{nat_le, IfSome}
 use Rattle.std.specs.List.{AllByRecursion, AllZip, list_any}
 use Rattle.std.specs.Ordering.{is_eq}
 use Rattle.std.specs.Cmp.Lexicographic.{nat_list_cmp_total}
 use Rattle.std.proofs.lemmas.Cmp.{tied_itself}
-use Rattle.std.proofs.lemmas.Bool.{and_parts}
+use Rattle.std.proofs.lemmas.Bool.{and_from, and_parts}
 use Rattle.std.proofs.lemmas.Bool.Decides.{nat_tests}
 use Rattle.std.proofs.lemmas.List.{append_assoc, append-nil, take_more}
 use Rattle.std.proofs.lemmas.List.Folds.{list_any-append, list_any_more}
 use Rattle.std.proofs.lemmas.List.Sorted.{list_any-IsPermutation}
 use Rattle.std.proofs.lemmas.Map.Lookups.{exact_bytes}
 use Rattle.volume4d.specs.declared.slab.Slab.{Slab}
+use Rattle.volume4d.specs.Bounds.{overlap}
 use Rattle.volume4d.specs.Level.{greater, level_where}
 use Rattle.volume4d.specs.Point.{Point}
 use Rattle.volume4d.specs.Slab.{slab_has, slabs_have}
 use Rattle.volume4d.specs.Volume.{Block, block_has, area_has}
+use Rattle.volume4d.specs.laws.Bounds.{overlapping, overlaps_round}
 use Rattle.desk_rules.specs.Conflict.{at_least}
 use Rattle.desk_rules.specs.Plan.{is_live, row_holds}
 use Rattle.desk_store.specs.World.{Filed, World, has_id, is_by, text_cmp}
@@ -29,11 +31,10 @@ use Rattle.desk_live.specs.declared.near.NearPlans.{NearPlans}
 use Rattle.desk_live.specs.declared.near.PlanKey.{PlanKey}
 use Rattle.desk_live.specs.declared.near.Wanted.{Wanted}
 use Rattle.desk_live.specs.declared.volume.LiveVolume.{LiveVolume}
-use Rattle.desk_live.specs.Live.{AreFenced, AreLive, AreVolumes, AreVolumesOf, IsFenced, IsLiveVolume, is_volume_of, may_meet, overlap, volumes_in}
+use Rattle.desk_live.specs.Live.{AreFenced, AreLive, AreVolumes, AreVolumesOf, IsFenced, IsLiveVolume, is_volume_of, may_meet, volumes_in}
 use Rattle.desk_live.specs.Near.{AddsPlans, AreNearPlans, AreWantedPlans, IsAnothers, TakesPlan, is_among, is_id, is_listed, is_missed_at, is_near_to, is_own_volume, is_wanted_volume, key_of, listed_level, listed_top}
 use Rattle.desk_live.proofs.ChunkLemmas.{gathered_more}
 use Rattle.desk_live.specs.laws.Live.{and_turned, same_key}
-use Rattle.desk_live.specs.laws.Near.{both, last_still, overlapping, overlaps_round}
 
 or_false : (b : Bool) → (b || false) ≡ b
 or_false true = refl
@@ -47,6 +48,9 @@ either : (a b : Bool) → (a || b) ≡ false → (a ≡ false) × (b ≡ false)
 either false false h = (refl, refl)
 either false true h = absurd (true≢false h)
 either true b h = absurd (true≢false h)
+
+still_low : (n a b : ℕ) → a ≤ b → nat_le n a ≡ true → nat_le n b ≡ true
+still_low n a b h k = grind (arith, nat_tests)
 
 itself : (text : List ℕ) → is_eq (text_cmp text text) ≡ true
 itself text = ap is_eq (tied_itself nat_list_cmp_total text)
@@ -63,7 +67,7 @@ takes_one live old new k is pushed same = record {
       ap (λ ks. is_among ks live) pushed
       ∙ list_any-append (λ j. is_volume_of j.operator j.id live) old.keys.items (k ∷ [])
       ∙ ap (λ b. is_among old.keys.items live || b) (ap (λ j. is_volume_of j.operator j.id live || false) is
-      ∙ ap (λ b. b || false) (both (is_eq (text_cmp live.id live.id))
+      ∙ ap (λ b. b || false) (and_from (is_eq (text_cmp live.id live.id))
       (is_eq (text_cmp live.operator live.operator)) (itself live.id) (itself live.operator)))
       ∙ last (is_among old.keys.items live);
   mine = (is, tt);
@@ -229,10 +233,10 @@ module _ (s : Wanted) where
             → ((b && (c && d)) && e) ≡ false
         go false c d e has high = refl
         go true false d e has high = refl
-        go true true d e has high = absurd (true≢false (sym (both (overlap fence.bounds extent) _
+        go true true d e has high = absurd (true≢false (sym (and_from (overlap fence.bounds extent) _
             (overlaps_round live.bounds fence.bounds extent h.within
             (overlapping live.bounds extent x has here))
-            (last_still live.priority fence.top s.least h.top high)) ∙ far))
+            (still_low s.least live.priority fence.top h.top high)) ∙ far))
 
   pub adds_fenced : (extent : Slab) (fence : Fence) (lives : List LiveVolume) (a : NearPlans)
       → may_meet s.least extent fence ≡ false → AllByRecursion (IsFenced fence) lives

@@ -1,21 +1,17 @@
 -- Regions near which other operators' volumes lie.
-use Rattle.std.proofs.Common.{◌≡◌, ℕ, ℤ, ◌+◌, ◌<◌, Bool, true, false, true≢false, leb, MatchBool, ◌&&◌, ◌||◌, not, List, [], ◌∷◌, ◌++◌, cond, length, get_or, take, Option, None, refl, sym, ap, subst, ◌∙◌, arith, IsPermutation}
-use Rattle.std.specs.Prelude.{◌≤◌, ◌≤ℤ◌, int_le, int_lt, min, max}
-use Rattle.std.specs.Int.{int_min, int_max}
+use Rattle.std.proofs.Common.{◌≡◌, ℕ, ◌+◌, ◌<◌, Bool, true, false, true≢false, MatchBool, ◌&&◌, ◌||◌, not, List, [], ◌∷◌, ◌++◌, cond, length, get_or, take, Option, None, refl, sym, ap, ◌∙◌, IsPermutation}
 use Rattle.std.specs.List.{AllZip, list_any}
 use Rattle.std.specs.Ordering.{is_eq}
-use Rattle.std.proofs.lemmas.Int.{ints}
-use Rattle.std.proofs.lemmas.Bool.Decides.{nat_tests}
 use Rattle.std.proofs.lemmas.List.{take_more}
 use Rattle.std.proofs.lemmas.List.Folds.{list_any-append, list_any_more}
 use Rattle.std.proofs.lemmas.List.Sorted.{list_any-IsPermutation}
-use Rattle.s2_hilbert.specs.Curve.{position_of}
 use Rattle.volume4d.specs.declared.slab.Slab.{Slab}
-use Rattle.volume4d.specs.Bounds.{HasAll, IsJoin, IsWithin}
+use Rattle.volume4d.specs.Bounds.{HasAll, IsClip, IsJoin, overlap}
 use Rattle.volume4d.specs.Level.{greater, level_where}
-use Rattle.volume4d.specs.Point.{Point, is_leaf}
+use Rattle.volume4d.specs.Point.{Point}
 use Rattle.volume4d.specs.Slab.{slab_has, slabs_have, top_held}
 use Rattle.volume4d.specs.declared.slab.Held.{Held}
+use Rattle.volume4d.specs.laws.Bounds.{clip_is, join_has, overlapping}
 use Rattle.volume4d.specs.laws.Level.{greater_assoc, greater_none, top_held-nil, top_held-push}
 use Rattle.volume4d.specs.Volume.{Block, block_has, area_has}
 use Rattle.desk_rules.specs.Plan.{is_live, row_holds}
@@ -23,10 +19,8 @@ use Rattle.desk_store.specs.World.{Filed, World, held, is_by, text_cmp}
 use Rattle.desk_store.specs.OwnRows.{other_level, others_top}
 use Rattle.desk_store.specs.laws.Rival.{others_top-cons, others_top-nil, held_by_others}
 use Rattle.desk_live.specs.declared.volume.LiveVolume.{LiveVolume}
-use Rattle.desk_live.specs.Live.{AreLive, AreVolumes, AreVolumesOf, IsLiveVolume, overlap}
-use Rattle.desk_live.specs.Regions.{AddTheirs, HaveEach, HaveShared, HoldNothingBeside, IsClip, is_another, is_theirs, is_theirs_at}
-use Rattle.desk_live.specs.laws.Near.{both, is_in, overlapping}
-use Rattle.desk_live.proofs.FenceLemmas.{within_left}
+use Rattle.desk_live.specs.Live.{AreLive, AreVolumes, AreVolumesOf, IsLiveVolume}
+use Rattle.desk_live.specs.Regions.{AddTheirs, HaveEach, HaveShared, HoldNothingBeside, is_another, is_theirs, is_theirs_at}
 
 either : (a b : Bool) → (a || b) ≡ false → (a ≡ false) × (b ≡ false)
 either false false h = (refl, refl)
@@ -38,59 +32,6 @@ or_false true = refl
 or_false false = refl
 
 -- ---- slabs that are joined
-
-first_still : (a b p : ℕ) → a ≤ b → leb b p ≡ true → leb a p ≡ true
-first_still a b p h k = grind (arith, nat_tests)
-
-last_still : (a b p : ℕ) → a ≤ b → leb p a ≡ true → leb p b ≡ true
-last_still a b p h k = grind (arith, nat_tests)
-
-lower_still : (a b z : ℤ) → a ≤ℤ b → int_le b z ≡ true → int_le a z ≡ true
-lower_still a b z h k = grind (arith, ints, h)
-
-upper_still : (a b z : ℤ) → a ≤ℤ b → int_lt z a ≡ true → int_lt z b ≡ true
-upper_still a b z h k = grind (arith, ints, h)
-
--- a slab has each point of one that lies within it
-within_has : (inner outer : Slab) (x : Point) → IsWithin inner outer → slab_has inner x ≡ true
-    → slab_has outer x ≡ true
-within_has inner outer x w h =
-    let i = is_in inner x h in
-    both _ (int_le outer.start x.second && int_lt x.second outer.end)
-    (both (is_leaf x.leaf && (leb outer.first (position_of x.leaf) && leb (position_of x.leaf) outer.last)) _
-    (both (is_leaf x.leaf) _ i.is (both (leb outer.first (position_of x.leaf)) _
-    (first_still outer.first inner.first (position_of x.leaf) w.first i.first)
-    (last_still inner.last outer.last (position_of x.leaf) w.last i.last)))
-    (both (int_le outer.lower x.altitude) _
-    (lower_still outer.lower inner.lower x.altitude w.lower i.lower)
-    (upper_still inner.upper outer.upper x.altitude w.upper i.upper)))
-    (both (int_le outer.start x.second) _
-    (lower_still outer.start inner.start x.second w.start i.start)
-    (upper_still inner.end outer.end x.second w.end i.end))
-
-int_turned : (a b : ℤ) → int_min a b ≡ int_min b a
-int_turned a b = grind (arith, ints)
-
-int_turned_up : (a b : ℤ) → int_max a b ≡ int_max b a
-int_turned_up a b = grind (arith, ints)
-
-turned : (left right slab : Slab) → IsJoin left right slab → IsJoin right left slab
-turned left right slab h = record {
-  first = omega (arith, h.first);
-  last = omega (arith, h.last);
-  lower = h.lower ∙ int_turned left.lower right.lower;
-  upper = h.upper ∙ int_turned_up left.upper right.upper;
-  start = h.start ∙ int_turned left.start right.start;
-  end = h.end ∙ int_turned_up left.end right.end;
-}
-
--- two slabs joined have the points of both
-pub join_has : (left right slab : Slab) (x : Point) → IsJoin left right slab
-    → (slab_has left x || slab_has right x) ≡ true → slab_has slab x ≡ true
-join_has left right slab x join = go (slab_has left x) refl where
-  go : (b : Bool) → slab_has left x ≡ b → (b || slab_has right x) ≡ true → slab_has slab x ≡ true
-  go true e h = within_has left slab x (within_left left right slab join) e
-  go false e h = within_has right slab x (within_left right left slab (turned left right slab join)) h
 
 -- the slabs of a list from a first one on, with one more
 any_more : (first : Slab) (others : List Slab) (i : ℕ) (s : Slab) (x : Point) → i < length others
@@ -350,78 +291,9 @@ nothing_beside o w lives extents theirs wanted regions whole live round added sh
 
 -- ---- slabs that are clipped
 
-more_first : (a b : ℤ) → a ≤ℤ int_max a b
-more_first a b = grind (arith, ints)
-
-less_first : (a b : ℤ) → int_min a b ≤ℤ a
-less_first a b = grind (arith, ints)
-
-clip_within : (one other slab : Slab) → IsClip one other slab → IsWithin slab one
-clip_within one other slab h = record {
-  first = omega (arith, h.first);
-  last = omega (arith, h.last);
-  lower = subst (λ n. one.lower ≤ℤ n) (sym h.lower) (more_first one.lower other.lower);
-  upper = subst (λ n. n ≤ℤ one.upper) (sym h.upper) (less_first one.upper other.upper);
-  start = subst (λ n. one.start ≤ℤ n) (sym h.start) (more_first one.start other.start);
-  end = subst (λ n. n ≤ℤ one.end) (sym h.end) (less_first one.end other.end);
-}
-
-clip_turned : (one other slab : Slab) → IsClip one other slab → IsClip other one slab
-clip_turned one other slab h = record {
-  first = omega (arith, h.first);
-  last = omega (arith, h.last);
-  lower = h.lower ∙ int_turned_up one.lower other.lower;
-  upper = h.upper ∙ int_turned one.upper other.upper;
-  start = h.start ∙ int_turned_up one.start other.start;
-  end = h.end ∙ int_turned one.end other.end;
-}
-
-first_both : (a b c p : ℕ) → c ≡ max a b → leb a p ≡ true → leb b p ≡ true → leb c p ≡ true
-first_both a b c p e h k = grind (arith, nat_tests, e)
-
-last_both : (a b c p : ℕ) → c ≡ min a b → leb p a ≡ true → leb p b ≡ true → leb p c ≡ true
-last_both a b c p e h k = grind (arith, nat_tests, e)
-
-lower_both : (a b z : ℤ) → int_le a z ≡ true → int_le b z ≡ true → int_le (int_max a b) z ≡ true
-lower_both a b z h k = grind (arith, ints)
-
-upper_both : (a b z : ℤ) → int_lt z a ≡ true → int_lt z b ≡ true → int_lt z (int_min a b) ≡ true
-upper_both a b z h k = grind (arith, ints)
-
-clip_has : (one other slab : Slab) (x : Point) → IsClip one other slab → slab_has one x ≡ true
-    → slab_has other x ≡ true → slab_has slab x ≡ true
-clip_has one other slab x c h k =
-    let a = is_in one x h in
-    let b = is_in other x k in
-    both _ (int_le slab.start x.second && int_lt x.second slab.end)
-    (both (is_leaf x.leaf && (leb slab.first (position_of x.leaf) && leb (position_of x.leaf) slab.last)) _
-    (both (is_leaf x.leaf) _ a.is (both (leb slab.first (position_of x.leaf)) _
-    (first_both one.first other.first slab.first (position_of x.leaf) c.first a.first b.first)
-    (last_both one.last other.last slab.last (position_of x.leaf) c.last a.last b.last)))
-    (both (int_le slab.lower x.altitude) _
-    (ap (λ n. int_le n x.altitude) c.lower ∙ lower_both one.lower other.lower x.altitude a.lower b.lower)
-    (ap (λ n. int_lt x.altitude n) c.upper ∙ upper_both one.upper other.upper x.altitude a.upper b.upper)))
-    (both (int_le slab.start x.second) _
-    (ap (λ n. int_le n x.second) c.start ∙ lower_both one.start other.start x.second a.start b.start)
-    (ap (λ n. int_lt x.second n) c.end ∙ upper_both one.end other.end x.second a.end b.end))
-
--- a slab that is clipped has the points that both have
-clip_is : (one other slab : Slab) (x : Point) → IsClip one other slab
-    → slab_has slab x ≡ (slab_has other x && slab_has one x)
-clip_is one other slab x c = go (slab_has slab x) (slab_has other x) (slab_has one x)
-    (within_has slab one x (clip_within one other slab c))
-    (within_has slab other x (clip_within other one slab (clip_turned one other slab c)))
-    (clip_has one other slab x c) where
-      go : (s b a : Bool) → (s ≡ true → a ≡ true) → (s ≡ true → b ≡ true)
-          → (a ≡ true → b ≡ true → s ≡ true) → s ≡ (b && a)
-      go true b a f g h = sym (ap (λ t. t && a) (g refl) ∙ f refl)
-      go false true true f g h = h refl refl
-      go false true false f g h = refl
-      go false false a f g h = refl
-
 -- one more of some slabs, clipped
 pub clipped_more : (helds new more : List Held) (i : ℕ) (h : Held) (region slab : Slab) (x : Point)
-    (before : Option ℕ) → i < length more → h ≡ get_or more i h → IsClip h.slab region slab
+    (before : Option ℕ) → i < length more → h ≡ get_or more i h → IsClip region h.slab slab
     → new ≡ helds ++ record { slab = slab; priority = h.priority } ∷ []
     → top_held helds x ≡ greater before (cond (slab_has region x) (top_held (take i more) x) None)
     → top_held new x ≡ greater before (cond (slab_has region x) (top_held (take (i + 1) more) x) None)
@@ -431,7 +303,7 @@ clipped_more helds new more i h region slab x before below is clip pushed so_far
     ∙ greater_assoc before (cond (slab_has region x) (top_held (take i more) x) None)
     (level_where (slab_has slab x) h.priority)
     ∙ ap (greater before) (ap (λ b. greater (cond (slab_has region x) (top_held (take i more) x) None)
-    (level_where b h.priority)) (clip_is h.slab region slab x clip)
+    (level_where b h.priority)) (clip_is region h.slab slab x clip)
     ∙ go (slab_has region x) ∙ ap (λ l. cond (slab_has region x) l None)
     (sym (ap (λ hs. top_held hs x) (take_more more i h below ∙ ap (λ k. take i more ++ k ∷ []) (sym is))
     ∙ top_held-push (take i more) h x))) where

@@ -1,11 +1,11 @@
 -- The volumes of live plans, as they are kept in memory.
-use Rattle.std.specs.Prelude.{◌≡◌, ℕ, ◌+◌, ◌≤◌, Bool, true, not, ◌&&◌, nat_le, int_lt, List, [], ◌∷◌, ◌++◌, MatchBool, length}
+use Rattle.std.specs.Prelude.{◌≡◌, ℕ, ◌+◌, ◌≤◌, Bool, true, not, ◌&&◌, nat_le, List, [], ◌∷◌, ◌++◌, MatchBool, length}
 use Rattle.std.specs.List.{AllByRecursion, AllZip, list_any}
 use Rattle.std.specs.List.Sorted.{IsPermutation, IsStrictlySortedBy}
 use Rattle.std.specs.Ordering.{is_eq}
 use Rattle.volume4d.specs.declared.slab.Slab.{Slab}
 use Rattle.volume4d.specs.Volume.{Block, block_has}
-use Rattle.volume4d.specs.Bounds.{IsBounds, IsWithin}
+use Rattle.volume4d.specs.Bounds.{IsBounds, IsWithin, overlap}
 use Rattle.desk_rules.specs.Plan.{is_live}
 use Rattle.desk_store.specs.World.{Filed, World, text_cmp, filed_cmp}
 use Rattle.desk_store.specs.Changes.{filed_by}
@@ -105,13 +105,6 @@ AreBrought (Close operator id) fresh = fresh ≡ []
 AreBrought (Clear operator ids) fresh = fresh ≡ []
 
 -- ---- questions
-
--- two slabs meet in seconds, in altitudes and in leaves
-abbrev pub overlap : Slab → Slab → Bool
-overlap one other =
-    (int_lt one.start other.end && int_lt other.start one.end)
-    && ((int_lt one.lower other.upper && int_lt other.lower one.upper)
-    && (nat_le one.first other.last && nat_le other.first one.last))
 
 -- a fence has a priority at least, and meets an extent
 abbrev pub may_meet : ℕ → Slab → Fence → Bool

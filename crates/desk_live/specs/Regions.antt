@@ -1,14 +1,13 @@
 -- Where live volumes of other operators lie near extents.
-use Rattle.std.specs.Prelude.{◌≡◌, ℕ, Bool, true, false, not, ◌&&◌, ◌||◌, List, None, min, max}
-use Rattle.std.specs.Int.{int_min, int_max}
+use Rattle.std.specs.Prelude.{◌≡◌, ℕ, Bool, true, false, not, ◌&&◌, ◌||◌, List, None}
 use Rattle.std.specs.List.{list_any}
 use Rattle.std.specs.Ordering.{is_eq}
 use Rattle.volume4d.specs.declared.slab.Slab.{Slab}
+use Rattle.volume4d.specs.Bounds.{overlap}
 use Rattle.volume4d.specs.Point.{Point}
 use Rattle.volume4d.specs.Slab.{slab_has, slabs_have}
 use Rattle.desk_store.specs.World.{World, held, text_cmp}
 use Rattle.desk_live.specs.declared.volume.LiveVolume.{LiveVolume}
-use Rattle.desk_live.specs.Live.{overlap}
 
 -- at no point of some extents others hold anything, but where a region lies
 abbrev pub HoldNothingBeside : World → List ℕ → List Slab → List Slab → Type 0
@@ -40,12 +39,3 @@ HaveShared some others slabs =
 -- slabs have each point of others
 abbrev pub HaveEach : List Slab → List Slab → Type 0
 HaveEach some slabs = (x : Point) → slabs_have some x ≡ true → slabs_have slabs x ≡ true
-
--- the greater of the lower bounds of two slabs, and the lesser of the upper ones
-pub record IsClip (one other slab : Slab) : Type 0 where
-  pub first : slab.first ≡ max one.first other.first
-  pub last : slab.last ≡ min one.last other.last
-  pub lower : slab.lower ≡ int_max one.lower other.lower
-  pub upper : slab.upper ≡ int_min one.upper other.upper
-  pub start : slab.start ≡ int_max one.start other.start
-  pub end : slab.end ≡ int_min one.end other.end

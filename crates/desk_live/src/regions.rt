@@ -1,16 +1,12 @@
 //! Regions: extents near which volumes of other operators lie, joined where they overlap.
 
 ghost use Rattle.std.specs.Prelude.{◌≡◌, ◌∷◌, None, cond, IfOk, OnOk};
-ghost use Rattle.std.specs.Int.{int_min, int_max};
 ghost use Rattle.std.specs.List.{list_any};
-ghost use Rattle.volume4d.specs.Bounds.{HasAll};
+ghost use Rattle.volume4d.specs.Bounds.{HasAll, overlap};
 ghost use Rattle.volume4d.specs.Slab.{slab_has, slabs_have, top_held};
 ghost use Rattle.desk_store.specs.Rivals.{AddsLevel};
-ghost use Rattle.desk_live.specs.Live as spec;
-ghost use Rattle.desk_live.specs.Regions.{HaveEach, HaveShared, IsClip};
+ghost use Rattle.desk_live.specs.Regions.{HaveEach, HaveShared};
 
-use crate::fence::join;
-use crate::volume::overlap;
 use std::alloc::{AllocError, Global};
 use volume4d::{Held, Slab};
 
@@ -20,7 +16,7 @@ pub fn whole_of(first: &Slab, others: &[Slab]) -> Slab
 {
     let mut whole = *first;
     for extent in others {
-        whole = join(&whole, extent);
+        whole = whole.join(extent);
     }
     whole
 }
@@ -48,9 +44,9 @@ pub(crate) fn overlapping(
 
 // Whether an extent overlaps one of some slabs.
 fn overlaps_one(extent: &Slab, slabs: &[Slab]) -> bool
-    ensures { result ≡ list_any (spec.overlap extent.now) slabs.now }
+    ensures { result ≡ list_any (overlap extent.now) slabs.now }
 {
-    slabs.iter().any(|slab| overlap(extent, slab))
+    slabs.iter().any(|slab| extent.overlaps(slab))
 }
 
 /// Extents, those that overlap along the curve joined.
@@ -84,7 +80,7 @@ fn joined_from(alloc: Global, first: &Slab, others: &[Slab]) -> Result<Vec<Slab>
     let mut region = *first;
     for extent in others {
         if extent.first <= region.last {
-            region = join(&region, extent);
+            region = region.join(extent);
         } else {
             regions.push(region)?;
             region = *extent;
@@ -105,41 +101,9 @@ pub fn push_clipped(helds: &mut Vec<Held>, more: &[Held], region: &Slab) -> Resu
 {
     for held in more {
         helds.push(Held {
-            slab: clip(&held.slab, region),
+            slab: region.clip(&held.slab),
             priority: held.priority,
         })?;
     }
     Ok(())
-}
-
-// The slab of the points that two slabs have.
-fn clip(one: &Slab, other: &Slab) -> Slab
-    ensures { IsClip one.now other.now result }
-{
-    let (lower, upper) = altitudes(one, other);
-    let (start, end) = seconds(one, other);
-    Slab {
-        first: one.first.max(other.first),
-        last: one.last.min(other.last),
-        lower,
-        upper,
-        start,
-        end,
-    }
-}
-
-// The lower and the upper bound of the altitudes that two slabs share.
-fn altitudes(one: &Slab, other: &Slab) -> (i32, i32)
-    ensures lower { result.0 ≡ int_max one.now.lower other.now.lower }
-    ensures upper { result.1 ≡ int_min one.now.upper other.now.upper }
-{
-    (one.lower.max(other.lower), one.upper.min(other.upper))
-}
-
-// The start and the end of the seconds that two slabs share.
-fn seconds(one: &Slab, other: &Slab) -> (i64, i64)
-    ensures start { result.0 ≡ int_max one.now.start other.now.start }
-    ensures end { result.1 ≡ int_min one.now.end other.now.end }
-{
-    (one.start.max(other.start), one.end.min(other.end))
 }

@@ -1,6 +1,6 @@
 //! A volume of a live plan.
 
-ghost use Rattle.std.specs.Prelude.{◌≡◌, ◌&&◌, int_lt, nat_le, IfOk};
+ghost use Rattle.std.specs.Prelude.{◌≡◌, IfOk};
 ghost use Rattle.desk_store.specs.Changes.{filed_by};
 ghost use Rattle.desk_live.specs.Live as spec;
 ghost use Rattle.desk_live.specs.Live.{IsLiveVolume};
@@ -84,7 +84,7 @@ impl LiveVolume {
     pub(crate) fn is_near_to(&self, wanted: &Wanted, extent: &Slab) -> bool
         ensures { result ≡ near.is_near_to wanted.now extent.now self.now }
     {
-        if !overlap(&self.bounds, extent) {
+        if !self.bounds.overlaps(extent) {
             return false;
         }
         if self.priority < wanted.least {
@@ -100,40 +100,6 @@ impl LiveVolume {
         if operator.cmp(&self.operator).is_eq() {
             return false;
         }
-        overlap(&self.bounds, whole)
+        self.bounds.overlaps(whole)
     }
-}
-
-/// Whether two slabs meet in seconds, in altitudes and in leaves.
-pub(crate) fn overlap(one: &Slab, other: &Slab) -> bool
-    ensures { result ≡ spec.overlap one.now other.now }
-{
-    if !meet_in_time(one, other) {
-        return false;
-    }
-    if !meet_in_height(one, other) {
-        return false;
-    }
-    meet_on_ground(one, other)
-}
-
-// Whether two slabs have a second in common.
-fn meet_in_time(one: &Slab, other: &Slab) -> bool
-    ensures { result ≡ (int_lt one.now.start other.now.end && int_lt other.now.start one.now.end) }
-{
-    one.start < other.end && other.start < one.end
-}
-
-// Whether two slabs have an altitude in common.
-fn meet_in_height(one: &Slab, other: &Slab) -> bool
-    ensures { result ≡ (int_lt one.now.lower other.now.upper && int_lt other.now.lower one.now.upper) }
-{
-    one.lower < other.upper && other.lower < one.upper
-}
-
-// Whether two slabs have a leaf in common.
-fn meet_on_ground(one: &Slab, other: &Slab) -> bool
-    ensures { result ≡ (nat_le one.now.first other.now.last && nat_le other.now.first one.now.last) }
-{
-    one.first <= other.last && other.first <= one.last
 }

@@ -14,15 +14,7 @@ use Rattle.desk_line.specs.declared.failure.Failure.TheVariants.{Store, Broken, 
 use Rattle.desk_line.specs.declared.failure.Failure.TheVariants as failure
 use Rattle.desk_line.specs.Exits.{Ending, EndsWith, enrolment_failure, failure_at}
 use Rattle.desk_program.specs.EndCauses.{HasCause, IsEndCounted}
-use Rattle.desk_store.specs.World.{World}
-use Rattle.desk_run.specs.DeskWorld.{DeskWorld, Parts}
-use Rattle.desk_wire.specs.Passage.{Passage}
-use Rattle.desk_line.specs.declared.line.Line.{Line}
-use Rattle.desk_line.specs.declared.line.Line.TheVariants as line
-use Rattle.desk_program.specs.Keeping.{IsLineKept, IsLinePlayKept}
-use Rattle.desk_program.specs.Outside.{outside}
-use Rattle.desk_program.specs.PlayLines.{IsLinePlayed}
-use Rattle.desk_program.specs.CarryingOut.{IsCarriedOut}
+use Rattle.desk_run.specs.DeskWorld.{Parts}
 use Rattle.std.specs.Result.{IsErrAnd}
 use Rattle.desk_program.specs.Serving.{IsDenied, Traffic, failing, first_failure}
 
@@ -126,24 +118,3 @@ pub counted_on : {A B : Type 0} (one : Result A Failure) (whole : Result B Failu
 counted_on one (Ok d) f old mid new was is more h store = cc
 counted_on {A} one (Err e) f old mid new was is more h store =
     counted_later {A = A} one old mid new more h (was ∙ ap Err (sym is ∙ same_failure e store))
-
--- a line that takes no connection is carried out, and kept, as it is played
-pub carried_out : (H : Type 0) (line : Line) (bytes : Passage) (port : Traffic) (end : Ending)
-    (w after : DeskWorld) → IsLinePlayed H line end bytes w after
-    → IsCarriedOut H line (outside bytes port port end) w after
-carried_out H (line.Play play) bytes port end w after h = (refl, h)
-carried_out H (line.Enrol enrol) bytes port end w after h = (refl, h)
-carried_out H (line.Token token) bytes port end w after h = absurd h
-carried_out H (line.Serve serve) bytes port end w after h = absurd h
-carried_out H (line.Cover cover) bytes port end w after h = absurd h
-carried_out H (line.Migrate migrate) bytes port end w after h = absurd h
-
-pub line_kept : (H : Type 0) (line : Line) (bytes : Passage) (port : Traffic) (end : Ending)
-    (w after : DeskWorld) (found : Option World) → IsLinePlayKept H line end bytes w after found
-    → IsLineKept H line (outside bytes port port end) w after found
-line_kept H (line.Play play) bytes port end w after found h = h
-line_kept H (line.Enrol enrol) bytes port end w after found h = h
-line_kept H (line.Token token) bytes port end w after found h = absurd h
-line_kept H (line.Serve serve) bytes port end w after found h = absurd h
-line_kept H (line.Cover cover) bytes port end w after found h = absurd h
-line_kept H (line.Migrate migrate) bytes port end w after found h = absurd h

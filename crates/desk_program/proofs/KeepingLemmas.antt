@@ -373,24 +373,21 @@ module _ {A : Type 0} (H : Type 0) (done : Result A Failure) (serve : ServeWords
 -- ---- a run over the input
 
 module _ (H : Type 0) (play : PlayWords) (end : Ending) (ended : PlayEnd) (answered : ℕ)
-    (q : Passage) (w begun after : DeskWorld) (given : ℤ)
-    (ends : EndsWith (done_unless (failure_after ended)) end) (same : given ≡ play.moment)
+    (q : Passage) (w begun after : DeskWorld) (ends : EndsWith (done_unless (failure_after ended)) end)
     (listed : H → begun ≡ with_operators (on_terms w play.terms) play.enrolments.items)
-    (played : HasPlayed H ended answered q begun given after) where
+    (played : HasPlayed H ended answered q begun play.moment.second after) where
   pub run_kept : H → (found : Option World)
-      → IsKept ended (told_in_play ended answered) q begun given after found
+      → IsKept ended (told_in_play ended answered) q begun play.moment.second after found
       → IsPlayKept H play end q w after found
   run_kept p found kept =
-      let start = with_operators (on_terms w play.terms) play.enrolments.items in
       inl (
         record {
           ended = ended;
           answered = answered;
           ends = ends;
-          played = λ h. subst (λ m. HasPlayed H ended answered q start m after) same
-              (subst (λ v. HasPlayed H ended answered q v given after) (listed h) played);
+          played = λ h.
+              subst (λ v. HasPlayed H ended answered q v play.moment.second after) (listed h) played;
         },
-        subst (λ m. IsKept ended (told_in_play ended answered) q start m after found) same
-            (subst (λ v. IsKept ended (told_in_play ended answered) q v given after found)
-            (listed p) kept),
+        subst (λ v. IsKept ended (told_in_play ended answered) q v play.moment.second after found) (listed p)
+            kept,
       )

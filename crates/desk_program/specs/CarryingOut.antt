@@ -12,21 +12,19 @@ use Rattle.desk_line.specs.Exits.{FailsWith}
 use Rattle.desk_program.specs.EndCauses.{HasCause}
 use Rattle.desk_program.specs.Keeping.{IsLineKept}
 use Rattle.desk_program.specs.Outside.{Outside}
-use Rattle.desk_program.specs.PlayLines.{IsLinePlayed}
+use Rattle.desk_program.specs.PlayLines.{IsEnrolled, IsPlayDone}
 use Rattle.desk_program.specs.Serving.{IsLineServed}
 
--- `play` and `enrol` take no connection; `serve` reads no input, and prints that it listens
+-- `play` and `enrol` take no connection; `serve` and `enrol` read no input; `serve` prints that it listens
 abbrev pub IsCarriedOut : Type 0 → Line → Outside → DeskWorld → DeskWorld → Type 0
 IsCarriedOut H (line.Play play) o w after =
-    (o.port.after ≡ o.port.before) × IsLinePlayed H (line.Play play) o.end o.bytes w after
-IsCarriedOut H (line.Enrol enrol) o w after =
-    (o.port.after ≡ o.port.before) × IsLinePlayed H (line.Enrol enrol) o.end o.bytes w after
+    (o.port.after ≡ o.port.before) × IsPlayDone H play o.end o.bytes w after
 IsCarriedOut H (line.Serve serve) o w after =
     (o.bytes.reads.after ≡ o.bytes.reads.before)
     × IsLineServed H serve o.end o.port o.bytes.writes w after
-IsCarriedOut H (line.Token token) o w after = ⊥
-IsCarriedOut H (line.Cover cover) o w after = ⊥
-IsCarriedOut H (line.Migrate migrate) o w after = ⊥
+IsCarriedOut H (line.Enrol enrol) o w after =
+    (o.port.after ≡ o.port.before) × (o.bytes.reads.after ≡ o.bytes.reads.before)
+    × IsEnrolled H enrol.enrolment o.end o.bytes.writes w after
 
 -- a line is carried out at a desk, and what may be found then; if it ended with `store`, that has its cause
 pub record CarriesOut {S : Type 0} (g : Ghosts S) (line : Line) (o : Outside) (old new : Parts S) : Type 0

@@ -55,20 +55,9 @@ abbrev pub IsPlayKept :
 IsPlayKept H play end p w after found =
     ((run : IsPlayed H play end p w after)
     × IsKept run.ended (told_in_play run.ended run.answered) p
-    (with_operators (on_terms w play.terms) play.enrolments.items) play.moment after found)
+    (with_operators (on_terms w play.terms) play.enrolments.items) play.moment.second after found)
     ⊎ (IsNotPlayed H play end p w after
     × AreKeptSoFar H play.enrolments.items (on_terms w play.terms) after found)
-
--- by the line that is carried out, by reading and writing alone
-abbrev pub IsLinePlayKept :
-    Type 0 → Line → Ending → Passage → DeskWorld → DeskWorld → Option World → Type 0
-IsLinePlayKept H (line.Play play) end p w after found = IsPlayKept H play end p w after found
-IsLinePlayKept H (line.Enrol enrol) end p w after found =
-    FindsEnrolled enrol.enrolment end p.writes w found
-IsLinePlayKept H (line.Token token) end p w after found = ⊥
-IsLinePlayKept H (line.Serve serve) end p w after found = ⊥
-IsLinePlayKept H (line.Cover cover) end p w after found = ⊥
-IsLinePlayKept H (line.Migrate migrate) end p w after found = ⊥
 
 -- the request of a connection left a world as it was, its answer was a 500 or is not whole, and what is
 -- found is what this request would leave there
@@ -124,6 +113,3 @@ abbrev pub IsLineKept : Type 0 → Line → Outside → DeskWorld → DeskWorld 
 IsLineKept H (line.Play play) o w after found = IsPlayKept H play o.end o.bytes w after found
 IsLineKept H (line.Enrol enrol) o w after found = FindsEnrolled enrol.enrolment o.end o.bytes.writes w found
 IsLineKept H (line.Serve serve) o w after found = IsServeKept H serve o.end o.port w after found
-IsLineKept H (line.Token token) o w after found = ⊥
-IsLineKept H (line.Cover cover) o w after found = ⊥
-IsLineKept H (line.Migrate migrate) o w after found = ⊥

@@ -1,9 +1,11 @@
 -- Outside: what is known of what a line reads and writes, of its port, and of how it ended.
 use Rattle.std.specs.Prelude.{ℕ, List, Option}
+use Rattle.std.specs.declared.io.Read as read
 use Rattle.std.specs.declared.io.Write as write
-use Rattle.desk_wire.specs.Passage.{Course, Passage, course}
+use Rattle.desk_wire.specs.Passage.{Course, Passage, course, passage}
 use Rattle.desk_line.specs.declared.failure.Exit.{Exit}
 use Rattle.desk_line.specs.Exits.{Ending, ending}
+use Rattle.desk_program.specs.declared.running.Streams.{Streams}
 use Rattle.desk_program.specs.Serving.{Traffic}
 
 -- the bytes of the streams; what the port told before and tells after; the end
@@ -12,9 +14,6 @@ pub record Outside : Type 0 where
   pub port : Course Traffic
   pub end : Ending
 
-abbrev pub outside : Passage → Traffic → Traffic → Ending → Outside
-outside bytes from to end = record { bytes = bytes; port = course from to; end = end }
-
 -- the bytes that a writer has
 abbrev pub bytes_written : {W : Type 0} → write.Ghosts W → W → W → Course (Option (List ℕ))
 bytes_written w before after = course (w.contents before) (w.contents after)
@@ -22,3 +21,13 @@ bytes_written w before after = course (w.contents before) (w.contents after)
 -- how a line ended, by its error writer
 abbrev pub ended : {E : Type 0} → write.Ghosts E → Exit E → E → E → Ending
 ended e exit before now = ending exit (e.contents before) (e.contents now)
+
+-- a line's streams and its port, as they were before and as they are now, and how it ended
+abbrev pub outside :
+    {R W E : Type 0} → read.Ghosts R → write.Ghosts W → write.Ghosts E → Streams R W E → Streams R W E
+    → Course Traffic → Exit E → Outside
+outside r w e old new port exit = record {
+  bytes = passage r w old.input new.input old.output new.output;
+  port = port;
+  end = ended e exit old.errors new.errors;
+}

@@ -6,8 +6,6 @@ use Rattle.desk_ends.specs.declared.playing.PlayEnd.{PlayEnd}
 use Rattle.desk_wire.specs.Passage.{Course, Passage}
 use Rattle.desk_wire.specs.Playing.{HasPlayed}
 use Rattle.desk_line.specs.declared.failure.Failure.{Failure}
-use Rattle.desk_line.specs.declared.line.Line.{Line}
-use Rattle.desk_line.specs.declared.line.Line.TheVariants as line
 use Rattle.desk_line.specs.declared.line.Play.{Play as PlayWords}
 use Rattle.desk_line.specs.declared.line.Enrolment.{Enrolment}
 use Rattle.desk_line.specs.declared.failure.Failure.TheVariants as failure
@@ -27,7 +25,7 @@ pub record IsPlayed (H : Type 0) (play : PlayWords) (end : Ending) (p : Passage)
   pub answered : ℕ
   pub ends : EndsWith (done_unless (failure_after ended)) end
   pub played : H → HasPlayed H ended answered p
-      (with_operators (on_terms w play.terms) play.enrolments.items) play.moment after
+      (with_operators (on_terms w play.terms) play.enrolments.items) play.moment.second after
 
 -- an operator could not be listed: those before it are, and nothing is read or written
 pub record IsNotPlayed (H : Type 0) (play : PlayWords) (end : Ending) (p : Passage) (w after : DeskWorld) :
@@ -51,12 +49,3 @@ IsEnrolled H enrolment end writes w after =
     ⊎ (FailsWith failure.Write end × IsCutOff (enrolled_line enrolment) writes.before writes.after
     × ListsOperator H enrolment w after)
     ⊎ (IsBrokenDown end × (writes.after ≡ writes.before) × (after ≡ w))
-
-abbrev pub IsLinePlayed : Type 0 → Line → Ending → Passage → DeskWorld → DeskWorld → Type 0
-IsLinePlayed H (line.Play play) end p w after = IsPlayDone H play end p w after
-IsLinePlayed H (line.Token token) end p w after = ⊥
-IsLinePlayed H (line.Serve serve) end p w after = ⊥
-IsLinePlayed H (line.Cover cover) end p w after = ⊥
-IsLinePlayed H (line.Enrol enrol) end p w after =
-    (p.reads.after ≡ p.reads.before) × IsEnrolled H enrol.enrolment end p.writes w after
-IsLinePlayed H (line.Migrate migrate) end p w after = ⊥

@@ -1,16 +1,15 @@
 //! A port of 127.0.0.1, with the moments of the clock.
 
-ghost use Rattle.std.specs.Prelude.{◌≡◌, ◌≢◌, None, Some, Err, Ok, IfErr, IfOk, codes, string_bytes};
+ghost use Rattle.std.specs.Prelude.{◌≡◌, ◌≢◌, None, Some, Err, Ok, IfErr, IfOk, codes, option_map, string_bytes};
 ghost use Rattle.std.specs.IoError.{error_kind};
 ghost use Rattle.std.specs.Time.{system_time_nanos};
-ghost use Rattle.desk_ends.specs.Moments.{IsMoment};
 ghost use Rattle.desk_program.specs.Serving as spec;
 ghost use Rattle.desk_program.specs.Serving.{IsDenied};
 ghost use Rattle.desk_program.specs.Waiting.{moment_at};
 
 use crate::port::{Connection, Outcome, Port, Register};
 use crate::timed::{Timed, discard_extra, discard_rest};
-use desk_ends::write_whole;
+use desk_ends::{Moment, write_whole};
 use desk_line::{Enrolment, Failure};
 use std::alloc::{AllocError, Global};
 use std::io::{self, BufReader, ErrorKind, Write};
@@ -178,8 +177,7 @@ fn connection_of<'s, T, C: Clock>(
 ) -> Result<Connection<BufReader<Timed<'s, T, C>>, Timed<'s, T, C>>, Failure>
 where
     T: std::io::Read + std::io::Write + OpenStream + Drop,
-    ensures moment { IfOk result (λ c. moment_at (system_time_nanos now) ≡ Some c.moment) }
-    ensures range { IfOk result (λ c. IsMoment c.moment) }
+    ensures moment { IfOk result (λ c. moment_at (system_time_nanos now) ≡ Some c.moment.second) }
     ensures fault { IfErr result IsDenied }
 {
     let Some(moment) = moment_in(now) else {
@@ -199,12 +197,12 @@ where
 }
 
 // The moment of a time, if it is in range.
-fn moment_in(time: SystemTime) -> Option<i64>
-    ensures { result ≡ moment_at (system_time_nanos time) }
+fn moment_in(time: SystemTime) -> Option<Moment>
+    ensures { option_map (λ moment. moment.second) result ≡ moment_at (system_time_nanos time) }
 {
     let since = time.duration_since(SystemTime::UNIX_EPOCH).ok()?;
     match i64::try_from(since.as_secs()) {
-        Ok(moment @ 0..=MAX_SECOND) => Some(moment),
+        Ok(second @ 0..=MAX_SECOND) => Some(Moment { second }),
         _ => None,
     }
 }

@@ -1,13 +1,13 @@
 //! Where a desk gets its connections from.
 
 ghost use Rattle.std.specs.Prelude.{◌≡◌, IfOk, IfErr, OnOk, OnErr};
-ghost use Rattle.desk_ends.specs.Moments.{IsMoment};
 ghost use Rattle.desk_line.specs.Lines.{AreEnrolments};
 ghost use Rattle.desk_program.specs.Recorded.{IsOpen};
 ghost use Rattle.desk_program.specs.Serving.{BringsNews, Closes, Denies, IsDenied, IsFresh, Listens};
 ghost use Rattle.desk_program.specs.Serving.{TakesArrival, Traffic};
 ghost use Rattle.desk_program.specs.Serving.{arrived, parted, untold};
 
+use desk_ends::Moment;
 use desk_line::{Enrolment, Failure};
 use std::alloc::Global;
 use std::io::{Read, Write};
@@ -15,8 +15,8 @@ use std::io::{Read, Write};
 /// A connection that was taken.
 #[derive(Drop)]
 pub struct Connection<I, O> {
-    /// The moment at which it was taken, a Unix second from 0 to 253,370,764,800.
-    pub moment: i64,
+    /// The moment at which it was taken.
+    pub moment: Moment,
     /// What comes from the client.
     pub input: I,
     /// What goes to the client.
@@ -82,9 +82,8 @@ pub trait Port {
     /// `Network` if none can be taken, `Clock` if the clock gives no moment in range, `Memory`; `Broken` if
     /// the request can't be recorded: the client was told that the desk failed.
     fn take(&mut self, alloc: Global) -> Result<Connection<Self::Input, Self::Output>, Failure>
-        ensures moment { IfOk result (λ c. IsMoment c.moment) }
         ensures taken { IfOk result (λ c. TakesArrival (traffic self.old) (traffic self.new)
-            (arrived c.moment (Self.Input.remaining c.input))) }
+            (arrived c.moment.second (Self.Input.remaining c.input))) }
         ensures unsent { IfOk result (λ c. IsFresh (traffic self.old) (Self.Output.contents c.output)) }
         ensures same { OnErr result (Denies (traffic self.old) (traffic self.new)) }
         ensures fault { IfErr result IsDenied };

@@ -9,50 +9,22 @@ ghost use Rattle.desk_store.specs.StoreFaults.{IsHonest};
 ghost use Rattle.desk_wire.specs.Passage.{passage};
 ghost use Rattle.desk_line.specs.Exits as spec;
 ghost use Rattle.desk_rules.specs.Limits.{max_priority};
-ghost use Rattle.desk_line.specs.Lines.{AreEnrolments, HasDesk, IsLine, IsPlay};
+ghost use Rattle.desk_line.specs.Lines.{AreEnrolments, IsPlay};
 ghost use Rattle.desk_program.specs.EndCauses.{HasCause};
 ghost use Rattle.desk_program.specs.Enrolling as enrolling;
 ghost use Rattle.desk_program.specs.Enrolling.{HasListed, HasListedNews, on_terms};
-ghost use Rattle.desk_program.specs.Keeping.{FindsEnrolled, FindsListed, FindsNews, IsLinePlayKept, IsPlayKept};
+ghost use Rattle.desk_program.specs.Keeping.{FindsEnrolled, FindsListed, FindsNews, IsPlayKept};
 ghost use Rattle.desk_program.specs.Outside.{bytes_written, ended};
-ghost use Rattle.desk_program.specs.PlayLines.{IsEnrolled, IsLinePlayed, IsPlayDone, done_unless};
+ghost use Rattle.desk_program.specs.PlayLines.{IsEnrolled, IsPlayDone, done_unless};
 
 use desk_ends::{PlayEnd, write_whole};
-use desk_line::{Enrolment, Exit, Failure, Line, Play, conclude};
+use desk_line::{Enrolment, Exit, Failure, Play, conclude};
 use desk_rules::terms::Terms;
 use desk_run::{Desk, DeskFault};
 use desk_store::PlanStore;
 use desk_wire::play_all;
 use std::alloc::{AllocError, Global};
 use std::io::{Read, Write};
-
-/// Does what a line of `play` or of `enrol` says at a desk, and answers how it ended. The word of a
-/// failure goes to `errors`; a fault there is passed over.
-pub fn with_desk<S: PlanStore, R: Read, W: Write, E: Write>(
-    alloc: Global,
-    line: &Line,
-    desk: &mut Desk<S>,
-    input: &mut R,
-    output: &mut W,
-    errors: &mut E,
-) -> Exit<E>
-    requires line { IsLine line.now }
-    requires desk { HasDesk line.now }
-    ensures played { IsLinePlayed (IsHonest (S.doubt desk.new.store)) line.now
-        (ended E.Write result errors.old errors.new) (passage R.Read W.Write input.old input.new
-        output.old output.new) (world_of S.content desk.old) (world_of S.content desk.new) }
-    ensures kept { FindsOnly S.PlanStore desk.old desk.new (IsLinePlayKept (IsHonest (S.doubt desk.new.store))
-        line.now (ended E.Write result errors.old errors.new) (passage R.Read W.Write input.old input.new
-        output.old output.new) (world_of S.content desk.old) (world_of S.content desk.new)) }
-    ensures remembered { Remembers S.doubt S.faults S.is_shielded desk.old.store desk.new.store }
-    ensures cause { HasCause S.PlanStore desk.old desk.new (ended E.Write result errors.old errors.new) }
-{
-    match line {
-        Line::Play(play) => play_line(alloc, play, desk, input, output, errors),
-        Line::Enrol(enrol) => enrol_line(alloc, &enrol.enrolment, desk, output, errors),
-        _ => unreachable!(),
-    }
-}
 
 // Why a run over the input did not end with the input, by its end.
 fn failure_after(ended: PlayEnd) -> Option<Failure>
@@ -67,34 +39,37 @@ fn failure_after(ended: PlayEnd) -> Option<Failure>
     }
 }
 
-// Permits the line's priorities, enrols its operators, and answers the requests of the input.
-fn play_line<S: PlanStore, R: Read, W: Write, E: Write>(
+/// Does what a line of `play` says at a desk: permits the line's priorities, enrols its operators and answers
+/// the requests of the input. Answers how it ended. The word of a failure goes to `errors`; a fault there is
+/// passed over.
+pub fn play<S: PlanStore, R: Read, W: Write, E: Write>(
     alloc: Global,
-    play: &Play,
+    line: &Play,
     desk: &mut Desk<S>,
     input: &mut R,
     output: &mut W,
     errors: &mut E,
 ) -> Exit<E>
-    requires { IsPlay play.now }
-    ensures played { IsPlayDone (IsHonest (S.doubt desk.new.store)) play.now
+    requires { IsPlay line.now }
+    ensures played { IsPlayDone (IsHonest (S.doubt desk.new.store)) line.now
         (ended E.Write result errors.old errors.new) (passage R.Read W.Write input.old input.new
         output.old output.new) (world_of S.content desk.old) (world_of S.content desk.new) }
     ensures kept { FindsOnly S.PlanStore desk.old desk.new (IsPlayKept (IsHonest (S.doubt desk.new.store))
-        play.now (ended E.Write result errors.old errors.new) (passage R.Read W.Write input.old input.new
+        line.now (ended E.Write result errors.old errors.new) (passage R.Read W.Write input.old input.new
         output.old output.new) (world_of S.content desk.old) (world_of S.content desk.new)) }
     ensures remembered { Remembers S.doubt S.faults S.is_shielded desk.old.store desk.new.store }
     ensures cause { HasCause S.PlanStore desk.old desk.new (ended E.Write result errors.old errors.new) }
 {
-    if let Err(fault) = set_up(desk, &play.terms, &play.enrolments) {
+    if let Err(fault) = set_up(desk, &line.terms, &line.enrolments) {
         return conclude(errors, Err(Failure::from(fault)));
     }
-    let played = play_all(alloc, desk, play.moment, input, output);
+    let played = play_all(alloc, desk, line.moment, input, output);
     conclude(errors, done_after(played.ended))
 }
 
-// Enrols an operator, and prints the line that says so, which is made first.
-fn enrol_line<S: PlanStore, W: Write, E: Write>(
+/// Enrols an operator at a desk, prints the line that says so, which is made first, and answers how that
+/// ended. The word of a failure goes to `errors`; a fault there is passed over.
+pub fn enrol<S: PlanStore, W: Write, E: Write>(
     alloc: Global,
     enrolment: &Enrolment,
     desk: &mut Desk<S>,

@@ -2,13 +2,13 @@
 
 ghost use Rattle.std.specs.Prelude.{IfErr, IfOk};
 ghost use Rattle.std.specs.Option.{IsSomeAnd};
-ghost use Rattle.desk_line.specs.Lines.{HasDatabase, IsLine};
-ghost use Rattle.desk_wire.specs.Passage.{passage};
-ghost use Rattle.desk_program.specs.Outside.{ended, outside};
+ghost use Rattle.desk_line.specs.Lines.{IsLine};
+ghost use Rattle.desk_wire.specs.Passage.{course};
+ghost use Rattle.desk_program.specs.Outside.{outside};
 ghost use Rattle.desk_program.specs.CarryingOut.{CarriesOut, IsUnopened};
 
 use crate::port::Port;
-use crate::program::with_desk;
+use crate::program::{enrol, play};
 use crate::server::serve;
 use desk_line::{Exit, Failure, Line, conclude};
 use desk_run::Desk;
@@ -16,53 +16,59 @@ use desk_store::PlanStore;
 use std::alloc::Global;
 use std::io::{Read, Write};
 
+/// The streams of a line.
+#[derive(Drop)]
+pub struct Streams<R: Drop, W: Drop, E: Drop> {
+    /// What it reads.
+    pub input: R,
+    /// What it prints to.
+    pub output: W,
+    /// What the word of its failure goes to.
+    pub errors: E,
+}
+
 /// Does what a line says at the desk that was opened for it, and answers how it ended and the desk. If
-/// none was opened, the word of that failure goes to `errors`.
-pub fn run_opened<S: PlanStore + Drop, P: Port, R: Read, W: Write, E: Write>(
+/// none was opened, the word of that failure goes to the error stream.
+pub fn run_opened<S: PlanStore + Drop, P: Port, R: Read + Drop, W: Write + Drop, E: Write + Drop>(
     alloc: Global,
     line: &Line,
     opened: Result<Desk<S>, Failure>,
     port: &mut P,
-    input: &mut R,
-    output: &mut W,
-    errors: &mut E,
+    streams: &mut Streams<R, W, E>,
 ) -> (Exit<E>, Option<Desk<S>>)
-    requires line { IsLine line.now }
-    requires desk { HasDatabase line.now }
-    ensures opened { IfOk opened (λ desk. IsSomeAnd result.1 (CarriesOut S.PlanStore line.now (outside
-        (passage R.Read W.Write input.old input.new output.old output.new) (P.traffic port.old)
-        (P.traffic port.new) (ended E.Write result.0 errors.old errors.new)) desk)) }
-    ensures unopened { IfErr opened (IsUnopened (outside
-        (passage R.Read W.Write input.old input.new output.old output.new) (P.traffic port.old)
-        (P.traffic port.new) (ended E.Write result.0 errors.old errors.new)) result.1) }
+    requires { IsLine line.now }
+    ensures opened { IfOk opened (λ desk. IsSomeAnd result.1 (CarriesOut S.PlanStore line.now (outside R.Read
+        W.Write E.Write streams.old streams.new (course (P.traffic port.old) (P.traffic port.new)) result.0)
+        desk)) }
+    ensures unopened { IfErr opened (IsUnopened (outside R.Read W.Write E.Write streams.old streams.new
+        (course (P.traffic port.old) (P.traffic port.new)) result.0) result.1) }
 {
     match opened {
         Ok(mut desk) => {
-            let exit = carry_out(alloc, line, &mut desk, port, input, output, errors);
+            let exit = carry_out(alloc, line, &mut desk, port, streams);
             (exit, Some(desk))
         }
-        Err(failure) => (conclude(errors, Err(failure)), None),
+        Err(failure) => (conclude(&mut streams.errors, Err(failure)), None),
     }
 }
 
 // Does what a line says at a desk, and answers how it ended.
-fn carry_out<S: PlanStore, P: Port, R: Read, W: Write, E: Write>(
+fn carry_out<S: PlanStore, P: Port, R: Read + Drop, W: Write + Drop, E: Write + Drop>(
     alloc: Global,
     line: &Line,
     desk: &mut Desk<S>,
     port: &mut P,
-    input: &mut R,
-    output: &mut W,
-    errors: &mut E,
+    streams: &mut Streams<R, W, E>,
 ) -> Exit<E>
-    requires line { IsLine line.now }
-    requires desk { HasDatabase line.now }
-    ensures { CarriesOut S.PlanStore line.now (outside
-        (passage R.Read W.Write input.old input.new output.old output.new) (P.traffic port.old)
-        (P.traffic port.new) (ended E.Write result errors.old errors.new)) desk.old desk.new }
+    requires { IsLine line.now }
+    ensures { CarriesOut S.PlanStore line.now (outside R.Read W.Write E.Write streams.old streams.new
+        (course (P.traffic port.old) (P.traffic port.new)) result) desk.old desk.new }
 {
+    let output = &mut streams.output;
+    let errors = &mut streams.errors;
     match line {
+        Line::Play(words) => play(alloc, words, desk, &mut streams.input, output, errors),
         Line::Serve(words) => serve(alloc, port, words, desk, output, errors),
-        _ => with_desk(alloc, line, desk, input, output, errors),
+        Line::Enrol(words) => enrol(alloc, &words.enrolment, desk, output, errors),
     }
 }

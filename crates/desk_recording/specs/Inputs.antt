@@ -2,17 +2,28 @@
 -- of `play` ends whose requests they are.
 use Rattle.std.specs.Prelude.{◌≡◌, ⊤, ℕ, List, Bool, true, false, Option, Some, None, IfSome, Result, Ok, Err}
 use Rattle.std.specs.Io.KnownBytes.{IsAtEnd}
+use Rattle.std.specs.declared.io.Write as write
+use Rattle.desk_store.specs.declared.store.PlanStore as store
+use Rattle.desk_store.specs.StoreFaults.{IsHonest}
+use Rattle.desk_store.specs.StoreFrames.{Remembers}
 use Rattle.desk_store.specs.World.{World}
-use Rattle.desk_run.specs.DeskWorld.{DeskWorld}
-use Rattle.desk_wire.specs.Passage.{Course}
+use Rattle.desk_run.specs.DeskFrames.{FindsOnly}
+use Rattle.desk_run.specs.DeskWorld.{DeskWorld, Parts, world_of}
+use Rattle.desk_wire.specs.Passage.{Course, course}
 use Rattle.desk_wire.specs.Streams.{IsCut}
+use Rattle.desk_line.specs.declared.failure.Exit.{Exit}
 use Rattle.desk_line.specs.declared.failure.Failure.{Failure}
 use Rattle.desk_line.specs.declared.failure.Failure.TheVariants as failure
 use Rattle.desk_line.specs.declared.line.Play.{Play as PlayWords}
 use Rattle.desk_line.specs.Exits.{Ending, EndsWith, FailsWith}
 use Rattle.desk_program.specs.EndCauses.{IsEndCounted}
+use Rattle.desk_program.specs.Outside.{ended}
 use Rattle.desk_program.specs.PortPlays.{IsInputKept, IsInputPlayed}
 use Rattle.desk_program.specs.Serving.{Traffic}
+use Rattle.desk_recording.specs.Telling.{told_by}
+use Rattle.desk_recording.specs.declared.inputs.InputPort.{InputPort}
+use Rattle.desk_recording.specs.declared.port.RecordedPort.{RecordedPort}
+use Rattle.desk_recording.specs.declared.record.Record.{Ghosts}
 
 -- why an input hands out no request: it is at its end; the place of the next request is not known; it ends
 -- inside one; or a read failed, or memory ran out
@@ -30,28 +41,57 @@ ended_by None unframed (Err f) = Err f
 ended_by None true (Ok done) = Err failure.Unframed
 ended_by None false (Ok done) = Err failure.Limit
 
+-- what is known of a recorded input, of the port that hands it out, and of how its line ended: how the input
+-- or the output ended, if one did; whether the place of the next request is not known; what the port told
+-- before and tells after; the end
+pub record InputOutside : Type 0 where
+  pub stopped : Option (Result ⊤ Failure)
+  pub unframed : Bool
+  pub port : Course Traffic
+  pub end : Ending
+
+-- by the port before and after, and by the error writer
+abbrev pub input_outside :
+    {R W K E : Type 0} → Ghosts K → write.Ghosts E → RecordedPort (InputPort R W) K
+    → RecordedPort (InputPort R W) K → Exit E → E → E → InputOutside
+input_outside k e old new exit before now = record {
+  stopped = new.port.ended;
+  unframed = new.port.is_unframed;
+  port = course (told_by k old.keeper old.is_broken) (told_by k new.keeper new.is_broken);
+  end = ended e exit before now;
+}
+
 -- the requests of an input are played, and the line ends by that
-pub record IsPlayRecorded (H : Type 0) (play : PlayWords) (stopped : Option (Result ⊤ Failure))
-    (unframed : Bool) (end : Ending) (port : Course Traffic) (w after : DeskWorld) : Type 0 where
-  pub done : Result ⊤ Failure
-  pub ends : EndsWith (ended_by stopped unframed done) end
-  pub played : IsInputPlayed H done play port w after
+pub record IsPlayRecorded (H : Type 0) (play : PlayWords) (o : InputOutside) (w after : DeskWorld) : Type 0
+  where
+    pub done : Result ⊤ Failure
+    pub ends : EndsWith (ended_by o.stopped o.unframed done) o.end
+    pub played : IsInputPlayed H done play o.port w after
 
 -- and what is found then
-pub record IsRecordedKept (H : Type 0) (play : PlayWords) (stopped : Option (Result ⊤ Failure))
-    (unframed : Bool) (end : Ending) (port : Course Traffic) (w after : DeskWorld) (found : Option World) :
-    Type 0 where
+pub record IsRecordedKept (H : Type 0) (play : PlayWords) (o : InputOutside) (w after : DeskWorld)
+    (found : Option World) : Type 0 where
   pub done : Result ⊤ Failure
-  pub ends : EndsWith (ended_by stopped unframed done) end
-  pub kept : IsInputKept H done play port w after found
+  pub ends : EndsWith (ended_by o.stopped o.unframed done) o.end
+  pub kept : IsInputKept H done play o.port w after found
 
 -- if it ends with a store that failed, and not as the input did, that has counted a fault
-pub record IsRecordedCause (stopped : Option (Result ⊤ Failure)) (unframed : Bool) (end : Ending)
-    (old new : ℕ) : Type 0 where
+pub record IsRecordedCause (o : InputOutside) (old new : ℕ) : Type 0 where
   pub done : Result ⊤ Failure
-  pub ends : EndsWith (ended_by stopped unframed done) end
+  pub ends : EndsWith (ended_by o.stopped o.unframed done) o.end
   pub cause : IsEndCounted done old new
 
+-- the requests of an input are played at a desk, and what may be found then; if the line ended with `store`,
+-- that has its cause
+pub record PlaysRecorded {S : Type 0} (g : store.Ghosts S) (play : PlayWords) (o : InputOutside)
+    (old new : Parts S) : Type 0 where
+  pub played : IsPlayRecorded (IsHonest (g.doubt new.store)) play o (world_of g.content old)
+      (world_of g.content new)
+  pub kept : FindsOnly g old new (IsRecordedKept (IsHonest (g.doubt new.store)) play o
+      (world_of g.content old) (world_of g.content new))
+  pub remembered : Remembers g.doubt g.faults g.is_shielded old.store new.store
+  pub cause : IsRecordedCause o (g.faults old.store) (g.faults new.store)
+
 -- no desk was opened: the line ends with that failure, and nothing is taken
-abbrev pub IsUnrecorded : {A : Type 0} → Course Traffic → Ending → Option A → Failure → Type 0
-IsUnrecorded port end left f = FailsWith f end × (left ≡ None) × (port.after ≡ port.before)
+abbrev pub IsUnrecorded : {A : Type 0} → InputOutside → Option A → Failure → Type 0
+IsUnrecorded o left f = FailsWith f o.end × (left ≡ None) × (o.port.after ≡ o.port.before)

@@ -1,32 +1,20 @@
 //! The requests of an input, handed out one after the other as connections of a port, so that they are
 //! recorded.
 
-ghost use Rattle.std.specs.Prelude.{◌≡◌, ◌≤◌, ⊤, Err, IfErr, IfOk, IsSome, Ok, OnErr, OnOk, Option};
-ghost use Rattle.std.specs.Prelude.{Some, not};
+ghost use Rattle.std.specs.Prelude.{◌≡◌, ⊤, Err, IfErr, IfOk, IsSome, Ok, OnErr, OnOk, Some, not};
 ghost use Rattle.std.specs.Option.{IsSomeAnd};
 ghost use Rattle.std.specs.Io.Cursor.{cursor_inner, cursor_remaining};
-ghost use Rattle.desk_ends.specs.Moments.{IsMoment};
-ghost use Rattle.desk_store.specs.StoreFaults.{IsHonest};
-ghost use Rattle.desk_store.specs.StoreFrames.{Remembers};
-ghost use Rattle.desk_store.specs.World.{World};
-ghost use Rattle.desk_run.specs.DeskFrames.{FindsOnly};
-ghost use Rattle.desk_run.specs.DeskWorld.{IsSettled, world_of};
-ghost use Rattle.desk_wire.specs.Passage.{course};
 ghost use Rattle.desk_wire.specs.OneRequest.{IsTaken};
-ghost use Rattle.desk_line.specs.Exits.{ending};
 ghost use Rattle.desk_line.specs.Lines.{IsPlay};
-ghost use Rattle.desk_program.specs.Outside.{ended};
 ghost use Rattle.desk_program.specs.Recorded.{IsOpen};
 ghost use Rattle.desk_program.specs.Serving.{Closes, Denies, IsDenied, IsFresh, TakesArrival, arrived, parted, untold};
 ghost use Rattle.desk_recording.specs.Inputs as spec;
-ghost use Rattle.desk_recording.specs.Inputs.{HandsOutNone, IsPlayRecorded, IsRecordedCause, IsRecordedKept};
-ghost use Rattle.desk_recording.specs.Inputs.{IsUnrecorded};
+ghost use Rattle.desk_recording.specs.Inputs.{HandsOutNone, IsUnrecorded, PlaysRecorded, input_outside};
 ghost use Rattle.desk_recording.specs.Recording.{Sends};
-ghost use Rattle.desk_recording.specs.Telling.{told_by};
 
 use crate::port::RecordedPort;
 use crate::record::Record;
-use desk_ends::write_whole;
+use desk_ends::{Moment, write_whole};
 use desk_line::{Enrolment, Exit, Failure, Play, conclude};
 use desk_program::{Connection, Outcome, Port, play_port};
 use desk_run::Desk;
@@ -34,7 +22,6 @@ use desk_store::PlanStore;
 use desk_wire::receive_request;
 use std::alloc::Global;
 use std::io::{Cursor, Read, Write};
-use volume4d::MAX_SECOND;
 
 /// A port whose connections are the requests of an input, one after the other, all at one moment. Their
 /// answers go to an output.
@@ -42,7 +29,7 @@ use volume4d::MAX_SECOND;
 pub struct InputPort<R: Drop, W: Drop> {
     input: R,
     output: W,
-    moment: i64,
+    moment: Moment,
     // Whether the place of the next request is not known.
     is_unframed: bool,
     // How the input ended, or the output, if one did.
@@ -50,8 +37,8 @@ pub struct InputPort<R: Drop, W: Drop> {
 }
 
 impl<R: Read + Drop, W: Write + Drop> InputPort<R, W> {
-    /// A port over an input and an output, whose requests are all asked at this moment (a Unix second).
-    pub fn new(input: R, output: W, moment: i64) -> InputPort<R, W>
+    /// A port over an input and an output, whose requests are all asked at this moment.
+    pub fn new(input: R, output: W, moment: Moment) -> InputPort<R, W>
         ensures input { result.input ≡ input }
         ensures output { result.output ≡ output }
         ensures moment { result.moment ≡ moment }
@@ -92,9 +79,8 @@ impl<R: Read + Drop, W: Write + Drop> Port for InputPort<R, W> {
     }
 
     fn take(&mut self, alloc: Global) -> Result<Connection<Cursor<Vec<u8>>, Vec<u8>>, Failure>
-        ensures moment { IfOk result (λ c. IsMoment c.moment) }
         ensures taken { IfOk result (λ c. TakesArrival untold untold
-            (arrived c.moment (cursor_remaining (λ v. Some v.items) c.input))) }
+            (arrived c.moment.second (cursor_remaining (λ v. Some v.items) c.input))) }
         ensures unsent { IfOk result (λ c. IsFresh untold (Some c.output.items)) }
         ensures same { OnErr result (Denies untold untold) }
         ensures fault { IfErr result IsDenied }
@@ -105,9 +91,6 @@ impl<R: Read + Drop, W: Write + Drop> Port for InputPort<R, W> {
     {
         if self.ended.is_some() {
             return Err(Failure::Network);
-        }
-        if !(0..=MAX_SECOND).contains(&self.moment) {
-            return Err(Failure::Clock);
         }
         match next_of(alloc, self.is_unframed, &mut self.input) {
             Ok(request) => Ok(Connection {
@@ -181,30 +164,10 @@ where
     K: Record + Drop,
     E: Write,
     requires { IsPlay play.now }
-    ensures opened { IfOk opened (λ desk. IsSomeAnd result.1 (λ left.
-        IsPlayRecorded (IsHonest (S.doubt left.store)) play.now port.new.port.ended port.new.port.is_unframed
-        (ending result.0 (E.contents errors.old) (E.contents errors.new))
-        (course (told_by K.Record port.old.keeper port.old.is_broken)
-        (told_by K.Record port.new.keeper port.new.is_broken))
-        (world_of S.content desk) (world_of S.content left)
-        × (S.doubt desk.store ≤ S.doubt left.store)
-        × (S.is_shielded desk.store → S.is_shielded left.store))) }
-    ensures kept { IfOk opened (λ desk. IsSomeAnd result.1 (λ left.
-        IsHonest (S.doubt left.store) → IsSettled S.content S.may_leave desk →
-        (found : Option World) → S.may_leave left.store found →
-        IsRecordedKept (IsHonest (S.doubt left.store)) play.now port.new.port.ended port.new.port.is_unframed
-        (ending result.0 (E.contents errors.old) (E.contents errors.new))
-        (course (told_by K.Record port.old.keeper port.old.is_broken)
-        (told_by K.Record port.new.keeper port.new.is_broken))
-        (world_of S.content desk) (world_of S.content left) found)) }
-    ensures cause { IfOk opened (λ desk. IsSomeAnd result.1 (λ left. IsRecordedCause
-        port.new.port.ended port.new.port.is_unframed
-        (ending result.0 (E.contents errors.old) (E.contents errors.new))
-        (S.faults desk.store) (S.faults left.store))) }
-    ensures unopened { IfErr opened (IsUnrecorded
-        (course (told_by K.Record port.old.keeper port.old.is_broken)
-        (told_by K.Record port.new.keeper port.new.is_broken))
-        (ending result.0 (E.contents errors.old) (E.contents errors.new)) result.1) }
+    ensures opened { IfOk opened (λ desk. IsSomeAnd result.1 (PlaysRecorded S.PlanStore play.now
+        (input_outside K.Record E.Write port.old port.new result.0 errors.old errors.new) desk)) }
+    ensures unopened { IfErr opened (IsUnrecorded (input_outside K.Record E.Write port.old port.new result.0
+        errors.old errors.new) result.1) }
 {
     match opened {
         Ok(mut desk) => {
@@ -224,20 +187,8 @@ fn play_recorded<S: PlanStore, R: Read + Drop, W: Write + Drop, K: Record + Drop
     errors: &mut E,
 ) -> Exit<E>
     requires { IsPlay play.now }
-    ensures played { IsPlayRecorded (IsHonest (S.doubt desk.new.store)) play.now port.new.port.ended
-        port.new.port.is_unframed (ended E.Write result errors.old errors.new)
-        (course (told_by K.Record port.old.keeper port.old.is_broken)
-        (told_by K.Record port.new.keeper port.new.is_broken))
-        (world_of S.content desk.old) (world_of S.content desk.new) }
-    ensures kept { FindsOnly S.PlanStore desk.old desk.new (IsRecordedKept
-        (IsHonest (S.doubt desk.new.store)) play.now port.new.port.ended
-        port.new.port.is_unframed (ended E.Write result errors.old errors.new)
-        (course (told_by K.Record port.old.keeper port.old.is_broken)
-        (told_by K.Record port.new.keeper port.new.is_broken))
-        (world_of S.content desk.old) (world_of S.content desk.new)) }
-    ensures remembered { Remembers S.doubt S.faults S.is_shielded desk.old.store desk.new.store }
-    ensures cause { IsRecordedCause port.new.port.ended port.new.port.is_unframed
-        (ended E.Write result errors.old errors.new) (S.faults desk.old.store) (S.faults desk.new.store) }
+    ensures { PlaysRecorded S.PlanStore play.now (input_outside K.Record E.Write port.old port.new result
+        errors.old errors.new) desk.old desk.new }
 {
     let done = play_port(alloc, port, play, desk);
     conclude(errors, port.port.ending(done))

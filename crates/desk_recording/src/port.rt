@@ -3,7 +3,6 @@
 ghost use Rattle.std.specs.Prelude.{◌≡◌, ◌<◌, false, true, if◌then◌else◌, length};
 ghost use Rattle.std.specs.Prelude.{Err, Some, IfErr, IfOk, OnErr, OnOk};
 ghost use Rattle.std.specs.Io.Cursor.{cursor_inner, cursor_remaining};
-ghost use Rattle.desk_ends.specs.Moments.{IsMoment};
 ghost use Rattle.desk_wire.specs.RefusalTexts.{server_error_text};
 ghost use Rattle.desk_wire.specs.OneRequest.{IsTaken};
 ghost use Rattle.desk_wire.specs.declared.response.ServerError.TheVariants.{Store};
@@ -93,21 +92,21 @@ impl<P: Port + Drop, R: Record + Drop> Port for RecordedPort<P, R> {
         }
     }
 
+    // Long: what each port owes, and what this one adds of the port below and of its record.
     #[tactic(auto, using(crate::proofs::StepLemmas::takes_one))]
     fn take(
         &mut self,
         alloc: Global,
     ) -> Result<Connection<Given<P::Input>, Held<P::Output>>, Failure>
-        ensures moment { IfOk result (λ c. IsMoment c.moment) }
         ensures taken { IfOk result (λ c. TakesArrival (told_by R.Record self.old.keeper self.old.is_broken)
             (told_by R.Record self.new.keeper self.new.is_broken)
-            (arrived c.moment (cursor_remaining (λ v. Some v.items) c.input.request))) }
+            (arrived c.moment.second (cursor_remaining (λ v. Some v.items) c.input.request))) }
         ensures unsent { IfOk result (λ c.
             IsFresh (told_by R.Record self.old.keeper self.old.is_broken) (Some c.output.answer.items)) }
         ensures same { OnErr result (Denies (told_by R.Record self.old.keeper self.old.is_broken)
             (told_by R.Record self.new.keeper self.new.is_broken)) }
         ensures fault { IfErr result IsDenied }
-        ensures client { IfOk result (λ c. IsTakenFrom c.moment (cursor_inner c.input.request).items
+        ensures client { IfOk result (λ c. IsTakenFrom c.moment.second (cursor_inner c.input.request).items
             (P.Input.remaining c.input.client) (P.traffic self.old.port) (P.traffic self.new.port)) }
         ensures waits { IfOk result (λ c.
             IsFresh (P.traffic self.old.port) (P.Output.contents c.output.to)) }
@@ -140,6 +139,7 @@ impl<P: Port + Drop, R: Record + Drop> Port for RecordedPort<P, R> {
         Err(Failure::Broken)
     }
 
+    // Long: what each port owes, and what this one adds of the port below and of its record.
     #[tactic(auto, using(crate::proofs::StepLemmas::closes_so, crate::proofs::StepLemmas::is_open))]
     fn close(
         &mut self,

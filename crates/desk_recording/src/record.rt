@@ -5,6 +5,7 @@ ghost use Rattle.desk_program.specs.Recorded.{AreNamed, Noted, with_answer, with
 ghost use Rattle.desk_recording.specs.Recording.{AddsIf, AddsStep, Answered, Asked, Enrolled, Lost, Notes};
 ghost use Rattle.desk_recording.specs.Recording.{NotesOnDisk, Step, parting_of};
 
+use desk_ends::Moment;
 use desk_line::Enrolment;
 use desk_program::Outcome;
 
@@ -34,12 +35,12 @@ pub trait Record {
             (λ n. with_news n news.now) }
         ensures named { IfSome (noted self.old) (λ _. result ≡ true → AreNamed news.now) };
 
-    /// Keeps a request that was taken at a moment (a Unix second), and answers whether it, and all before it,
-    /// is on the disk. No bytes stand for a connection of which no whole request came.
-    fn keep_request(&mut self, moment: i64, bytes: &[u8]) -> bool
-        ensures steps { AddsIf (steps self.old) (steps self.new) result (Asked moment bytes.now) }
+    /// Keeps a request that was taken at a moment, and answers whether it, and all before it, is on the disk.
+    ///  No bytes stand for a connection of which no whole request came.
+    fn keep_request(&mut self, moment: Moment, bytes: &[u8]) -> bool
+        ensures steps { AddsIf (steps self.old) (steps self.new) result (Asked moment.second bytes.now) }
         ensures noted { NotesOnDisk (noted self.old) (noted self.new) result
-            (λ n. with_request n moment bytes.now) };
+            (λ n. with_request n moment.second bytes.now) };
 
     /// Keeps the answer to the request that was kept last, and answers whether it is written. It is on the
     /// disk with the next request.

@@ -14,6 +14,7 @@ ghost use Rattle.desk_recording.specs.Tail.{unanswered_in, unanswered_shown};
 
 use crate::record::{Parted, Record};
 use crate::tail::Unanswered;
+use desk_ends::Moment;
 use desk_line::{Enrolment, Failure};
 use desk_program::{Outcome, set_up};
 use desk_replay::{ReplayFault, answer_one};
@@ -131,7 +132,10 @@ fn ask_again<S: PlanStore, R: Record>(
     if second > MAX_SECOND as u64 {
         return Err(Failure::Clock);
     }
-    let sent = (second as i64, request);
+    let moment = Moment {
+        second: second as i64,
+    };
+    let sent = (moment, request);
     if !keeper.keep_request(sent.0, &sent.1) {
         return Err(Failure::Broken);
     }

@@ -11,6 +11,7 @@ ghost use Rattle.desk_recording.specs.RecordWrites.{news_writes, noted_in, reque
 
 use crate::journal::Journal;
 use crate::record::{Parted, Record};
+use desk_ends::Moment;
 use desk_line::Enrolment;
 use desk_record::{Kind, write_entry};
 use std::alloc::{AllocError, Global};
@@ -115,18 +116,18 @@ impl<J: Journal + Drop> Record for WrittenRecord<J> {
         news.is_empty() || (self.append_news(news) && self.journal.sync())
     }
 
-    fn keep_request(&mut self, moment: i64, bytes: &[u8]) -> bool
-        ensures steps { AddsIf None None result (Asked moment bytes.now) }
+    fn keep_request(&mut self, moment: Moment, bytes: &[u8]) -> bool
+        ensures steps { AddsIf None None result (Asked moment.second bytes.now) }
         ensures noted { NotesOnDisk (noted_in self.old.second (J.writes self.old.journal))
             (noted_in self.new.second (J.writes self.new.journal)) result
-            (λ n. with_request n moment bytes.now) }
+            (λ n. with_request n moment.second bytes.now) }
         ensures writes { result ≡ true → FollowsWrites (J.writes self.old.journal) (J.writes self.new.journal)
-            (request_writes (nat_abs moment) bytes.now) }
+            (request_writes (nat_abs moment.second) bytes.now) }
     {
         if bytes.is_empty() {
             return true;
         }
-        self.second = moment.unsigned_abs();
+        self.second = moment.second.unsigned_abs();
         self.append(Kind::Request, self.second, bytes) && self.journal.sync()
     }
 

@@ -25,6 +25,7 @@ use std::io::{Read, Write};
 /// later than `until` (a Unix second), if that is given. Prints how many requests were played and how many of
 /// them made a change, and answers how it ended and the desk. If an entry is not played, then where and why
 /// goes to `errors`, and the word of that failure; if no desk was opened, the word alone.
+// Long: the streams of the line stand in both clauses.
 pub fn replay_opened<S: PlanStore + Drop, R: Read, W: Write, E: Write>(
     alloc: Global,
     until: Option<u64>,

@@ -5,7 +5,6 @@ ghost use Rattle.desk_store.specs.StoreFaults.{IsHonest};
 ghost use Rattle.desk_store.specs.StoreFrames.{Remembers};
 ghost use Rattle.desk_reading.specs.Requests.{asked as asked_in};
 ghost use Rattle.desk_run.specs.DeskWorld.{DeskWorld, world_of};
-ghost use Rattle.desk_ends.specs.Moments.{IsMoment};
 ghost use Rattle.desk_wire.specs.Bytes.{makes_change_for, text_for, world_after};
 ghost use Rattle.desk_record.specs.Reading.{entry_shown};
 ghost use Rattle.desk_replay.specs.Replaying as spec;
@@ -15,6 +14,7 @@ ghost use Rattle.desk_replay.specs.declared.fault.ReplayFault.TheVariants as rep
 use crate::fault::ReplayFault;
 use crate::progress::{Asking, Progress};
 use crate::terms::{begin, enrol, limit_spans, permit};
+use desk_ends::Moment;
 use desk_record::{Entry, Kind};
 use desk_run::Desk;
 use desk_store::PlanStore;
@@ -103,7 +103,10 @@ fn ask<S: PlanStore>(
         return Err(ReplayFault::NoRecord);
     }
     let before = turn(alloc, &progress.asking, second, &request)?;
-    let sent = (second as i64, request);
+    let moment = Moment {
+        second: second as i64,
+    };
+    let sent = (moment, request);
     let answer = tell_one(alloc, desk, &sent)?;
     if before.is_none() {
         progress.requests = progress.requests.saturating_add(1);
@@ -176,13 +179,12 @@ fn turn(
 pub fn answer_one<S: PlanStore>(
     alloc: Global,
     desk: &mut Desk<S>,
-    sent: &(i64, Vec<u8>),
+    sent: &(Moment, Vec<u8>),
 ) -> Result<Vec<u8>, ReplayFault>
-    requires { IsMoment sent.now.0 }
     ensures ok { IsHonest (S.doubt desk.new.store) → IfOk result (λ answer. answer.items
-        ≡ text_for (world_of S.content desk.old) sent.now.0 (asked_in sent.now.1.items)) }
+        ≡ text_for (world_of S.content desk.old) sent.now.0.second (asked_in sent.now.1.items)) }
     ensures left { IsHonest (S.doubt desk.new.store) → IfOk result (λ _. world_of S.content desk.new
-        ≡ world_after (world_of S.content desk.old) sent.now.0 (asked_in sent.now.1.items)) }
+        ≡ world_after (world_of S.content desk.old) sent.now.0.second (asked_in sent.now.1.items)) }
     ensures err { IsHonest (S.doubt desk.new.store) → OnErr result
         (world_of S.content desk.new ≡ world_of S.content desk.old) }
     ensures fault { IfErr result IsOwn }
@@ -196,15 +198,14 @@ pub fn answer_one<S: PlanStore>(
 fn tell_one<S: PlanStore>(
     alloc: Global,
     desk: &mut Desk<S>,
-    sent: &(i64, Vec<u8>),
+    sent: &(Moment, Vec<u8>),
 ) -> Result<Answer, ReplayFault>
-    requires { IsMoment sent.now.0 }
     ensures ok { IsHonest (S.doubt desk.new.store) → IfOk result (λ answer. answer.bytes.items
-        ≡ text_for (world_of S.content desk.old) sent.now.0 (asked_in sent.now.1.items)) }
+        ≡ text_for (world_of S.content desk.old) sent.now.0.second (asked_in sent.now.1.items)) }
     ensures change { IsHonest (S.doubt desk.new.store) → IfOk result (λ answer. answer.made_change
-        ≡ makes_change_for (world_of S.content desk.old) sent.now.0 (asked_in sent.now.1.items)) }
+        ≡ makes_change_for (world_of S.content desk.old) sent.now.0.second (asked_in sent.now.1.items)) }
     ensures left { IsHonest (S.doubt desk.new.store) → IfOk result (λ _. world_of S.content desk.new
-        ≡ world_after (world_of S.content desk.old) sent.now.0 (asked_in sent.now.1.items)) }
+        ≡ world_after (world_of S.content desk.old) sent.now.0.second (asked_in sent.now.1.items)) }
     ensures err { OnErr result (world_of S.content desk.new ≡ world_of S.content desk.old) }
     ensures fault { IfErr result IsOwn }
     ensures remembered { Remembers S.doubt S.faults S.is_shielded desk.old.store desk.new.store }

@@ -1,6 +1,6 @@
 -- What an operator's plans hold among each other, slab by slab and plan by plan.
 use Rattle.std.proofs.Common.{◌≡◌, ℕ, ◌+◌, ◌≤◌, ◌<◌, Bool, true, false, true≢false, ◌&&◌, ◌||◌, not, cond, List, [], ◌∷◌, ◌++◌, suc, length, map, get_or, take, drop, Option, Some, None, refl, sym, ap, subst, ◌∙◌, arith}
-use Rattle.std.specs.Prelude.{nat_le, max, IsTrue, slice_get}
+use Rattle.std.specs.Prelude.{nat_le, max, slice_get}
 use Rattle.std.specs.List.{filter}
 use Rattle.std.proofs.lemmas.Bool.{and_parts}
 use Rattle.std.proofs.lemmas.Bool.Decides.{nat_tests}
@@ -16,7 +16,8 @@ use Rattle.volume4d.specs.Volume.{area_has}
 use Rattle.volume4d.specs.Slab.{slab_has, slab_has_leaf, slabs_have, top_held}
 use Rattle.volume4d.specs.Level.{greater, level_where}
 use Rattle.volume4d.specs.laws.Level.{greater_none, greater_assoc, top_held-push, top_held-nil}
-use Rattle.volume4d.specs.Bounds.{AreFilled, IsBounds, IsFilled}
+use Rattle.volume4d.specs.Bounds.{AreFilled, IsBounds, IsFilled, overlap}
+use Rattle.volume4d.specs.laws.Bounds.{overlapping}
 use Rattle.volume4d.specs.Clusters.{IsCluster}
 use Rattle.volume4d.specs.Sweep.{Ascend}
 use Rattle.desk_rules.specs.declared.plan.PlanRow.{PlanRow}
@@ -25,7 +26,6 @@ use Rattle.desk_rules.specs.Plan.{is_live, row_holds, top_priority}
 use Rattle.desk_rules.specs.laws.Plan.{top_priority-cons, top_priority-nil}
 use Rattle.desk_rules.specs.declared.reply.Shown.{Shown}
 use Rattle.desk_store.specs.World.{World, has_id, held, held_at, plans_of}
-use Rattle.desk_store.specs.Rivals.{ShareAPoint}
 use Rattle.desk_store.specs.laws.Rival.{at_least_greater}
 use Rattle.desk_run.specs.HeldAmong.{AreSlabsHeld, AreLeft, AreAfter, HaveLevelAt, own_level, own_top, some_hold}
 use Rattle.desk_run.specs.Verdicts.{shown_in, shown_plan}
@@ -166,11 +166,11 @@ after_first position (t ∷ ts) s is up late =
     after_all position (t ∷ ts) ts t refl up (later_still s.first t.first position (ap first_of is) late)
 
 -- a slab that doesn't overlap another has no point of it
-pub apart_bounds : (slab bounds : Slab) (x : Point) (meets : Bool) → (ShareAPoint slab bounds → IsTrue meets)
-    → meets ≡ false → slab_has bounds x ≡ true → slab_has slab x ≡ false
-apart_bounds slab bounds x meets shared apart has = go (slab_has slab x) refl where
+pub apart_bounds : (slab bounds : Slab) (x : Point) → overlap slab bounds ≡ false
+    → slab_has bounds x ≡ true → slab_has slab x ≡ false
+apart_bounds slab bounds x apart has = go (slab_has slab x) refl where
   go : (b : Bool) → slab_has slab x ≡ b → b ≡ false
-  go true e = absurd (true≢false (sym (shared (x, e, has)) ∙ apart))
+  go true e = absurd (true≢false (sym (overlapping slab bounds x e has) ∙ apart))
   go false e = refl
 
 -- a slab adds nothing where some slabs are, if those of them that are left at its first leaf say so
@@ -327,16 +327,13 @@ unheld n id r x level e = sym (ap (greater level) (go (not (has_id id r)) (row_h
       go false t h = refl
 
 -- one whose bounds don't overlap those of another holds none of its points
-pub apart_plans : (row mine : PlanRow) (slabs others : List Slab) (b c : Slab) (x : Point) (meets : Bool)
-    → AreSlabsHeld row slabs b → AreSlabsHeld mine others c → (ShareAPoint b c → IsTrue meets)
-    → meets ≡ false → row_holds mine x ≡ true → row_holds row x ≡ false
-apart_plans row mine slabs others b c x meets held round shared apart has = go (row_holds row x) refl where
+pub apart_plans : (row mine : PlanRow) (slabs others : List Slab) (b c : Slab) (x : Point)
+    → AreSlabsHeld row slabs b → AreSlabsHeld mine others c → overlap b c ≡ false
+    → row_holds mine x ≡ true → row_holds row x ≡ false
+apart_plans row mine slabs others b c x held round apart has = go (row_holds row x) refl where
   go : (t : Bool) → row_holds row x ≡ t → t ≡ false
-  go true e = absurd (true≢false (sym (shared (
-    x,
-    held.bounds x (held.points x ∙ e),
-    round.bounds x (round.points x ∙ has),
-  )) ∙ apart))
+  go true e = absurd (true≢false (sym (overlapping b c x (held.bounds x (held.points x ∙ e))
+      (round.bounds x (round.points x ∙ has))) ∙ apart))
   go false e = refl
 
 -- another adds its priority where it holds the point

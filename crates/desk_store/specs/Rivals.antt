@@ -16,10 +16,6 @@ HaveLevel extent helds level = (x : Point) → slab_has extent x ≡ true → to
 abbrev pub AddLevel : Slab → List Held → List Held → (Point → Option ℕ) → Type 0
 AddLevel extent before helds level = HaveLevel extent helds (λ x. greater (top_held before x) (level x))
 
--- a point that both slabs have
-abbrev pub ShareAPoint : Slab → Slab → Type 0
-ShareAPoint mine theirs = (x : Point) × (slab_has mine x ≡ true) × (slab_has theirs x ≡ true)
-
 -- at each point of an extent the greatest priority among the slabs is the one held there by plans other than
 -- the operator's own of the id, where it is at least the least
 abbrev pub AreRivals : World → List ℕ → List ℕ → ℕ → Slab → List Held → Type 0

@@ -6,12 +6,10 @@ mod fault;
 pub mod laws;
 mod limits;
 mod list;
-mod meets;
 mod plan;
 mod store;
 
 pub use change::Change;
 pub use fault::StoreFault;
 pub use list::ListStore;
-pub use meets::overlap;
 pub use store::PlanStore;

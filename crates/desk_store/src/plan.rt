@@ -9,7 +9,6 @@ ghost use Rattle.desk_rules.specs.Plan.{is_live};
 ghost use Rattle.desk_store.specs.Rivals.{AddLevel, AddsLevel};
 ghost use Rattle.desk_store.specs.Parts.{parts_of, row_of, kept_states, closed_parts, HasNoPoint};
 
-use crate::meets::overlap;
 use desk_rules::plan::{PlanRow, States};
 use desk_rules::plan_id::PlanId;
 use desk_rules::words::{Aircraft, Usage};
@@ -30,7 +29,6 @@ pub struct Plan {
 }
 
 impl Model for Plan {
-    ghost use Rattle.desk_store.specs.Rivals.{AddLevel, ShareAPoint};
     ghost use Rattle.desk_store.specs.Parts.{PlanParts, AreSlabs};
 
     ghost Value = { PlanParts };
@@ -114,7 +112,7 @@ impl Plan {
     pub fn may_meet(&self, extent: &Slab) -> bool
         ensures { result ≡ false → HasNoPoint self.now.area extent.now }
     {
-        overlap(&self.bounds, extent)
+        self.bounds.overlaps(extent)
     }
 
     /// Whether it is live and has a priority at least.
@@ -167,7 +165,7 @@ fn push_helds(
         (λ x. level_where (slabs_have slabs.now x) priority)) }
 {
     for slab in slabs {
-        if overlap(slab, extent) {
+        if slab.overlaps(extent) {
             helds.push(Held {
                 slab: *slab,
                 priority,

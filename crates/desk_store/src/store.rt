@@ -122,6 +122,7 @@ pub trait PlanStore {
 
     /// Makes the change, whole or not at all. The store may be asked for a change that fits its
     /// content; a store that is not honest may be asked for any.
+    // Long: a store's own promise, each part of which a caller cites alone.
     fn apply(&mut self, change: &Change) -> Result<(), StoreFault>
         requires { IsHonest (doubt self.old) → IsFitting change.now (content self.old) }
         ensures ok { IsHonest (doubt self.new) →

@@ -3,7 +3,7 @@
 use crate::slow::{Ending, Pace, SlowReader, SlowWriter};
 use crate::step::Step;
 use anyhow::{Context, bail};
-use desk_ends::{PlayEnd, ServeFault};
+use desk_ends::{Moment, PlayEnd, ServeFault};
 use desk_rules::operator::Operator;
 use desk_run::Desk;
 use desk_store::{ListStore, PlanStore};
@@ -11,8 +11,10 @@ use desk_wire::{play_all, serve_one};
 use std::alloc::Global;
 use std::io::Write;
 
-/// The moment of all requests, a Unix second.
-const MOMENT: i64 = 1_780_315_000;
+/// The moment of all requests.
+const MOMENT: Moment = Moment {
+    second: 1_780_315_000,
+};
 
 /// The ceiling of the operator.
 const CEILING: u32 = 100;

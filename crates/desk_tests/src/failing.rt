@@ -143,7 +143,8 @@ fn calls_of(alloc: Global) -> Result<Vec<(i64, Asked)>, Fail> {
         operator,
         call: Call::Status,
     };
-    Ok(vec![in alloc; (MOMENT, put), (MOMENT, delete), (MOMENT, status)]?)
+    let second = MOMENT.second;
+    Ok(vec![in alloc; (second, put), (second, delete), (second, status)]?)
 }
 
 /// How the plan of `alfa` is used, if it is stored.
@@ -218,7 +219,7 @@ fn request_for(alloc: Global, states: (Style, Usage, Aircraft)) -> Result<Asked,
 fn list_of_alfa(alloc: Global, has_plan: bool) -> Result<ListStore, Fail> {
     let mut desk = desk_of_alfa(alloc)?;
     if has_plan {
-        desk.call(alloc, MOMENT, &read_request(alloc, FIRST_PUT)?)?;
+        desk.call(alloc, MOMENT.second, &read_request(alloc, FIRST_PUT)?)?;
     }
     Ok(desk.into_store())
 }
@@ -233,7 +234,7 @@ fn check_calls(
     let (has_plan, states, calls) = row;
     let mut desk = desk_over(list_of_alfa(alloc, has_plan)?, calls);
     let asked = request_for(alloc, states)?;
-    assert!(rt; desk.call(alloc, MOMENT, &asked).is_ok());
+    assert!(rt; desk.call(alloc, MOMENT.second, &asked).is_ok());
     let store = desk.into_store();
     assert_eq!(rt; store.calls_left, 0);
     assert_eq!(rt; store.whole_plans, 0);

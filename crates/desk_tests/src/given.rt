@@ -1,12 +1,15 @@
 //! A desk, and a request to it with its answer, written by hand.
 
+use desk_ends::Moment;
 use desk_rules::operator::Operator;
 use desk_run::{Desk, DeskFault};
 use desk_store::ListStore;
 use std::alloc::Global;
 
-/// The moment of all calls, a Unix second.
-pub const MOMENT: i64 = 1_780_315_000;
+/// The moment of all calls.
+pub const MOMENT: Moment = Moment {
+    second: 1_780_315_000,
+};
 
 /// The id of the plan.
 pub const ID: &str = "11111111-1111-4111-8111-111111111111";

@@ -1,8 +1,6 @@
 //! What the lines print that need no desk.
 
-ghost use Rattle.desk_line.specs.Lines.{IsPrintable};
-
-use desk_line::{Cover, Line, print_line};
+use desk_line::{CellLine, Cover, print_line};
 use std::alloc::Global;
 use std::process::Abort;
 use std::test::Fail;
@@ -11,9 +9,7 @@ use std::test::Fail;
 const LAST: u32 = (1 << 30) - 1;
 
 // The exit status of a line, and what it prints to its two writers.
-fn printed(alloc: Global, line: &Line) -> (u8, Vec<u8>, Vec<u8>)
-    requires { IsPrintable line.now }
-{
+fn printed(alloc: Global, line: &CellLine) -> (u8, Vec<u8>, Vec<u8>) {
     let mut output = Vec::new(alloc);
     let mut errors = Vec::new(alloc);
     let exit = print_line(alloc, line, &mut output, &mut errors);
@@ -27,7 +23,7 @@ fn check_tokens(
     rows: &[(&str, u8, &str, &str)],
 ) -> Result<(), Fail> {
     for (token, wanted, text, word) in rows {
-        let line = Line::Token(String::from_str(alloc, token)?);
+        let line = CellLine::Token(String::from_str(alloc, token)?);
         let (status, output, errors) = printed(alloc, &line);
         assert_eq!(rt; status, *wanted, "{token}");
         assert_eq!(rt; output.as_slice(), text.as_bytes());
@@ -62,7 +58,7 @@ fn check_covers(
 ) -> Result<(), Fail> {
     for (sides, wanted, text, word) in rows {
         let (i_min, i_max, j_min, j_max) = *sides;
-        let line = Line::Cover(Cover {
+        let line = CellLine::Cover(Cover {
             face: 0,
             i_min,
             i_max,

@@ -1,10 +1,13 @@
 //! Lines carried out over streams in memory: the exit status, and what is printed.
 
 ghost use Rattle.std.specs.Prelude.{IfOk};
-ghost use Rattle.desk_line.specs.Lines.{IsEnrol, IsPlay};
+ghost use Rattle.std.specs.Prelude.{◌≤◌};
+ghost use Rattle.desk_rules.specs.Limits.{max_priority};
+ghost use Rattle.desk_line.specs.Lines.{IsPlay};
 
-use desk_line::{Database, Enrol, Enrolment, Line, Play};
-use desk_program::with_desk;
+use desk_ends::Moment;
+use desk_line::{Database, Enrolment, Play};
+use desk_program::{enrol, play};
 use desk_rules::operator::Operator;
 use desk_rules::terms::Terms;
 use desk_run::Desk;
@@ -36,7 +39,7 @@ fn play_line(alloc: Global) -> Result<Play, Fail>
     };
     Ok(Play {
         database: Database::InMemory,
-        moment: 0,
+        moment: Moment { second: 0 },
         terms: Terms::none(),
         enrolments: vec![in alloc; alfa, bravo]?,
         folder: None,
@@ -44,13 +47,13 @@ fn play_line(alloc: Global) -> Result<Play, Fail>
 }
 
 // What that line comes to on these bytes.
-fn play(alloc: Global, bytes: &[u8]) -> Result<Done, Fail> {
-    let line = Line::Play(play_line(alloc)?);
+fn played(alloc: Global, bytes: &[u8]) -> Result<Done, Fail> {
+    let line = play_line(alloc)?;
     let mut desk = Desk::new(ListStore::new(alloc));
     let mut input = bytes;
     let mut output = Vec::new(alloc);
     let mut errors = Vec::new(alloc);
-    let exit = with_desk(
+    let exit = play(
         alloc,
         &line,
         &mut desk,
@@ -73,7 +76,7 @@ fn check_plays(
     rows: &[(&[u8], u8, &[u8], &str)],
 ) -> Result<(), Fail> {
     for (bytes, wanted, text, word) in rows {
-        let done = play(alloc, bytes)?;
+        let done = played(alloc, bytes)?;
         assert_eq!(rt; done.status, *wanted, "{word}");
         assert_eq!(rt; done.output.as_slice(), *text);
         assert_eq!(rt; done.errors.as_slice(), word.as_bytes());
@@ -99,7 +102,7 @@ fn says_how_it_ended(rt: HostRuntime) -> Result<(), Fail> {
 
 #[test]
 fn enrols_every_name(rt: HostRuntime) -> Result<(), Fail> {
-    let done = play(rt.alloc(), b"")?;
+    let done = played(rt.alloc(), b"")?;
     let mut store = done.desk.into_store();
     let alfa = Operator::try_new(b"alfa").ok_or("a name")?;
     let bravo = Operator::try_new(b"bravo").ok_or("a name")?;
@@ -108,17 +111,13 @@ fn enrols_every_name(rt: HostRuntime) -> Result<(), Fail> {
     Ok(())
 }
 
-// The line of `enrol` for `alfa`.
-fn enrol_line() -> Result<Enrol, Fail>
-    ensures { IfOk result IsEnrol }
+// The enrolment of `alfa`.
+fn enrolment() -> Result<Enrolment, Fail>
+    ensures { IfOk result (λ enrolment. enrolment.ceiling ≤ max_priority) }
 {
-    Ok(Enrol {
-        database: Database::InMemory,
-        enrolment: Enrolment {
-            operator: Operator::try_new(b"alfa").ok_or("a name")?,
-            ceiling: 100,
-        },
-        folder: None,
+    Ok(Enrolment {
+        operator: Operator::try_new(b"alfa").ok_or("a name")?,
+        ceiling: 100,
     })
 }
 
@@ -132,19 +131,11 @@ fn check_enrolment(
     text: &str,
     word: &str,
 ) -> Result<(), Fail> {
-    let line = Line::Enrol(enrol_line()?);
     let mut desk = Desk::new(ListStore::new(alloc));
     let mut bytes = [0; 20];
     let mut output = bytes.get_mut(..room).ok_or("too much room")?;
     let mut errors = Vec::new(alloc);
-    let exit = with_desk(
-        alloc,
-        &line,
-        &mut desk,
-        &mut b"".as_slice(),
-        &mut output,
-        &mut errors,
-    );
+    let exit = enrol(alloc, &enrolment()?, &mut desk, &mut output, &mut errors);
     assert_eq!(rt; exit.status, wanted);
     let left = output.len();
     assert_eq!(rt; room.checked_sub(left), Some(text.len()));

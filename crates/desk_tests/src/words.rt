@@ -1,6 +1,8 @@
 //! Words, and the lines that they are.
 
-use desk_line::{Database, Line, Task, WordsFault, enrolments_on, lines_of, read_words};
+use desk_line::{
+    Database, KeeperLine, Line, Task, WordsFault, enrolments_on, lines_of, read_words,
+};
 use std::alloc::{AllocError, Global};
 use std::test::Fail;
 
@@ -45,7 +47,7 @@ fn reads_play(rt: HostRuntime) -> Result<(), Fail> {
     let Some(Line::Play(play)) = line_of(rt.alloc(), &words)? else {
         return Err(Fail::from("no line"));
     };
-    assert_eq!(rt; play.moment, 1_780_315_000);
+    assert_eq!(rt; play.moment.second, 1_780_315_000);
     assert_eq!(rt; play.enrolments.len(), 3);
     assert_eq!(rt; play.enrolments[1].ceiling, 1_000);
     let last = &play.enrolments[2];
@@ -70,17 +72,17 @@ fn reads_enrol(rt: HostRuntime) -> Result<(), Fail> {
 #[test]
 fn reads_migrate(rt: HostRuntime) -> Result<(), Fail> {
     let words = ["migrate", "--db", "desk.db"];
-    let Some(Line::Migrate(migrate)) = line_of(rt.alloc(), &words)? else {
-        return Err(Fail::from("no line"));
+    let Ok(Task::Keep(KeeperLine::Migrate(database))) = task_of(rt.alloc(), &words)? else {
+        return Err(Fail::from("no migrate"));
     };
-    assert!(rt; is_file(&migrate.database, "desk.db"));
+    assert!(rt; is_file(&database, "desk.db"));
     Ok(())
 }
 
 #[test]
 fn reads_check(rt: HostRuntime) -> Result<(), Fail> {
     let words = ["check", "--db", "desk.db"];
-    let Ok(Task::Check(database)) = task_of(rt.alloc(), &words)? else {
+    let Ok(Task::Keep(KeeperLine::Check(database))) = task_of(rt.alloc(), &words)? else {
         return Err(Fail::from("no check"));
     };
     assert!(rt; is_file(&database, "desk.db"));
@@ -90,7 +92,7 @@ fn reads_check(rt: HostRuntime) -> Result<(), Fail> {
 #[test]
 fn reads_copy(rt: HostRuntime) -> Result<(), Fail> {
     let words = ["copy", "--db", "desk.db", "--to", "new.db"];
-    let Ok(Task::Copy(copy)) = task_of(rt.alloc(), &words)? else {
+    let Ok(Task::Keep(KeeperLine::Copy(copy))) = task_of(rt.alloc(), &words)? else {
         return Err(Fail::from("no copy"));
     };
     assert!(rt; is_file(&copy.database, "desk.db"));
@@ -101,7 +103,7 @@ fn reads_copy(rt: HostRuntime) -> Result<(), Fail> {
 #[test]
 fn reads_replay(rt: HostRuntime) -> Result<(), Fail> {
     let words = ["replay", "--db", "desk.db", "--until", "1780315000"];
-    let Ok(Task::Replay(replay)) = task_of(rt.alloc(), &words)? else {
+    let Ok(Task::Keep(KeeperLine::Replay(replay))) = task_of(rt.alloc(), &words)? else {
         return Err(Fail::from("no replay"));
     };
     assert!(rt; is_file(&replay.database, "desk.db"));

@@ -2,11 +2,14 @@
 
 use crate::named::operator_of;
 use anyhow::bail;
+use desk_ends::Moment;
 use desk_run::Desk;
 use desk_store::PlanStore;
 
 /// The moment of all requests of a part without a script (2026-06-01T11:56:40Z).
-pub const MOMENT: i64 = 1_780_315_000;
+pub const MOMENT: Moment = Moment {
+    second: 1_780_315_000,
+};
 
 /// The greatest priority of each operator of such a part.
 pub const CEILING: u32 = 100;

@@ -1,10 +1,9 @@
 //! Requests as bytes, and the answers to them.
 
-ghost use Rattle.std.specs.Prelude.{◌≡◌, All, IfOk, Ok};
+ghost use Rattle.std.specs.Prelude.{◌≡◌, IfOk, Ok};
 ghost use Rattle.desk_reading.specs.Readings.{GivesIfRoom, or_met};
 ghost use Rattle.desk_reading.specs.Requests.{asked};
 ghost use Rattle.desk_run.specs.DeskWorld.{enrolled};
-ghost use Rattle.desk_ends.specs.Moments.{IsMoment};
 ghost use Rattle.desk_wire.specs.AllAnswers.{answers_to, sent_in, texts_in};
 ghost use Rattle.desk_uses.specs.Desks.{new_world};
 
@@ -12,7 +11,7 @@ use crate::desks::desk_for;
 use desk_reading::{ReadError, read_request};
 use desk_rules::operator::Operator;
 use desk_run::DeskFault;
-use desk_wire::{Answers, AnswersEnd, answer_all};
+use desk_wire::{Answers, AnswersEnd, Moment, answer_all};
 use std::alloc::Global;
 
 /// The operator that the bytes of a whole request name.
@@ -37,9 +36,8 @@ pub fn answers_at_new_desk(
     alloc: Global,
     operator: &Operator,
     ceiling: u32,
-    requests: &[(i64, Vec<u8>)],
+    requests: &[(Moment, Vec<u8>)],
 ) -> Result<Answers, DeskFault>
-    requires { All (λ request. IsMoment request.0) requests.now }
     ensures { IfOk result (λ given. given.ended ≡ AnswersEnd.All → texts_in given
         ≡ answers_to (enrolled new_world operator.now ceiling) (sent_in requests.now)) }
 {

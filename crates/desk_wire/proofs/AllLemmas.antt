@@ -104,15 +104,13 @@ broken_answered shown items w now after requests n answers answer why h below gi
 }
 
 -- by whether the desk failed
-pub done_so : (now after : DeskWorld) (given moment : ℤ) (text request : List ℕ)
-    (reading : Reading MessageParts)
-    (answer : List ℕ) (e : Option ServerError) → is_some e ≡ false → given ≡ moment → reading
-    ≡ message_in text → text ≡ request → IsAnsweredSo e now given (or_met reading asked_by) answer after
+pub done_so : (now after : DeskWorld) (moment : ℤ) (text request : List ℕ) (reading : Reading MessageParts)
+    (answer : List ℕ) (e : Option ServerError) → is_some e ≡ false → reading ≡ message_in text
+    → text ≡ request → IsAnsweredSo e now moment (or_met reading asked_by) answer after
     → IsDone now moment (asked request) answer after
-done_so now after given moment text request reading answer None none m r t h =
-    subst (λ a. IsDone now moment a answer after) (asked_read text request reading r t)
-    (subst (λ z. IsDone now z (or_met reading asked_by) answer after) m h)
-done_so now after given moment text request reading answer (Some why) none m r t h = cc
+done_so now after moment text request reading answer None none r t h =
+    subst (λ a. IsDone now moment a answer after) (asked_read text request reading r t) h
+done_so now after moment text request reading answer (Some why) none r t h = cc
 
 pub failed_so : {R V : Type 0} (shown : R → Sent) (items : V → List ℕ) (w now after : DeskWorld) (given : ℤ)
     (reading : Reading Asked) (requests : List R) (n : ℕ) (answers : List V) (answer : V)

@@ -66,8 +66,7 @@ asked_read text request reading is same = ap (λ r. or_met r asked_by) is
     ∙ ap (λ q. or_met (message_in q) asked_by) same
 
 -- what a request leaves, by how it was read
-pub left_read : (w : DeskWorld) (given moment : ℤ) (text : List ℕ) (reading : Reading MessageParts)
-    → given ≡ moment → reading ≡ message_in text
-    → world_after w given (or_met reading asked_by) ≡ world_after w moment (asked text)
-left_read w given moment text reading m r = ap (λ z. world_after w z (or_met reading asked_by)) m
-    ∙ ap (world_after w moment) (asked_read text text reading r refl)
+pub left_read : (w : DeskWorld) (moment : ℤ) (text : List ℕ) (reading : Reading MessageParts)
+    → reading ≡ message_in text
+    → world_after w moment (or_met reading asked_by) ≡ world_after w moment (asked text)
+left_read w moment text reading r = ap (world_after w moment) (asked_read text text reading r refl)

@@ -36,24 +36,19 @@ use Rattle.desk_wire.proofs.BytesLemmas.{left_read}
 use Rattle.desk_wire.proofs.StreamGivenLemmas.{given_broken, given_first, given_off, given_unframed, is_next}
 
 -- the request that was taken, and what it leaves
-pub left_served : (before now : Option World → Type 0) (old new : Option (List ℕ)) (given moment : ℤ)
-    (w : DeskWorld) (reading : Reading MessageParts) (request : List ℕ) → given ≡ moment
+pub left_served : (before now : Option World → Type 0) (old new : Option (List ℕ)) (moment : ℤ)
+    (w : DeskWorld) (reading : Reading MessageParts) (request : List ℕ)
     → IsTaken old new request → reading ≡ message_in request
-    → LeavesOldOr (world_after w given (or_met reading asked_by)).content before now
+    → LeavesOldOr (world_after w moment (or_met reading asked_by)).content before now
     → (found : Option World) → now found → before found ⊎ IsLeftBy (IsTaken old new) w moment found
-left_served before now old new given moment w reading request same taken read crash found may =
+left_served before now old new moment w reading request taken read crash found may =
     by (crash found may)
   where
-    by : before found ⊎ (found ≡ Some (world_after w given (or_met reading asked_by)).content)
+    by : before found ⊎ (found ≡ Some (world_after w moment (or_met reading asked_by)).content)
         → before found ⊎ IsLeftBy (IsTaken old new) w moment found
     by (inl is) = inl is
     by (inr is) =
-        inr (
-          request,
-          taken,
-          is
-              ∙ ap (λ v. Some v.content) (left_read w given moment request reading same read),
-        )
+        inr (request, taken, is ∙ ap (λ v. Some v.content) (left_read w moment request reading read))
 
 -- an answer with another status than 500 is no failure of the desk
 pub no_failure : (w : DeskWorld) (moment : ℤ) (reading : Reading Asked) (why : Option ServerError)
@@ -195,7 +190,7 @@ module _ (H : Type 0) (old out : Option (List ℕ)) (w : DeskWorld) (moment : �
   abbrev Kept : PlayEnd → ℕ → Option (List ℕ) → Option (List ℕ) → DeskWorld → Option World → Type 0
   Kept ended n new now after found = IsKept ended n (passed old new out now) w moment after found
 
-  kept_by : (ended : PlayEnd) (count answered : ℕ) (input new output now : Option (List ℕ))
+  pub kept_by : (ended : PlayEnd) (count answered : ℕ) (input new output now : Option (List ℕ))
       (world after : DeskWorld) (found : Option World)
       → ArePlayed H count (passed old input out output) w moment world
       → EndsRunBy H ended count answered (passed input new output now) world moment after
@@ -269,19 +264,6 @@ module _ (H : Type 0) (old out : Option (List ℕ)) (w : DeskWorld) (moment : �
         finds = is ∙ ap (λ v. Some v.content) given.left;
       })
 
--- the same, by the moment that the call was given
-pub kept_so : (H : Type 0) (ended : PlayEnd) (count answered : ℕ)
-    (old input new out output now : Option (List ℕ)) (w world after : DeskWorld) (given moment : ℤ)
-    (found : Option World) → H → given ≡ moment
-    → ArePlayed H count (passed old input out output) w given world
-    → EndsRunBy H ended count answered (passed input new output now) world given after
-    → FindsLast ended (IsTaken input new) world given after found
-    → IsKept ended (told_in_play ended answered) (passed old new out now) w moment after found
-kept_so H ended count answered old input new out output now w world after given moment found p same f last
-    is =
-    subst (λ m. IsKept ended (told_in_play ended answered) (passed old new out now) w m after found) same
-    (kept_by H old out w given p ended count answered input new output now world after found f last is)
-
 -- what is found, by the number of requests that a known stream has answered
 pub found_after : (ended : PlayEnd) (n : ℕ) (q : Passage) (stream : List ℕ) (w : DeskWorld) (moment : ℤ)
     (after : DeskWorld) (found : Option World) → q.reads.before ≡ Some stream
@@ -332,19 +314,19 @@ found_settled shown items w now requests n answers found h is =
 
 pub found_next : {R V : Type 0} (shown : R → Sent) (items : V → List ℕ) (w now : DeskWorld)
     (requests : List R) (n : ℕ) (answers : List V) (r : R) (before : Option World → Type 0)
-    (given moment : ℤ) (request : List ℕ) (reading : Reading MessageParts) (found : Option World)
+    (moment : ℤ) (request : List ℕ) (reading : Reading MessageParts) (found : Option World)
     → HaveAnswers shown items w requests n answers now → n < length requests → r ≡ get_or requests n r
-    → shown r ≡ (moment, request) → given ≡ moment → reading ≡ message_in request
+    → shown r ≡ (moment, request) → reading ≡ message_in request
     → (before found → found ≡ Some now.content)
-    → before found ⊎ (found ≡ Some (world_after now given (or_met reading asked_by)).content)
+    → before found ⊎ (found ≡ Some (world_after now moment (or_met reading asked_by)).content)
     → IsFoundInRequests w (map shown requests) n found
-found_next shown items w now requests n answers r before given moment request reading found h below place
-    sent same read only (inl is) =
+found_next shown items w now requests n answers r before moment request reading found h below place sent read
+    only (inl is) =
     found_settled shown items w now requests n answers found h (only is)
-found_next shown items w now requests n answers r before given moment request reading found h below place
-    sent same read only (inr is) =
+found_next shown items w now requests n answers r before moment request reading found h below place sent read
+    only (inr is) =
     let first = take n (map shown requests) in
-    inr (is ∙ ap (λ v. Some v.content) (left_read now given moment request reading same read
+    inr (is ∙ ap (λ v. Some v.content) (left_read now moment request reading read
     ∙ ap (λ v. world_after v moment (asked request)) h.first.left
     ∙ sym (left_more w first (moment, request))
     ∙ ap (λ s. world_left w (first ++ s ∷ [])) (sym sent)

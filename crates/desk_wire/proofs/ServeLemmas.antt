@@ -44,25 +44,23 @@ received old now new text body front request first h is next size made =
       read = made ∙ ap (λ f. with_body f body) is ∙ sym (message_is text body h said);
     }
 
-pub replied : (H : Type 0) (w after : DeskWorld) (given moment : ℤ) (request answer : List ℕ)
-    (reading : Reading MessageParts) (why : Option ServerError) → given ≡ moment → reading
-    ≡ message_in request → (H → IsAnsweredSo why w given (or_met reading asked_by) answer after)
+pub replied : (H : Type 0) (w after : DeskWorld) (moment : ℤ) (request answer : List ℕ)
+    (reading : Reading MessageParts) (why : Option ServerError) → reading ≡ message_in request
+    → (H → IsAnsweredSo why w moment (or_met reading asked_by) answer after)
     → IfSome why (λ error. IsServerError error w answer after)
     → IsReplied H w moment request answer why after
-replied H w after given moment request answer reading why m r told failed = record {
-  told = λ h. subst (λ z. IsAnsweredSo why w z (asked request) answer after) m
-      (subst (λ a. IsAnsweredSo why w given a answer after) (asked_read request request reading r refl)
-      (told h));
+replied H w after moment request answer reading why r told failed = record {
+  told = λ h. subst (λ a. IsAnsweredSo why w moment a answer after)
+      (asked_read request request reading r refl) (told h);
   failed = failed;
 }
 
-pub status_as : (H : Type 0) (w : DeskWorld) (given moment : ℤ) (request : List ℕ)
-    (reading : Reading MessageParts) (why : Option ServerError) (status : ℕ) → given ≡ moment → reading
-    ≡ message_in request → (H → status ≡ status_so why w given (or_met reading asked_by)) → H → status
-    ≡ status_so why w moment (asked request)
-status_as H w given moment request reading why status m r is h = is h
-    ∙ ap (λ a. status_so why w given a) (asked_read request request reading r refl)
-    ∙ ap (λ z. status_so why w z (asked request)) m
+pub status_as : (H : Type 0) (w : DeskWorld) (moment : ℤ) (request : List ℕ)
+    (reading : Reading MessageParts) (why : Option ServerError) (status : ℕ) → reading ≡ message_in request
+    → (H → status ≡ status_so why w moment (or_met reading asked_by)) → H
+    → status ≡ status_so why w moment (asked request)
+status_as H w moment request reading why status r is h = is h
+    ∙ ap (λ a. status_so why w moment a) (asked_read request request reading r refl)
 
 pub framed_as : (request : Result Message WireFault) (bytes : List ℕ) (framed : Bool) → framed
     ≡ is_ok request

@@ -2,6 +2,7 @@
 use Rattle.std.specs.Prelude.{◌≡◌, ◌<◌, ℕ, ℤ, List, [], ◌∷◌, ◌++◌, length, map, take, Vec}
 use Rattle.std.specs.Global.{Global}
 use Rattle.desk_run.specs.DeskWorld.{DeskWorld}
+use Rattle.desk_ends.specs.declared.moment.Moment.{Moment}
 use Rattle.desk_wire.specs.declared.batch.Answers.{Answers}
 use Rattle.desk_wire.specs.declared.batch.AnswersEnd.{AnswersEnd}
 use Rattle.desk_wire.specs.declared.batch.AnswersEnd.TheVariants.{All, Broken, NoMemory}
@@ -15,8 +16,8 @@ abbrev pub Sent : Type 0
 Sent = ℤ × List ℕ
 
 -- requests as they are given, and answers as bytes
-abbrev pub sent_in : List (ℤ × Vec ℕ Global) → List Sent
-sent_in requests = map (λ request. (request.0, request.1.items)) requests
+abbrev pub sent_in : List (Moment × Vec ℕ Global) → List Sent
+sent_in requests = map (λ request. (request.0.second, request.1.items)) requests
 
 abbrev pub texts_in : Answers → List (List ℕ)
 texts_in answers = map (λ answer. answer.items) answers.answers.items

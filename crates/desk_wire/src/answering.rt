@@ -10,7 +10,6 @@ ghost use Rattle.desk_run.specs.DeskWorld.{world_of};
 ghost use Rattle.desk_run.specs.Calls.{CanCommit, has_change, reply_in, world_committed};
 ghost use Rattle.desk_rules.specs.Replies.{said_in};
 ghost use Rattle.desk_writing.specs.ReplyText.{reply_text};
-ghost use Rattle.desk_ends.specs.Moments.{IsMoment};
 ghost use Rattle.desk_wire.specs.Bytes.{IsAnswerTold, IsMadeAnswer, world_after};
 ghost use Rattle.desk_wire.specs.Failing.{failure_of, failure_told};
 ghost use Rattle.desk_wire.specs.RefusalTexts.{refusal_status, refusal_text};
@@ -18,6 +17,7 @@ ghost use Rattle.desk_wire.specs.OneRequest.{IsAnswered};
 
 use crate::refusal::Refusal;
 use crate::response::{Answer, ServerError};
+use desk_ends::Moment;
 use desk_reading::{Message, ReadError, WireFault, read_asked, read_message};
 use desk_run::{Asked, Desk, DeskFault, Pending};
 use desk_store::PlanStore;
@@ -36,8 +36,7 @@ struct Response {
     made_change: bool,
 }
 
-/// Answers `text`, the bytes of one whole request, at a moment (a Unix second from 0 to
-/// 253,370,764,800), and makes its change.
+/// Answers `text`, the bytes of one whole request, at a moment, and makes its change.
 ///
 /// # Errors
 ///
@@ -46,12 +45,11 @@ struct Response {
 pub fn answer<S: PlanStore>(
     alloc: Global,
     desk: &mut Desk<S>,
-    moment: i64,
+    moment: Moment,
     text: &[u8],
 ) -> Result<Vec<u8>, AllocError>
-    requires { IsMoment moment }
     ensures answered { IfOk result (λ bytes.
-        IsAnswered S.PlanStore desk.old desk.new moment text.now bytes.items) }
+        IsAnswered S.PlanStore desk.old desk.new moment.second text.now bytes.items) }
     ensures err { OnErr result (desk.new ≡ desk.old) }
 {
     let answer = answer_request(alloc, desk, moment, &read_message(text))?;
@@ -67,14 +65,13 @@ pub fn answer<S: PlanStore>(
 pub fn full_answer<S: PlanStore>(
     alloc: Global,
     desk: &mut Desk<S>,
-    moment: i64,
+    moment: Moment,
     text: &[u8],
 ) -> Result<Answer, AllocError>
-    requires { IsMoment moment }
     ensures told { IfOk result (IsAnswerTold (IsHonest (S.doubt desk.new.store)) (world_of S.content desk.old)
-        moment (asked_in text.now) (world_of S.content desk.new)) }
+        moment.second (asked_in text.now) (world_of S.content desk.new)) }
     ensures leaves { Leaves S.PlanStore desk.old desk.new
-        (world_after (world_of S.content desk.old) moment (asked_in text.now)) (failure_told result) }
+        (world_after (world_of S.content desk.old) moment.second (asked_in text.now)) (failure_told result) }
     ensures err { OnErr result (desk.new ≡ desk.old) }
 {
     answer_request(alloc, desk, moment, &read_message(text))
@@ -88,14 +85,13 @@ pub fn full_answer<S: PlanStore>(
 pub fn answer_request<S: PlanStore>(
     alloc: Global,
     desk: &mut Desk<S>,
-    moment: i64,
+    moment: Moment,
     request: &Result<Message<'_>, WireFault>,
 ) -> Result<Answer, AllocError>
-    requires { IsMoment moment }
     ensures told { IfOk result (IsAnswerTold (IsHonest (S.doubt desk.new.store)) (world_of S.content desk.old)
-        moment (or_met (message_read request.now) asked_by) (world_of S.content desk.new)) }
+        moment.second (or_met (message_read request.now) asked_by) (world_of S.content desk.new)) }
     ensures leaves { Leaves S.PlanStore desk.old desk.new
-        (world_after (world_of S.content desk.old) moment (or_met (message_read request.now) asked_by))
+        (world_after (world_of S.content desk.old) moment.second (or_met (message_read request.now) asked_by))
         (failure_told result) }
     ensures err { OnErr result (desk.new ≡ desk.old) }
 {
@@ -123,14 +119,13 @@ pub fn answer_request<S: PlanStore>(
 fn respond<S: PlanStore>(
     alloc: Global,
     desk: &mut Desk<S>,
-    moment: i64,
+    moment: Moment,
     request: &Result<Message<'_>, WireFault>,
 ) -> Result<Response, ServerError>
-    requires { IsMoment moment }
     ensures made { IfOk result (IsMadeAnswer (IsHonest (S.doubt desk.new.store)) (world_of S.content desk.old)
-        moment (or_met (message_read request.now) asked_by) (world_of S.content desk.new)) }
+        moment.second (or_met (message_read request.now) asked_by) (world_of S.content desk.new)) }
     ensures leaves { Leaves S.PlanStore desk.old desk.new
-        (world_after (world_of S.content desk.old) moment (or_met (message_read request.now) asked_by))
+        (world_after (world_of S.content desk.old) moment.second (or_met (message_read request.now) asked_by))
         (failure_of result) }
 {
     match request {
@@ -143,14 +138,13 @@ fn respond<S: PlanStore>(
 fn answer_message<S: PlanStore>(
     alloc: Global,
     desk: &mut Desk<S>,
-    moment: i64,
+    moment: Moment,
     message: &Message<'_>,
 ) -> Result<Response, ServerError>
-    requires { IsMoment moment }
     ensures made { IfOk result (IsMadeAnswer (IsHonest (S.doubt desk.new.store)) (world_of S.content desk.old)
-        moment (asked_by (message_shown message.now)) (world_of S.content desk.new)) }
+        moment.second (asked_by (message_shown message.now)) (world_of S.content desk.new)) }
     ensures leaves { Leaves S.PlanStore desk.old desk.new
-        (world_after (world_of S.content desk.old) moment (asked_by (message_shown message.now)))
+        (world_after (world_of S.content desk.old) moment.second (asked_by (message_shown message.now)))
         (failure_of result) }
 {
     match read_asked(alloc, message) {
@@ -164,16 +158,15 @@ fn answer_message<S: PlanStore>(
 fn answer_call<S: PlanStore>(
     alloc: Global,
     desk: &mut Desk<S>,
-    moment: i64,
+    moment: Moment,
     asked: &Asked,
 ) -> Result<Response, ServerError>
-    requires { IsMoment moment }
     ensures made { IfOk result (IsMadeAnswer (IsHonest (S.doubt desk.new.store)) (world_of S.content desk.old)
-        moment (Ok asked.now) (world_of S.content desk.new)) }
+        moment.second (Ok asked.now) (world_of S.content desk.new)) }
     ensures leaves { Leaves S.PlanStore desk.old desk.new
-        (world_after (world_of S.content desk.old) moment (Ok asked.now)) (failure_of result) }
+        (world_after (world_of S.content desk.old) moment.second (Ok asked.now)) (failure_of result) }
 {
-    match desk.prepare(alloc, moment, asked) {
+    match desk.prepare(alloc, moment.second, asked) {
         Ok(pending) => answer_pending(alloc, desk, pending),
         Err(DeskFault::UnknownOperator) => refuse(alloc, Refusal::UnknownOperator),
         Err(DeskFault::NoSuchPlan) => refuse(alloc, Refusal::NoSuchPlan),

@@ -1,11 +1,10 @@
 //! Batches: the answers to requests that are all at hand.
 
-ghost use Rattle.std.specs.Prelude.{◌≡◌, ◌≤◌, All, IfOk, OnErr, OnOk, map};
+ghost use Rattle.std.specs.Prelude.{◌≡◌, ◌≤◌, IfOk, OnErr, OnOk, map};
 ghost use Rattle.desk_store.specs.StoreFrames.{Remembers};
 ghost use Rattle.desk_store.specs.StoreFaults.{IsHonest};
 ghost use Rattle.desk_run.specs.DeskFrames.{FindsOnly};
 ghost use Rattle.desk_run.specs.DeskWorld.{world_of};
-ghost use Rattle.desk_ends.specs.Moments.{IsMoment};
 ghost use Rattle.desk_wire.specs.AllAnswers.{AreAnswers, sent_in, texts_in};
 ghost use Rattle.desk_wire.specs.FailureCauses.{HaveCause};
 ghost use Rattle.desk_wire.specs.Given.{answered};
@@ -14,6 +13,7 @@ ghost use Rattle.desk_wire.specs.TwoRuns.{SparesQuiet};
 
 use crate::answering::answer_request;
 use crate::response::Answer;
+use desk_ends::Moment;
 use desk_reading::read_message;
 use desk_run::Desk;
 use desk_store::PlanStore;
@@ -69,8 +69,8 @@ pub enum AnswersEnd {
     NoMemory,
 }
 
-/// Answers requests, each the bytes of one whole request with its moment (a Unix second from 0 to
-/// 253,370,764,800), until an answer has the status 500.
+/// Answers requests, each the bytes of one whole request with its moment, until an answer has the status
+/// 500.
 ///
 /// # Errors
 ///
@@ -78,9 +78,8 @@ pub enum AnswersEnd {
 pub fn answer_all<S: PlanStore>(
     alloc: Global,
     desk: &mut Desk<S>,
-    requests: &[(i64, Vec<u8>)],
+    requests: &[(Moment, Vec<u8>)],
 ) -> Result<Answers, AllocError>
-    requires { All (λ request. IsMoment request.0) requests.now }
     ensures answers { IsHonest (S.doubt desk.new.store) → IfOk result (λ a. AreAnswers a.ended
         (world_of S.content desk.old) (sent_in requests.now) (texts_in a) (world_of S.content desk.new)) }
     ensures quiet { IsHonest (S.doubt desk.new.store) → OnOk result (SparesQuiet

@@ -11,7 +11,7 @@ mod stream;
 
 pub use answering::{answer, full_answer};
 pub use batch::{Answers, AnswersEnd, answer_all};
-pub use desk_ends::{Cut, PlayEnd, ServeFault, Served, WriteEnd, WriteFault, write_whole};
+pub use desk_ends::{Cut, Moment, PlayEnd, ServeFault, Served, WriteEnd, WriteFault, write_whole};
 pub use desk_reading::{ReadError, Route, WireFault, read_request};
 pub use play::{Played, play_all};
 pub use response::{Answer, ServerError};

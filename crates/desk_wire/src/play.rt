@@ -5,7 +5,6 @@ ghost use Rattle.desk_store.specs.StoreFrames.{Remembers};
 ghost use Rattle.desk_store.specs.StoreFaults.{IsHonest};
 ghost use Rattle.desk_run.specs.DeskFrames.{FindsOnly};
 ghost use Rattle.desk_run.specs.DeskWorld.{world_of};
-ghost use Rattle.desk_ends.specs.Moments.{IsMoment};
 ghost use Rattle.desk_wire.specs.FailureCauses.{AppendsLast, HasFailed};
 ghost use Rattle.desk_wire.specs.Given.{told_in_play};
 ghost use Rattle.desk_wire.specs.RequestsKept.{IsKept};
@@ -13,7 +12,7 @@ ghost use Rattle.desk_wire.specs.Passage.{passage};
 ghost use Rattle.desk_wire.specs.Playing.{HasPlayed};
 
 use crate::stream::serve_one;
-use desk_ends::{PlayEnd, Served};
+use desk_ends::{Moment, PlayEnd, Served};
 use desk_run::Desk;
 use desk_store::PlanStore;
 use http::StatusCode;
@@ -32,21 +31,20 @@ pub struct Played {
     pub ended: PlayEnd,
 }
 
-/// Serves one request after the other at a moment (a Unix second from 0 to 253,370,764,800).
+/// Serves one request after the other, all at one moment.
 pub fn play_all<S: PlanStore, R: Read, W: Write>(
     alloc: Global,
     desk: &mut Desk<S>,
-    moment: i64,
+    moment: Moment,
     input: &mut R,
     output: &mut W,
 ) -> Played
-    requires { IsMoment moment }
     ensures played { HasPlayed (IsHonest (S.doubt desk.new.store)) result.ended result.answered
         (passage R.Read W.Write input.old input.new output.old output.new)
-        (world_of S.content desk.old) moment (world_of S.content desk.new) }
+        (world_of S.content desk.old) moment.second (world_of S.content desk.new) }
     ensures kept { FindsOnly S.PlanStore desk.old desk.new (IsKept result.ended
         (told_in_play result.ended result.answered) (passage R.Read W.Write input.old input.new
-        output.old output.new) (world_of S.content desk.old) moment (world_of S.content desk.new)) }
+        output.old output.new) (world_of S.content desk.old) moment.second (world_of S.content desk.new)) }
     ensures remembered { Remembers S.doubt S.faults S.is_shielded desk.old.store desk.new.store }
     ensures cause { result.ended ≡ PlayEnd.Broken → HasFailed (AppendsLast (W.contents output.old)
         (W.contents output.new)) (S.faults desk.old.store) (S.faults desk.new.store) }

@@ -9,7 +9,6 @@ ghost use Rattle.desk_reading.specs.Messages.{message_read};
 ghost use Rattle.desk_store.specs.StoreFrames.{Remembers};
 ghost use Rattle.desk_store.specs.StoreFaults.{IsHonest};
 ghost use Rattle.desk_run.specs.DeskWorld.{world_of};
-ghost use Rattle.desk_ends.specs.Moments.{IsMoment};
 ghost use Rattle.desk_ends.specs.declared.serving.ServeFault.TheVariants as serve_fault;
 ghost use Rattle.desk_wire.specs.FailureCauses.{HasFailed, IsGivenUp};
 ghost use Rattle.desk_wire.specs.RequestsKept.{IsServedKept};
@@ -18,7 +17,7 @@ ghost use Rattle.desk_wire.specs.OneRequest.{HasServed, IsTaken, Stops};
 ghost use Rattle.desk_wire.specs.Streams.{IsCut, IsFront, byte_list, front_read, front_reading, size_said, with_body};
 
 use crate::answering::answer_request;
-use desk_ends::{ServeFault, Served, is_interruption, write_whole};
+use desk_ends::{Moment, ServeFault, Served, is_interruption, write_whole};
 use desk_reading::{Front, HEAD_ROOM, Message, WireFault, is_ended, read_front};
 use desk_run::Desk;
 use desk_store::PlanStore;
@@ -31,9 +30,8 @@ const MAX_READS: u32 = 200_000;
 /// How many bytes of a body are read at a time, at most.
 const CHUNK: usize = 4_096;
 
-/// Reads one request, the head byte by byte, and leaves the rest unread; answers it at a moment (a
-/// Unix second from 0 to 253,370,764,800), and writes the answer. Interrupted reads and writes are
-/// tried again.
+/// Reads one request, the head byte by byte, and leaves the rest unread; answers it at a moment, and writes
+/// the answer. Interrupted reads and writes are tried again.
 ///
 /// # Errors
 ///
@@ -41,16 +39,15 @@ const CHUNK: usize = 4_096;
 pub fn serve_one<S: PlanStore, R: Read, W: Write>(
     alloc: Global,
     desk: &mut Desk<S>,
-    moment: i64,
+    moment: Moment,
     input: &mut R,
     output: &mut W,
 ) -> Result<Served, ServeFault>
-    requires { IsMoment moment }
     ensures served { HasServed (IsHonest (S.doubt desk.new.store)) result
         (passage R.Read W.Write input.old input.new output.old output.new)
-        (world_of S.content desk.old) moment (world_of S.content desk.new) }
+        (world_of S.content desk.old) moment.second (world_of S.content desk.new) }
     ensures kept { IsServedKept S.PlanStore desk.old desk.new result
-        (passage R.Read W.Write input.old input.new output.old output.new) moment }
+        (passage R.Read W.Write input.old input.new output.old output.new) moment.second }
     ensures remembered { Remembers S.doubt S.faults S.is_shielded desk.old.store desk.new.store }
     ensures cause { IfOk result (λ served. IsGivenUp served → HasFailed (Appends (W.contents output.old)
         (W.contents output.new)) (S.faults desk.old.store) (S.faults desk.new.store)) }

@@ -66,6 +66,7 @@ impl<T: Drop> From<AllocFailed<T>> for CoverFault {
 /// # Errors
 ///
 /// `TooManyCells` if the canonical cover has more than `limit` cells, `OutOfMemory` if memory runs out.
+// Long: ten facts of a cover that callers cite one by one.
 pub fn cover(alloc: Global, rect: &Rect, limit: u32) -> Result<Cover, CoverFault>
     ensures canonical { IfOk result (λ cover. IsCanonical (rect_leaves rect.now) cover.ids) }
     ensures leaves { IfOk result (λ cover.
@@ -90,6 +91,7 @@ pub fn cover(alloc: Global, rect: &Rect, limit: u32) -> Result<Cover, CoverFault
 }
 
 // Appends the canonical cells of the rectangle's leaves that lie in the square.
+// Long: the state of the walk at a square has nine facts, and each call within hands on each by its name.
 fn walk(
     wide: &Widened,
     square: &Square,

@@ -62,6 +62,7 @@ impl Square {
     }
 
     /// The child at a place of the curve, 0 to 3: a quarter of this square.
+    // Long: five numbers of a square, and what a child is of its parent's leaves.
     pub fn child(&self, k: u8) -> Square
         requires k { k < 4 }
         requires level { self.now.level < 30 }

@@ -1,4 +1,4 @@
--- What was opened for a line says of that line, and what comes of a desk over files whose reads are tested.
+-- What was opened over a database says of that, and what comes of a desk over files whose reads are tested.
 use Rattle.std.proofs.Common.{◌≡◌, ℕ, List, Option, None, Some, Result, Ok, Err, IfOk, IfErr, Bool, true, IsTrue, inl, inr, refl, sym, ap, ◌∙◌, subst}
 use Rattle.sqlite_trees.specs.View.{doubt}
 use Rattle.sqlite_trees.specs.declared.store.Store.{Ghosts}
@@ -16,9 +16,9 @@ use Rattle.desk_line.specs.declared.failure.Failure.{Failure}
 use Rattle.desk_line.specs.Exits.{Ending, ending}
 use Rattle.desk_line.specs.declared.failure.Exit.{Exit}
 use Rattle.desk_line.specs.declared.line.Line.{Line}
-use Rattle.desk_line.specs.declared.line.Line.TheVariants as line
+use Rattle.desk_line.specs.declared.line.Database.{Database}
+use Rattle.desk_line.specs.declared.line.Database.TheVariants.{InMemory, File}
 use Rattle.desk_program.specs.Outside.{Outside}
-use Rattle.desk_program.specs.Serving.{Traffic}
 use Rattle.uss_desk.specs.declared.opening.Opened.TheVariants as opened
 use Rattle.desk_tables.specs.Closing.{IsLeftUnclosed}
 use Rattle.uss_desk.specs.FilesLeft.{IsClosed, IsEnded}
@@ -27,22 +27,20 @@ use Rattle.std.specs.Option.{IsSomeAnd}
 use Rattle.desk_tables.specs.declared.opening.files.FilesFault.{FilesFault}
 use Rattle.uss_desk.specs.declared.opening.Unopened.{Unopened}
 use Rattle.uss_desk.specs.declared.watching.Closed.{Closed}
-use Rattle.uss_desk.specs.OpenedFor.{FailsOver, FileDesk, IsOpenedFor, IsOpenedIn, open_failure, or_failure}
+use Rattle.uss_desk.specs.OpenedFor.{FailsOver, FileDesk, IsOpenedAt, IsOpenedIn, open_failure, or_failure}
 use Rattle.uss_desk.specs.RecordsPlayed.{IsReplayRun, IsReplayedAt}
 use Rattle.uss_desk.specs.OpenedLines.{IsDoneAt, IsLineRun, StaysGuarded}
-use Rattle.uss_desk.specs.RecordedPlays.{IsInputDoneAt, IsInputRun, Stopping}
+use Rattle.desk_recording.specs.Inputs.{InputOutside}
+use Rattle.uss_desk.specs.RecordedPlays.{IsInputDoneAt, IsInputRun}
 use Rattle.desk_line.specs.declared.line.Play.{Play as PlayWords}
-use Rattle.desk_wire.specs.Passage.{Course, Passage}
+use Rattle.desk_wire.specs.Passage.{Passage}
 
--- a desk over files is opened for a line that names them, and they held this
-pub for_files : {M : Type 0} (m : disk.Ghosts M) {D : Type 0} {g : disk.Ghosts D} (image : Image) (it : Line)
-    → (desk : FileDesk g) → IsOpenedFor {m = m} {g = g} image it (opened.Files desk) → IsOpenedIn image desk
-for_files m image (line.Play play) desk opens = opens.1
-for_files m image (line.Token token) desk opens = absurd opens
-for_files m image (line.Serve serve) desk opens = opens.1
-for_files m image (line.Cover cover) desk opens = absurd opens
-for_files m image (line.Enrol enrol) desk opens = opens.1
-for_files m image (line.Migrate migrate) desk opens = absurd opens
+-- a desk over files is opened over a database in them, and they held this
+pub for_files : {M : Type 0} (m : disk.Ghosts M) {D : Type 0} {g : disk.Ghosts D} (image : Image)
+    (database : Database) (desk : FileDesk g)
+    → IsOpenedAt {m = m} {g = g} image database (opened.Files desk) → IsOpenedIn image desk
+for_files m image InMemory desk opens = absurd opens
+for_files m image (File path) desk opens = opens
 
 -- a run at what was opened, by another name
 pub run_at : {S : Type 0} (g : Ghosts S) (one other : Result (Parts (Shown S)) Failure) → one ≡ other
@@ -114,21 +112,19 @@ played_at g one other same {until} {p} {end} {left} run =
 pub input_guarded : {D : Type 0} {g : disk.Ghosts D} (account : Account D)
     → ((d : D) → g.is_fair d ≡ (replay (account.start d) (account.calls d)).is_fair)
     → ((d : D) → g.is_clean d ≡ (replay (account.start d) (account.calls d)).is_honest)
-    → (image : Image) (play : PlayWords) (stop : Stopping) (end : Ending) (port : Course Traffic)
+    → (image : Image) (play : PlayWords) (o : InputOutside)
     → (opened : FileDesk g) (left : Option (Parts (Shown (FileStore D g)))) → IsOpenedIn image opened
-    → IfOk (or_failure opened) (IsInputDoneAt over_files play stop end port left)
+    → IfOk (or_failure opened) (IsInputDoneAt over_files play o left)
     → StaysGuarded account (or_failure opened) left
-input_guarded account fair clean image play stop end port (Ok desk) (Some left) opens done =
+input_guarded account fair clean image play o (Ok desk) (Some left) opens done =
     λ honest. true_or_collided account fair clean left (done.2 (opens.guarded honest))
-input_guarded account fair clean image play stop end port (Ok desk) None opens done = done
-input_guarded account fair clean image play stop end port (Err unread) left opens done = tt
+input_guarded account fair clean image play o (Ok desk) None opens done = done
+input_guarded account fair clean image play o (Err unread) left opens done = tt
 
 pub input_at : {S : Type 0} (g : Ghosts S) (one other : Result (Parts (Shown S)) Failure) → one ≡ other
-    → {play : PlayWords} {stop : Stopping} {end : Ending} {port : Course Traffic}
-    → {left : Option (Parts (Shown S))} → IsInputRun g play stop end port one left
-    → IsInputRun g play stop end port other left
-input_at g one other same {play} {stop} {end} {port} {left} run =
-    subst (λ o. IsInputRun g play stop end port o left) same run
+    → {play : PlayWords} {o : InputOutside} {left : Option (Parts (Shown S))} → IsInputRun g play o one left
+    → IsInputRun g play o other left
+input_at g one other same {play} {o} {left} run = subst (λ opened. IsInputRun g play o opened left) same run
 
 -- a desk whose store was closed, by what the store is
 pub is_closed : {D : Type 0} {g : disk.Ghosts D} (desk : Parts (Shown (FileStore D g)))

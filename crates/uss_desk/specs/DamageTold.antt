@@ -1,17 +1,13 @@
 -- DamageTold: what is told of a damaged log, and which files are opened.
 use Rattle.std.specs.Prelude.{◌≡◌, ◌⊎◌, ⊤, ℕ, Bool, true, false, if◌then◌else◌, List, ◌++◌, codes, decimal}
-use Rattle.std.specs.Prelude.{Option, None, Some, IfSome, option_and_then, Result, Ok, Err}
+use Rattle.std.specs.Prelude.{Option, None, Some, IfSome, Result, Ok, Err}
 use Rattle.std.specs.Io.KnownBytes.{Appends}
 use Rattle.desk_ends.specs.Writing.{BreaksOff}
 use Rattle.desk_ends.specs.declared.writing.Cut.{Cut}
 use Rattle.desk_line.specs.declared.failure.Failure.{Failure}
 use Rattle.desk_line.specs.declared.failure.Failure.TheVariants as failure
-use Rattle.desk_line.specs.declared.line.Database.{Database}
-use Rattle.desk_line.specs.declared.line.Line.{Line}
-use Rattle.desk_line.specs.declared.line.Line.TheVariants as line
-use Rattle.desk_line.specs.declared.line.Task.{Task}
-use Rattle.desk_line.specs.declared.line.Task.TheVariants as task
-use Rattle.desk_line.specs.Lines.{file_of}
+use Rattle.desk_line.specs.declared.line.KeeperLine.{KeeperLine}
+use Rattle.desk_line.specs.declared.line.KeeperLine.TheVariants as keeper
 use Rattle.desk_log.specs.Damage.{IsDamaged}
 use Rattle.desk_log.specs.Reads.{IsUnjudged}
 use Rattle.uss_desk.specs.declared.damage.Look.{Look}
@@ -64,30 +60,9 @@ admission_of (Ok look) = if look.is_admitted then Ok look.is_damaged else Err fa
 admission_of (Err unlooked.OutOfMemory) = Err failure.Memory
 admission_of (Err (unlooked.Unread fault)) = Err failure.Store
 
--- a task copies its file
-abbrev pub is_copy : Task → Bool
-is_copy (task.Run line) = false
-is_copy (task.Check database) = false
-is_copy (task.Copy words) = true
-is_copy (task.Replay words) = false
-
--- the database of a line, or of a task, if it has one, and the path of its file, if it is in one
-abbrev pub database_of_line : Line → Option Database
-database_of_line (line.Play words) = Some words.database
-database_of_line (line.Token text) = None
-database_of_line (line.Serve words) = Some words.database
-database_of_line (line.Cover words) = None
-database_of_line (line.Enrol words) = Some words.database
-database_of_line (line.Migrate words) = Some words.database
-
-abbrev pub database_of : Task → Option Database
-database_of (task.Run line) = database_of_line line
-database_of (task.Check database) = Some database
-database_of (task.Copy words) = Some words.database
-database_of (task.Replay words) = Some words.database
-
-abbrev pub path_of_line : Line → Option (List ℕ)
-path_of_line line = option_and_then file_of (database_of_line line)
-
-abbrev pub database_path : Task → Option (List ℕ)
-database_path task = option_and_then file_of (database_of task)
+-- a line copies its file
+abbrev pub is_copy : KeeperLine → Bool
+is_copy (keeper.Check database) = false
+is_copy (keeper.Copy words) = true
+is_copy (keeper.Migrate database) = false
+is_copy (keeper.Replay words) = false

@@ -35,13 +35,10 @@ use Rattle.uss_desk.specs.Naming.{IsNamed, IsUnnamed, Step, free_steps, HasFaile
 use Rattle.uss_desk.specs.OpenedFor.{open_failure, FailsOver, IsInMemory, IsUnreadFor}
 
 -- files were refused over which a line was to be carried out, or from which plans were to be moved
-abbrev pub AreFilesRefused : {M D V U W : Type 0} → Opened M (Result D U) (Result V W) → Type 0
-AreFilesRefused opened.Nothing = ⊥
+abbrev pub AreFilesRefused : {M D U : Type 0} → Opened M (Result D U) → Type 0
 AreFilesRefused (opened.Memory desk) = ⊥
 AreFilesRefused (opened.Files (Ok desk)) = ⊥
 AreFilesRefused (opened.Files (Err unread)) = ⊤
-AreFilesRefused (opened.Moved (Ok moved)) = ⊥
-AreFilesRefused (opened.Moved (Err unread)) = ⊤
 
 -- some text is told, of which nothing is said, and nothing else
 pub record Tells (old new : Option (List ℕ)) : Type 0 where

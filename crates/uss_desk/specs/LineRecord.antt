@@ -11,29 +11,20 @@ use Rattle.desk_recording.specs.declared.tail.TailEnd.TheVariants.{End, Short, D
 -- the folder in which a line records what it does, if it names one
 abbrev pub folder_of : Line → Option (List ℕ)
 folder_of (line.Play words) = option_map string_bytes words.folder
-folder_of (line.Token text) = None
 folder_of (line.Serve words) = option_map string_bytes words.folder
-folder_of (line.Cover words) = None
 folder_of (line.Enrol words) = option_map string_bytes words.folder
-folder_of (line.Migrate words) = None
 
 -- the terms on which the desk of a line plans
 abbrev pub terms_of : Line → Terms
 terms_of (line.Play words) = words.terms
-terms_of (line.Token text) = no_terms
 terms_of (line.Serve words) = words.terms
-terms_of (line.Cover words) = no_terms
 terms_of (line.Enrol words) = no_terms
-terms_of (line.Migrate words) = no_terms
 
 -- the operators that a line enrols first
 abbrev pub enrolled_by : Line → List Enrolment
 enrolled_by (line.Play words) = words.enrolments.items
-enrolled_by (line.Token text) = []
 enrolled_by (line.Serve words) = words.enrolments.items
-enrolled_by (line.Cover words) = []
 enrolled_by (line.Enrol words) = words.enrolment ∷ []
-enrolled_by (line.Migrate words) = []
 
 -- why nothing goes on from a last record, by the number in its name, that of its first entry, if that is
 -- whole, and what stands behind its last whole entry

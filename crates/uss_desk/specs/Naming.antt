@@ -65,15 +65,9 @@ named_steps to last = Removed (log_of (part_of to)) ∷ Renamed (part_of to) to 
 
 -- a step by which no file gets a name
 abbrev pub GivesNoName : Step → Type 0
-GivesNoName (Free path) = ⊤
-GivesNoName (Cleared part log) = ⊤
-GivesNoName (Tried path) = ⊤
 GivesNoName (Twinned source twin mended) = ⊥
-GivesNoName (Removed path) = ⊤
 GivesNoName (Renamed from to) = ⊥
-GivesNoName (Synced path) = ⊤
-GivesNoName (Ordered path) = ⊤
-GivesNoName Failed = ⊤
+GivesNoName _ = ⊤
 
 -- steps are made by which no file gets a name
 pub record LeavesNames (old new : Option (List Step)) : Type 0 where
@@ -85,25 +79,18 @@ pub record LeavesNames (old new : Option (List Step)) : Type 0 where
 abbrev pub ClearsOwn : List ℕ → Step → Type 0
 ClearsOwn to (Free path) = ⊤
 ClearsOwn to (Cleared part log) = (part ≡ part_of to) × (log ≡ log_of (part_of to))
-ClearsOwn to (Tried path) = ⊥
-ClearsOwn to (Twinned source twin mended) = ⊥
-ClearsOwn to (Removed path) = ⊥
-ClearsOwn to (Renamed from into) = ⊥
 ClearsOwn to (Synced path) = ⊤
-ClearsOwn to (Ordered path) = ⊥
 ClearsOwn to Failed = ⊤
+ClearsOwn to _ = ⊥
 
 -- a step that changes nothing but the new file, or its log, under the names that they have first
 abbrev pub ChangesOwn : List ℕ → Step → Type 0
 ChangesOwn to (Free path) = ⊤
-ChangesOwn to (Cleared part log) = ⊥
-ChangesOwn to (Tried path) = ⊥
-ChangesOwn to (Twinned source twin mended) = ⊥
 ChangesOwn to (Removed path) = (path ≡ part_of to) ⊎ (path ≡ log_of (part_of to))
 ChangesOwn to (Renamed from into) = (from ≡ part_of to) × (into ≡ to)
 ChangesOwn to (Synced path) = ⊤
-ChangesOwn to (Ordered path) = ⊥
 ChangesOwn to Failed = ⊤
+ChangesOwn to _ = ⊥
 
 -- steps of which each is so
 pub record TakesAll (Is : Step → Type 0) (old new : Option (List Step)) : Type 0 where

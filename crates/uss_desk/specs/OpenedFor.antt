@@ -11,10 +11,9 @@ use Rattle.desk_rules.specs.Terms.{no_terms}
 use Rattle.desk_run.specs.DeskWorld.{DeskWorld, Parts, with_content, world_of}
 use Rattle.desk_line.specs.declared.failure.Failure.{Failure}
 use Rattle.desk_line.specs.declared.failure.Failure.TheVariants as failure
+use Rattle.desk_line.specs.Lines.{file_of}
 use Rattle.desk_line.specs.declared.line.Database.{Database}
 use Rattle.desk_line.specs.declared.line.Database.TheVariants.{InMemory, File}
-use Rattle.desk_line.specs.declared.line.Line.{Line}
-use Rattle.desk_line.specs.declared.line.Line.TheVariants as line
 use Rattle.desk_tables.specs.Files.{AreNotMoved, AreRefused, OpensIn, OpensMoved}
 use Rattle.desk_tables.specs.LyingDisk.{IsGuarded}
 use Rattle.desk_tables.specs.Leaving.{MayLeave}
@@ -107,46 +106,17 @@ abbrev pub or_failure : {D T : Type 0} {g : disk.Ghosts D} → Result T (Unopene
 or_failure (Ok it) = Ok it
 or_failure (Err unread) = Err unread.failure
 
--- where a database is
+-- a database in memory has no file
 abbrev pub IsInMemory : Database → Type 0
-IsInMemory InMemory = ⊤
-IsInMemory (File path) = ⊥
-
-abbrev pub IsInFiles : Database → Type 0
-IsInFiles InMemory = ⊥
-IsInFiles (File path) = ⊤
+IsInMemory database = file_of database ≡ None
 
 -- what is opened for a line: a desk in memory or one over files
 abbrev pub OpenedDesk : {M : Type 0} → disk.Ghosts M → {D : Type 0} → disk.Ghosts D → Type 0
-OpenedDesk {M} m {D} g = Opened (Result (Parts (Shown (FileStore M m))) Failure) (FileDesk g) (MovedDesk g)
+OpenedDesk {M} m {D} g = Opened (Result (Parts (Shown (FileStore M m))) Failure) (FileDesk g)
 
 module _ {M : Type 0} {m : disk.Ghosts M} {D : Type 0} {g : disk.Ghosts D} (image : Image) where
   -- what is opened over a database: a blank desk in memory, or a desk over files that held this; or why not
   abbrev pub IsOpenedAt : Database → OpenedDesk m g → Type 0
-  IsOpenedAt database opened.Nothing = ⊥
-  IsOpenedAt database (opened.Memory desk) = IsInMemory database × IfOk desk IsBlank × IfErr desk IsMemory
-  IsOpenedAt database (opened.Files desk) = IsInFiles database × IsOpenedIn image desk
-  IsOpenedAt database (opened.Moved moved) = ⊥
-
-  -- what is opened over a database whose plans of schema 1 are to be moved
-  abbrev pub IsOpenedToMove : Database → OpenedDesk m g → Type 0
-  IsOpenedToMove database opened.Nothing = ⊥
-  IsOpenedToMove database (opened.Memory desk) = ⊥
-  IsOpenedToMove database (opened.Files desk) = ⊥
-  IsOpenedToMove database (opened.Moved moved) = IsMovedAt image database moved
-
-  -- nothing is opened for a line that is printed alone
-  abbrev pub IsNothing : OpenedDesk m g → Type 0
-  IsNothing opened.Nothing = ⊤
-  IsNothing (opened.Memory desk) = ⊥
-  IsNothing (opened.Files desk) = ⊥
-  IsNothing (opened.Moved moved) = ⊥
-
-  -- what is opened for a line, by the database that it names
-  abbrev pub IsOpenedFor : Line → OpenedDesk m g → Type 0
-  IsOpenedFor (line.Play play) it = IsOpenedAt play.database it
-  IsOpenedFor (line.Enrol enrol) it = IsOpenedAt enrol.database it
-  IsOpenedFor (line.Serve serve) it = IsOpenedAt serve.database it
-  IsOpenedFor (line.Migrate migrate) it = IsOpenedToMove migrate.database it
-  IsOpenedFor (line.Token token) it = IsNothing it
-  IsOpenedFor (line.Cover cover) it = IsNothing it
+  IsOpenedAt InMemory (opened.Memory desk) = IfOk desk IsBlank × IfErr desk IsMemory
+  IsOpenedAt (File path) (opened.Files desk) = IsOpenedIn image desk
+  IsOpenedAt _ _ = ⊥

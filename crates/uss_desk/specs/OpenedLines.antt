@@ -18,7 +18,6 @@ use Rattle.desk_wire.specs.Passage.{Course}
 use Rattle.desk_line.specs.declared.failure.Failure.{Failure}
 use Rattle.desk_line.specs.declared.line.Line.{Line}
 use Rattle.desk_line.specs.Exits.{Ending, FailsWith}
-use Rattle.desk_line.specs.Printing.{IsPrinted}
 use Rattle.desk_program.specs.Keeping.{IsLineKept}
 use Rattle.desk_program.specs.MovedLine.{IsCountPrinted}
 use Rattle.desk_program.specs.Outside.{Outside}
@@ -78,22 +77,13 @@ IsMoveTold (Ok moved) end left writes =
 IsMoveTold (Err failure) end left writes =
     (left ≡ None) × FailsWith failure end × (writes.after ≡ writes.before)
 
--- no connection is taken, and nothing is read
-abbrev pub IsAlone : Outside → Type 0
-IsAlone o = (o.port.after ≡ o.port.before) × (o.bytes.reads.after ≡ o.bytes.reads.before)
-
 module _ {M : Type 0} {m : disk.Ghosts M} {D : Type 0} {g : disk.Ghosts D} (account : Account D) where
-  -- what a line says is done: by printing alone, at a desk in memory, at one over files, which stays guarded,
-  -- or by telling how many plans were moved
+  -- what a line says is done, at a desk in memory, or at one over files, which stays guarded
   abbrev pub IsLineDone :
       OpenedDesk m g → Line → Outside → Option (Parts (Shown (FileStore M m)))
       → Option (Parts (Shown (FileStore D g))) → Type 0
-  IsLineDone opened.Nothing line o memory files = (memory ≡ None) × (files ≡ None) × IsAlone o
-      × IsPrinted line o.end o.bytes.writes.before o.bytes.writes.after
   IsLineDone (opened.Memory desk) line o memory files =
       (files ≡ None) × IsLineRun over_files desk line o memory
   IsLineDone (opened.Files desk) line o memory files =
       (memory ≡ None) × IsLineRun over_files (or_failure desk) line o files
       × StaysGuarded account (or_failure desk) files
-  IsLineDone (opened.Moved moved) line o memory files =
-      (memory ≡ None) × IsAlone o × IsMoveTold (or_failure moved) o.end files o.bytes.writes

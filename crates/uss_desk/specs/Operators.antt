@@ -12,11 +12,8 @@ use Rattle.uss_desk.specs.declared.operators.Unread.TheVariants.{Cause, Memory}
 -- the file of enrolments that a line names, if it names one
 abbrev pub operators_of : Line → Option (List ℕ)
 operators_of (line.Play words) = None
-operators_of (line.Token text) = None
 operators_of (line.Serve words) = option_map string_bytes words.operators
-operators_of (line.Cover words) = None
 operators_of (line.Enrol words) = None
-operators_of (line.Migrate words) = None
 
 -- what is asked of the file at a path: when it was changed last, and how long it is, or its text; none if
 -- that can't be told

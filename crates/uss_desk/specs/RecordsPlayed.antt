@@ -44,10 +44,8 @@ module _ {M : Type 0} {m : disk.Ghosts M} {D : Type 0} {g : disk.Ghosts D} (acco
   abbrev pub IsReplayDone :
       OpenedDesk m g → Option ℕ → Passage → Ending → Option (Parts (Shown (FileStore M m)))
       → Option (Parts (Shown (FileStore D g))) → Type 0
-  IsReplayDone opened.Nothing until p end memory files = ⊥
   IsReplayDone (opened.Memory desk) until p end memory files =
       (files ≡ None) × IsReplayRun over_files desk until p end memory
   IsReplayDone (opened.Files desk) until p end memory files =
       (memory ≡ None) × IsReplayRun over_files (or_failure desk) until p end files
       × StaysGuarded account (or_failure desk) files
-  IsReplayDone (opened.Moved moved) until p end memory files = ⊥

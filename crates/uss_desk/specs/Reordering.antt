@@ -7,8 +7,6 @@ use Rattle.sqlite_store.specs.declared.store.FileStore.{FileStore}
 use Rattle.sqlite.specs.Held.{Held}
 use Rattle.desk_line.specs.declared.failure.Failure.{Failure}
 use Rattle.desk_line.specs.declared.failure.Failure.TheVariants as failure
-use Rattle.desk_line.specs.declared.line.Line.{Line}
-use Rattle.desk_line.specs.declared.line.Line.TheVariants as line
 use Rattle.desk_line.specs.Exits.{IsLineBreakdown}
 use Rattle.desk_program.specs.declared.looking.CheckedFile.{CheckedFile}
 use Rattle.uss_desk.specs.declared.opening.Unopened.{Unopened}
@@ -17,15 +15,6 @@ use Rattle.uss_desk.specs.declared.ways.Way.TheVariants as way
 use Rattle.uss_desk.specs.FilesTold.{FailsToRead, IsReadAs, Tells}
 use Rattle.uss_desk.specs.Naming.{Failed, Follows, Ordered, Step}
 use Rattle.uss_desk.specs.Twins.{AreRemoved, IsUntwinned, IsWrittenIfRoom, line_of, making, twin_of}
-
--- a line takes files of schema 1
-abbrev pub takes_old : Line → Bool
-takes_old (line.Play words) = false
-takes_old (line.Token text) = false
-takes_old (line.Serve words) = false
-takes_old (line.Cover words) = false
-takes_old (line.Enrol words) = false
-takes_old (line.Migrate words) = true
 
 -- what is told of a file that is put in order
 abbrev pub reordered_text : List ℕ
@@ -97,17 +86,13 @@ module _ {D : Type 0} {g : disk.Ghosts D} (image : Image) (path : List ℕ) (tak
   abbrev pub IsLeftAlone :
       Result ⊤ Failure → Option (Result (Held (FileStore D g)) (Unopened D g))
       → Option (List Step) → Option (List Step) → Type 0
-  IsLeftAlone (Ok done) None old new = new ≡ old
-  IsLeftAlone (Ok done) (Some judged) old new = ⊥
-  IsLeftAlone (Err f) judged old new = ⊥
+  IsLeftAlone done judged old new = (done ≡ Ok tt) × (judged ≡ None) × (new ≡ old)
 
   abbrev pub IsReorderedIf :
       Way → Result ⊤ Failure → Option (Result (Held (FileStore D g)) (Unopened D g))
       → Option (List Step) → Option (List Step) → Type 0
-  IsReorderedIf way.Itself done judged old new = IsLeftAlone done judged old new
-  IsReorderedIf way.Damaged done judged old new = IsLeftAlone done judged old new
-  IsReorderedIf (way.Unsummed pages) done judged old new = IsLeftAlone done judged old new
   IsReorderedIf way.Disordered done judged old new = IsReordered done judged old new
+  IsReorderedIf _ done judged old new = IsLeftAlone done judged old new
 
 -- the line that tells that a file was put in order
 abbrev pub reordered_line : List ℕ → List ℕ

@@ -12,7 +12,7 @@ use crate::sums::pages_without_sums;
 use crate::watching::Paths;
 use crate::ways::{Way, way_to};
 use desk_ends::write_whole;
-use desk_line::{Database, Failure, Line, malformed_word};
+use desk_line::{Database, Failure, malformed_word};
 use desk_tables::{PartFault, part_at};
 use sqlite::{Start, Unknown};
 use sqlite_std_file::OpenError;
@@ -31,22 +31,6 @@ const DAMAGED: &str =
 
 // What a database file begins with.
 const MAGIC: &[u8; 16] = b"SQLite format 3\0";
-
-/// Tells why the files of a line can't be opened, if they can't, and before no other line.
-#[tactic(auto, using(crate::proofs::KeepLemmas::tells_nothing))]
-pub fn tell_cause<F: Start, N: Paths + Drop, E: Write>(
-    rt: &HostRuntime,
-    line: &Line,
-    opened: &OpenedDesk<F, N>,
-    errors: &mut E,
-)
-    ensures tells { Tells (E.contents errors.old) (E.contents errors.new) }
-    ensures silent { ¬ (AreFilesRefused opened.now) → E.contents errors.new ≡ E.contents errors.old }
-{
-    if let Some(failure) = refusal_of(opened) {
-        tell_for(rt, line, failure, errors);
-    }
-}
 
 /// Tells why the files of a database, which are made where there are none, can't be opened, if they can't.
 #[tactic(auto, using(crate::proofs::KeepLemmas::tells_nothing))]
@@ -71,22 +55,7 @@ fn refusal_of<F: Start, N: Paths + Drop>(opened: &OpenedDesk<F, N>) -> Option<Fa
 {
     match opened {
         Opened::Files(Err(unread)) => Some(unread.failure),
-        Opened::Moved(Err(unread)) => Some(unread.failure),
         _ => None,
-    }
-}
-
-// Tells why the file that a line names can't be opened.
-#[tactic(auto, using(crate::proofs::KeepLemmas::tells_nothing))]
-fn tell_for<E: Write>(rt: &HostRuntime, line: &Line, failure: Failure, errors: &mut E)
-    ensures { Tells (E.contents errors.old) (E.contents errors.new) }
-{
-    match line {
-        Line::Play(words) => tell_made(rt, &words.database, failure, errors),
-        Line::Enrol(words) => tell_made(rt, &words.database, failure, errors),
-        Line::Serve(words) => tell_made(rt, &words.database, failure, errors),
-        Line::Migrate(words) => tell_database(rt, &words.database, failure, errors),
-        Line::Token(_) | Line::Cover(_) => {}
     }
 }
 

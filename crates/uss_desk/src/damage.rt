@@ -2,14 +2,13 @@
 
 ghost use Rattle.std.specs.Prelude.{◌≡◌, ℕ, false, IfErr, IfOk, IfSome, List, codes, length, option_map};
 ghost use Rattle.std.specs.Prelude.{string_bytes};
-ghost use Rattle.desk_line.specs.Lines as lines;
 ghost use Rattle.desk_log.specs.Damage.{IsDamaged};
 ghost use Rattle.uss_desk.specs.DamageTold as spec;
 ghost use Rattle.uss_desk.specs.DamageTold.{HasUnlookedCause, IsLookedAt, IsWrittenUpTo};
 
 use crate::causes::tell_of;
 use desk_ends::{Cut, write_whole};
-use desk_line::{Database, Failure, Line, Task};
+use desk_line::{Database, Failure, KeeperLine};
 use desk_log::{LogFault, Verdict, damaged_is_long, judge_log};
 use sqlite::Unknown;
 use sqlite_std_file::OpenError;
@@ -57,19 +56,20 @@ impl From<AllocError> for Unlooked {
     }
 }
 
-/// Refuses a task at a file whose log is damaged, or is there without it, and tells why. A copy is made of
-/// what can be read, and the loss is told: then the log is damaged, which is the answer. A file that another
-/// program has open is not looked at: to open it tells that.
+/// Refuses a file whose log is damaged, or is there without it, and tells why. If it is to be copied, a copy
+/// is made of what can be read, and the loss is told: then the log is damaged, which is the answer. A file
+/// that another program has open is not looked at: to open it tells that.
 ///
 /// # Errors
 ///
 /// `DamagedLog`; `Memory` if memory runs out; `Store` if the log can't be read, or is there without its file.
 pub fn look_before<E: Write>(
     rt: &HostRuntime,
-    task: &Task,
+    database: &Database,
+    is_copied: bool,
     errors: &mut E,
 ) -> Result<bool, Failure> {
-    let Some(path) = file_of(task) else {
+    let Some(path) = database.path() else {
         return Ok(false);
     };
     if is_log_alone(rt, path)? {
@@ -79,7 +79,7 @@ pub fn look_before<E: Write>(
     let Some(mut log) = log_of(rt, path)? else {
         return Ok(false);
     };
-    admission_of(look_at_log(rt.alloc(), path, is_copy(task), &mut log, errors))
+    admission_of(look_at_log(rt.alloc(), path, is_copied, &mut log, errors))
 }
 
 // Whether a task is begun at a file, by what came of the look at its log, and whether that is damaged.
@@ -159,62 +159,13 @@ fn damage_line(alloc: Global, path: &str, frame: u64, commits: u64) -> Result<St
     )
 }
 
-// Whether a task copies its file.
-fn is_copy(task: &Task) -> bool
-    ensures { result ≡ spec.is_copy task.now }
-{
-    match task {
-        Task::Copy(_) => true,
-        Task::Run(_) | Task::Check(_) | Task::Replay(_) => false,
-    }
-}
-
-// The path of the file of a task, if it has one.
-fn file_of(task: &Task) -> Option<&str>
-    ensures { option_map (λ path. path.now) result ≡ spec.database_path task.now }
-{
-    path_of(database_of(task)?)
-}
-
-/// The file that a line names, if it names one.
-pub fn file_of_line(line: &Line) -> Option<&str>
-    ensures { option_map (λ path. path.now) result ≡ spec.path_of_line line.now }
-{
-    path_of(database_of_line(line)?)
-}
-
-/// The path of a database, if it is in a file.
-pub fn path_of(database: &Database) -> Option<&str>
-    ensures { option_map (λ path. path.now) result ≡ lines.file_of database.now }
-{
-    match database {
-        Database::File(path) => Some(path),
-        Database::InMemory => None,
-    }
-}
-
-// The database of a task, if it has one.
-fn database_of(task: &Task) -> Option<&Database>
-    ensures { option_map (λ database. database.now) result ≡ spec.database_of task.now }
-{
-    match task {
-        Task::Run(line) => database_of_line(line),
-        Task::Check(database) => Some(database),
-        Task::Copy(words) => Some(&words.database),
-        Task::Replay(words) => Some(&words.database),
-    }
-}
-
-// The database of a line, if it has one.
-fn database_of_line(line: &Line) -> Option<&Database>
-    ensures { option_map (λ database. database.now) result ≡ spec.database_of_line line.now }
+/// Whether a line copies its file.
+pub fn is_copy(line: &KeeperLine) -> bool
+    ensures { result ≡ spec.is_copy line.now }
 {
     match line {
-        Line::Play(words) => Some(&words.database),
-        Line::Enrol(words) => Some(&words.database),
-        Line::Serve(words) => Some(&words.database),
-        Line::Migrate(words) => Some(&words.database),
-        Line::Token(_) | Line::Cover(_) => None,
+        KeeperLine::Copy(_) => true,
+        KeeperLine::Check(_) | KeeperLine::Migrate(_) | KeeperLine::Replay(_) => false,
     }
 }
 

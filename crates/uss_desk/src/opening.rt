@@ -4,9 +4,10 @@ ghost use Rattle.std.specs.Prelude.{◌≡◌, IfErr, IfOk};
 ghost use Rattle.std.specs.Option.{IsSomeAnd};
 ghost use Rattle.sqlite_wal.specs.Files.{image_at};
 ghost use Rattle.desk_line.specs.Exits.{failure_word};
+ghost use Rattle.desk_line.specs.Lines.{database_of};
 ghost use Rattle.uss_desk.specs.OpenedFor as spec;
-ghost use Rattle.uss_desk.specs.OpenedFor.{IsBlank, IsMemory, IsMovedAt, IsMovedIn, IsOpenedAt, IsOpenedFor};
-ghost use Rattle.uss_desk.specs.OpenedFor.{IsOpenedIn, IsUnreadFor};
+ghost use Rattle.uss_desk.specs.OpenedFor.{IsBlank, IsMemory, IsMovedAt, IsMovedIn, IsOpenedAt, IsOpenedIn};
+ghost use Rattle.uss_desk.specs.OpenedFor.{IsUnreadFor};
 
 use crate::causes::tell_unenrolled;
 use crate::naming::make_private;
@@ -73,23 +74,17 @@ impl<D: Disk + Drop> From<AllocError> for Unopened<D> {
 /// Why files were not opened, where `F` stands for what they held.
 pub type Unread<F> = Unopened<FileFrom<F>>;
 
-/// What was opened for a line: a desk in memory (`M`), one over files (`D`), or one over files to which plans
-/// were moved (`V`).
+/// What was opened over a database: a desk in memory (`M`), or one over files (`D`).
 #[derive(Drop)]
-pub enum Opened<M: Drop, D: Drop, V: Drop> {
-    /// Nothing: `token` and `cover` need no desk.
-    Nothing,
+pub enum Opened<M: Drop, D: Drop> {
     /// A desk in memory.
     Memory(M),
     /// A desk over files.
     Files(D),
-    /// A desk over files, to which plans were moved from schema 1.
-    Moved(V),
 }
 
-/// What is opened for a line, where `F` stands for what the files that it names held, and `N` for their
-/// paths.
-pub type OpenedDesk<F, N> = Opened<Result<MemoryDesk, Failure>, FoundDesk<F, N>, MovedDesk<F, N>>;
+/// What is opened over a database, where `F` stands for what its files held, and `N` for their paths.
+pub type OpenedDesk<F, N> = Opened<Result<MemoryDesk, Failure>, FoundDesk<F, N>>;
 
 /// A desk over files, or why there is none.
 pub type FoundDesk<F, N> = Result<FileDesk<F, N>, Unread<F>>;
@@ -97,8 +92,8 @@ pub type FoundDesk<F, N> = Result<FileDesk<F, N>, Unread<F>>;
 /// A desk over files and how many plans were moved to it from schema 1, or why there is none.
 pub type MovedDesk<F, N> = Result<(FileDesk<F, N>, u32), Unread<F>>;
 
-/// Opens what a line needs; `start` stands for what the files that it names held, and `paths` are theirs. The
-/// operators that a desk over files has then are noted in `roll`.
+/// Opens the desk of a line; `start` stands for what the files that it names held, and `paths` are theirs.
+/// The operators that a desk over files has then are noted in `roll`.
 pub fn open_for<F: Start, N: Paths + Drop>(
     rt: &HostRuntime,
     line: &Line,
@@ -106,26 +101,17 @@ pub fn open_for<F: Start, N: Paths + Drop>(
     paths: N,
     roll: &mut Roll,
 ) -> OpenedDesk<F, N>
-    ensures { IsOpenedFor (image_at F.Start) line.now result }
+    ensures { IsOpenedAt (image_at F.Start) (database_of line.now) result }
 {
+    open_database(rt, line.database(), enrols_none(line), start, paths, roll)
+}
+
+// Whether a line names no operator, so that its desk may have none.
+fn enrols_none(line: &Line) -> bool {
     match line {
-        Line::Play(words) => {
-            open_database(
-                rt,
-                &words.database,
-                words.enrolments.is_empty(),
-                start,
-                paths,
-                roll,
-            )
-        }
-        Line::Enrol(words) => open_database(rt, &words.database, false, start, paths, roll),
-        Line::Serve(words) => {
-            let is_told = words.enrolments.is_empty() && words.operators.is_none();
-            open_database(rt, &words.database, is_told, start, paths, roll)
-        }
-        Line::Migrate(words) => Opened::Moved(open_old(rt, &words.database, start, paths)),
-        Line::Token(_) | Line::Cover(_) => Opened::Nothing,
+        Line::Play(words) => words.enrolments.is_empty(),
+        Line::Serve(words) => words.enrolments.is_empty() && words.operators.is_none(),
+        Line::Enrol(_) => false,
     }
 }
 
@@ -209,9 +195,14 @@ pub fn open_file<F: Start, N: Paths + Drop>(
     }
 }
 
-// The desk over a database that may be of schema 1, and how many plans were moved. A database in memory can't
-// have plans of schema 1, and fails as `Store`.
-fn open_old<F: Start, N: Paths + Drop>(
+/// The desk over a database that may be of schema 1, and how many plans were moved; `start` stands for what
+/// its files held, and `paths` are theirs.
+///
+/// # Errors
+///
+/// The failure is that of `open_failure`, and `Store` of a database in memory, which can't have plans of
+/// schema 1.
+pub fn open_old<F: Start, N: Paths + Drop>(
     rt: &HostRuntime,
     database: &Database,
     start: F,

@@ -158,7 +158,7 @@ fn path_of(line: &Line) -> Option<&str>
 {
     match line {
         Line::Serve(words) => words.operators.as_deref(),
-        _ => None,
+        Line::Play(_) | Line::Enrol(_) => None,
     }
 }
 

@@ -3,9 +3,8 @@
 ghost use Rattle.std.specs.Prelude.{◌≡◌, ◌↔◌, IsTrue};
 
 use crate::causes::tell_of;
-use crate::damage::{file_of_line, path_of};
 use crate::watching::Paths;
-use desk_line::{Database, Failure, Line};
+use desk_line::{Database, Failure};
 use std::alloc::{AllocError, Global};
 use std::fs;
 use std::io::ErrorKind;
@@ -31,15 +30,6 @@ pub struct LocalPaths<'r> {
     is_told: bool,
 }
 
-/// The paths of the file that a line names; of no file if it names none.
-///
-/// # Errors
-///
-/// `Memory` if memory runs out.
-pub fn paths_of<'r>(rt: &'r HostRuntime, line: &'r Line) -> Result<LocalPaths<'r>, Failure> {
-    paths_beside(rt, file_of_line(line).unwrap_or(""))
-}
-
 /// The paths of the file of a database; of no file if it is in memory.
 ///
 /// # Errors
@@ -49,7 +39,7 @@ pub fn paths_at<'r>(
     rt: &'r HostRuntime,
     database: &'r Database,
 ) -> Result<LocalPaths<'r>, Failure> {
-    paths_beside(rt, path_of(database).unwrap_or(""))
+    paths_beside(rt, database.path().unwrap_or(""))
 }
 
 // The paths of a file.

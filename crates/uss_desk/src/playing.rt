@@ -1,16 +1,12 @@
 //! The requests of an input, each recorded, played at the desk over the database that the words name.
 
-ghost use Rattle.std.specs.Prelude.{IfErr, IfOk};
 ghost use Rattle.sqlite_wal.specs.Files.{image_at};
 ghost use Rattle.sqlite.specs.Files.{over_files};
-ghost use Rattle.desk_line.specs.Exits.{ending};
 ghost use Rattle.desk_line.specs.Lines.{IsPlay};
-ghost use Rattle.desk_wire.specs.Passage.{course};
-ghost use Rattle.desk_recording.specs.Inputs.{IsUnrecorded};
-ghost use Rattle.desk_recording.specs.Telling.{told_by};
+ghost use Rattle.desk_recording.specs.Inputs.{input_outside};
 ghost use Rattle.uss_desk.specs.Guarding.{account_of};
 ghost use Rattle.uss_desk.specs.OpenedFor.{IsOpenedAt};
-ghost use Rattle.uss_desk.specs.RecordedPlays.{IsInputDone, IsInputDoneAt, IsInputKeptAt, stopping};
+ghost use Rattle.uss_desk.specs.RecordedPlays.{IsInputDone, IsInputRun};
 
 use crate::opening::{FileDesk, MemoryDesk, Opened, OpenedDesk, or_failure};
 use crate::watching::{Paths, Watched};
@@ -41,11 +37,8 @@ where
     E: Write,
     requires line { IsPlay words.now }
     requires opened { IsOpenedAt (image_at F.Start) words.now.database opened }
-    ensures { IsInputDone (account_of F.Start) words.now
-        (stopping port.new.port.ended port.new.port.is_unframed)
-        (ending result.0 (E.contents errors.old) (E.contents errors.new))
-        (course (told_by K.Record port.old.keeper port.old.is_broken)
-        (told_by K.Record port.new.keeper port.new.is_broken)) opened result.1 result.2 }
+    ensures { IsInputDone (account_of F.Start) words.now (input_outside K.Record E.Write port.old port.new
+        result.0 errors.old errors.new) opened result.1 result.2 }
 {
     match opened {
         Opened::Memory(desk) => {
@@ -57,7 +50,6 @@ where
             let (exit, left) = play_over(alloc, words, desk, port, errors);
             (exit, None, left)
         }
-        Opened::Nothing | Opened::Moved(_) => unreachable!(),
     }
 }
 
@@ -77,20 +69,8 @@ where
     K: Record + Drop,
     E: Write,
     requires { IsPlay words.now }
-    ensures opened { IfOk opened (IsInputDoneAt over_files words.now
-        (stopping port.new.port.ended port.new.port.is_unframed)
-        (ending result.0 (E.contents errors.old) (E.contents errors.new))
-        (course (told_by K.Record port.old.keeper port.old.is_broken)
-        (told_by K.Record port.new.keeper port.new.is_broken)) result.1) }
-    ensures kept { IfOk opened (IsInputKeptAt over_files words.now
-        (stopping port.new.port.ended port.new.port.is_unframed)
-        (ending result.0 (E.contents errors.old) (E.contents errors.new))
-        (course (told_by K.Record port.old.keeper port.old.is_broken)
-        (told_by K.Record port.new.keeper port.new.is_broken)) result.1) }
-    ensures unopened { IfErr opened (IsUnrecorded
-        (course (told_by K.Record port.old.keeper port.old.is_broken)
-        (told_by K.Record port.new.keeper port.new.is_broken))
-        (ending result.0 (E.contents errors.old) (E.contents errors.new)) result.1) }
+    ensures { IsInputRun over_files words.now (input_outside K.Record E.Write port.old port.new result.0
+        errors.old errors.new) opened result.1 }
 {
     play_opened(alloc, words, opened, port, errors)
 }

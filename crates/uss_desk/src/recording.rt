@@ -7,13 +7,13 @@ ghost use Rattle.uss_desk.specs.LineRecord.{enrolled_by};
 
 use crate::causes::{tell, tell_of};
 use crate::closing::close_after;
-use crate::damage::file_of_line;
 use crate::folders::{FoundRecord, Unkept, last_record, make_part, move_rest, name_part, tail_of};
 use crate::naming::IN_USE;
 use crate::opening::{open_file, or_failure};
-use crate::paths::paths_of;
+use crate::paths::paths_at;
 use crate::rolls::Roll;
 use crate::watching::{Closed, Paths, Watched};
+use desk_ends::Moment;
 use desk_line::{Enrolment, Exit, Failure, Line};
 use desk_recording::{
     Journal, Parted, Record, Tail, TailEnd, WrittenRecord, begin_record, missing_of, recover,
@@ -72,6 +72,15 @@ pub struct RecordFolder<'s> {
     len: u64,
 }
 
+// What the last record of a folder left undone: what it says as it ends, and what stands behind that.
+#[derive(Drop)]
+struct Undone<'s> {
+    folder: &'s str,
+    record: FoundRecord,
+    tail: Tail,
+    ended: TailEnd,
+}
+
 // The desk, over whatever disk its files are, at which a record's last request is asked again.
 type DeskAt<D, N> = Desk<Watched<FileStore<D>, N>>;
 
@@ -90,7 +99,7 @@ pub fn recover_for<'s>(
         return Ok(None);
     };
     let last = told(rt, path, last_record(rt, path))?;
-    let Some(file) = file_of_line(line) else {
+    let Some(file) = line.database().path() else {
         return Ok(Some(begin_alone(rt, line, path, last)?));
     };
     match last {
@@ -130,7 +139,6 @@ fn folder_of(line: &Line) -> Option<&str>
         Line::Play(words) => words.folder.as_deref(),
         Line::Serve(words) => words.folder.as_deref(),
         Line::Enrol(words) => words.folder.as_deref(),
-        _ => None,
     }
 }
 
@@ -171,7 +179,13 @@ fn go_on<'s>(
             len: record.len,
         });
     }
-    recover_at(rt, line, folder, file, record, tail, ended)
+    let undone = Undone {
+        folder,
+        record,
+        tail,
+        ended,
+    };
+    recover_at(rt, line, file, undone)
 }
 
 // What the last record of a folder says as it ends.
@@ -200,13 +214,10 @@ fn cause_of_tail(number: u64, begun: Option<u64>, ended: TailEnd) -> Option<&'st
 fn recover_at<'s>(
     rt: &'s HostRuntime,
     line: &Line,
-    folder: &'s str,
     file: &str,
-    record: FoundRecord,
-    tail: Tail,
-    ended: TailEnd,
+    undone: Undone<'s>,
 ) -> Result<RecordFolder<'s>, Failure> {
-    let paths = paths_of(rt, line)?;
+    let paths = paths_at(rt, line.database())?;
     let mut roll = Roll::new(true);
     let mut desk = match or_failure(open_file(rt, file, false, Unknown, paths, &mut roll)) {
         Ok(desk) => desk,
@@ -215,7 +226,7 @@ fn recover_at<'s>(
             return Err(failure);
         }
     };
-    let done = recover_desk(rt, folder, &record, tail, ended, roll, &mut desk);
+    let done = recover_desk(rt, undone, roll, &mut desk);
     if !is_closed(close_after(1, Some(desk), &mut rt.stderr())) {
         return Err(store_failure(rt, file, "it can't be closed"));
     }
@@ -233,13 +244,16 @@ fn is_closed<D: Disk + Drop, E>(ended: (Exit<E>, Option<Closed<D>>)) -> bool {
 // Does at a desk what a record left undone, and answers which record is the last one then.
 fn recover_desk<'s, D: Disk + Drop, N: Paths + Drop>(
     rt: &'s HostRuntime,
-    folder: &'s str,
-    record: &FoundRecord,
-    tail: Tail,
-    ended: TailEnd,
+    undone: Undone<'s>,
     roll: Roll,
     desk: &mut DeskAt<D, N>,
 ) -> Result<RecordFolder<'s>, Failure> {
+    let Undone {
+        folder,
+        record,
+        tail,
+        ended,
+    } = undone;
     let Tail {
         terms,
         operators,
@@ -249,7 +263,7 @@ fn recover_desk<'s, D: Disk + Drop, N: Paths + Drop>(
     } = tail;
     is_last(rt, folder, record.number, record.len)?;
     if ended == TailEnd::Short {
-        told(rt, folder, move_rest(rt, record, size))?;
+        told(rt, folder, move_rest(rt, &record, size))?;
     }
     let Some(roll) = roll.into_operators() else {
         return Err(Failure::Memory);
@@ -313,7 +327,7 @@ fn terms_of(line: &Line) -> Terms
     match line {
         Line::Play(words) => words.terms,
         Line::Serve(words) => words.terms,
-        _ => Terms::none(),
+        Line::Enrol(_) => Terms::none(),
     }
 }
 
@@ -325,7 +339,6 @@ fn operators_with(line: &Line, mut operators: Vec<Enrolment>) -> Result<Vec<Enro
         Line::Play(words) => operators.extend_from_slice(&words.enrolments)?,
         Line::Serve(words) => operators.extend_from_slice(&words.enrolments)?,
         Line::Enrol(words) => operators.push(words.enrolment)?,
-        _ => {}
     }
     Ok(operators)
 }
@@ -400,7 +413,7 @@ struct AskedRecord<'s> {
 
 impl<'s> AskedRecord<'s> {
     // The record, with the request in it, under its name.
-    fn begin(&mut self, moment: i64, bytes: &[u8]) -> Result<LocalRecord<'s>, Failure> {
+    fn begin(&mut self, moment: Moment, bytes: &[u8]) -> Result<LocalRecord<'s>, Failure> {
         let journal = begin_part(
             self.rt,
             self.folder,
@@ -427,7 +440,7 @@ impl Record for AskedRecord<'_> {
         false
     }
 
-    fn keep_request(&mut self, moment: i64, bytes: &[u8]) -> bool {
+    fn keep_request(&mut self, moment: Moment, bytes: &[u8]) -> bool {
         self.record = self.begin(moment, bytes).ok();
         self.record.is_some()
     }

@@ -11,7 +11,6 @@ ghost use Rattle.uss_desk.specs.Reordering.{IsReorderedIf};
 ghost use Rattle.uss_desk.specs.Twins.{AreTwins, IsWrittenIfRoom};
 
 use crate::causes::{access_cause, tell, tell_of};
-use crate::damage::file_of_line;
 use crate::keeping::look_in;
 use crate::naming::{Folder, LocalFolder};
 use crate::opening::Unopened;
@@ -19,7 +18,7 @@ use crate::orders::has_other_order;
 use crate::twins::{Judged, Twin, line_of, make_twin, remove_twin};
 use crate::ways::{Way, way_to};
 use desk_ends::write_whole;
-use desk_line::{Failure, Line};
+use desk_line::{Database, Failure};
 use desk_program::CheckedFile;
 use sqlite::{Connection, FileFrom, FileStore, Start, Unknown};
 use sqlite_disk::Disk;
@@ -40,14 +39,14 @@ pub struct Incoming<'p> {
     pub takes_old: bool,
 }
 
-/// Puts the file of a line in order, if its tables stand in another, and tells that. Of files nothing is
-/// known.
+/// Puts the file of a database in order, if its tables stand in another, and tells that. A file of schema 1
+/// is taken, or not (`takes_old`). Of files nothing is known.
 ///
 /// # Errors
 ///
 /// Why it can't be put in order, which is told.
-pub fn reorder_for(rt: &HostRuntime, line: &Line) -> Result<(), Failure> {
-    let Some(path) = file_of_line(line) else {
+pub fn reorder_for(rt: &HostRuntime, database: &Database, takes_old: bool) -> Result<(), Failure> {
+    let Some(path) = database.path() else {
         return Ok(());
     };
     if !has_other_order(rt, path) {
@@ -56,20 +55,10 @@ pub fn reorder_for(rt: &HostRuntime, line: &Line) -> Result<(), Failure> {
     let file = Incoming {
         path,
         way: way_to(rt, path, false),
-        takes_old: takes_old(line),
+        takes_old,
     };
     let mut folder = LocalFolder::new(rt);
     done_of(reorder(rt, &mut folder, file, Unknown, &mut rt.stderr()))
-}
-
-// Whether a line takes a file of schema 1.
-fn takes_old(line: &Line) -> bool
-    ensures { result ≡ spec.takes_old line.now }
-{
-    match line {
-        Line::Migrate(_) => true,
-        Line::Play(_) | Line::Token(_) | Line::Serve(_) | Line::Cover(_) | Line::Enrol(_) => false,
-    }
 }
 
 /// What came of it. The twin that was read, on whatever disk it is, is closed.

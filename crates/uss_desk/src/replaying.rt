@@ -76,7 +76,6 @@ pub fn replay_line<F: Start, N: Paths + Drop, R: Read, W: Write, E: Write>(
             let (exit, left) = replay_over(alloc, words.until, desk, input, output, errors);
             (exit, None, left)
         }
-        Opened::Nothing | Opened::Moved(_) => unreachable!(),
     }
 }
 

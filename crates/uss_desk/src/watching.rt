@@ -139,6 +139,7 @@ fn are_at_paths<N: Paths>(paths: &mut N) -> bool
 }
 
 // Makes a change of a store whose files are at their paths; else it is a fault, which is counted.
+// Long: what each store owes, and that its paths are looked at first.
 fn apply_at<S: PlanStore, N: Paths>(
     store: &mut S,
     paths: &mut N,

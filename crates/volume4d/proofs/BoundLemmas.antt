@@ -14,35 +14,8 @@ use Rattle.volume4d.specs.Point.{Point}
 use Rattle.volume4d.specs.Slab.{slab_has, slabs_have}
 use Rattle.volume4d.specs.Bounds.{IsFilled, IsWithin, IsJoin, IsBounds}
 use Rattle.volume4d.proofs.LeafTests.{leaf_at_passes}
-use Rattle.volume4d.proofs.PointsIn.{IsIn-from_has, has-from_IsIn}
-
-low : (a b p : ℕ) → a ≤ b → leb b p ≡ true → leb a p ≡ true
-low a b p h e = grind (arith, nat_tests)
-
-high : (a b p : ℕ) → a ≤ b → leb p a ≡ true → leb p b ≡ true
-high a b p h e = grind (arith, nat_tests)
-
-int_low : (a b z : ℤ) → a ≤ℤ b → int_le b z ≡ true → int_le a z ≡ true
-int_low a b z h e = grind (arith, ints)
-
-int_high : (a b z : ℤ) → a ≤ℤ b → int_lt z a ≡ true → int_lt z b ≡ true
-int_high a b z h e = grind (arith, ints)
-
--- a slab has the points of a slab within it
-pub within_has : (inner outer : Slab) (x : Point) → IsWithin inner outer → slab_has inner x ≡ true
-    → slab_has outer x ≡ true
-within_has inner outer x within has =
-    let here = IsIn-from_has inner x has in
-    let position = position_of x.leaf in
-    has-from_IsIn outer x (record {
-      is = here.is;
-      first = low outer.first inner.first position within.first here.first;
-      last = high inner.last outer.last position within.last here.last;
-      lower = int_low outer.lower inner.lower x.altitude within.lower here.lower;
-      upper = int_high inner.upper outer.upper x.altitude within.upper here.upper;
-      start = int_low outer.start inner.start x.second within.start here.start;
-      end = int_high inner.end outer.end x.second within.end here.end;
-    })
+use Rattle.volume4d.specs.laws.Slab.{IsIn-from_has, has-from_IsIn}
+use Rattle.volume4d.specs.laws.Bounds.{left_in, right_in, within_has, within_through}
 
 -- the least and the greatest point of a slab that has one
 abbrev least_of : Slab → Point
@@ -129,55 +102,11 @@ has_within inner outer filled has =
       end = int_from_high outer.end inner.end greatest.end;
     }
 
-within_through : (a b c : Slab) → IsWithin a b → IsWithin b c → IsWithin a c
-within_through a b c ab bc = record {
-  first = omega (arith, ab.first, bc.first);
-  last = omega (arith, ab.last, bc.last);
-  lower = int_through c.lower b.lower a.lower bc.lower ab.lower;
-  upper = int_through a.upper b.upper c.upper ab.upper bc.upper;
-  start = int_through c.start b.start a.start bc.start ab.start;
-  end = int_through a.end b.end c.end ab.end bc.end;
-} where
-  int_through : (x y z : ℤ) → x ≤ℤ y → y ≤ℤ z → x ≤ℤ z
-  int_through x y z xy yz = grind (arith, ints)
-
-int_min_left : (a b m : ℤ) → m ≡ int_min a b → m ≤ℤ a
-int_min_left a b m e = grind (arith, ints)
-
-int_min_right : (a b m : ℤ) → m ≡ int_min a b → m ≤ℤ b
-int_min_right a b m e = grind (arith, ints)
-
 int_min_above : (a b m z : ℤ) → m ≡ int_min a b → z ≤ℤ a → z ≤ℤ b → z ≤ℤ m
 int_min_above a b m z e p q = grind (arith, ints)
 
-int_max_left : (a b m : ℤ) → m ≡ int_max a b → a ≤ℤ m
-int_max_left a b m e = grind (arith, ints)
-
-int_max_right : (a b m : ℤ) → m ≡ int_max a b → b ≤ℤ m
-int_max_right a b m e = grind (arith, ints)
-
 int_max_below : (a b m z : ℤ) → m ≡ int_max a b → a ≤ℤ z → b ≤ℤ z → m ≤ℤ z
 int_max_below a b m z e p q = grind (arith, ints)
-
-left_in : (a b s : Slab) → IsJoin a b s → IsWithin a s
-left_in a b s join = record {
-  first = omega (arith, join.first);
-  last = omega (arith, join.last);
-  lower = int_min_left a.lower b.lower s.lower join.lower;
-  upper = int_max_left a.upper b.upper s.upper join.upper;
-  start = int_min_left a.start b.start s.start join.start;
-  end = int_max_left a.end b.end s.end join.end;
-}
-
-right_in : (a b s : Slab) → IsJoin a b s → IsWithin b s
-right_in a b s join = record {
-  first = omega (arith, join.first);
-  last = omega (arith, join.last);
-  lower = int_min_right a.lower b.lower s.lower join.lower;
-  upper = int_max_right a.upper b.upper s.upper join.upper;
-  start = int_min_right a.start b.start s.start join.start;
-  end = int_max_right a.end b.end s.end join.end;
-}
 
 -- the join of two slabs lies within each slab that goes round both
 join_least : (a b s outer : Slab) → IsJoin a b s → IsWithin a outer → IsWithin b outer

@@ -16,7 +16,7 @@ use Rattle.volume4d.specs.Point.{Point, is_leaf, point_cmp}
 use Rattle.volume4d.specs.Slab.{slab_has_leaf, slab_has}
 use Rattle.volume4d.specs.Shared.{corner_of}
 use Rattle.volume4d.proofs.LeafTests.{leaf_at_passes}
-use Rattle.volume4d.proofs.PointsIn.{IsIn, IsIn-from_has, has-from_IsIn}
+use Rattle.volume4d.specs.laws.Slab.{IsIn, IsIn-from_has, has-from_IsIn}
 
 int_max_le : (a b m x : ℤ) → m ≡ int_max a b → int_le a x ≡ true → int_le b x ≡ true → int_le m x ≡ true
 int_max_le a b m x e p q = grind (arith, ints)

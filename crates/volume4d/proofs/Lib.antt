@@ -8,7 +8,6 @@ pub mod CoverCounts
 pub mod SlabPoints
 pub mod SpanLemmas
 pub mod Filled
-pub mod PointsIn
 pub mod BoundLemmas
 pub mod Corners
 pub mod LevelLemmas

@@ -17,7 +17,7 @@ use Rattle.volume4d.specs.Slab.{slab_has, slabs_have}
 use Rattle.volume4d.specs.Meeting.{IsFirstPoint}
 use Rattle.volume4d.specs.Sweep.{placed_have, Ascend, IsPassed, Adds, IsLate, AreLate}
 use Rattle.volume4d.proofs.FirstPoints.{first_point_same}
-use Rattle.volume4d.proofs.PointsIn.{IsIn-from_has}
+use Rattle.volume4d.specs.laws.Slab.{IsIn-from_has}
 
 or_assoc : (a b c : Bool) → (a || (b || c)) ≡ ((a || b) || c)
 or_assoc true b c = refl

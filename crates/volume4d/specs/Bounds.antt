@@ -1,5 +1,5 @@
--- The smallest slab that has a set of points.
-use Rattle.std.specs.Prelude.{◌≡◌, ◌<◌, ◌≤◌, ◌≤ℤ◌, ◌<ℤ◌, min, max, List, All, length, Bool, true}
+-- The smallest slab that has a set of points, and what two slabs are to each other.
+use Rattle.std.specs.Prelude.{◌≡◌, ◌<◌, ◌≤◌, ◌≤ℤ◌, ◌<ℤ◌, ◌&&◌, nat_le, int_lt, min, max, List, All, length, Bool, true}
 use Rattle.std.specs.Int.{int_min, int_max}
 use Rattle.volume4d.specs.declared.slab.Slab.{Slab}
 use Rattle.volume4d.specs.Point.{Point}
@@ -33,6 +33,22 @@ pub record IsJoin (left right slab : Slab) : Type 0 where
   pub upper : slab.upper ≡ int_max left.upper right.upper
   pub start : slab.start ≡ int_min left.start right.start
   pub end : slab.end ≡ int_max left.end right.end
+
+-- the slab of the points that two have: the greater of the lower bounds, and the lesser of the upper ones
+pub record IsClip (one other slab : Slab) : Type 0 where
+  pub first : slab.first ≡ max one.first other.first
+  pub last : slab.last ≡ min one.last other.last
+  pub lower : slab.lower ≡ int_max one.lower other.lower
+  pub upper : slab.upper ≡ int_min one.upper other.upper
+  pub start : slab.start ≡ int_max one.start other.start
+  pub end : slab.end ≡ int_min one.end other.end
+
+-- two slabs meet in seconds, in altitudes and in leaves
+abbrev pub overlap : Slab → Slab → Bool
+overlap one other =
+    (int_lt one.start other.end && int_lt other.start one.end)
+    && ((int_lt one.lower other.upper && int_lt other.lower one.upper)
+    && (nat_le one.first other.last && nat_le other.first one.last))
 
 -- the slab has each point that passes the test
 abbrev pub HasAll : (Point → Bool) → Slab → Type 0

@@ -1,6 +1,6 @@
 //! Volumes of flight in four dimensions: footprints (lists of S2 cells, or rectangles of a face) with
-//! altitudes and times, the slabs that have the same points, and the first point that two lists of slabs
-//! share.
+//! altitudes and times, the slabs that have the same points, what two slabs are to each other, and the first
+//! point that two lists of slabs share.
 #![tactic(auto)]
 
 mod area;
@@ -9,6 +9,7 @@ mod clusters;
 mod corner;
 mod fault;
 mod footprint;
+mod geometry;
 pub mod laws;
 mod meeting;
 mod placed;

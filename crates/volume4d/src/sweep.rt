@@ -1,6 +1,6 @@
 //! The sweep: the first point that two lists of slabs share, found along both lists at once.
 
-ghost use Rattle.std.specs.Prelude.{◌≡◌, ◌≤◌, ◌<◌, ◌&&◌, ◌||◌, nat_lt, false, true, IfSome, IsTrue, length, take};
+ghost use Rattle.std.specs.Prelude.{◌≡◌, ◌≤◌, ◌<◌, ◌&&◌, ◌||◌, nat_lt, true, IfSome, IsTrue, length, take};
 ghost use Rattle.std.specs.List.{HoldsAt};
 ghost use Rattle.s2_hilbert.specs.Curve.{position_of};
 ghost use Rattle.volume4d.specs.Point.{Point};
@@ -72,7 +72,7 @@ fn sweep<T: Placed>(mine: &[Slab], theirs: &[T], pairs: &mut u128) -> Option<Opt
     ensures { IfSome result (IsFirstPoint
         (λ x. slabs_have mine.now x && placed_have T.slab_of theirs.now x)) }
 {
-    let mut active = [nothing(); MAX_ACTIVE];
+    let mut active = [Slab::empty(); MAX_ACTIVE];
     let mut left = mine;
     let mut first = None;
     for item in theirs {
@@ -87,20 +87,6 @@ fn sweep<T: Placed>(mine: &[Slab], theirs: &[T], pairs: &mut u128) -> Option<Opt
         first = earlier(first, first_on(&active, left, other, pairs));
     }
     Some(first)
-}
-
-// A slab without points.
-fn nothing() -> Slab
-    ensures { (x : Point) → slab_has result x ≡ false }
-{
-    Slab {
-        first: 1,
-        last: 0,
-        lower: 0,
-        upper: 0,
-        start: 0,
-        end: 0,
-    }
 }
 
 // Takes the slabs that begin up to a position among the active slabs, and gives their number, or `None` if

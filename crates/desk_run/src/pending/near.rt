@@ -9,7 +9,6 @@ ghost use Rattle.volume4d.specs.Sweep.{Ascend};
 ghost use Rattle.desk_rules.specs.Conflict.{at_least};
 ghost use Rattle.desk_run.specs.HeldAmong.{AddLevelAt, AreAfter, AreLeft};
 
-use desk_store::overlap;
 use std::alloc::AllocError;
 use volume4d::{Held, Slab};
 
@@ -123,7 +122,7 @@ fn may_share(left: &[Slab], bounds: &Slab, slab: &Slab) -> bool
     if !begins_by(left, slab.last) {
         return false;
     }
-    overlap(slab, bounds)
+    slab.overlaps(bounds)
 }
 
 // Whether the first of slabs that ascend begins at a position or before it.

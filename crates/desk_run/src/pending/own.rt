@@ -16,7 +16,6 @@ use super::near::{push_helds, push_slabs};
 use desk_rules::conflict::first_conflict;
 use desk_rules::plan::PlanRow;
 use desk_rules::plan_id::PlanId;
-use desk_store::overlap;
 use std::alloc::{AllocError, Global};
 use std::marker::Model;
 use volume4d::{Held, Meeting, Slab, bounds_of, split_cluster};
@@ -49,7 +48,7 @@ impl OwnPlan {
             return Ok(OwnPlan {
                 row,
                 slabs: Vec::new(alloc),
-                bounds: nowhere(),
+                bounds: Slab::empty(),
             });
         }
         let slabs = row.area.slabs()?;
@@ -99,7 +98,7 @@ impl OwnPlan {
         if !counts(&self.row, &mine.row.id, least) {
             return Ok(());
         }
-        if !overlap(&self.bounds, &mine.bounds) {
+        if !self.bounds.overlaps(&mine.bounds) {
             return Ok(());
         }
         push_slabs(
@@ -130,18 +129,6 @@ fn counts(row: &PlanRow, id: &PlanId, least: u32) -> bool
         return false;
     }
     least <= row.priority
-}
-
-// A slab without points.
-fn nowhere() -> Slab {
-    Slab {
-        first: 1,
-        last: 0,
-        lower: 0,
-        upper: 0,
-        start: 0,
-        end: 0,
-    }
 }
 
 // Appends bounds round each cluster of slabs that ascend.

@@ -11,6 +11,7 @@ use sqlite::{Alter, Error, Transaction};
 use sqlite_value::value::ValueRef;
 
 /// Runs a statement that writes. What was committed stays, whatever is answered.
+// Long: what ran, what is shown, what is undone and where it stopped are four things to say of SQLite.
 pub(crate) fn run<S: Alter>(
     tx: &mut Transaction<'_, S>,
     statement: &str,

@@ -124,6 +124,7 @@ pub(crate) fn make_rest<S: Alter>(
 
 /// Makes those of a desk's tables, and of their indexes, that aren't there, as one transaction. The rows of
 /// the others stay.
+// Long: each way in which it may end has a clause, and so has a crash.
 pub fn complete_tables<S: Alter>(
     connection: &mut Connection<S>,
     made: TablesPresent,

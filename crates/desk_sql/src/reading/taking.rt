@@ -50,6 +50,7 @@ pub trait RowSink {
 }
 
 /// Hands over the next row, if there is one.
+// Long: what is handed over, and apart from it what holds whatever the disk returned.
 fn hand_next<S: Alter, T: RowSink>(rows: &mut Rows<'_, S>, taker: &mut T) -> Result<bool, Error>
     ensures same_reference { rows.new.conn.ghost_name ≡ rows.old.conn.ghost_name }
     ensures handed { IsHanded S.Store rows.old.conn.now rows.new.conn.now result
@@ -134,6 +135,7 @@ pub(crate) fn hand_rows<S: Alter, T: RowSink>(
 /// # Errors
 ///
 /// What a query or the taker may fail with.
+// Long: what is handed over, and apart from it what holds whatever the disk returned.
 pub(crate) fn for_each_row<S: Alter, T: RowSink>(
     connection: &mut Connection<S>,
     query: Query<'_>,

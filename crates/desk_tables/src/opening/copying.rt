@@ -44,6 +44,7 @@ use volume4d::laws::covers_are_few;
 ///
 /// The connection, and `OutOfMemory` if memory runs out. `Store` if there is a table, or if SQLite refuses
 /// for another cause.
+// Long: what is known of the content, of the file and of the store are parted.
 pub(crate) fn store_of<S: Alter + Drop>(
     alloc: Global,
     mut connection: Connection<S>,
@@ -110,6 +111,7 @@ fn find_blank<S: Alter>(connection: &mut Connection<S>) -> Result<(), OpenFault>
 }
 
 // Adds the rows of operators and plans, as one transaction.
+// Long: each way in which it may end has a clause.
 fn fill<S: Alter>(
     alloc: Global,
     connection: &mut Connection<S>,
@@ -180,6 +182,7 @@ fn write_operators<S: Alter>(
 }
 
 // Adds the row of an operator.
+// Long: what it adds, and what is left to add, by which the next call finds room.
 fn write_operator<S: Alter>(
     tx: &mut Transaction<'_, S>,
     listed: &ListedOperator,
@@ -220,6 +223,7 @@ fn write_heads<S: Alter>(tx: &mut Transaction<'_, S>, plans: &[FiledPlan]) -> Re
 }
 
 // Adds the row of a plan in `plan`.
+// Long: what it adds, and what is left to add, by which the next call finds room.
 fn write_head<S: Alter>(tx: &mut Transaction<'_, S>, plan: &FiledPlan) -> Result<(), OpenFault>
     requires under_way { IsUnderWay S.Store tx.old.conn.now }
     ensures same_reference { tx.new.conn.ghost_name ≡ tx.old.conn.ghost_name }

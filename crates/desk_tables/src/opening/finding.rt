@@ -146,6 +146,7 @@ pub(crate) fn create_tables<S: Alter>(
 }
 
 // The world whose rows the tables have, which get what is missing of them.
+// Long: which tables there are is told by six facts; one record says how it may end.
 #[tactic(auto, using(crate::proofs::OpeningLemmas::some_operators))]
 fn completed_in<S: Alter>(
     alloc: Global,

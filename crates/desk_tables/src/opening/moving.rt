@@ -88,6 +88,7 @@ pub(crate) fn moved_world_in<S: Alter>(
 }
 
 // The world whose rows the tables of schema 1 have, which are moved.
+// Long: which tables there are is told by five facts; one record says how it may end.
 #[tactic(auto, using(crate::proofs::OpeningLemmas::some_operators))]
 fn move_tables<S: Alter>(
     alloc: Global,
@@ -252,6 +253,7 @@ pub(crate) fn load_old_tables<S: Alter>(
 }
 
 // The rows of schema 1's tables but for spans, where the tables that schema 2 has alone have no row.
+// Long: the value, and each fault by when it is told.
 fn old_heads_alone<S: Alter>(
     alloc: Global,
     connection: &mut Connection<S>,

@@ -147,6 +147,7 @@ impl<S: Alter> SqliteStore<S> {
     /// memory runs out, `Store` if SQLite refuses for another cause, `OldSchema` if there are rows of
     /// schema 1, and `NotADesk` if there are other tables than a desk's, or if their rows are those of no
     /// content.
+    // Long: a store, a refusal and a crash have each a clause over the connection.
     pub fn adopt(
         alloc: Global,
         mut connection: Connection<S>,
@@ -191,6 +192,7 @@ impl<S: Alter> SqliteStore<S> {
     /// memory runs out, `Store` if SQLite refuses for another cause, and `NotADesk` if there are other tables
     /// than a desk's, or if their rows are neither those of a content in schema 1 nor those of one in
     /// schema 2.
+    // Long: a store, a refusal and a crash have each a clause over the connection.
     pub fn adopt_old(
         alloc: Global,
         mut connection: Connection<S>,

@@ -257,6 +257,7 @@ impl RowSink for SpanCheck {
 ///
 /// `OutOfMemory` if memory runs out, or if there are 2 ^ 63 rows. `Store` if SQLite refuses for another
 /// cause.
+// Long: the value, and apart from it what holds whatever the disk returned.
 pub(crate) fn take_spans<S: Alter>(
     connection: &mut Connection<S>,
     table: Whole,

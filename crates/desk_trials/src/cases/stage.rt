@@ -1,7 +1,5 @@
 //! Where cases are played: a desk, its moment, and what their steps do.
 
-ghost use Rattle.desk_ends.specs.Moments.{IsMoment};
-
 use crate::cases::ask::Ask;
 use crate::cases::shown::{ShownPlan, ShownRun};
 use crate::cases::step::Step;
@@ -10,6 +8,7 @@ use crate::empty_store::EmptyStore;
 use crate::named::{id_of, operator_of};
 use crate::texts::{RequestText, request_bytes};
 use anyhow::Context;
+use desk_ends::Moment;
 use desk_rules::call::{Asked, Call};
 use desk_rules::operator::Operator;
 use desk_rules::permission::Permitted;
@@ -21,28 +20,6 @@ use desk_run::{Desk, Outcome};
 use desk_wire::answer;
 use std::alloc::{AllocError, Global};
 use std::io::{self, Write};
-use volume4d::MAX_SECOND;
-
-/// A Unix second in the range of moments.
-#[derive(Clone, Copy)]
-struct Moment {
-    second: i64,
-    ghost in_range: { IsMoment second },
-}
-
-impl Moment {
-    // The moment that a word is.
-    fn parse(word: &str) -> Option<Moment> {
-        let second: i64 = word.parse().ok()?;
-        if second < 0 {
-            return None;
-        }
-        if second > MAX_SECOND {
-            return None;
-        }
-        Some(Moment { second })
-    }
-}
 
 /// A desk over a store, and its moment.
 #[derive(Drop)]
@@ -89,7 +66,7 @@ impl<S: EmptyStore> Stage<S> {
     }
 
     fn set_moment(&mut self, word: &str) -> anyhow::Result<()> {
-        self.moment = Moment::parse(word).context("no moment")?;
+        self.moment = Moment::try_new(word.parse()?).context("no moment")?;
         Ok(())
     }
 
@@ -148,7 +125,7 @@ impl<S: EmptyStore> Stage<S> {
 
     // Sends the bytes of a request, and prints the answer.
     fn send<W: Write>(&mut self, text: &[u8], output: &mut W) -> anyhow::Result<()> {
-        let bytes = answer(self.alloc, &mut self.desk, self.moment.second, text)?;
+        let bytes = answer(self.alloc, &mut self.desk, self.moment, text)?;
         output.write_all(&bytes)?;
         writeln!(output)?;
         Ok(())

@@ -87,8 +87,8 @@ impl<S: PlanStore> Stand<S> {
     // What two calls came to.
     fn run_both(&mut self, one: &Request, other: &Request) -> Option<Vec<u8>> {
         let calls = [
-            (MOMENT, call_of(self.alloc, one)?),
-            (MOMENT, call_of(self.alloc, other)?),
+            (MOMENT.second, call_of(self.alloc, one)?),
+            (MOMENT.second, call_of(self.alloc, other)?),
         ];
         let ran = self.desk.run(self.alloc, &calls).ok()?.copy().ok()?;
         if ran.stopped.is_some() {

@@ -54,7 +54,7 @@ fn enrol<S: PlanStore>(store: S, operator: &Operator, ceiling: u32) -> (S, anyho
 // Makes a call to a desk.
 fn call<S: PlanStore>(alloc: Global, store: S, asked: &Asked) -> (S, anyhow::Result<bool>) {
     let mut desk = Desk::new(store);
-    let answered = desk.call(alloc, MOMENT, asked).is_ok();
+    let answered = desk.call(alloc, MOMENT.second, asked).is_ok();
     (desk.into_store(), Ok(answered))
 }
 

@@ -2,7 +2,6 @@ use Rattle.std.proofs.Common.{◌≡◌, ◌≢◌, ◌∙◌, ◌∷◌, [], If
 use Rattle.desk_store.specs.StoreFaults.{IsHonest}
 use Rattle.desk_store.specs.laws.Fault.{was_honest}
 use Rattle.desk_run.specs.DeskWorld.{world_of}
-use Rattle.desk_ends.specs.laws.Moment.{same_moment}
 use Rattle.desk_wire.specs.RequestsKept.{IsFoundNow}
 use Rattle.desk_wire.specs.Passage.{passed}
 use Rattle.desk_wire.specs.OneRequest.{HasServed, IsTaken}
@@ -122,15 +121,16 @@ returns-clause-kept g c =
     let closes = c.close-closed.ensures.closed in
     one_kept honest c.done_after.result (record {
       news = news;
-      arrival = arrived client.moment bytes;
+      arrival = arrived client.moment.second bytes;
       out = out;
       served = c.serve_one-served.result;
       parting = parted unread now c.outcome_of.result;
     }) c.close-closed.result _ _ w listed after before mid
     (g.S.PlanStore.may_leave c.serve_one-served.new.desk.store)
     (closes.2 ∙ taken.2 ∙ brings.3)
-    (subst (λ v. Grows v (g.P.Port.traffic c.close-closed.new.self).taken (arrived client.moment bytes ∷ []))
-    brings.1 (subst (λ v. Grows (g.P.Port.traffic c.news.new.self).taken v (arrived client.moment bytes ∷ []))
+    (subst (λ v. Grows v (g.P.Port.traffic c.close-closed.new.self).taken
+    (arrived client.moment.second bytes ∷ [])) brings.1
+    (subst (λ v. Grows (g.P.Port.traffic c.news.new.self).taken v (arrived client.moment.second bytes ∷ []))
     (sym closes.1) taken.0))
     (subst (λ v. Grows v (g.P.Port.traffic c.close-closed.new.self).closed
     (parted unread now c.outcome_of.result ∷ [])) (taken.1 ∙ brings.2) closes.0)
@@ -153,15 +153,12 @@ returns-clause-kept g c =
     (enrolled_then _ honest was news w listed
     (subst (λ es. AreEnrolled (IsHonest (g.S.PlanStore.doubt c.enrol_news.new.desk.store)) es w listed)
     c.deref.ensures.value c.in_ok-enrol_news.ensures.listed))
-    (subst (λ m. HasServed honest c.serve_one-served.result (passed bytes unread out now) listed m after)
-    (same_moment client.moment c.in_ok-client.ensures.moment) c.serve_one-served.ensures.served)
+    c.serve_one-served.ensures.served
     c.done_after.ensures c.close-closed.ensures.recorded c.close-closed.ensures.fault
     (λ p found may. listed_found c.enrol_news.result news w listed before mid
     (subst (λ es. FindsNews c.enrol_news.result es w listed before mid) c.deref.ensures.value
     (c.enrol_news.ensures.found (was p))) found c.in_ok-enrol_news.field-0 c.in_ok-enrol_news.was may)
-    (λ p found may. subst (λ m. IsFoundNow c.serve_one-served.result mid (IsTaken bytes unread) listed m after
-    found) (same_moment client.moment c.in_ok-client.ensures.moment)
-    (c.serve_one-served.ensures.kept.found p found may))
+    c.serve_one-served.ensures.kept.found
 
 pub returns-clause-served : goal.returns-clause-served
 returns-clause-served g c = (returns-clause-kept g c).taken

@@ -1,5 +1,4 @@
-use Rattle.std.proofs.Common.{option_map, subst, w64}
-use Rattle.std.proofs.lemmas.Int.{to_z-of_z}
+use Rattle.std.proofs.Common.{option_map, subst}
 use Rattle.desk_reading.specs.Messages.{message_read}
 use Rattle.desk_store.specs.StoreFaults.{IsHonest}
 use Rattle.desk_run.specs.DeskFrames.{Leaves}
@@ -14,14 +13,13 @@ returns-clause-answered g c =
     let w = world_of g.S.PlanStore.content c.args.desk.now in
     let new = c.answer_request.new.desk in
     let why = c.in_ok-answer.answer.error in
-    let same = to_z-of_z w64 c.args.moment c.ranges.moment in
     record {
       why = why;
-      replied = replied (IsHonest (g.S.PlanStore.doubt new.store)) w (world_of g.S.PlanStore.content new) _
-          c.args.moment c.args.text.now c.in_ok-answer.answer.bytes.items
-          (message_read c.read_message.result) why same c.read_message.ensures
+      replied = replied (IsHonest (g.S.PlanStore.doubt new.store)) w (world_of g.S.PlanStore.content new)
+          c.args.moment.second c.args.text.now c.in_ok-answer.answer.bytes.items
+          (message_read c.read_message.result) why c.read_message.ensures
           c.in_ok-answer.ensures.told.bytes c.in_ok-answer.ensures.told.failed;
       leaves = subst (λ left. Leaves g.S.PlanStore c.args.desk.now new left (option_map desk_fault why))
-          (left_read w _ c.args.moment c.args.text.now (message_read c.read_message.result) same
+          (left_read w c.args.moment.second c.args.text.now (message_read c.read_message.result)
           c.read_message.ensures) c.in_ok-answer.ensures.leaves;
     }

@@ -1,11 +1,11 @@
-use Rattle.std.proofs.Common.{Err, ◌∙◌, ap, subst, w64}
-use Rattle.std.proofs.lemmas.Int.{to_z-of_z}
+use Rattle.std.proofs.Common.{Err, ◌∙◌, ap, subst}
 use Rattle.std.proofs.lemmas.Result.{IfOk-weaker, on_ok_weaker}
 use Rattle.desk_store.specs.StoreFaults.{IsHonest}
 use Rattle.desk_store.specs.laws.Fault.{was_honest}
 use Rattle.desk_run.specs.DeskWorld.{world_of}
 use Rattle.desk_run.specs.Calls.{IsPending, Prepares, world_committed}
 use Rattle.desk_run.specs.Verdicts.{unknown_operator, no_such_plan}
+use Rattle.desk_ends.specs.laws.Moment.{same_moment}
 use Rattle.desk_wire.specs.Bytes.{status, text}
 use Rattle.desk_wire.proofs.BytesLemmas.{change_unanswered, done_if_ok, done_unanswered, status_pending, status_unanswered}
 use Rattle.desk_run.specs.laws.Crash.{leaves_after, leaves_read}
@@ -19,16 +19,17 @@ returns-in-Ok-clause-made g c =
     let w = world_of g.S.PlanStore.content c.args.desk.now in
     let after = world_of g.S.PlanStore.content c.answer_pending.new.desk in
     let H = IsHonest (g.S.PlanStore.doubt c.answer_pending.new.desk.store) in
-    let pending : H → IsPending w c.args.moment c.args.asked.now c.in-Ok.pending = λ honest.
-    subst (λ m. IsPending w m c.args.asked.now c.in-Ok.pending) (to_z-of_z w64 c.args.moment c.ranges.moment)
+    let same = same_moment c.args.moment.second c.args.moment.in_range in
+    let pending : H → IsPending w c.args.moment.second c.args.asked.now c.in-Ok.pending = λ honest.
+    subst (λ m. IsPending w m c.args.asked.now c.in-Ok.pending) same
     (c.in-Ok.ensures.value (was_honest c.answer_pending.ensures.leaves.remembered.doubt honest)) in
-    made_if H c.answer_pending.result w c.args.moment _ after
-    (λ honest. done_if_ok (λ r. r.bytes.items) c.answer_pending.result w after c.args.moment c.args.asked.now
-    c.in-Ok.pending (pending honest) c.answer_pending.ensures.bytes
+    made_if H c.answer_pending.result w c.args.moment.second _ after
+    (λ honest. done_if_ok (λ r. r.bytes.items) c.answer_pending.result w after c.args.moment.second
+    c.args.asked.now c.in-Ok.pending (pending honest) c.answer_pending.ensures.bytes
     (on_ok_weaker c.answer_pending.result (λ e. e ∙ ap (λ v. world_committed v c.in-Ok.pending)
     c.prepare.ensures.same) (c.answer_pending.ensures.ok honest)))
     (λ honest. IfOk-weaker c.answer_pending.result _ _ (λ r told. told
-    ∙ status_pending w c.args.moment c.args.asked.now c.in-Ok.pending (pending honest))
+    ∙ status_pending w c.args.moment.second c.args.asked.now c.in-Ok.pending (pending honest))
     c.answer_pending.ensures.status)
     (no_500 c.answer_pending.result c.answer_pending.ensures.status)
     (λ honest. IfOk-weaker c.answer_pending.result _ _ (λ r told. told ∙ (pending honest).change_is)
@@ -40,20 +41,22 @@ returns-in-Err-UnknownOperator-clause-made g c =
     let w = world_of g.S.PlanStore.content c.args.desk.now in
     let after = world_of g.S.PlanStore.content c.prepare.new.self in
     let H = IsHonest (g.S.PlanStore.doubt c.prepare.new.self.store) in
-    let fault : H → Prepares w c.args.moment c.args.asked.now (Err c.in-Err-UnknownOperator.field-0) =
+    let fault : H
+    → Prepares w c.args.moment.second c.args.asked.now (Err c.in-Err-UnknownOperator.field-0) =
     λ honest. subst (λ m. Prepares w m c.args.asked.now (Err c.in-Err-UnknownOperator.field-0))
-    (to_z-of_z w64 c.args.moment c.ranges.moment) (c.in-Err-UnknownOperator.ensures.value honest) in
-    made_if H c.refuse.result w c.args.moment _ after
+    (same_moment c.args.moment.second c.args.moment.in_range)
+    (c.in-Err-UnknownOperator.ensures.value honest) in
+    made_if H c.refuse.result w c.args.moment.second _ after
     (λ honest. IfOk-weaker c.refuse.result _ _ (λ r told.
-    done_unanswered w after c.args.moment c.args.asked.now unknown_operator r.bytes.items
+    done_unanswered w after c.args.moment.second c.args.asked.now unknown_operator r.bytes.items
     (rw c.in-Err-UnknownOperator.field-0-is at fault honest) told c.prepare.ensures.same)
     c.refuse.ensures.bytes)
     (λ honest. IfOk-weaker c.refuse.result _ _ (λ r told. told
-    ∙ status_unanswered w c.args.moment c.args.asked.now unknown_operator
+    ∙ status_unanswered w c.args.moment.second c.args.asked.now unknown_operator
     (rw c.in-Err-UnknownOperator.field-0-is at fault honest)) c.refuse.ensures.status)
     c.refuse.ensures.other
     (λ honest. IfOk-weaker c.refuse.result _ _ (λ r told. told
-    ∙ change_unanswered w c.args.moment c.args.asked.now unknown_operator
+    ∙ change_unanswered w c.args.moment.second c.args.asked.now unknown_operator
     (rw c.in-Err-UnknownOperator.field-0-is at fault honest)) c.refuse.ensures.change)
 
 pub returns-in-Err-NoSuchPlan-clause-made : goal.returns-in-Err-NoSuchPlan-clause-made
@@ -62,20 +65,20 @@ returns-in-Err-NoSuchPlan-clause-made g c =
     let w = world_of g.S.PlanStore.content c.args.desk.now in
     let after = world_of g.S.PlanStore.content c.prepare.new.self in
     let H = IsHonest (g.S.PlanStore.doubt c.prepare.new.self.store) in
-    let fault : H → Prepares w c.args.moment c.args.asked.now (Err c.in-Err-NoSuchPlan.field-0) =
+    let fault : H → Prepares w c.args.moment.second c.args.asked.now (Err c.in-Err-NoSuchPlan.field-0) =
     λ honest. subst (λ m. Prepares w m c.args.asked.now (Err c.in-Err-NoSuchPlan.field-0))
-    (to_z-of_z w64 c.args.moment c.ranges.moment) (c.in-Err-NoSuchPlan.ensures.value honest) in
-    made_if H c.refuse-in-Err-NoSuchPlan.result w c.args.moment _ after
+    (same_moment c.args.moment.second c.args.moment.in_range) (c.in-Err-NoSuchPlan.ensures.value honest) in
+    made_if H c.refuse-in-Err-NoSuchPlan.result w c.args.moment.second _ after
     (λ honest. IfOk-weaker c.refuse-in-Err-NoSuchPlan.result _ _ (λ r told.
-    done_unanswered w after c.args.moment c.args.asked.now no_such_plan r.bytes.items
+    done_unanswered w after c.args.moment.second c.args.asked.now no_such_plan r.bytes.items
     (rw c.in-Err-NoSuchPlan.field-0-is at fault honest) told c.prepare.ensures.same)
     c.refuse-in-Err-NoSuchPlan.ensures.bytes)
     (λ honest. IfOk-weaker c.refuse-in-Err-NoSuchPlan.result _ _ (λ r told. told
-    ∙ status_unanswered w c.args.moment c.args.asked.now no_such_plan
+    ∙ status_unanswered w c.args.moment.second c.args.asked.now no_such_plan
     (rw c.in-Err-NoSuchPlan.field-0-is at fault honest)) c.refuse-in-Err-NoSuchPlan.ensures.status)
     c.refuse-in-Err-NoSuchPlan.ensures.other
     (λ honest. IfOk-weaker c.refuse-in-Err-NoSuchPlan.result _ _ (λ r told. told
-    ∙ change_unanswered w c.args.moment c.args.asked.now no_such_plan
+    ∙ change_unanswered w c.args.moment.second c.args.asked.now no_such_plan
     (rw c.in-Err-NoSuchPlan.field-0-is at fault honest)) c.refuse-in-Err-NoSuchPlan.ensures.change)
 
 -- nothing but the commit changes the content
@@ -87,7 +90,7 @@ returns-in-Ok-clause-leaves g c =
     c.answer_pending.ensures.leaves
     (λ before. ap (λ v. (world_committed v c.in-Ok.pending).content) c.prepare.ensures.same
     ∙ ap (λ v. v.content) (subst (λ m. IsPending w m c.args.asked.now c.in-Ok.pending)
-    (to_z-of_z w64 c.args.moment c.ranges.moment) (c.in-Ok.ensures.value before)).left)
+    (same_moment c.args.moment.second c.args.moment.in_range) (c.in-Ok.ensures.value before)).left)
 
 pub returns-in-Err-UnknownOperator-clause-leaves : goal.returns-in-Err-UnknownOperator-clause-leaves
 returns-in-Err-UnknownOperator-clause-leaves g c =

@@ -1,7 +1,5 @@
-use Rattle.std.proofs.Common.{IfOk, of_z, refl, subst, to_z, w64}
-use Rattle.std.proofs.lemmas.Int.{to_z-of_z}
+use Rattle.std.proofs.Common.{IfOk, refl, subst}
 use Rattle.desk_reading.specs.Messages.{message_read}
-use Rattle.desk_reading.specs.Requests.{asked}
 use Rattle.desk_store.specs.StoreFaults.{IsHonest}
 use Rattle.desk_run.specs.DeskFrames.{Leaves}
 use Rattle.desk_run.specs.DeskWorld.{world_of}
@@ -17,16 +15,14 @@ returns-clause-told g c =
     let after = world_of g.S.PlanStore.content new in
     let H = IsHonest (g.S.PlanStore.doubt new.store) in
     let text = c.args.text.now in
-    subst (λ m. IfOk c.answer_request.result (IsAnswerTold H w m (asked text) after))
-    (to_z-of_z w64 c.args.moment c.ranges.moment)
-    (subst (λ r. IfOk c.answer_request.result (IsAnswerTold H w (to_z w64 (of_z w64 c.args.moment)) r after))
+    subst (λ r. IfOk c.answer_request.result (IsAnswerTold H w c.args.moment.second r after))
     (asked_read text text (message_read c.read_message.result) c.read_message.ensures refl)
-    c.answer_request.ensures.told)
+    c.answer_request.ensures.told
 
 pub returns-clause-leaves : goal.returns-clause-leaves
 returns-clause-leaves g c =
     let w = world_of g.S.PlanStore.content c.args.desk.now in
     subst (λ left. Leaves g.S.PlanStore c.args.desk.now c.answer_request.new.desk left
     (failure_told c.answer_request.result))
-    (left_read w _ c.args.moment c.args.text.now (message_read c.read_message.result)
-    (to_z-of_z w64 c.args.moment c.ranges.moment) c.read_message.ensures) c.answer_request.ensures.leaves
+    (left_read w c.args.moment.second c.args.text.now (message_read c.read_message.result)
+    c.read_message.ensures) c.answer_request.ensures.leaves

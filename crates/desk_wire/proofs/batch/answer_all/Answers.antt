@@ -3,7 +3,6 @@ use Rattle.std.proofs.lemmas.List.{length-append, length-map}
 use Rattle.desk_reading.specs.Messages.{message_read}
 use Rattle.desk_store.specs.laws.Fault.{was_honest}
 use Rattle.desk_run.specs.DeskWorld.{world_of}
-use Rattle.desk_ends.specs.laws.Moment.{moment_at, is_moment_at, same_moment}
 use Rattle.desk_wire.specs.AllAnswers.{AreBroken}
 use Rattle.desk_wire.specs.declared.batch.AnswersEnd.TheVariants.{All, Broken, NoMemory}
 use Rattle.desk_wire.proofs.GivenLemmas.{given_quiet}
@@ -16,10 +15,6 @@ use Rattle.desk_wire.proofs.AllLemmas.{HaveAnswers, one_answered, cut_answered, 
 use Rattle.desk_wire.proofs.KeptLemmas.{found_next, found_settled, is_none_by}
 use Rattle.desk_wire.proofs.batch.answer_all.Goals as goal
 
-pub answer_request-answer-requires : goal.answer_request-answer-requires
-answer_request-answer-requires g c = moment_at (λ r. r.0) c.args.requests.now c.loop-moment.moment-index
-    c.loop-moment-item.result c.loop-moment-test.true c.loop-moment-item.is c.requires
-
 pub loop-moment-preserved : goal.loop-moment-preserved
 loop-moment-preserved g c =
     let requests = c.args.requests.now in
@@ -28,18 +23,16 @@ loop-moment-preserved g c =
     let w = world_of g.S.PlanStore.content c.args.desk.now in
     let now = world_of g.S.PlanStore.content c.loop-moment.desk in
     let after = world_of g.S.PlanStore.content c.answer_request-answer.new.desk in
-    let same = same_moment r.0 (is_moment_at (λ q. q.0) requests n r c.loop-moment-test.true
-    c.loop-moment-item.is c.requires) in
     let none = sym c.is_some.ensures ∙ c.if-is_some.false in
     record {
       answered = λ honest.
-          let done = done_so now after _ r.0 c.deref.result.now r.1.items
+          let done = done_so now after r.0.second c.deref.result.now r.1.items
           (message_read c.read_message.result)
-          c.in-Ok.field-0.bytes.items c.in-Ok.field-0.error none same c.read_message.ensures
+          c.in-Ok.field-0.bytes.items c.in-Ok.field-0.error none c.read_message.ensures
           c.deref.ensures.value (c.in-Ok.ensures.told.bytes honest) in
-          subst (λ xs. HaveAnswers (λ q. (q.0, q.1.items)) (λ v. v.items) w requests (n + 1) xs after)
+          subst (λ xs. HaveAnswers (λ q. (q.0.second, q.1.items)) (λ v. v.items) w requests (n + 1) xs after)
           (sym c.push_reserved.ensures.items)
-          (one_answered (λ q. (q.0, q.1.items)) (λ v. v.items) w now after requests n
+          (one_answered (λ q. (q.0.second, q.1.items)) (λ v. v.items) w now after requests n
           c.loop-moment.answers.items r c.in-Ok.field-0.bytes
           (c.loop-moment.invariant.answered
           (was_honest c.answer_request-answer.ensures.leaves.remembered.doubt honest))
@@ -69,8 +62,8 @@ loop-moment-preserved g c =
 
 pub returns-in_default-clause-answers : goal.returns-in_default-clause-answers
 returns-in_default-clause-answers g c = λ honest.
-    cut_answered (λ q. (q.0, q.1.items)) (λ v. v.items) (world_of g.S.PlanStore.content c.args.desk.now)
-    (world_of g.S.PlanStore.content c.loop-moment.desk)
+    cut_answered (λ q. (q.0.second, q.1.items)) (λ v. v.items)
+    (world_of g.S.PlanStore.content c.args.desk.now) (world_of g.S.PlanStore.content c.loop-moment.desk)
     (world_of g.S.PlanStore.content c.answer_request-answer.new.desk)
     c.args.requests.now c.loop-moment.moment-index c.loop-moment.answers.items
     (c.loop-moment.invariant.answered (was_honest c.answer_request-answer.ensures.leaves.remembered.doubt
@@ -82,12 +75,11 @@ returns-then-is_some-clause-answers g c = λ honest.
     let some = sym c.is_some.ensures ∙ c.if-is_some.true in
     let w = world_of g.S.PlanStore.content c.args.desk.now in
     let after = world_of g.S.PlanStore.content c.answer_request-answer.new.desk in
-    subst (λ xs. AreBroken w (map (λ q. (q.0, q.1.items)) c.args.requests.now) (map (λ v. v.items) xs)
-    after)
+    subst (λ xs. AreBroken w (map (λ q. (q.0.second, q.1.items)) c.args.requests.now)
+    (map (λ v. v.items) xs) after)
     (sym c.push_reserved.ensures.items)
-    (failed_so (λ q. (q.0, q.1.items)) (λ v. v.items) w (world_of g.S.PlanStore.content c.loop-moment.desk)
-    after
-    _ _
+    (failed_so (λ q. (q.0.second, q.1.items)) (λ v. v.items) w
+    (world_of g.S.PlanStore.content c.loop-moment.desk) after _ _
     c.args.requests.now c.loop-moment.moment-index c.loop-moment.answers.items c.in-Ok.field-0.bytes
     c.in-Ok.field-0.error some (c.in-Ok.ensures.told.bytes honest)
     (c.loop-moment.invariant.answered (was_honest c.answer_request-answer.ensures.leaves.remembered.doubt
@@ -96,8 +88,9 @@ returns-then-is_some-clause-answers g c = λ honest.
 
 pub returns-clause-answers : goal.returns-clause-answers
 returns-clause-answers g c = λ honest.
-    all_answered (λ q. (q.0, q.1.items)) (λ v. v.items) (world_of g.S.PlanStore.content c.args.desk.now)
-    (world_of g.S.PlanStore.content c.loop-moment.desk) c.args.requests.now c.loop-moment.moment-index
+    all_answered (λ q. (q.0.second, q.1.items)) (λ v. v.items)
+    (world_of g.S.PlanStore.content c.args.desk.now) (world_of g.S.PlanStore.content c.loop-moment.desk)
+    c.args.requests.now c.loop-moment.moment-index
     c.loop-moment.answers.items (c.loop-moment.invariant.answered honest) c.loop-moment-test.false
 
 -- an operator that sent nothing owns what it did, by the clause of the answers
@@ -122,18 +115,16 @@ returns-in_default-clause-kept g c = λ honest settled found may.
     let w = world_of g.S.PlanStore.content c.args.desk.now in
     let now = world_of g.S.PlanStore.content c.loop-moment.desk in
     let old = was_honest c.answer_request-answer.ensures.leaves.remembered.doubt honest in
-    let same = same_moment r.0 (is_moment_at (λ q. q.0) requests n r c.loop-moment-test.true
-    c.loop-moment-item.is c.requires) in
-    let finds = found_next (λ q. (q.0, q.1.items)) (λ v. v.items) w now requests n
+    let finds = found_next (λ q. (q.0.second, q.1.items)) (λ v. v.items) w now requests n
     c.loop-moment.answers.items r
-    (g.S.PlanStore.may_leave c.loop-moment.desk.store) _ r.0 c.deref.result.now
+    (g.S.PlanStore.may_leave c.loop-moment.desk.store) r.0.second c.deref.result.now
     (message_read c.read_message.result) found (c.loop-moment.invariant.answered old)
-    c.loop-moment-test.true c.loop-moment-item.is (ap (λ t. (r.0, t)) (sym c.deref.ensures.value)) same
+    c.loop-moment-test.true c.loop-moment-item.is (ap (λ t. (r.0.second, t)) (sym c.deref.ensures.value))
     c.read_message.ensures (c.loop-moment.invariant.settled old settled found)
     (c.answer_request-answer.ensures.leaves.crash honest found may) in
     let count : n ≡ length (map (λ v. v.items) c.loop-moment.answers.items) =
     sym (length-map c.loop-moment.answers.items (λ v. v.items) ∙ c.loop-moment.invariant.count) in
-    subst (λ k. IsFoundInRequests w (map (λ q. (q.0, q.1.items)) requests) k found) count finds
+    subst (λ k. IsFoundInRequests w (map (λ q. (q.0.second, q.1.items)) requests) k found) count finds
 
 pub returns-then-is_some-clause-kept : goal.returns-then-is_some-clause-kept
 returns-then-is_some-clause-kept g c = λ honest settled found may.
@@ -143,13 +134,11 @@ returns-then-is_some-clause-kept g c = λ honest settled found may.
     let w = world_of g.S.PlanStore.content c.args.desk.now in
     let now = world_of g.S.PlanStore.content c.loop-moment.desk in
     let old = was_honest c.answer_request-answer.ensures.leaves.remembered.doubt honest in
-    let same = same_moment r.0 (is_moment_at (λ q. q.0) requests n r c.loop-moment-test.true
-    c.loop-moment-item.is c.requires) in
-    let finds = found_next (λ q. (q.0, q.1.items)) (λ v. v.items) w now requests n
+    let finds = found_next (λ q. (q.0.second, q.1.items)) (λ v. v.items) w now requests n
     c.loop-moment.answers.items r
-    (g.S.PlanStore.may_leave c.loop-moment.desk.store) _ r.0 c.deref.result.now
+    (g.S.PlanStore.may_leave c.loop-moment.desk.store) r.0.second c.deref.result.now
     (message_read c.read_message.result) found (c.loop-moment.invariant.answered old)
-    c.loop-moment-test.true c.loop-moment-item.is (ap (λ t. (r.0, t)) (sym c.deref.ensures.value)) same
+    c.loop-moment-test.true c.loop-moment-item.is (ap (λ t. (r.0.second, t)) (sym c.deref.ensures.value))
     c.read_message.ensures (c.loop-moment.invariant.settled old settled found)
     (c.answer_request-answer.ensures.leaves.crash honest found may) in
     let size = ap length c.push_reserved.ensures.items
@@ -161,7 +150,7 @@ returns-then-is_some-clause-kept g c = λ honest settled found may.
       c.loop-moment.invariant.count,
       length-map c.push_reserved.new.self.items (λ v. v.items),
     ) in
-    subst (λ k. IsFoundInRequests w (map (λ q. (q.0, q.1.items)) requests) k found) count finds
+    subst (λ k. IsFoundInRequests w (map (λ q. (q.0.second, q.1.items)) requests) k found) count finds
 
 pub returns-clause-kept : goal.returns-clause-kept
 returns-clause-kept g c = λ honest settled found may.
@@ -169,8 +158,8 @@ returns-clause-kept g c = λ honest settled found may.
     let requests = c.args.requests.now in
     let count : c.loop-moment.moment-index ≡ length (map (λ v. v.items) c.loop-moment.answers.items) =
     sym (length-map c.loop-moment.answers.items (λ v. v.items) ∙ c.loop-moment.invariant.count) in
-    subst (λ k. IsFoundInRequests w (map (λ q. (q.0, q.1.items)) requests) k found) count
-    (found_settled (λ q. (q.0, q.1.items)) (λ v. v.items) w
+    subst (λ k. IsFoundInRequests w (map (λ q. (q.0.second, q.1.items)) requests) k found) count
+    (found_settled (λ q. (q.0.second, q.1.items)) (λ v. v.items) w
     (world_of g.S.PlanStore.content c.loop-moment.desk) requests c.loop-moment.moment-index
     c.loop-moment.answers.items found (c.loop-moment.invariant.answered honest)
     (c.loop-moment.invariant.settled honest settled found may))

@@ -9,8 +9,8 @@ abbrev pub invariant-loop-moment : goal.invariant-loop-moment
 invariant-loop-moment g l =
     record {
       answered : IsHonest (g.S.PlanStore.doubt l.desk.store)
-          → HaveAnswers (λ r. (r.0, r.1.items)) (λ v. v.items) (world_of g.S.PlanStore.content l.fn.desk)
-          l.requests
+          → HaveAnswers (λ r. (r.0.second, r.1.items)) (λ v. v.items)
+          (world_of g.S.PlanStore.content l.fn.desk) l.requests
           l.moment-index l.answers.items (world_of g.S.PlanStore.content l.desk);
       settled : IsHonest (g.S.PlanStore.doubt l.desk.store)
           → IsSettled g.S.PlanStore.content g.S.PlanStore.may_leave l.fn.desk

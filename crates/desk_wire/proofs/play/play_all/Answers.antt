@@ -1,14 +1,11 @@
-use Rattle.std.proofs.Common.{◌≡◌, ◌+◌, of_z, to_z, w64, refl, sym, subst, ◌∙◌, arith, rules}
+use Rattle.std.proofs.Common.{◌≡◌, ◌+◌, refl, sym, ◌∙◌, arith, rules}
 use Rattle.std.proofs.KnownBytes.{Keeps-refl}
-use Rattle.std.proofs.lemmas.Int.{to_z-of_z}
 use Rattle.desk_store.specs.StoreFaults.{IsHonest}
 use Rattle.desk_store.specs.laws.Fault.{was_honest}
 use Rattle.desk_run.specs.DeskWorld.{world_of}
 use Rattle.desk_ends.specs.declared.playing.PlayEnd.TheVariants.{End, Unframed, Broken, Limit, Fault}
 use Rattle.desk_ends.specs.declared.serving.Served.TheVariants as outcome
-use Rattle.desk_wire.specs.Passage.{passed}
-use Rattle.desk_wire.specs.Playing.{ArePlayed}
-use Rattle.desk_wire.proofs.KeptLemmas.{fault_last, kept_so, old_or_next}
+use Rattle.desk_wire.proofs.KeptLemmas.{fault_last, kept_by, old_or_next}
 use Rattle.desk_wire.proofs.PlayLemmas.{none_played, one_played, broken_next, played_if, is_500, not_500}
 use Rattle.desk_wire.proofs.CauseLemmas.{failed_last, grows_more, grows_none}
 use Rattle.desk_wire.proofs.play.play_all.Goals as goal
@@ -28,20 +25,14 @@ returns-then-is_server_error-clause-played g c =
     let honest = IsHonest (g.S.PlanStore.doubt c.serve_one.new.desk.store) in
     let w = world_of g.S.PlanStore.content c.loop-before.desk in
     let after = world_of g.S.PlanStore.content c.serve_one.new.desk in
-    let same = to_z-of_z w64 c.args.moment c.ranges.moment in
     let served = rw c.in-Answered.is at c.in-Ok.ensures.served in
     record {
       count = c.loop-before.before;
       input = g.R.Read.remaining c.loop-before.input;
       output = g.W.Write.contents c.loop-before.output;
       world = w;
-      first =
-          subst (λ m. ArePlayed honest c.loop-before.before (passed (g.R.Read.remaining c.args.input.now)
-          (g.R.Read.remaining c.loop-before.input) (g.W.Write.contents c.args.output.now)
-          (g.W.Write.contents c.loop-before.output)) (world_of g.S.PlanStore.content c.args.desk.now) m w)
-          same
-          (played_if (IsHonest (g.S.PlanStore.doubt c.loop-before.desk.store)) honest _ _ _ _ _ _ _ _
-          (was_honest c.serve_one.ensures.remembered.doubt) c.loop-before.invariant.played);
+      first = played_if (IsHonest (g.S.PlanStore.doubt c.loop-before.desk.store)) honest _ _ _ _ _ _ _ _
+          (was_honest c.serve_one.ensures.remembered.doubt) c.loop-before.invariant.played;
       last = (
         refl,
         broken_next honest _ _ _ _ w _ after c.in-Answered.status c.in-Answered.framed served
@@ -85,13 +76,11 @@ returns-in-Err-clause-kept g c = λ p settled found may.
     let w = world_of g.S.PlanStore.content c.loop-before.desk in
     let after = world_of g.S.PlanStore.content c.serve_one.new.desk in
     let here = c.loop-before.invariant.settled (was_honest c.serve_one.ensures.remembered.doubt p) settled in
-    kept_so honest (Fault c.in-Err.fault) c.loop-before.before c.loop-before.before
-    (g.R.Read.remaining c.args.input.now)
+    kept_by honest (g.R.Read.remaining c.args.input.now) (g.W.Write.contents c.args.output.now)
+    (world_of g.S.PlanStore.content c.args.desk.now) c.args.moment.second p (Fault c.in-Err.fault)
+    c.loop-before.before c.loop-before.before
     (g.R.Read.remaining c.loop-before.input) (g.R.Read.remaining c.serve_one.new.input)
-    (g.W.Write.contents c.args.output.now) (g.W.Write.contents c.loop-before.output)
-    (g.W.Write.contents c.serve_one.new.output) (world_of g.S.PlanStore.content c.args.desk.now) w after
-    (to_z w64 (of_z w64 c.args.moment)) c.args.moment found p
-    (to_z-of_z w64 c.args.moment c.ranges.moment)
+    (g.W.Write.contents c.loop-before.output) (g.W.Write.contents c.serve_one.new.output) w after found
     (played_if (IsHonest (g.S.PlanStore.doubt c.loop-before.desk.store)) honest _ _ _ _ _ _ _ _
     (was_honest c.serve_one.ensures.remembered.doubt) c.loop-before.invariant.played)
     (refl, c.in-Err.ensures.served)
@@ -108,12 +97,11 @@ returns-in_default-clause-kept g c = λ p settled found may.
     let is : c.in-Ok.served ≡ outcome.End = search rules in
     let served = rw is at c.in-Ok.ensures.served in
     let kept = rw is at c.in-Ok.ensures.kept in
-    kept_so honest End c.loop-before.before c.loop-before.before (g.R.Read.remaining c.args.input.now)
+    kept_by honest (g.R.Read.remaining c.args.input.now) (g.W.Write.contents c.args.output.now)
+    (world_of g.S.PlanStore.content c.args.desk.now) c.args.moment.second p End
+    c.loop-before.before c.loop-before.before
     (g.R.Read.remaining c.loop-before.input) (g.R.Read.remaining c.serve_one.new.input)
-    (g.W.Write.contents c.args.output.now) (g.W.Write.contents c.loop-before.output)
-    (g.W.Write.contents c.serve_one.new.output) (world_of g.S.PlanStore.content c.args.desk.now) w after
-    (to_z w64 (of_z w64 c.args.moment)) c.args.moment found p
-    (to_z-of_z w64 c.args.moment c.ranges.moment)
+    (g.W.Write.contents c.loop-before.output) (g.W.Write.contents c.serve_one.new.output) w after found
     (played_if (IsHonest (g.S.PlanStore.doubt c.loop-before.desk.store)) honest _ _ _ _ _ _ _ _
     (was_honest c.serve_one.ensures.remembered.doubt) c.loop-before.invariant.played)
     (refl, served.0, served.1)
@@ -126,13 +114,11 @@ returns-then-is_server_error-clause-kept g c = λ p settled found may.
     let after = world_of g.S.PlanStore.content c.serve_one.new.desk in
     let here = c.loop-before.invariant.settled (was_honest c.serve_one.ensures.remembered.doubt p) settled in
     let served = rw c.in-Answered.is at c.in-Ok.ensures.served in
-    kept_so honest Broken c.loop-before.before (c.loop-before.before + 1)
-    (g.R.Read.remaining c.args.input.now)
+    kept_by honest (g.R.Read.remaining c.args.input.now) (g.W.Write.contents c.args.output.now)
+    (world_of g.S.PlanStore.content c.args.desk.now) c.args.moment.second p Broken
+    c.loop-before.before (c.loop-before.before + 1)
     (g.R.Read.remaining c.loop-before.input) (g.R.Read.remaining c.serve_one.new.input)
-    (g.W.Write.contents c.args.output.now) (g.W.Write.contents c.loop-before.output)
-    (g.W.Write.contents c.serve_one.new.output) (world_of g.S.PlanStore.content c.args.desk.now) w after
-    (to_z w64 (of_z w64 c.args.moment)) c.args.moment found p
-    (to_z-of_z w64 c.args.moment c.ranges.moment)
+    (g.W.Write.contents c.loop-before.output) (g.W.Write.contents c.serve_one.new.output) w after found
     (played_if (IsHonest (g.S.PlanStore.doubt c.loop-before.desk.store)) honest _ _ _ _ _ _ _ _
     (was_honest c.serve_one.ensures.remembered.doubt) c.loop-before.invariant.played) (
       refl,
@@ -151,13 +137,11 @@ returns-then-not-framed-clause-kept g c = λ p settled found may.
     let served = rw c.in-Answered.is at c.in-Ok.ensures.served in
     let kept = rw c.in-Answered.is at c.in-Ok.ensures.kept in
     let other = not_500 c.in-Answered.status (sym c.is_server_error.ensures ∙ c.if-is_server_error.false) in
-    kept_so honest Unframed c.loop-before.before (c.loop-before.before + 1)
-    (g.R.Read.remaining c.args.input.now)
+    kept_by honest (g.R.Read.remaining c.args.input.now) (g.W.Write.contents c.args.output.now)
+    (world_of g.S.PlanStore.content c.args.desk.now) c.args.moment.second p Unframed
+    c.loop-before.before (c.loop-before.before + 1)
     (g.R.Read.remaining c.loop-before.input) (g.R.Read.remaining c.serve_one.new.input)
-    (g.W.Write.contents c.args.output.now) (g.W.Write.contents c.loop-before.output)
-    (g.W.Write.contents c.serve_one.new.output) (world_of g.S.PlanStore.content c.args.desk.now) w after
-    (to_z w64 (of_z w64 c.args.moment)) c.args.moment found p
-    (to_z-of_z w64 c.args.moment c.ranges.moment)
+    (g.W.Write.contents c.loop-before.output) (g.W.Write.contents c.serve_one.new.output) w after found
     (played_if (IsHonest (g.S.PlanStore.doubt c.loop-before.desk.store)) honest _ _ _ _ _ _ _ _
     (was_honest c.serve_one.ensures.remembered.doubt) c.loop-before.invariant.played) (
       refl,
@@ -175,12 +159,12 @@ returns-clause-kept g c = λ p settled found may.
     let w = world_of g.S.PlanStore.content c.loop-before.desk in
     let count : 1000000 ≡ c.loop-before.before =
     omega (arith, c.loop-before-test.false, c.loop-before.auto.before-end) in
-    kept_so honest Limit c.loop-before.before 1000000 (g.R.Read.remaining c.args.input.now)
+    kept_by honest (g.R.Read.remaining c.args.input.now) (g.W.Write.contents c.args.output.now)
+    (world_of g.S.PlanStore.content c.args.desk.now) c.args.moment.second p Limit
+    c.loop-before.before 1000000
     (g.R.Read.remaining c.loop-before.input) (g.R.Read.remaining c.loop-before.input)
-    (g.W.Write.contents c.args.output.now) (g.W.Write.contents c.loop-before.output)
-    (g.W.Write.contents c.loop-before.output) (world_of g.S.PlanStore.content c.args.desk.now) w w
-    (to_z w64 (of_z w64 c.args.moment)) c.args.moment found p
-    (to_z-of_z w64 c.args.moment c.ranges.moment) c.loop-before.invariant.played (
+    (g.W.Write.contents c.loop-before.output) (g.W.Write.contents c.loop-before.output) w w found
+    c.loop-before.invariant.played (
       count,
       sym count,
       record {

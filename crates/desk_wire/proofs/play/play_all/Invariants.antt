@@ -13,7 +13,7 @@ invariant-loop-before g l =
       played : ArePlayed (IsHonest (g.S.PlanStore.doubt l.desk.store)) l.before
           (passed (g.R.Read.remaining l.fn.input) (g.R.Read.remaining l.input)
           (g.W.Write.contents l.fn.output) (g.W.Write.contents l.output))
-          (world_of g.S.PlanStore.content l.fn.desk) l.moment (world_of g.S.PlanStore.content l.desk);
+          (world_of g.S.PlanStore.content l.fn.desk) l.moment.second (world_of g.S.PlanStore.content l.desk);
       settled : IsHonest (g.S.PlanStore.doubt l.desk.store)
           → IsSettled g.S.PlanStore.content g.S.PlanStore.may_leave l.fn.desk
           → IsSettled g.S.PlanStore.content g.S.PlanStore.may_leave l.desk;

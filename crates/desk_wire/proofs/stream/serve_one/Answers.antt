@@ -1,6 +1,5 @@
-use Rattle.std.proofs.Common.{◌<◌, ◌++◌, IfSome, Ok, option_map, w64, refl, sym, ap, subst, ◌∙◌, length}
+use Rattle.std.proofs.Common.{◌<◌, ◌++◌, IfSome, Ok, option_map, refl, sym, ap, subst, ◌∙◌, length}
 use Rattle.std.specs.Result.{is_ok}
-use Rattle.std.proofs.lemmas.Int.{to_z-of_z}
 use Rattle.desk_reading.specs.Messages.{message_read}
 use Rattle.desk_store.specs.StoreFaults.{IsHonest}
 use Rattle.desk_run.specs.DeskWorld.{world_of}
@@ -46,17 +45,15 @@ returns-in_err-write_whole-clause-served g c =
     (c.in_ok-body.ensures.size ∙ c.size_of.ensures) message in
     let w = world_of g.S.PlanStore.content c.args.desk.now in
     let after = world_of g.S.PlanStore.content c.answer_request.new.desk in
-    let moment = to_z-of_z w64 c.args.moment c.ranges.moment in
     let why = c.in_ok-answer.answer.error in
     let answer = c.in_ok-answer.answer.bytes.items in
-    let told = replied (IsHonest (g.S.PlanStore.doubt c.answer_request.new.desk.store)) w after _
-    c.args.moment
-    (text ++ body) answer (message_read c.message_of-request.result) why moment got.read
+    let told = replied (IsHonest (g.S.PlanStore.doubt c.answer_request.new.desk.store)) w after
+    c.args.moment.second (text ++ body) answer (message_read c.message_of-request.result) why got.read
     c.in_ok-answer.ensures.told.bytes c.in_ok-answer.ensures.told.failed in
     let off = rw c.deref-3.ensures.value at c.in_err-write_whole.ensures.err in
     broken (IsHonest (g.S.PlanStore.doubt c.answer_request.new.desk.store))
     c.from_residual-in_err-write_whole.result c.in_err-write_whole.field-0.0.fault _ _ _ _ w after
-    c.args.moment (text ++ body) answer why
+    c.args.moment.second (text ++ body) answer why
     c.from_residual-in_err-write_whole.ensures.1 off got.taken told
 
 pub returns-clause-served : goal.returns-clause-served
@@ -75,16 +72,14 @@ returns-clause-served g c =
     (c.in_ok-body.ensures.size ∙ c.size_of.ensures) message in
     let w = world_of g.S.PlanStore.content c.args.desk.now in
     let after = world_of g.S.PlanStore.content c.answer_request.new.desk in
-    let moment = to_z-of_z w64 c.args.moment c.ranges.moment in
     let why = c.in_ok-answer.answer.error in
     let answer = c.in_ok-answer.answer.bytes.items in
-    let told = replied (IsHonest (g.S.PlanStore.doubt c.answer_request.new.desk.store)) w after _
-    c.args.moment
-    (text ++ body) answer (message_read c.message_of-request.result) why moment got.read
+    let told = replied (IsHonest (g.S.PlanStore.doubt c.answer_request.new.desk.store)) w after
+    c.args.moment.second (text ++ body) answer (message_read c.message_of-request.result) why got.read
     c.in_ok-answer.ensures.told.bytes c.in_ok-answer.ensures.told.failed in
     served_as (IsHonest (g.S.PlanStore.doubt c.answer_request.new.desk.store)) c.answered.result
     c.in_ok-answer.answer.status (is_ok c.message_of-request.result) (g.R.Read.remaining c.args.input.now)
-    _ _ _ w after c.args.moment
+    _ _ _ w after c.args.moment.second
     c.answered.ensures record {
       request = text ++ body;
       taken = got.taken;
@@ -92,9 +87,9 @@ returns-clause-served g c =
       answer = answer;
       why = why;
       replied = told;
-      status_is = status_as (IsHonest (g.S.PlanStore.doubt c.answer_request.new.desk.store)) w _ c.args.moment
-          (text ++ body) (message_read c.message_of-request.result) why c.in_ok-answer.answer.status moment
-          got.read c.in_ok-answer.ensures.told.status;
+      status_is = status_as (IsHonest (g.S.PlanStore.doubt c.answer_request.new.desk.store)) w
+          c.args.moment.second (text ++ body) (message_read c.message_of-request.result) why
+          c.in_ok-answer.answer.status got.read c.in_ok-answer.ensures.told.status;
       gave_up = c.in_ok-answer.ensures.told.gave_up;
       written = rw c.deref-3.ensures.value at c.in_ok-write_whole.ensures.ok;
     }
@@ -116,13 +111,13 @@ returns-in_err-answer-clause-kept g c =
     c.in_ok-text.ensures.taken (c.in_ok-text.ensures.front some) front c.in_ok-body.ensures.taken
     (c.in_ok-body.ensures.size ∙ c.size_of.ensures) message in
     kept_failed g.S.PlanStore c.args.desk.now c.answer_request.new.desk c.from_residual-in_err-answer.result _
-    c.args.moment c.in_err-answer.ensures.leaves.same
+    c.args.moment.second c.in_err-answer.ensures.leaves.same
     (uncertain_memory _ c.from_residual-in_err-answer.ensures.1)
     (λ honest. left_served (g.S.PlanStore.may_leave c.args.desk.now.store)
     (g.S.PlanStore.may_leave c.answer_request.new.desk.store) (g.R.Read.remaining c.args.input.now)
-    (g.R.Read.remaining c.receive_body.new.input) _ c.args.moment
+    (g.R.Read.remaining c.receive_body.new.input) c.args.moment.second
     (world_of g.S.PlanStore.content c.args.desk.now) (message_read c.message_of-request.result)
-    (text ++ body) (to_z-of_z w64 c.args.moment c.ranges.moment) got.taken got.read
+    (text ++ body) got.taken got.read
     (c.answer_request.ensures.leaves.crash honest))
 
 pub returns-in_err-write_whole-clause-kept : goal.returns-in_err-write_whole-clause-kept
@@ -142,15 +137,15 @@ returns-in_err-write_whole-clause-kept g c =
     let unsure = uncertain_write c.from_residual-in_err-write_whole.result
     c.in_err-write_whole.field-0.0.fault c.from_residual-in_err-write_whole.ensures.1 in
     kept_answered g.S.PlanStore c.args.desk.now c.answer_request.new.desk
-    c.from_residual-in_err-write_whole.result _ c.args.moment _ c.in_ok-answer.answer.error _
+    c.from_residual-in_err-write_whole.result _ c.args.moment.second _ c.in_ok-answer.answer.error _
     c.in_ok-answer.ensures.leaves c.in_ok-answer.ensures.told.failed
     (λ honest. if_some_all c.in_ok-answer.answer.error unsure)
     (λ honest certain. absurd (unsure certain))
     (λ honest. left_served (g.S.PlanStore.may_leave c.args.desk.now.store)
     (g.S.PlanStore.may_leave c.answer_request.new.desk.store) (g.R.Read.remaining c.args.input.now)
-    (g.R.Read.remaining c.receive_body.new.input) _ c.args.moment
+    (g.R.Read.remaining c.receive_body.new.input) c.args.moment.second
     (world_of g.S.PlanStore.content c.args.desk.now) (message_read c.message_of-request.result)
-    (text ++ body) (to_z-of_z w64 c.args.moment c.ranges.moment) got.taken got.read
+    (text ++ body) got.taken got.read
     (c.answer_request.ensures.leaves.crash honest))
 
 pub returns-clause-kept : goal.returns-clause-kept
@@ -168,7 +163,7 @@ returns-clause-kept g c =
     c.in_ok-text.ensures.taken (c.in_ok-text.ensures.front some) front c.in_ok-body.ensures.taken
     (c.in_ok-body.ensures.size ∙ c.size_of.ensures) message in
     kept_answered g.S.PlanStore c.args.desk.now c.answer_request.new.desk (Ok c.answered.result) _
-    c.args.moment _ c.in_ok-answer.answer.error _ c.in_ok-answer.ensures.leaves
+    c.args.moment.second _ c.in_ok-answer.answer.error _ c.in_ok-answer.ensures.leaves
     c.in_ok-answer.ensures.told.failed
     (λ honest. unsure_500 _ _ _ _ _ _ c.in_ok-answer.answer.error c.answered.ensures
     (c.in_ok-answer.ensures.told.status honest))
@@ -176,9 +171,9 @@ returns-clause-kept g c =
     (subst (λ s. IsCertain (Ok s)) c.answered.ensures certain))
     (λ honest. left_served (g.S.PlanStore.may_leave c.args.desk.now.store)
     (g.S.PlanStore.may_leave c.answer_request.new.desk.store) (g.R.Read.remaining c.args.input.now)
-    (g.R.Read.remaining c.receive_body.new.input) _ c.args.moment
+    (g.R.Read.remaining c.receive_body.new.input) c.args.moment.second
     (world_of g.S.PlanStore.content c.args.desk.now) (message_read c.message_of-request.result)
-    (text ++ body) (to_z-of_z w64 c.args.moment c.ranges.moment) got.taken got.read
+    (text ++ body) got.taken got.read
     (c.answer_request.ensures.leaves.crash honest))
 
 -- why the desk failed, if the answer says so

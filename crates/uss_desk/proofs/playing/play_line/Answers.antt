@@ -3,23 +3,20 @@ use Rattle.sqlite_wal.specs.Files.{image_at}
 use Rattle.sqlite.specs.Files.{over_files}
 use Rattle.uss_desk.specs.Guarding.{account_of}
 use Rattle.uss_desk.specs.OpenedFor.{IsOpenedAt}
-use Rattle.uss_desk.proofs.RunLemmas.{input_at, input_guarded}
+use Rattle.uss_desk.proofs.RunLemmas.{for_files, input_at, input_guarded}
 use Rattle.uss_desk.proofs.playing.play_line.Goals as goal
 
 pub returns-in-Files : goal.returns-in-Files
 returns-in-Files g c =
     let image = image_at g.F.Start in
     let ended = c.play_over-left-in-Files in
-    let opens =
-    (subst (IsOpenedAt image c.args.words.now.database) c.in-Files.is c.requires.opened).1 in
-    let run = input_at over_files _ _ c.or_failure-desk.ensures (record {
-      done = ended.ensures.opened;
-      kept = ended.ensures.kept;
-      undone = ended.ensures.unopened;
-    }) in
+    let database = c.args.words.now.database in
+    let opens = for_files _ image database c.in-Files.desk
+    (subst (IsOpenedAt image database) c.in-Files.is c.requires.opened) in
+    let run = input_at over_files _ _ c.or_failure-desk.ensures ended.ensures in
     rw c.in-Files.is (
       refl,
       run,
-      input_guarded (account_of g.F.Start) (λ _. refl) (λ _. refl) image _ _ _ _ c.in-Files.desk
+      input_guarded (account_of g.F.Start) (λ _. refl) (λ _. refl) image _ _ c.in-Files.desk
           ended.result.1 opens run.done,
     )

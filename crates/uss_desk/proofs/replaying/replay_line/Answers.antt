@@ -3,15 +3,16 @@ use Rattle.sqlite_wal.specs.Files.{image_at}
 use Rattle.sqlite.specs.Files.{over_files}
 use Rattle.uss_desk.specs.Guarding.{account_of}
 use Rattle.uss_desk.specs.OpenedFor.{IsOpenedAt}
-use Rattle.uss_desk.proofs.RunLemmas.{played_at, replay_guarded}
+use Rattle.uss_desk.proofs.RunLemmas.{for_files, played_at, replay_guarded}
 use Rattle.uss_desk.proofs.replaying.replay_line.Goals as goal
 
 pub returns-in-Files : goal.returns-in-Files
 returns-in-Files g c =
     let image = image_at g.F.Start in
     let ended = c.replay_over-left-in-Files in
-    let opens =
-    (subst (IsOpenedAt image c.args.words.now.database) c.in-Files.is c.requires).1 in
+    let database = c.args.words.now.database in
+    let opens = for_files _ image database c.in-Files.desk
+    (subst (IsOpenedAt image database) c.in-Files.is c.requires) in
     let run = played_at over_files _ _ c.or_failure-desk.ensures (record {
       done = ended.ensures.opened;
       undone = ended.ensures.unopened;

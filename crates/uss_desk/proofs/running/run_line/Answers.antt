@@ -2,8 +2,9 @@ use Rattle.std.proofs.Common.{refl, subst}
 use Rattle.std.specs.Prelude.{IfErr, IfOk}
 use Rattle.sqlite_wal.specs.Files.{image_at}
 use Rattle.sqlite.specs.Files.{over_files}
+use Rattle.desk_line.specs.Lines.{database_of}
 use Rattle.uss_desk.specs.Guarding.{account_of}
-use Rattle.uss_desk.specs.OpenedFor.{IsOpenedFor}
+use Rattle.uss_desk.specs.OpenedFor.{IsOpenedAt}
 use Rattle.uss_desk.proofs.RunLemmas.{for_files, run_at, stays_guarded}
 use Rattle.uss_desk.proofs.running.run_line.Goals as goal
 
@@ -11,8 +12,9 @@ pub returns-in-Files : goal.returns-in-Files
 returns-in-Files g c =
     let image = image_at g.F.Start in
     let ended = c.run_over-left-in-Files in
-    let opens = for_files _ image c.args.line.now c.in-Files.desk
-    (subst (IsOpenedFor image c.args.line.now) c.in-Files.is c.requires.opened) in
+    let database = database_of c.args.line.now in
+    let opens = for_files _ image database c.in-Files.desk
+    (subst (IsOpenedAt image database) c.in-Files.is c.requires.opened) in
     let run = run_at over_files _ _ c.or_failure-desk.ensures ended.ensures in
     rw c.in-Files.is (
       refl,

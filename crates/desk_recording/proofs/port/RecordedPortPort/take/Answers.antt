@@ -1,6 +1,4 @@
-use Rattle.std.proofs.Common.{Some, of_z, subst, sym, to_z, true, w64}
-use Rattle.desk_ends.specs.Moments.{IsMoment}
-use Rattle.desk_ends.specs.laws.Moment.{same_moment}
+use Rattle.std.proofs.Common.{Some, subst, sym, true}
 use Rattle.desk_program.specs.Serving.{Denies, TakesArrival, arrived}
 use Rattle.desk_recording.specs.Telling.{told_by}
 use Rattle.desk_recording.proofs.StepLemmas.{none_taken, takes_one}
@@ -14,11 +12,11 @@ returns-then-keep_request-clause-taken g c =
     let request = c.in-Ok.request.items in
     rw (c.new.ensures.position, c.new.ensures.inner)
     (subst (λ b. TakesArrival (told_by g.R.Record old b) (told_by g.R.Record new b)
-    (arrived (to_z w64 (of_z w64 moment)) (Some request))) (sym c.if-self.false)
+    (arrived moment.second (Some request))) (sym c.if-self.false)
     (takes_one (g.R.Record.steps old) (g.R.Record.steps new) (g.R.Record.noted old) (g.R.Record.noted new)
-    (to_z w64 (of_z w64 moment)) request (rw c.deref.ensures.value at c.if-keep_request.ensures.steps)
+    moment.second request (rw c.deref.ensures.value at c.if-keep_request.ensures.steps)
     (rw c.deref.ensures.value at c.if-keep_request.ensures.noted)
-    (subst IsMoment (sym (same_moment moment c.in_ok-taken.ensures.moment)) c.in_ok-taken.ensures.moment)
+    moment.in_range
     (λ some. (c.in-Ok.ensures some).whole)))
 
 pub returns-clause-same : goal.returns-clause-same
@@ -27,5 +25,5 @@ returns-clause-same g c =
     let new = c.keep_request.new.self in
     subst (λ b. Denies (told_by g.R.Record old b) (told_by g.R.Record new true)) (sym c.if-self.false)
     (none_taken (g.R.Record.steps old) (g.R.Record.steps new) (g.R.Record.noted old) (g.R.Record.noted new)
-    (to_z w64 (of_z w64 c.in_ok-taken.taken.moment)) c.deref.result.now c.if-keep_request.ensures.steps
+    c.in_ok-taken.taken.moment.second c.deref.result.now c.if-keep_request.ensures.steps
     c.if-keep_request.ensures.noted)

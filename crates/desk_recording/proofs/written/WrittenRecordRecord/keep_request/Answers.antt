@@ -1,5 +1,5 @@
-use Rattle.std.proofs.Common.{◌≡◌, ◌∙◌, ◌++◌, ap, nat_abs, subst, sym, true, w64}
-use Rattle.std.proofs.lemmas.Int.{to_z-of_z}
+use Rattle.std.proofs.Common.{◌≡◌, ◌∙◌, ◌++◌, ap, nat_abs, subst, sym, true}
+use Rattle.desk_ends.specs.laws.Moment.{same_moment}
 use Rattle.desk_record.specs.Record.{entry}
 use Rattle.desk_program.specs.Recorded.{request_entry, with_request}
 use Rattle.desk_recording.specs.RecordWrites.{AppendsKnown}
@@ -11,12 +11,13 @@ returns-then-append-clause-noted g c =
     let before = g.J.Journal.writes c.args.self.now.journal in
     let mid = g.J.Journal.writes c.append.new.self.journal in
     let bytes = c.args.bytes.now in
-    let text = entry (request_entry (nat_abs c.args.moment) bytes) in
-    let second : c.unsigned_abs-self.result ≡ nat_abs c.args.moment =
-    c.unsigned_abs-self.ensures.value ∙ ap nat_abs (to_z-of_z w64 c.args.moment c.ranges.moment) in
+    let text = entry (request_entry (nat_abs c.args.moment.second) bytes) in
+    let second : c.unsigned_abs-self.result ≡ nat_abs c.args.moment.second =
+    c.unsigned_abs-self.ensures.value
+    ∙ ap nat_abs (same_moment c.args.moment.second c.args.moment.in_range) in
     notes_synced c.args.self.now.second c.append.new.self.second before text
-    (λ n. with_request n c.args.moment bytes)
-    (λ old. request_noted (record { text = old; second = c.args.self.now.second }) c.args.moment bytes
+    (λ n. with_request n c.args.moment.second bytes)
+    (λ old. request_noted (record { text = old; second = c.args.self.now.second }) c.args.moment.second bytes
     c.if-is_empty.ensures ∙ ap (λ s. record { text = old ++ text; second = s })
     (sym (c.append.ensures.second ∙ second))) mid (g.J.Journal.writes c.sync.new.self) c.sync.result
     (subst (λ s. AppendsKnown before mid true (entry (request_entry s bytes))) second

@@ -1,4 +1,4 @@
-use Rattle.std.proofs.Common.{subst}
+use Rattle.std.proofs.Common.{subst, sym, ◌∙◌}
 use Rattle.desk_store.specs.Parts.{HasNoPoint}
 use Rattle.desk_store.proofs.PlanLemmas.{no_point}
 use Rattle.desk_store.proofs.plan.Plan.may_meet.Goals as goal
@@ -7,5 +7,5 @@ pub returns : goal.returns
 returns c = λ apart.
     let extent = c.args.extent.now in
     subst (λ p. HasNoPoint p.area extent) c.self.view_is
-    (no_point c.self.inside.area c.self.inside.slabs.items c.self.inside.bounds extent c.overlap.result
-    c.self.invariant c.overlap.ensures apart)
+    (no_point c.self.inside.area c.self.inside.slabs.items c.self.inside.bounds extent c.self.invariant
+    (sym c.overlaps.ensures ∙ apart))

@@ -10,13 +10,13 @@ returns-then-not-counts c =
     rw (← c.self.view_is, ← c.mine.view_is) (λ x has.
     uncounted c.args.least c.mine.inside.row.id c.self.inside.row x _ (sym c.if-not-counts.ensures))
 
-pub returns-then-not-overlap : goal.returns-then-not-overlap
-returns-then-not-overlap c =
+pub returns-then-not-overlaps : goal.returns-then-not-overlaps
+returns-then-not-overlaps c =
     rw (← c.self.view_is, ← c.mine.view_is) (λ x has.
     unheld c.args.least c.mine.inside.row.id c.self.inside.row x _
     (apart_plans c.self.inside.row c.mine.inside.row c.self.inside.slabs.items c.mine.inside.slabs.items
-    c.self.inside.bounds c.mine.inside.bounds x c.overlap.result c.self.invariant c.mine.invariant
-    c.overlap.ensures c.if-not-overlap.true has))
+    c.self.inside.bounds c.mine.inside.bounds x c.self.invariant c.mine.invariant
+    (sym c.overlaps.ensures ∙ c.if-not-overlaps.true) has))
 
 pub returns : goal.returns
 returns c =

@@ -6,7 +6,7 @@ use Rattle.desk_run.proofs.pending.own.OwnPlan.try_new.Goals as goal
 
 pub invariant_of-result : goal.invariant_of-result
 invariant_of-result c =
-    closed_held c.args.row c.new.result.items c.nowhere.result (sym c.if-not-is_live.ensures)
+    closed_held c.args.row c.new.result.items c.empty.result (sym c.if-not-is_live.ensures)
     c.new.ensures.items
 
 pub invariant_of-result-2 : goal.invariant_of-result-2

@@ -1,8 +1,7 @@
-use Rattle.std.proofs.Common.{ap, ◌∙◌, inl, inr, subst, to_z, of_z, w64}
+use Rattle.std.proofs.Common.{ap, ◌∙◌, inl, inr, subst}
 use Rattle.desk_store.specs.StoreFaults.{IsHonest}
 use Rattle.desk_store.specs.laws.Fault.{was_honest}
 use Rattle.desk_run.specs.DeskWorld.{world_of}
-use Rattle.desk_ends.specs.laws.Moment.{same_moment}
 use Rattle.desk_wire.specs.Passage.{passage}
 use Rattle.desk_wire.specs.Playing.{HasPlayed}
 use Rattle.desk_line.specs.Exits.{EndsWith, ending}
@@ -11,7 +10,7 @@ use Rattle.desk_program.specs.Keeping.{AreKeptSoFar}
 use Rattle.desk_program.proofs.EndLemmas.{not_played}
 use Rattle.desk_program.proofs.KeepingLemmas.{run_kept}
 use Rattle.desk_program.proofs.CauseLemmas.{ends_counted}
-use Rattle.desk_program.proofs.program.play_line.Goals as goal
+use Rattle.desk_program.proofs.program.play.Goals as goal
 
 pub returns-in-Err-clause-played : goal.returns-in-Err-clause-played
 returns-in-Err-clause-played g c =
@@ -20,10 +19,10 @@ returns-in-Err-clause-played g c =
     let honest = IsHonest (g.S.PlanStore.doubt c.set_up.new.desk.store) in
     let end = ending c.conclude.result (g.E.Write.contents c.args.errors.now)
     (g.E.Write.contents c.conclude.new.errors) in
-    inr (not_played honest c.args.play.now end (g.R.Read.remaining c.args.input.now)
+    inr (not_played honest c.args.line.now end (g.R.Read.remaining c.args.input.now)
     (g.W.Write.contents c.args.output.now) w after c.in-Err.fault c.from.result c.from.ensures
     c.in-Err.ensures.fault (c.conclude.ensures.status, c.conclude.ensures.told)
-    (subst (λ es. AreListedSoFar honest es (on_terms w c.args.play.now.terms) after)
+    (subst (λ es. AreListedSoFar honest es (on_terms w c.args.line.now.terms) after)
     c.deref.ensures.value c.in-Err.ensures.listed))
 
 pub returns-in-Err-clause-kept : goal.returns-in-Err-clause-kept
@@ -34,12 +33,12 @@ returns-in-Err-clause-kept g c = λ p settled found may.
     let end = ending c.conclude.result (g.E.Write.contents c.args.errors.now)
     (g.E.Write.contents c.conclude.new.errors) in
     inr (
-      not_played honest c.args.play.now end (g.R.Read.remaining c.args.input.now)
+      not_played honest c.args.line.now end (g.R.Read.remaining c.args.input.now)
           (g.W.Write.contents c.args.output.now) w after c.in-Err.fault c.from.result c.from.ensures
           c.in-Err.ensures.fault (c.conclude.ensures.status, c.conclude.ensures.told)
-          (subst (λ es. AreListedSoFar honest es (on_terms w c.args.play.now.terms) after)
+          (subst (λ es. AreListedSoFar honest es (on_terms w c.args.line.now.terms) after)
           c.deref.ensures.value c.in-Err.ensures.listed),
-      subst (λ es. AreKeptSoFar honest es (on_terms w c.args.play.now.terms) after found)
+      subst (λ es. AreKeptSoFar honest es (on_terms w c.args.line.now.terms) after found)
           c.deref.ensures.value (c.in-Err.ensures.kept p settled found may),
     )
 
@@ -50,9 +49,8 @@ returns-clause-played g c =
     let bytes = passage g.R.Read g.W.Write c.args.input.now c.play_all-played.new.input c.args.output.now
     c.play_all-played.new.output in
     let w = world_of g.S.PlanStore.content c.args.desk.now in
-    let begun = on_terms w c.args.play.now.terms in
+    let begun = on_terms w c.args.line.now.terms in
     let after = world_of g.S.PlanStore.content c.play_all-played.new.desk in
-    let moment = c.args.play.now.moment in
     inl (record {
       ended = played.ended;
       answered = played.answered;
@@ -62,11 +60,9 @@ returns-clause-played g c =
       played = λ h.
           let listed = c.in_default.ensures.listed (was_honest c.play_all-played.ensures.remembered.doubt h)
           ∙ ap (with_operators begun) c.deref.ensures.value in
-          subst (λ m. HasPlayed honest played.ended played.answered bytes
-          (with_operators begun c.args.play.now.enrolments.items) m after)
-          (same_moment moment c.requires.moment)
-          (subst (λ v. HasPlayed honest played.ended played.answered bytes v
-          (to_z w64 (of_z w64 moment)) after) listed c.play_all-played.ensures.played);
+          let second = c.args.line.now.moment.second in
+          subst (λ v. HasPlayed honest played.ended played.answered bytes v second after)
+          listed c.play_all-played.ensures.played;
     })
 
 pub returns-clause-kept : goal.returns-clause-kept
@@ -76,15 +72,14 @@ returns-clause-kept g c = λ p settled found may.
     let w = world_of g.S.PlanStore.content c.args.desk.now in
     let end = ending c.conclude-2.result (g.E.Write.contents c.args.errors.now)
     (g.E.Write.contents c.conclude-2.new.errors) in
-    run_kept (IsHonest (g.S.PlanStore.doubt c.play_all-played.new.desk.store)) c.args.play.now end
+    run_kept (IsHonest (g.S.PlanStore.doubt c.play_all-played.new.desk.store)) c.args.line.now end
     played.ended played.answered (passage g.R.Read g.W.Write c.args.input.now c.play_all-played.new.input
     c.args.output.now c.play_all-played.new.output) w (world_of g.S.PlanStore.content c.set_up.new.desk)
-    (world_of g.S.PlanStore.content c.play_all-played.new.desk) _
+    (world_of g.S.PlanStore.content c.play_all-played.new.desk)
     (subst (λ d. EndsWith d end) c.done_after.ensures
     (c.conclude-2.ensures.status, c.conclude-2.ensures.told))
-    (same_moment c.args.play.now.moment c.requires.moment)
     (λ h. c.in_default.ensures.listed (was_honest c.play_all-played.ensures.remembered.doubt h)
-    ∙ ap (with_operators (on_terms w c.args.play.now.terms)) c.deref.ensures.value)
+    ∙ ap (with_operators (on_terms w c.args.line.now.terms)) c.deref.ensures.value)
     c.play_all-played.ensures.played p found
     (c.play_all-played.ensures.kept p (c.in_default.ensures.kept before settled) found may)
 

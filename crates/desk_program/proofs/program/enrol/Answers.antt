@@ -3,7 +3,7 @@ use Rattle.desk_run.specs.DeskWorld.{world_of}
 use Rattle.desk_line.specs.Exits.{ending}
 use Rattle.desk_program.proofs.EndLemmas.{broken_down, found_enrolled}
 use Rattle.desk_program.proofs.CauseLemmas.{ends_counted, ends_memory, ends_well, ends_write}
-use Rattle.desk_program.proofs.program.enrol_line.Goals as goal
+use Rattle.desk_program.proofs.program.enrol.Goals as goal
 
 -- its ceiling is in range, so memory ran out or the store failed
 pub returns-in-Err-clause-enrolled : goal.returns-in-Err-clause-enrolled

@@ -1,4 +1,4 @@
--- Points in slabs.
+-- Laws of the points of a slab, with their proofs.
 use Rattle.std.proofs.Common.{◌≡◌, true, ◌&&◌, leb}
 use Rattle.std.specs.Prelude.{int_le, int_lt}
 use Rattle.std.proofs.lemmas.Bool.{and_parts, and_from}

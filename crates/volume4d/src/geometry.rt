@@ -1,0 +1,124 @@
+//! Two slabs: whether they overlap, the smallest one round both, and the one of the points that both have.
+
+ghost use Rattle.std.specs.Prelude.{◌≡◌, ◌&&◌, false, int_lt, nat_le};
+ghost use Rattle.std.specs.Int.{int_min, int_max};
+ghost use Rattle.volume4d.specs.Point.{Point};
+ghost use Rattle.volume4d.specs.Slab.{slab_has};
+ghost use Rattle.volume4d.specs.Bounds as spec;
+ghost use Rattle.volume4d.specs.Bounds.{IsClip, IsJoin};
+
+use crate::slab::Slab;
+
+impl Slab {
+    /// A slab without points.
+    pub fn empty() -> Slab
+        ensures { (x : Point) → slab_has result x ≡ false }
+    {
+        Slab {
+            first: 1,
+            last: 0,
+            lower: 0,
+            upper: 0,
+            start: 0,
+            end: 0,
+        }
+    }
+
+    /// Whether it meets another in seconds, in altitudes and in leaves, as slabs do that share a point.
+    pub fn overlaps(&self, other: &Slab) -> bool
+        ensures { result ≡ spec.overlap self.now other.now }
+    {
+        if !meet_in_time(self, other) {
+            return false;
+        }
+        if !meet_in_height(self, other) {
+            return false;
+        }
+        meet_on_ground(self, other)
+    }
+
+    /// The smallest slab that has all points of it and of another.
+    pub fn join(&self, other: &Slab) -> Slab
+        ensures { IsJoin self.now other.now result }
+    {
+        let (lower, upper) = altitudes_of_both(self, other);
+        let (start, end) = seconds_of_both(self, other);
+        Slab {
+            first: self.first.min(other.first),
+            last: self.last.max(other.last),
+            lower,
+            upper,
+            start,
+            end,
+        }
+    }
+
+    /// The slab of the points that it shares with another.
+    pub fn clip(&self, other: &Slab) -> Slab
+        ensures { IsClip self.now other.now result }
+    {
+        let (lower, upper) = shared_altitudes(self, other);
+        let (start, end) = shared_seconds(self, other);
+        Slab {
+            first: self.first.max(other.first),
+            last: self.last.min(other.last),
+            lower,
+            upper,
+            start,
+            end,
+        }
+    }
+}
+
+// Whether two slabs have a second in common.
+fn meet_in_time(one: &Slab, other: &Slab) -> bool
+    ensures { result ≡ (int_lt one.now.start other.now.end && int_lt other.now.start one.now.end) }
+{
+    one.start < other.end && other.start < one.end
+}
+
+// Whether two slabs have an altitude in common.
+fn meet_in_height(one: &Slab, other: &Slab) -> bool
+    ensures { result ≡ (int_lt one.now.lower other.now.upper && int_lt other.now.lower one.now.upper) }
+{
+    one.lower < other.upper && other.lower < one.upper
+}
+
+// Whether two slabs have a leaf in common.
+fn meet_on_ground(one: &Slab, other: &Slab) -> bool
+    ensures { result ≡ (nat_le one.now.first other.now.last && nat_le other.now.first one.now.last) }
+{
+    one.first <= other.last && other.first <= one.last
+}
+
+// The lower and the upper bound of the altitudes of two slabs.
+fn altitudes_of_both(one: &Slab, other: &Slab) -> (i32, i32)
+    ensures lower { result.0 ≡ int_min one.now.lower other.now.lower }
+    ensures upper { result.1 ≡ int_max one.now.upper other.now.upper }
+{
+    (one.lower.min(other.lower), one.upper.max(other.upper))
+}
+
+// The start and the end of the seconds of two slabs.
+fn seconds_of_both(one: &Slab, other: &Slab) -> (i64, i64)
+    ensures start { result.0 ≡ int_min one.now.start other.now.start }
+    ensures end { result.1 ≡ int_max one.now.end other.now.end }
+{
+    (one.start.min(other.start), one.end.max(other.end))
+}
+
+// The lower and the upper bound of the altitudes that two slabs share.
+fn shared_altitudes(one: &Slab, other: &Slab) -> (i32, i32)
+    ensures lower { result.0 ≡ int_max one.now.lower other.now.lower }
+    ensures upper { result.1 ≡ int_min one.now.upper other.now.upper }
+{
+    (one.lower.max(other.lower), one.upper.min(other.upper))
+}
+
+// The start and the end of the seconds that two slabs share.
+fn shared_seconds(one: &Slab, other: &Slab) -> (i64, i64)
+    ensures start { result.0 ≡ int_max one.now.start other.now.start }
+    ensures end { result.1 ≡ int_min one.now.end other.now.end }
+{
+    (one.start.max(other.start), one.end.min(other.end))
+}
