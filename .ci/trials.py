@@ -204,15 +204,21 @@ def link_tree(folder: pathlib.Path, to: pathlib.Path) -> None:
 def only_names(edit: Edit, index: Index) -> list[str]:
     """What `rt check --only` takes for the functions that the edit's clause names: their paths, in which a trait's name
     stands behind the type's, and behind that the trait's own type; nothing if there are none, and all is checked."""
-    return [path_in_kit(item) for item in named(edit, index)]
+    return [path_in_kit(item, index) for item in named(edit, index)]
 
 
-def path_in_kit(item: Item) -> str:
-    """A function's path as the kit has it, as `serving::ServeFaultFromAllocError::from`, or the end of the path: of a
-    method whose type stands in another file the kit names the type's module."""
+def module_in_kit(item: Item, index: Index) -> str:
+    """The module of a function as the kit has it: that of the type, of a method without a trait."""
+    same = [one for one in index.by_name[item.owner] if one.name == item.owner and one.kind in ("struct", "enum")]
+    types = [one for one in same if one.source.crate == item.source.crate and not item.trait]
+    return types[0].source.module if types else item.source.module
+
+
+def path_in_kit(item: Item, index: Index) -> str:
+    """A function's path as the kit has it, as `serving::ServeFaultFromAllocError::from`."""
     owner = owner_of_trait(item) if item.trait else owner_with_types(item)
-    is_here = not owner or re.search(rf"\b(?:struct|enum|trait) {item.owner}\b", item.source.bare)
-    return "::".join(part for part in (item.source.module if is_here else "", owner, item.name) if part)
+    module = item.source.module if "+" in owner else module_in_kit(item, index)
+    return "::".join(part for part in (module, owner, item.name) if part)
 
 
 def owner_of_trait(item: Item) -> str:
@@ -225,7 +231,7 @@ def owner_of_trait(item: Item) -> str:
 def owner_with_types(item: Item) -> str:
     """The name of a type's own `impl`, with the types that it is for if not for all, as `SqliteStore+FileStore+D`."""
     before, _, behind = item.header.partition(f" {item.owner}<")
-    words = re.findall(r"\w+", behind.partition(" where ")[0])
+    words = re.findall(r"(?<!')\b\w+", behind.partition(" where ")[0])
     is_for_all = set(words) <= set(re.findall(r"\w+", before))
     return item.owner if is_for_all else "+".join([item.owner, *words])
 
