@@ -15,7 +15,7 @@ use std::alloc::{AllocError, Global};
 use volume4d::MAX_SECOND;
 
 // The version, and the kit whose prover and compiler make the program.
-const VERSION: &str = "1.0.0\nrattle-kit-13f logic dac8208d650f15bf";
+const VERSION: &str = "1.0.0\nrattle-kit-13b logic dac8208d650f15bf";
 
 // A line: its first word, what it does, and its further words.
 struct Form {
