@@ -20,7 +20,7 @@ use crate::changing::writing::{
 use crate::laws::settled_and_sound;
 use crate::reading::answer::answer;
 use crate::reading::query::Query;
-use sqlite::{Alter, Connection, Error, params};
+use sqlite::{Alter, Connection, Error};
 
 /// Removes the plans of these ids, and their volumes and spans with them, as one transaction.
 pub fn clear_plans<S: Alter>(
@@ -78,7 +78,7 @@ pub fn is_enrolled<S: Alter>(connection: &mut Connection<S>, name: &str) -> Resu
     ensures answers { Answers S.Store connection.old connection.new result
         (λ db found. found ≡ list_any (is_row_by name.now) (tables_of db).operators) }
 {
-    let rows = answer(connection, Query::OperatorNamed { name }, params![name])?;
+    let rows = answer(connection, Query::OperatorNamed { name })?;
     Ok(!rows.is_empty())
 }
 

@@ -8,7 +8,7 @@ ghost use Rattle.desk_sql.specs.QueryEnds.{WasOpen, Answers, HandsOut};
 use crate::reading::answer::answer;
 use crate::reading::query::Query;
 use crate::reading::taking::{RowSink, for_each_row};
-use sqlite::{Alter, Connection, Error, Row, params};
+use sqlite::{Alter, Connection, Error, Row};
 
 /// The row `operator`, `id`, `priority`, `usage`, `aircraft` of the plan of this operator with this id.
 pub fn plan_of<S: Alter>(
@@ -25,7 +25,6 @@ pub fn plan_of<S: Alter>(
     answer(
         connection,
         Query::PlanOf { operator, id },
-        params![operator, id],
     )
 }
 
@@ -46,7 +45,6 @@ pub fn volumes_of<S: Alter>(
     answer(
         connection,
         Query::VolumesOf { operator, id },
-        params![operator, id],
     )
 }
 
@@ -72,7 +70,6 @@ pub fn own_plans<S: Alter, T: RowSink>(
     for_each_row(
         connection,
         Query::OwnPlans { operator },
-        params![operator],
         taker,
     )
 }
