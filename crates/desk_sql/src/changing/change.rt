@@ -92,12 +92,16 @@ impl<'a> Change<'a> {
                 v.operator, v.id, v.place, v.lower, v.upper, v.start, v.stop, v.asked, v.canon
             ]),
             Change::AddSpan(s) => Parameters::of(params![
-                s.operator, s.id, s.place, s.first, s.last, s.lower, s.upper, s.start, s.stop, s.priority
+                s.operator, s.id, s.place, s.first, s.last, s.lower, s.upper, s.start, s.stop,
+                s.priority
             ]),
             Change::SetCeiling { name, ceiling } => Parameters::of(params![name, ceiling]),
-            Change::SetClosed { operator, id, priority, aircraft } => {
-                Parameters::of(params![operator, id, priority, aircraft])
-            }
+            Change::SetClosed {
+                operator,
+                id,
+                priority,
+                aircraft,
+            } => { Parameters::of(params![operator, id, priority, aircraft]) }
             Change::RemovePlan { operator, id } => Parameters::of(params![operator, id]),
             Change::RemoveSpans { operator, id } => Parameters::of(params![operator, id]),
             Change::EmptyOldVolumes | Change::EmptyOldSpans => Parameters::of(&[]),

@@ -22,10 +22,7 @@ pub fn plan_of<S: Alter>(
         (λ db rows. Lists [] (filter (is_of operator.now id.now) (tables_of db).plans) rows.items) }
     ensures open { WasOpen S.Store connection.old connection.new result }
 {
-    answer(
-        connection,
-        Query::PlanOf { operator, id },
-    )
+    answer(connection, Query::PlanOf { operator, id })
 }
 
 /// The rows `operator`, `id`, `place`, `lower`, `upper`, `start`, `stop`, `asked` of the volumes of a
@@ -42,10 +39,7 @@ pub fn volumes_of<S: Alter>(
         rows.items) }
     ensures open { WasOpen S.Store connection.old connection.new result }
 {
-    answer(
-        connection,
-        Query::VolumesOf { operator, id },
-    )
+    answer(connection, Query::VolumesOf { operator, id })
 }
 
 /// Hands over, one at a time, each plan of an operator with each of its volumes: the columns of `plan`,
@@ -67,9 +61,5 @@ pub fn own_plans<S: Alter, T: RowSink>(
         (T.has_taken taker.new) T.refuses }
     ensures open { WasOpen S.Store connection.old connection.new result }
 {
-    for_each_row(
-        connection,
-        Query::OwnPlans { operator },
-        taker,
-    )
+    for_each_row(connection, Query::OwnPlans { operator }, taker)
 }

@@ -99,13 +99,26 @@ impl<'a> Query<'a> {
             Query::PlanOf { operator, id } => Parameters::of(params![operator, id]),
             Query::VolumesOf { operator, id } => Parameters::of(params![operator, id]),
             Query::OwnPlans { operator } => Parameters::of(params![operator]),
-            Query::RivalSpans { operator, id, reach: r, low } => Parameters::of(params![
+            Query::RivalSpans {
+                operator,
+                id,
+                reach: r,
+                low,
+            } => Parameters::of(params![
                 r.last, r.first, r.upper, r.lower, r.stop, r.start, r.priority, operator, id, low
             ]),
-            Query::OtherSpans { operator, reach: r, low } => Parameters::of(params![
+            Query::OtherSpans {
+                operator,
+                reach: r,
+                low,
+            } => Parameters::of(params![
                 r.last, r.first, r.upper, r.lower, r.stop, r.start, r.priority, operator, low
             ]),
-            Query::SpansOf { operator, id, reach: r } => Parameters::of(params![
+            Query::SpansOf {
+                operator,
+                id,
+                reach: r,
+            } => Parameters::of(params![
                 r.last, r.first, r.upper, r.lower, r.stop, r.start, r.priority, operator, id
             ]),
         }
