@@ -139,27 +139,27 @@ pub volume_stored : (v : VolumeColumns) (canon : List ℕ)
     → IsShort v.operator → IsShort v.id → IsShort v.asked → IsShort canon → (n : ℤ)
     → ¬ IsOversized desk_schema volume_at (Int n ∷ volume_row v ++ Blob canon ∷ [])
 volume_stored v canon short brief small little n (inl big) = big (
-      storable (Int n ∷ volume_row v ++ Blob canon ∷ []) (omega arith) (omega arith) (
-            whole n,
+  storable (Int n ∷ volume_row v ++ Blob canon ∷ []) (omega arith) (omega arith) (
+    whole n,
+    (
+      text v.operator,
+      (
+        text v.id,
+        (
+          whole (pos v.place),
+          (
+            whole v.lower,
             (
-              text v.operator,
-              (
-                text v.id,
-                (
-                  whole (pos v.place),
-                  (
-                    whole v.lower,
-                    (
-                      whole v.upper,
-                      (whole v.start, (whole v.stop, (blob v.asked, (blob canon, tt)))),
-                    ),
-                  ),
-                ),
-              ),
+              whole v.upper,
+              (whole v.start, (whole v.stop, (blob v.asked, (blob canon, tt)))),
             ),
-          ) (omega (arith, short, brief, small, little)),
-      omega arith,
-    )
+          ),
+        ),
+      ),
+    ),
+  ) (omega (arith, short, brief, small, little)),
+  omega arith,
+)
 volume_stored v canon short brief small little n
     (inr (i, inl is, on, big)) = absurd (let e = other_index i _ 9 is on in cc)
 volume_stored v canon short brief small little n
@@ -188,27 +188,27 @@ pub span_stored : (s : SpanColumns) → IsShort s.operator → IsShort s.id → 
     → ¬ IsOversized desk_schema span_at (Int n ∷ span_row s)
 span_stored s short brief n (inl big) = big (
   storable (Int n ∷ span_row s) (omega arith) (omega arith) (
-        whole n,
+    whole n,
+    (
+      text s.operator,
+      (
+        text s.id,
         (
-          text s.operator,
+          whole (pos s.place),
           (
-            text s.id,
+            whole s.first,
             (
-              whole (pos s.place),
+              whole s.last,
               (
-                whole s.first,
-                (
-                  whole s.last,
-                  (
-                    whole s.lower,
-                    (whole s.upper, (whole s.start, (whole s.stop, (whole (pos s.priority), tt)))),
-                  ),
-                ),
+                whole s.lower,
+                (whole s.upper, (whole s.start, (whole s.stop, (whole (pos s.priority), tt)))),
               ),
             ),
           ),
         ),
-      )
+      ),
+    ),
+  )
       (omega (arith, short, brief)),
   omega arith,
 )
