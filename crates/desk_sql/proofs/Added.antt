@@ -23,7 +23,7 @@ use Rattle.sqlite_value.specs.Keys.{plain, first_key}
 use Rattle.sqlite_tied.specs.Compute.{everything}
 use Rattle.desk_sql.specs.Schema.{desk_schema, operator_table, plan_table, volume_table, span_table, to_operator, to_plan}
 use Rattle.desk_sql.specs.Rows.{IsDesk, columns, operator_row, tables_of}
-use Rattle.desk_sql.specs.Batches.{volume_row_in, volume_params, span_row_in}
+use Rattle.desk_sql.specs.Batches.{volume_columns, volume_row_in, volume_params, span_columns, span_row_in}
 use Rattle.desk_sql.specs.Statements.{enforced}
 use Rattle.desk_sql.specs.RowChanges.{plan_row_in}
 use Rattle.desk_sql.specs.declared.changing.writing.PlanRecord.{PlanRecord}
@@ -275,9 +275,7 @@ module _ (v : VolumeRecord) (limit : Option ℕ) (old : Database) (desk : IsDesk
           typed = λ n. refl;
           present = λ n. refl;
           checked = λ n. refl;
-          stored = volume_stored v.operator.now v.id.now v.place v.lower v.upper
-              v.start v.stop v.asked.now v.canon.now fits.0
-              fits.1 fits.2 fits.3;
+          stored = volume_stored (volume_columns v) v.canon.now fits.0 fits.1 fits.2 fits.3;
         };
         room = fits.4.0;
         whole = desk.volumes.whole;
@@ -321,8 +319,7 @@ module _ (s : SpanRecord) (limit : Option ℕ) (old : Database) (desk : IsDesk o
           typed = λ n. refl;
           present = λ n. refl;
           checked = λ n. refl;
-          stored = span_stored s.operator.now s.id.now s.place s.first s.last s.lower s.upper s.start s.stop
-              s.priority fits.0 fits.1;
+          stored = span_stored (span_columns s) fits.0 fits.1;
         };
         room = fits.2.0;
         whole = desk.spans.whole;

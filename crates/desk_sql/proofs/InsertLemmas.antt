@@ -1,5 +1,5 @@
 -- What each INSERT adds.
-use Rattle.std.proofs.Common.{◌≡◌, ℕ, ℤ, pos, List, [], ◌∷◌, map, refl, sym, ap, ap₂, subst, ◌∙◌, cond, true, false, Option}
+use Rattle.std.proofs.Common.{◌≡◌, ℕ, pos, List, [], ◌∷◌, map, refl, sym, ap, ap₂, subst, ◌∙◌, cond, true, false, Option}
 use Rattle.std.specs.List.Sorted.{IsPermutation}
 use Rattle.std.proofs.lemmas.List.Sorted.{IsPermutation-map}
 use Rattle.sqlite.specs.Order.{Row}
@@ -15,11 +15,11 @@ use Rattle.sqlite.specs.Source.TheVariants.{Values}
 use Rattle.sqlite.specs.Command.TheVariants.{Insert}
 use Rattle.sqlite.specs.Effect.{Database}
 use Rattle.desk_sql.specs.Schema.{desk_schema, operator_table, plan_table, volume_table, span_table}
-use Rattle.desk_sql.specs.Rows.{IsDesk, AreNumbered, columns, cover_columns, tables_of, operator_row, plan_row, volume_row, cover_row, span_row, AddsOperator, AddsPlan, AddsVolume, AddsSpan}
+use Rattle.desk_sql.specs.Rows.{IsDesk, AreNumbered, VolumeColumns, SpanColumns, columns, cover_columns, tables_of, operator_row, plan_row, volume_row, cover_row, span_row, AddsOperator, AddsPlan, AddsVolume, AddsSpan}
 use Rattle.desk_sql.specs.declared.changing.writing.PlanRecord.{PlanRecord}
 use Rattle.desk_sql.specs.declared.changing.writing.VolumeRecord.{VolumeRecord}
 use Rattle.desk_sql.specs.declared.changing.writing.SpanRecord.{SpanRecord}
-use Rattle.desk_sql.specs.Batches.{volume_row_in, cover_of, volume_params, span_row_in}
+use Rattle.desk_sql.specs.Batches.{volume_columns, volume_row_in, cover_of, volume_params, span_columns, span_row_in}
 use Rattle.desk_sql.specs.Statements.{Changes}
 use Rattle.desk_sql.specs.RowChanges.{plan_row_in}
 use Rattle.desk_sql.proofs.NumberLemmas.{unequal, numbered_put, put_adds}
@@ -230,11 +230,10 @@ volume_added row cover new old now shown covered schema a desk =
       ),
     )
 
-module _ (operator : List ℕ) (id : List ℕ) (place : ℕ) (lower : ℤ) (upper : ℤ) (start : ℤ) (stop : ℤ)
-    (asked : List ℕ) (canon : List ℕ) (limit : Option ℕ) (old new : Database) where
+module _ (v : VolumeColumns) (canon : List ℕ) (limit : Option ℕ) (old new : Database) where
   abbrev volume_given : Row
-  volume_given = Text operator ∷ Text id ∷ Int (pos place) ∷ Int lower ∷ Int upper ∷ Int start
-      ∷ Int stop ∷ Blob asked ∷ Blob canon ∷ []
+  volume_given = Text v.operator ∷ Text v.id ∷ Int (pos v.place) ∷ Int v.lower ∷ Int v.upper ∷ Int v.start
+      ∷ Int v.stop ∷ Blob v.asked ∷ Blob canon ∷ []
 
   -- what is shown of the row does not read its rowid
   volume_shown : (show : Row → Row)
@@ -251,23 +250,23 @@ module _ (operator : List ℕ) (id : List ℕ) (place : ℕ) (lower : ℤ) (uppe
 
   volume_cells : (rows : List Row)
       → columns 8 (with_rowid Chosen rows (cast_row volume_table (Null ∷ volume_given)))
-      ≡ volume_row operator id place lower upper start stop asked
+      ≡ volume_row v
   volume_cells rows = volume_shown (columns 8) (λ n. refl) rows
-      ∙ then (same (Text operator)) (then (same (Text id))
-      (then (cast_int (pos place)) (then (cast_int lower)
-      (then (cast_int upper) (then (cast_int start)
-      (then (cast_int stop) (then (same (Blob asked)) (refl))))))))
+      ∙ then (same (Text v.operator)) (then (same (Text v.id))
+      (then (cast_int (pos v.place)) (then (cast_int v.lower)
+      (then (cast_int v.upper) (then (cast_int v.start)
+      (then (cast_int v.stop) (then (same (Blob v.asked)) (refl))))))))
 
   cover_cells : (rows : List Row)
       → cover_columns (with_rowid Chosen rows (cast_row volume_table (Null ∷ volume_given)))
-      ≡ cover_row operator id place canon
+      ≡ cover_row v.operator v.id v.place canon
   cover_cells rows = volume_shown cover_columns (λ n. refl) rows
-      ∙ then (same (Text operator)) (then (same (Text id))
-      (then (cast_int (pos place)) (then (same (Blob canon)) (refl))))
+      ∙ then (same (Text v.operator)) (then (same (Text v.id))
+      (then (cast_int (pos v.place)) (then (same (Blob canon)) (refl))))
 
   pub insert_volume : IsDesk old → May insert_volume_text volume_given limit old new → IsDesk new
-      × AddsVolume (volume_row operator id place lower upper start stop asked)
-      (cover_row operator id place canon) (tables_of old.trees) (tables_of new.trees)
+      × AddsVolume (volume_row v) (cover_row v.operator v.id v.place canon) (tables_of old.trees)
+      (tables_of new.trees)
   insert_volume desk h =
       let db = old.trees in
       let d = did insert_volume_text volume_given limit old new desk
@@ -283,8 +282,7 @@ module _ (operator : List ℕ) (id : List ℕ) (place : ℕ) (lower : ℤ) (uppe
       db
       it.0.trees (Null ∷ volume_given) done in
       let now : it.0.trees ≡ new.trees = sym (ap (λ (d : Database). d.trees) it.2) in
-      volume_added (volume_row operator id place lower upper start stop asked)
-      (cover_row operator id place canon)
+      volume_added (volume_row v) (cover_row v.operator v.id v.place canon)
       (with_rowid Chosen (db 9) (cast_row volume_table (Null ∷ volume_given))) old new
       (volume_cells (db 9)) (cover_cells (db 9)) (ap (λ (d : Database). d.schema) it.2)
       (subst (Adds 9 (with_rowid Chosen (db 9) (cast_row volume_table (Null ∷ volume_given))) db) now
@@ -321,15 +319,14 @@ span_added row new old now shown schema a desk =
       ),
     )
 
-module _ (operator : List ℕ) (id : List ℕ) (place : ℕ) (first : ℤ) (last : ℤ) (lower : ℤ) (upper : ℤ)
-    (start : ℤ) (stop : ℤ) (priority : ℕ) (limit : Option ℕ) (old new : Database) where
+module _ (s : SpanColumns) (limit : Option ℕ) (old new : Database) where
   abbrev span_params : Row
-  span_params = Text operator ∷ Text id ∷ Int (pos place) ∷ Int first ∷ Int last ∷ Int lower ∷ Int upper
-      ∷ Int start ∷ Int stop ∷ Int (pos priority) ∷ []
+  span_params = Text s.operator ∷ Text s.id ∷ Int (pos s.place) ∷ Int s.first ∷ Int s.last ∷ Int s.lower
+      ∷ Int s.upper ∷ Int s.start ∷ Int s.stop ∷ Int (pos s.priority) ∷ []
 
   span_cells : (rows : List Row)
       → columns 10 (with_rowid Chosen rows (cast_row span_table (Null ∷ span_params)))
-      ≡ span_row operator id place first last lower upper start stop priority
+      ≡ span_row s
   span_cells rows =
       let numbered : columns 10 (with_rowid Chosen rows (cast_row span_table (Null ∷ span_params)))
       ≡ columns 10 (Null ∷ cast_all span_table.columns span_params) =
@@ -338,16 +335,14 @@ module _ (operator : List ℕ) (id : List ℕ) (place : ℕ) (first : ℤ) (last
       (cast Integer Null ∷ cast_all span_table.columns span_params))
       ≡ columns 10 (Null ∷ cast_all span_table.columns span_params))
       [ true ↦ refl | false ↦ refl ] in
-      numbered ∙ then (same (Text operator)) (then (same (Text id))
-      (then (cast_int (pos place)) (then (cast_int first)
-      (then (cast_int last) (then (cast_int lower)
-      (then (cast_int upper) (then (cast_int start)
-      (then (cast_int stop) (then (cast_int (pos priority)) (refl))))))))))
+      numbered ∙ then (same (Text s.operator)) (then (same (Text s.id))
+      (then (cast_int (pos s.place)) (then (cast_int s.first)
+      (then (cast_int s.last) (then (cast_int s.lower)
+      (then (cast_int s.upper) (then (cast_int s.start)
+      (then (cast_int s.stop) (then (cast_int (pos s.priority)) (refl))))))))))
 
   pub insert_span : IsDesk old → May insert_span_text span_params limit old new
-      → IsDesk new × AddsSpan (span_row operator id place first last lower upper start stop
-      priority)
-      (tables_of old.trees) (tables_of new.trees)
+      → IsDesk new × AddsSpan (span_row s) (tables_of old.trees) (tables_of new.trees)
   insert_span desk h =
       let db = old.trees in
       let d = did insert_span_text span_params limit old new desk
@@ -363,7 +358,7 @@ module _ (operator : List ℕ) (id : List ℕ) (place : ℕ) (first : ℤ) (last
       it.0.trees
       (Null ∷ span_params) done in
       let now : it.0.trees ≡ new.trees = sym (ap (λ (d : Database). d.trees) it.2) in
-      span_added (span_row operator id place first last lower upper start stop priority)
+      span_added (span_row s)
       (with_rowid Chosen (db 11) (cast_row span_table (Null ∷ span_params))) old new
       (span_cells (db 11)) (ap (λ (d : Database). d.schema) it.2)
       (subst (Adds 11 (with_rowid Chosen (db 11) (cast_row span_table (Null ∷ span_params))) db) now a)
@@ -384,11 +379,9 @@ insert_plan_changes p = changes_by insert_plan_text (plan_row_in p) _ _ insert_p
 pub insert_volume_changes : (v : VolumeRecord)
     → Changes insert_volume_text (volume_params v) (AddsVolume (volume_row_in v) (cover_of v))
 insert_volume_changes v = changes_by insert_volume_text (volume_params v) _ _ insert_volume_is tt
-    (λ limit old new desk h. insert_volume v.operator.now v.id.now v.place v.lower v.upper v.start v.stop
-    v.asked.now v.canon.now limit old new desk h)
+    (λ limit old new desk h. insert_volume (volume_columns v) v.canon.now limit old new desk h)
 
 pub insert_span_changes : (s : SpanRecord)
     → Changes insert_span_text (span_row_in s) (AddsSpan (span_row_in s))
 insert_span_changes s = changes_by insert_span_text (span_row_in s) _ _ insert_span_is tt
-    (λ limit old new desk h. insert_span s.operator.now s.id.now s.place s.first s.last s.lower s.upper
-    s.start s.stop s.priority limit old new desk h)
+    (λ limit old new desk h. insert_span (span_columns s) limit old new desk h)

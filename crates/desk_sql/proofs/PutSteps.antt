@@ -9,7 +9,7 @@ use Rattle.desk_sql.specs.Changing.{FitsPlan}
 use Rattle.desk_sql.specs.Effects.{Makes}
 use Rattle.desk_sql.specs.Frames.{Remembers}
 use Rattle.desk_sql.specs.Putting.{AreNewSpans, AreNewVolumes, IsPuttable, TakesRoom}
-use Rattle.desk_sql.proofs.PutStops.{plan_fits, spans_new, volumes_new}
+use Rattle.desk_sql.proofs.PutStops.{plan_fits, put_of, spans_new, volumes_new}
 
 -- the connection before a call, so that an answer needs no name of the call that came before
 abbrev pub before : {S : Type 0} {g : Ghosts S} {old new : Held S} → Remembers g old new → Held S
@@ -18,13 +18,12 @@ before {S} {g} {old} {new} remembered = old
 module _ {S : Type 0} (g : Ghosts S) (old begun cut : Held S) (operator id : List ℕ)
     (priority usage aircraft : ℕ) (volumes covers spans : List Row)
     (is : begun ≡ record old { in_transaction = true })
-    (put : IsPuttable operator id (plan_row operator id priority usage aircraft) volumes covers spans
+    (put : IsPuttable (put_of operator id priority usage aircraft volumes covers spans)
     (state g old).now) (removed : Makes g begun cut (RemovesPlan operator id))
     (room : TakesRoom 0 0 0 (state g begun).now.trees (state g cut).now.trees) where
-  start : IsPuttable operator id (plan_row operator id priority usage aircraft) volumes covers spans
-      (state g begun).now
-  start = subst (λ h. IsPuttable operator id (plan_row operator id priority usage aircraft) volumes covers
-      spans (state g h).now) (sym is) put
+  start : IsPuttable (put_of operator id priority usage aircraft volumes covers spans) (state g begun).now
+  start = subst (λ h. IsPuttable (put_of operator id priority usage aircraft volumes covers spans)
+      (state g h).now) (sym is) put
 
   pub plan_in_turn : FitsPlan operator id (plan_row operator id priority usage aircraft) (state g cut).now
   plan_in_turn = plan_fits operator id priority usage aircraft volumes covers spans (state g begun).now start

@@ -20,7 +20,7 @@ use Rattle.sqlite_schema.specs.Rules.{agree, has_null, has_parent, is_held, Obey
 use Rattle.sqlite_schema.specs.declared.schema.Among.TheVariants.{All}
 use Rattle.desk_sql.specs.Schema.{desk_schema, span_made, volume_made, to_plan}
 use Rattle.desk_sql.specs.Rows.{IsDesk, Tables, columns, is_of, is_same, plan_row, tables_of, AddsPlan, RemovesPlan}
-use Rattle.desk_sql.specs.Batches.{AddsVolumes}
+use Rattle.desk_sql.specs.Batches.{AddsVolumes, PlanPut}
 use Rattle.desk_sql.specs.Changing.{FitsPlan, HasKey, LacksKey, has_same_key}
 use Rattle.desk_sql.specs.Putting.{AreNewRows, AreNewSpans, AreNewVolumes, AreOfPlan, HasRoomFor, IsPuttable, TakesRoom}
 use Rattle.desk_sql.proofs.NumberLemmas.{any_map, any_same}
@@ -140,9 +140,21 @@ module _ (operator id : List ℕ) where
 
 -- ---- a put, step by step
 
+-- what is put, by what its rows are made of
+abbrev pub put_of : (operator id : List ℕ) (priority usage aircraft : ℕ) (volumes covers spans : List Row)
+    → PlanPut
+put_of operator id priority usage aircraft volumes covers spans = record {
+  operator = operator;
+  id = id;
+  plan = plan_row operator id priority usage aircraft;
+  volumes = volumes;
+  covers = covers;
+  spans = spans;
+}
+
 module _ (operator id : List ℕ) (priority usage aircraft : ℕ) (volumes covers spans : List Row)
     (old : Database)
-    (put : IsPuttable operator id (plan_row operator id priority usage aircraft) volumes covers spans old)
+    (put : IsPuttable (put_of operator id priority usage aircraft volumes covers spans) old)
     (cut : Database) (removes : RemovesPlan operator id (tables_of old.trees) (tables_of cut.trees))
     (takes : TakesRoom 0 0 0 old.trees cut.trees) where
   cut_plans : list_any (is_of operator id) (tables_of cut.trees).plans ≡ false

@@ -15,7 +15,7 @@ use Rattle.sqlite_schema.specs.Rules.{table_reals, index_reals}
 use Rattle.sqlite_schema.specs.declared.schema.Index.{Index}
 use Rattle.sqlite_schema.specs.declared.schema.Table.{Table}
 use Rattle.desk_sql.specs.Schema.{desk_schema, operator_table, plan_table, volume_table, span_table}
-use Rattle.desk_sql.specs.Rows.{operator_row, plan_row, volume_row, span_row}
+use Rattle.desk_sql.specs.Rows.{VolumeColumns, SpanColumns, operator_row, plan_row, volume_row, span_row}
 use Rattle.desk_sql.specs.Changing.{IsShort}
 
 pub whole : (n : ℤ) → NotNan (number (Int n))
@@ -135,115 +135,106 @@ volume_at = record volume_table { tree = 9 }
 abbrev span_at : Table
 span_at = record span_table { tree = 11 }
 
-pub volume_stored : (operator id : List ℕ) (place : ℕ) (lower upper start stop : ℤ) (asked canon : List ℕ)
-    → IsShort operator → IsShort id → IsShort asked → IsShort canon → (n : ℤ)
-    → ¬ IsOversized desk_schema volume_at
-    (Int n ∷ volume_row operator id place lower upper start stop asked ++ Blob canon ∷ [])
-volume_stored operator id place lower upper start stop asked canon short brief small little n
-    (inl big) = big (
-      storable (Int n ∷ volume_row operator id place lower upper start stop asked ++ Blob canon ∷ [])
-          (omega arith) (omega arith) (
-            whole n,
+pub volume_stored : (v : VolumeColumns) (canon : List ℕ)
+    → IsShort v.operator → IsShort v.id → IsShort v.asked → IsShort canon → (n : ℤ)
+    → ¬ IsOversized desk_schema volume_at (Int n ∷ volume_row v ++ Blob canon ∷ [])
+volume_stored v canon short brief small little n (inl big) = big (
+  storable (Int n ∷ volume_row v ++ Blob canon ∷ []) (omega arith) (omega arith) (
+    whole n,
+    (
+      text v.operator,
+      (
+        text v.id,
+        (
+          whole (pos v.place),
+          (
+            whole v.lower,
             (
-              text operator,
-              (
-                text id,
-                (
-                  whole (pos place),
-                  (
-                    whole lower,
-                    (
-                      whole upper,
-                      (whole start, (whole stop, (blob asked, (blob canon, tt)))),
-                    ),
-                  ),
-                ),
-              ),
+              whole v.upper,
+              (whole v.start, (whole v.stop, (blob v.asked, (blob canon, tt)))),
             ),
-          ) (omega (arith, short, brief, small, little)),
-      omega arith,
-    )
-volume_stored operator id place lower upper start stop asked canon short brief small little n
+          ),
+        ),
+      ),
+    ),
+  ) (omega (arith, short, brief, small, little)),
+  omega arith,
+)
+volume_stored v canon short brief small little n
     (inr (i, inl is, on, big)) = absurd (let e = other_index i _ 9 is on in cc)
-volume_stored operator id place lower upper start stop asked canon short brief small little n
+volume_stored v canon short brief small little n
     (inr (i, inr (inl is), on, big)) = absurd (let e = other_index i _ 9 is on in cc)
-volume_stored operator id place lower upper start stop asked canon short brief small little n
+volume_stored v canon short brief small little n
     (inr (i, inr (inr (inl is)), on, big)) = absurd (let e = other_index i _ 9 is on in cc)
-volume_stored operator id place lower upper start stop asked canon short brief small little n
+volume_stored v canon short brief small little n
     (inr (i, inr (inr (inr (inl is))), on, big)) = absurd (let e = other_index i _ 9 is on in cc)
-volume_stored operator id place lower upper start stop asked canon short brief small little n
+volume_stored v canon short brief small little n
     (inr (i, inr (inr (inr (inr (inl is)))), on, big)) = absurd (let e = other_index i _ 9 is on in cc)
-volume_stored operator id place lower upper start stop asked canon short brief small little n
-    (inr (i, inr (inr (inr (inr (inr (inl is))))), on, big)) =
+volume_stored v canon short brief small little n (inr (i, inr (inr (inr (inr (inr (inl is))))), on, big)) =
     subst (λ (i : Index). ¬ IsStorable (index_reals (table_reals volume_at) i.columns)
-    (entry_of i.columns
-    (Int n ∷ volume_row operator id place lower upper start stop asked ++ Blob canon ∷ []))) is big
-    (storable (Text operator ∷ Text id ∷ Int (pos place) ∷ Int n ∷ []) (omega arith) (omega arith)
-    (text operator, (text id, (whole (pos place), (whole n, tt)))) (omega (arith, short, brief)))
-volume_stored operator id place lower upper start stop asked canon short brief small little n
+    (entry_of i.columns (Int n ∷ volume_row v ++ Blob canon ∷ []))) is big
+    (storable (Text v.operator ∷ Text v.id ∷ Int (pos v.place) ∷ Int n ∷ []) (omega arith) (omega arith)
+    (text v.operator, (text v.id, (whole (pos v.place), (whole n, tt)))) (omega (arith, short, brief)))
+volume_stored v canon short brief small little n
     (inr (i, inr (inr (inr (inr (inr (inr (inl is)))))), on, big)) =
     absurd (let e = other_index i _ 9 is on in cc)
-volume_stored operator id place lower upper start stop asked canon short brief small little n
+volume_stored v canon short brief small little n
     (inr (i, inr (inr (inr (inr (inr (inr (inr (inl is))))))), on, big)) =
     absurd (let e = other_index i _ 9 is on in cc)
-volume_stored operator id place lower upper start stop asked canon short brief small little n
+volume_stored v canon short brief small little n
     (inr (i, inr (inr (inr (inr (inr (inr (inr (inr none))))))), on, big)) = absurd none
 
-pub span_stored : (operator id : List ℕ) (place : ℕ) (first last lower upper start stop : ℤ) (priority : ℕ)
-    → IsShort operator → IsShort id → (n : ℤ)
-    → ¬ IsOversized desk_schema span_at
-    (Int n ∷ span_row operator id place first last lower upper start stop priority)
-span_stored operator id place first last lower upper start stop priority short brief n (inl big) = big (
-  storable (Int n ∷ span_row operator id place first last lower upper start stop priority) (omega arith)
-      (omega arith) (
-        whole n,
+pub span_stored : (s : SpanColumns) → IsShort s.operator → IsShort s.id → (n : ℤ)
+    → ¬ IsOversized desk_schema span_at (Int n ∷ span_row s)
+span_stored s short brief n (inl big) = big (
+  storable (Int n ∷ span_row s) (omega arith) (omega arith) (
+    whole n,
+    (
+      text s.operator,
+      (
+        text s.id,
         (
-          text operator,
+          whole (pos s.place),
           (
-            text id,
+            whole s.first,
             (
-              whole (pos place),
+              whole s.last,
               (
-                whole first,
-                (
-                  whole last,
-                  (whole lower, (whole upper, (whole start, (whole stop, (whole (pos priority), tt))))),
-                ),
+                whole s.lower,
+                (whole s.upper, (whole s.start, (whole s.stop, (whole (pos s.priority), tt)))),
               ),
             ),
           ),
         ),
-      )
+      ),
+    ),
+  )
       (omega (arith, short, brief)),
   omega arith,
 )
-span_stored operator id place first last lower upper start stop priority short brief n
-    (inr (i, inr (inr (inr (inr (inr (inr (inl is)))))), on, big)) =
+span_stored s short brief n (inr (i, inr (inr (inr (inr (inr (inr (inl is)))))), on, big)) =
     subst (λ (i : Index). ¬ IsStorable (index_reals (table_reals span_at) i.columns)
-    (entry_of i.columns (Int n ∷ span_row operator id place first last lower upper start stop priority)))
-    is big
-    (storable (Text operator ∷ Text id ∷ Int (pos place) ∷ Int first ∷ Int n ∷ []) (omega arith)
-    (omega arith) (text operator, (text id, (whole (pos place), (whole first, (whole n, tt)))))
+    (entry_of i.columns (Int n ∷ span_row s))) is big
+    (storable (Text s.operator ∷ Text s.id ∷ Int (pos s.place) ∷ Int s.first ∷ Int n ∷ []) (omega arith)
+    (omega arith) (text s.operator, (text s.id, (whole (pos s.place), (whole s.first, (whole n, tt)))))
     (omega (arith, short, brief)))
-span_stored operator id place first last lower upper start stop priority short brief n
-    (inr (i, inr (inr (inr (inr (inr (inr (inr (inl is))))))), on, big)) =
+span_stored s short brief n (inr (i, inr (inr (inr (inr (inr (inr (inr (inl is))))))), on, big)) =
     subst (λ (i : Index). ¬ IsStorable (index_reals (table_reals span_at) i.columns)
-    (entry_of i.columns (Int n ∷ span_row operator id place first last lower upper start stop priority)))
-    is big
-    (storable (Int first ∷ Int last ∷ Int lower ∷ Int upper ∷ Int start ∷ Int stop ∷ Int (pos priority)
-    ∷ Text operator ∷ Text id ∷ Int n ∷ []) (omega arith) (omega arith) (
-      whole first,
+    (entry_of i.columns (Int n ∷ span_row s))) is big
+    (storable (Int s.first ∷ Int s.last ∷ Int s.lower ∷ Int s.upper ∷ Int s.start ∷ Int s.stop
+    ∷ Int (pos s.priority) ∷ Text s.operator ∷ Text s.id ∷ Int n ∷ []) (omega arith) (omega arith) (
+      whole s.first,
       (
-        whole last,
+        whole s.last,
         (
-          whole lower,
+          whole s.lower,
           (
-            whole upper,
+            whole s.upper,
             (
-              whole start,
+              whole s.start,
               (
-                whole stop,
-                (whole (pos priority), (text operator, (text id, (whole n, tt)))),
+                whole s.stop,
+                (whole (pos s.priority), (text s.operator, (text s.id, (whole n, tt)))),
               ),
             ),
           ),
@@ -251,17 +242,15 @@ span_stored operator id place first last lower upper start stop priority short b
       ),
     )
     (omega (arith, short, brief)))
-span_stored operator id place first last lower upper start stop priority short brief n
-    (inr (i, inl is, on, big)) = absurd (let e = other_index i _ 11 is on in cc)
-span_stored operator id place first last lower upper start stop priority short brief n
-    (inr (i, inr (inl is), on, big)) = absurd (let e = other_index i _ 11 is on in cc)
-span_stored operator id place first last lower upper start stop priority short brief n
+span_stored s short brief n (inr (i, inl is, on, big)) = absurd (let e = other_index i _ 11 is on in cc)
+span_stored s short brief n (inr (i, inr (inl is), on, big)) = absurd (let e = other_index i _ 11 is on in cc)
+span_stored s short brief n
     (inr (i, inr (inr (inl is)), on, big)) = absurd (let e = other_index i _ 11 is on in cc)
-span_stored operator id place first last lower upper start stop priority short brief n
+span_stored s short brief n
     (inr (i, inr (inr (inr (inl is))), on, big)) = absurd (let e = other_index i _ 11 is on in cc)
-span_stored operator id place first last lower upper start stop priority short brief n
+span_stored s short brief n
     (inr (i, inr (inr (inr (inr (inl is)))), on, big)) = absurd (let e = other_index i _ 11 is on in cc)
-span_stored operator id place first last lower upper start stop priority short brief n
+span_stored s short brief n
     (inr (i, inr (inr (inr (inr (inr (inl is))))), on, big)) = absurd (let e = other_index i _ 11 is on in cc)
-span_stored operator id place first last lower upper start stop priority short brief n
+span_stored s short brief n
     (inr (i, inr (inr (inr (inr (inr (inr (inr (inr none))))))), on, big)) = absurd none

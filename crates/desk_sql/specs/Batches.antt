@@ -9,10 +9,22 @@ use Rattle.sqlite.specs.State.{HasCleanDisk}
 use Rattle.sqlite.specs.Held.{Held, state}
 use Rattle.desk_sql.specs.declared.changing.writing.VolumeRecord.{VolumeRecord}
 use Rattle.desk_sql.specs.declared.changing.writing.SpanRecord.{SpanRecord}
-use Rattle.desk_sql.specs.Rows.{IsDesk, Tables, is_of, is_not_of, left_without, volume_row, cover_row, span_row}
+use Rattle.desk_sql.specs.Rows.{IsDesk, Tables, VolumeColumns, SpanColumns, is_of, is_not_of, left_without, volume_row, cover_row, span_row}
+
+abbrev pub volume_columns : VolumeRecord → VolumeColumns
+volume_columns v = record {
+  operator = v.operator.now;
+  id = v.id.now;
+  place = v.place;
+  lower = v.lower;
+  upper = v.upper;
+  start = v.start;
+  stop = v.stop;
+  asked = v.asked.now;
+}
 
 abbrev pub volume_row_in : VolumeRecord → Row
-volume_row_in v = volume_row v.operator.now v.id.now v.place v.lower v.upper v.start v.stop v.asked.now
+volume_row_in v = volume_row (volume_columns v)
 
 abbrev pub cover_of : VolumeRecord → Row
 cover_of v = cover_row v.operator.now v.id.now v.place v.canon.now
@@ -21,9 +33,22 @@ cover_of v = cover_row v.operator.now v.id.now v.place v.canon.now
 abbrev pub volume_params : VolumeRecord → Row
 volume_params v = volume_row_in v ++ Blob v.canon.now ∷ []
 
+abbrev pub span_columns : SpanRecord → SpanColumns
+span_columns s = record {
+  operator = s.operator.now;
+  id = s.id.now;
+  place = s.place;
+  first = s.first;
+  last = s.last;
+  lower = s.lower;
+  upper = s.upper;
+  start = s.start;
+  stop = s.stop;
+  priority = s.priority;
+}
+
 abbrev pub span_row_in : SpanRecord → Row
-span_row_in s = span_row s.operator.now s.id.now s.place s.first s.last s.lower s.upper s.start s.stop
-    s.priority
+span_row_in s = span_row (span_columns s)
 
 abbrev pub AddsVolumes : List Row → List Row → Tables → Tables → Type 0
 AddsVolumes rows covers old new = IsPermutation (rows ++ old.volumes) new.volumes
@@ -39,16 +64,25 @@ abbrev pub IsUnderWay : {S : Type 0} → Ghosts S → Held S → Type 0
 IsUnderWay g h = HasCleanDisk (state g h) → IsTrue (state g h).is_open × IsTrue h.in_transaction
     × IsDesk (state g h).now × IsDatabase (state g h).now
 
+-- what is put of a plan: whose and which it is, its row, and the rows of its volumes, covers and spans
+pub record PlanPut : Type 0 where
+  pub operator : List ℕ
+  pub id : List ℕ
+  pub plan : Row
+  pub volumes : List Row
+  pub covers : List Row
+  pub spans : List Row
+
 -- what there was of the plan goes, and this comes
-pub record PutsPlan (operator id : List ℕ) (plan : Row) (volumes covers spans : List Row)
-    (old new : Tables) : Type 0 where
+pub record PutsPlan (put : PlanPut) (old new : Tables) : Type 0 where
   pub operators : new.operators ≡ old.operators
-  pub plans : IsPermutation (plan ∷ filter (is_not_of operator id) old.plans) new.plans
-  pub old_volumes : new.old_volumes ≡ left_without operator id old old.old_volumes
-  pub old_spans : new.old_spans ≡ left_without operator id old old.old_spans
-  pub with_volumes : IsPermutation (volumes ++ left_without operator id old old.volumes) new.volumes
-  pub with_covers : IsPermutation (covers ++ left_without operator id old old.covers) new.covers
-  pub with_spans : IsPermutation (spans ++ left_without operator id old old.spans) new.spans
+  pub plans : IsPermutation (put.plan ∷ filter (is_not_of put.operator put.id) old.plans) new.plans
+  pub old_volumes : new.old_volumes ≡ left_without put.operator put.id old old.old_volumes
+  pub old_spans : new.old_spans ≡ left_without put.operator put.id old old.old_spans
+  pub with_volumes : IsPermutation (put.volumes ++ left_without put.operator put.id old old.volumes)
+      new.volumes
+  pub with_covers : IsPermutation (put.covers ++ left_without put.operator put.id old old.covers) new.covers
+  pub with_spans : IsPermutation (put.spans ++ left_without put.operator put.id old old.spans) new.spans
 
 -- of none of these plans
 abbrev pub is_of_none : List ℕ → List (List ℕ) → Row → Bool

@@ -7,6 +7,7 @@ use Rattle.sqlite.specs.Order.{Row}
 use Rattle.sqlite.specs.Tree.{Trees, IsAscending}
 use Rattle.sqlite.specs.Effect.{Database}
 use Rattle.desk_sql.specs.Rows.{IsDesk, is_of, tables_of}
+use Rattle.desk_sql.specs.Batches.{PlanPut}
 use Rattle.desk_sql.specs.Changing.{HasKey, HasRowids, IsShort, LacksKey, has_same_key}
 use Rattle.desk_sql.specs.Schema.{desk_schema}
 use Rattle.desk_sql.specs.Statements.{MayWrite}
@@ -77,15 +78,13 @@ pub record AreOfPlan (operator id : List ℕ) (width : ℕ) (rows : List Row) : 
   pub apart : HaveOwnKeys width rows
 
 -- a plan of a listed operator, for whose rows there is room
-pub record IsPuttable (operator id : List ℕ) (plan : Row) (volumes covers spans : List Row)
-    (db : Database) : Type 0
-  where
-    pub operator_short : IsShort operator
-    pub id_short : IsShort id
-    pub listed : HasKey 1 plan (tables_of db.trees).operators
-    pub volumes_of : AreOfPlan operator id 3 volumes
-    pub short_covers : AreShort covers
-    pub spans_of : AreOfPlan operator id 4 spans
-    pub plan_room : HasRoomFor 1 (db.trees 2)
-    pub volume_room : HasRoomFor (length volumes) (db.trees 9)
-    pub span_room : HasRoomFor (length spans) (db.trees 11)
+pub record IsPuttable (put : PlanPut) (db : Database) : Type 0 where
+  pub operator_short : IsShort put.operator
+  pub id_short : IsShort put.id
+  pub listed : HasKey 1 put.plan (tables_of db.trees).operators
+  pub volumes_of : AreOfPlan put.operator put.id 3 put.volumes
+  pub short_covers : AreShort put.covers
+  pub spans_of : AreOfPlan put.operator put.id 4 put.spans
+  pub plan_room : HasRoomFor 1 (db.trees 2)
+  pub volume_room : HasRoomFor (length put.volumes) (db.trees 9)
+  pub span_room : HasRoomFor (length put.spans) (db.trees 11)

@@ -1,20 +1,33 @@
 -- What each change is given, what it does, and what it has to fit.
-use Rattle.std.specs.Prelude.{⊤, pos, List, ℕ, [], ◌∷◌}
+use Rattle.std.specs.Prelude.{⊤, pos, List, ℕ, [], ◌∷◌, map}
 use Rattle.sqlite.specs.declared.types.Value.TheVariants.{Int, Text}
 use Rattle.sqlite.specs.Order.{Row}
 use Rattle.sqlite.specs.Tree.{Trees}
 use Rattle.sqlite.specs.Effect.{Database}
 use Rattle.desk_sql.specs.declared.changing.writing.PlanRecord.{PlanRecord}
+use Rattle.desk_sql.specs.declared.changing.writing.VolumeRecord.{VolumeRecord}
+use Rattle.desk_sql.specs.declared.changing.writing.SpanRecord.{SpanRecord}
 use Rattle.desk_sql.specs.declared.changing.change.Change.{Change}
 use Rattle.desk_sql.specs.declared.changing.change.Change.TheVariants.{AddOperator, AddPlan, AddVolume, AddSpan, SetCeiling, SetClosed, RemovePlan, RemoveSpans, EmptyOldVolumes, EmptyOldSpans}
 use Rattle.desk_sql.specs.Rows.{Tables, is_row_by, is_of, operator_row, plan_row, AddsOperator, AddsPlan, AddsVolume, AddsSpan, SetsOperators, SetsPlans, RemovesPlan, RemovesSpans, RemovesOldVolumes, RemovesOldSpans}
-use Rattle.desk_sql.specs.Batches.{volume_row_in, cover_of, volume_params, span_row_in}
+use Rattle.desk_sql.specs.Batches.{PlanPut, volume_row_in, cover_of, volume_params, span_row_in}
 use Rattle.desk_sql.specs.Statements.{Changes}
 use Rattle.desk_sql.specs.Changing.{AreLow, IsShort, FitsOperator, FitsPlan, FitsVolume, FitsSpan, IsSureChange}
 use Rattle.desk_sql.specs.Putting.{TakesOperators, TakesRoom, TextTakes}
 
 abbrev pub plan_row_in : PlanRecord → Row
 plan_row_in p = plan_row p.operator.now p.id.now p.priority p.usage p.aircraft
+
+-- what is put of a plan by its records
+abbrev pub plan_put : PlanRecord → List VolumeRecord → List SpanRecord → PlanPut
+plan_put p volumes spans = record {
+  operator = p.operator.now;
+  id = p.id.now;
+  plan = plan_row_in p;
+  volumes = map volume_row_in volumes;
+  covers = map cover_of volumes;
+  spans = map span_row_in spans;
+}
 
 -- which plan
 abbrev pub key_row : List ℕ → List ℕ → Row

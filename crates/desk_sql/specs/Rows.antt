@@ -26,18 +26,43 @@ abbrev pub plan_row : List ℕ → List ℕ → ℕ → ℕ → ℕ → Row
 plan_row operator id priority usage aircraft =
     Text operator ∷ Text id ∷ Int (pos priority) ∷ Int (pos usage) ∷ Int (pos aircraft) ∷ []
 
-abbrev pub volume_row : List ℕ → List ℕ → ℕ → ℤ → ℤ → ℤ → ℤ → List ℕ → Row
-volume_row operator id place lower upper start stop asked =
-    Text operator ∷ Text id ∷ Int (pos place) ∷ Int lower ∷ Int upper ∷ Int start ∷ Int stop ∷ Blob asked ∷ []
+-- the columns of `volume2`, but for `canon`
+pub record VolumeColumns : Type 0 where
+  pub operator : List ℕ
+  pub id : List ℕ
+  pub place : ℕ
+  pub lower : ℤ
+  pub upper : ℤ
+  pub start : ℤ
+  pub stop : ℤ
+  pub asked : List ℕ
+
+abbrev pub volume_row : VolumeColumns → Row
+volume_row v =
+    Text v.operator ∷ Text v.id ∷ Int (pos v.place) ∷ Int v.lower ∷ Int v.upper ∷ Int v.start ∷ Int v.stop
+    ∷ Blob v.asked ∷ []
 
 -- the ids of a volume's canonical cover, and which volume it is
 abbrev pub cover_row : List ℕ → List ℕ → ℕ → List ℕ → Row
 cover_row operator id place canon = Text operator ∷ Text id ∷ Int (pos place) ∷ Blob canon ∷ []
 
-abbrev pub span_row : List ℕ → List ℕ → ℕ → ℤ → ℤ → ℤ → ℤ → ℤ → ℤ → ℕ → Row
-span_row operator id place first last lower upper start stop priority =
-    Text operator ∷ Text id ∷ Int (pos place) ∷ Int first ∷ Int last ∷ Int lower ∷ Int upper ∷ Int start
-    ∷ Int stop ∷ Int (pos priority) ∷ []
+-- the columns of `span2`
+pub record SpanColumns : Type 0 where
+  pub operator : List ℕ
+  pub id : List ℕ
+  pub place : ℕ
+  pub first : ℤ
+  pub last : ℤ
+  pub lower : ℤ
+  pub upper : ℤ
+  pub start : ℤ
+  pub stop : ℤ
+  pub priority : ℕ
+
+abbrev pub span_row : SpanColumns → Row
+span_row s =
+    Text s.operator ∷ Text s.id ∷ Int (pos s.place) ∷ Int s.first ∷ Int s.last ∷ Int s.lower ∷ Int s.upper
+    ∷ Int s.start ∷ Int s.stop ∷ Int (pos s.priority) ∷ []
 
 -- ---- what a row is asked
 

@@ -5,6 +5,7 @@ mod changing;
 pub mod laws;
 mod old;
 mod opening;
+mod parameters;
 mod reading;
 
 pub use changing::batch::{insert_spans, insert_volumes};

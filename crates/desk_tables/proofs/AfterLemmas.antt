@@ -10,7 +10,6 @@ use Rattle.sqlite.specs.declared.error.Error.{Error}
 use Rattle.sqlite.specs.Held.{Held, state}
 use Rattle.sqlite_value.specs.declared.value.Value.TheVariants.{Int}
 use Rattle.sqlite_value.specs.Order.{Row, column}
-use Rattle.desk_sql.specs.Rows as sql
 use Rattle.desk_sql.specs.Rows.{Tables, PutsOperator, ClosesPlan, tables_of}
 use Rattle.desk_sql.specs.Batches.{PutsPlan, RemovesPlans}
 use Rattle.desk_sql.specs.Effects.{Commits, MayMake, IsMadeOf}
@@ -26,7 +25,8 @@ use Rattle.desk_store.specs.declared.change.Change.{Change}
 use Rattle.desk_store.specs.declared.fault.StoreFault.{StoreFault}
 use Rattle.desk_store.specs.declared.change.Change.TheVariants.{Enrol, Put, Close}
 use Rattle.desk_store.specs.Content.{IsId, IsPlan, IsContent}
-use Rattle.desk_tables.specs.Tables.{id_text, usage_number, aircraft_number, row_of_plan, plan_rows, area_rows, area_covers, ArePlanSpanRows, AreTables}
+use Rattle.desk_tables.specs.PlanRows.{filed_put}
+use Rattle.desk_tables.specs.Tables.{id_text, usage_number, aircraft_number, plan_rows, area_rows, area_covers, ArePlanSpanRows, AreTables}
 use Rattle.desk_tables.specs.Lookups.{own_of}
 use Rattle.desk_tables.specs.TableChanges.{ChangesRows, PutsRows, ClosesRows, ClearsRows, IsWithinLimits}
 use Rattle.desk_tables.specs.Store.{Stands}
@@ -34,7 +34,7 @@ use Rattle.desk_tables.specs.Leaving.{HasWorld, MayHave}
 use Rattle.desk_tables.specs.ChangesMade.{IsMade}
 use Rattle.desk_tables.proofs.ChangeLemmas.{change_tables, change_content}
 use Rattle.desk_tables.proofs.SetLemmas.{operator_is_put}
-use Rattle.desk_tables.proofs.PutLemmas.{put_is_put}
+use Rattle.desk_tables.proofs.PutLemmas.{put_as, put_is_put}
 use Rattle.desk_tables.proofs.ClearLemmas.{removal_is_clear}
 use Rattle.desk_tables.proofs.CloseLemmas.{close_is_close}
 use Rattle.desk_tables.proofs.StoreLemmas.{kept_stands}
@@ -187,22 +187,21 @@ module _ {S : Type 0} (g : Ghosts S) (old new : Held S) (w : World) (stood : Sta
           → text ≡ id_text row.id → volumes ≡ area_rows (filed_by operator row)
           → covers ≡ area_covers (filed_by operator row)
           → ArePlanSpanRows (filed_by operator row) spans → IsPlan row
-          → IsCommitted g old new r (PutsPlan operator text
-          (sql.plan_row operator text row.priority (usage_number row.usage) (aircraft_number row.aircraft))
-          volumes covers spans) Fits
+          → IsCommitted g old new r (PutsPlan (put_as operator text row.priority (usage_number row.usage)
+          (aircraft_number row.aircraft) volumes covers spans)) Fits
           → (HasCleanDisk (state g old) → IsFitting (Put operator row) w)
           → IsMade g old new made w (Put operator row)
       made_put operator row text volumes covers spans is are covers_are span_rows plan it fits =
-          made_changed (Put operator row) (PutsPlan operator (id_text row.id)
-          (row_of_plan (filed_by operator row)) (area_rows (filed_by operator row))
-          (area_covers (filed_by operator row)) spans)
-          (committed_as (λ rows. PutsPlan operator (id_text row.id)
-          (row_of_plan (filed_by operator row)) (area_rows (filed_by operator row)) rows spans) covers_are
-          (committed_as (λ rows. PutsPlan operator (id_text row.id)
-          (row_of_plan (filed_by operator row)) rows covers spans) are
-          (committed_as (λ t. PutsPlan operator t
-          (sql.plan_row operator t row.priority (usage_number row.usage) (aircraft_number row.aircraft))
-          volumes covers spans) is it)))
+          let usage = usage_number row.usage in
+          let aircraft = aircraft_number row.aircraft in
+          let area = area_rows (filed_by operator row) in
+          made_changed (Put operator row) (PutsPlan (filed_put (filed_by operator row) spans))
+          (committed_as (λ rows. PutsPlan (put_as operator (id_text row.id) row.priority usage aircraft
+          area rows spans)) covers_are
+          (committed_as (λ rows. PutsPlan (put_as operator (id_text row.id) row.priority usage aircraft
+          rows covers spans)) are
+          (committed_as (λ t. PutsPlan (put_as operator t row.priority usage aircraft volumes covers spans))
+          is it)))
           fits (within_put operator row plan) (λ one two clean h t e. put_asked operator row one two
           (put_is_put (filed_by operator row) w one two spans h plan t span_rows e))
 

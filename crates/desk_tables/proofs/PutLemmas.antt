@@ -5,10 +5,11 @@ use Rattle.std.proofs.lemmas.List.Elements.{filter-append}
 use Rattle.std.proofs.lemmas.List.Sorted.{IsPermutation-refl, IsPermutation-sym, IsPermutation-trans, IsPermutation-append_right, list_any-IsPermutation}
 use Rattle.sqlite_value.specs.Order.{Row}
 use Rattle.sqlite_keyed.proofs.ListLemmas.{IsPermutation-filter, IsPermutation-same, filter_all, none_from_any}
-use Rattle.desk_sql.specs.Rows.{Tables, is_of, is_not_of, left_without}
-use Rattle.desk_sql.specs.Batches.{PutsPlan}
+use Rattle.desk_sql.specs.Rows.{Tables, is_of, is_not_of, left_without, plan_row}
+use Rattle.desk_sql.specs.Batches.{PlanPut, PutsPlan}
 use Rattle.desk_store.specs.World.{Filed, World}
 use Rattle.desk_store.specs.OwnRows.{is_own}
+use Rattle.desk_tables.specs.PlanRows.{filed_put}
 use Rattle.desk_tables.specs.Tables.{id_text, row_of_plan, plan_rows, area_rows, volume_rows, area_covers, cover_rows, ArePlanSpanRows, AreSpanRows, AreTables}
 use Rattle.desk_store.specs.Content.{IsId, IsPlan, IsContent}
 use Rattle.desk_tables.specs.TableChanges.{PutsRows}
@@ -88,6 +89,18 @@ module _ (o id : List ℕ) (tables : Tables) (w : World) (hi : IsId id) (h : IsC
   spans_left = left_is t.spans.0 tables.spans t.spans.2
       (λ e. spans_untouched o id w.plans t.spans.0 hi h.rows (absent e) t.spans.1)
 
+-- what is put of a plan, by what its rows are made of
+abbrev pub put_as : (operator id : List ℕ) (priority usage aircraft : ℕ) (volumes covers spans : List Row)
+    → PlanPut
+put_as operator id priority usage aircraft volumes covers spans = record {
+  operator = operator;
+  id = id;
+  plan = plan_row operator id priority usage aircraft;
+  volumes = volumes;
+  covers = covers;
+  spans = spans;
+}
+
 -- of no rows none is left
 none_without : (o text : List ℕ) (tables : Tables) (rows : List Row) → rows ≡ []
     → left_without o text tables rows ≡ []
@@ -100,7 +113,7 @@ none_without o text tables rows none =
 pub put_is_put : (p : Filed) (w : World) (old new : Tables) (spans : List Row) → IsContent w
     → IsPlan p.row
     → AreTables old w → ArePlanSpanRows p spans
-    → PutsPlan p.operator (id_text p.row.id) (row_of_plan p) (area_rows p) (area_covers p) spans old new
+    → PutsPlan (filed_put p spans) old new
     → PutsRows p old new
 put_is_put p w old new spans h hp t are e = record {
   no_old = λ none. record {

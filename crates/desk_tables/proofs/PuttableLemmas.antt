@@ -42,6 +42,7 @@ use Rattle.desk_tables.proofs.KeyOrderLemmas.{area_up, plan_up}
 use Rattle.desk_tables.proofs.PlanLemmas.{HasKey as BeginsAs, area_keyed}
 use Rattle.desk_tables.proofs.ShareLemmas.{has_name, if_listed}
 use Rattle.desk_tables.proofs.SpanLemmas.{spans_keyed}
+use Rattle.desk_tables.proofs.PutLemmas.{put_as}
 
 -- ---- keys
 
@@ -174,7 +175,7 @@ pub puttable : ((shape : Shape) → IsTrue (is_footprint shape) → HasValidPart
     → ArePlanSpanRows (filed_by operator row) spans → IsPlan row
     → IsTrue (is_operator_name operator) → IsShort text → IsFitting (Put operator row) w
     → AreTables (tables_of db.trees) w → HasRoomForPlan (filed_by operator row) db
-    → IsPuttable operator text (sql.plan_row operator text priority usage aircraft) volumes covers spans db
+    → IsPuttable (put_as operator text priority usage aircraft volumes covers spans) db
 puttable few operator row text volumes covers spans w db priority usage aircraft is are covers_are span_rows
     plan valid short fits
     tables room =

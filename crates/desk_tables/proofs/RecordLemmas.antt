@@ -121,8 +121,18 @@ slabs_are p place v (s ∷ slabs) h = λ j. one s h.0 j ∷ slabs_are p place v 
   one : (s : Slab) → slab_window s ≡ v.window → slab_record p.operator (id_text p.row.id) place
       p.row.priority
       s ≡ row_of_span p place v (span_of s)
-  one s e = ap (λ w. sql.span_row p.operator (id_text p.row.id) place (pos s.first) (pos s.last) w.lower
-      w.upper w.start w.end p.row.priority) e
+  one s e = ap (λ w. sql.span_row (record {
+    operator = p.operator;
+    id = id_text p.row.id;
+    place = place;
+    first = pos s.first;
+    last = pos s.last;
+    lower = w.lower;
+    upper = w.upper;
+    start = w.start;
+    stop = w.end;
+    priority = p.row.priority;
+  })) e
 
 pub spans_put : (p : Filed) (vs : List Block) (i place : ℕ) (v d : Block) (rows more all : List Row)
     (text : List ℕ) (slabs : List Slab) → i < length vs → v ≡ get_or vs i d → place ≡ i → text

@@ -7,13 +7,13 @@ use Rattle.volume4d.specs.Windows.{WindowParts}
 use Rattle.desk_rules.specs.declared.plan.PlanRow.{PlanRow}
 use Rattle.desk_rules.specs.Limits.{max_priority}
 use Rattle.desk_rules.specs.Name.{is_operator_name}
-use Rattle.desk_sql.specs.Rows as sql
 use Rattle.desk_store.specs.World.{Filed, Listed}
 use Rattle.desk_store.specs.declared.fault.StoreFault.{StoreFault}
 use Rattle.desk_store.specs.declared.fault.StoreFault.TheVariants as store
 use Rattle.desk_tables.specs.declared.opening.exact.RowFault.{RowFault}
 use Rattle.desk_tables.specs.declared.opening.exact.RowFault.TheVariants.{OutOfMemory, NoDesk}
 use Rattle.desk_tables.specs.Tables.{id_text, usage_number, aircraft_number, row_of_plan, area_rows}
+use Rattle.desk_tables.specs.PlanRows.{slab_record}
 use Rattle.desk_store.specs.Content.{IsPlan}
 
 -- an operator within the limits
@@ -53,9 +53,7 @@ pub record IsWindowAt (row : Row) (at : ℕ) (window : WindowParts) : Type 0 whe
 
 -- the row in `span` of a slab of the volume at a place
 abbrev pub slab_row : Filed → ℕ → Slab → Row
-slab_row p place s =
-    sql.span_row p.operator (id_text p.row.id) place (pos s.first) (pos s.last) s.lower s.upper
-    s.start s.end p.row.priority
+slab_row p place s = slab_record p.operator (id_text p.row.id) place p.row.priority s
 
 -- what a reading's fault says of rows of which any may come
 abbrev pub row_fault_of : StoreFault → RowFault

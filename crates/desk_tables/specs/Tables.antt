@@ -45,10 +45,16 @@ row_of_plan p =
     (aircraft_number p.row.aircraft)
 
 abbrev pub row_of_volume : Filed → ℕ → Block → Row
-row_of_volume p place v =
-    sql.volume_row p.operator
-    (id_text p.row.id) place v.window.lower v.window.upper v.window.start v.window.end
-    (footprint_bytes v.footprint)
+row_of_volume p place v = sql.volume_row (record {
+  operator = p.operator;
+  id = id_text p.row.id;
+  place = place;
+  lower = v.window.lower;
+  upper = v.window.upper;
+  start = v.window.start;
+  stop = v.window.end;
+  asked = footprint_bytes v.footprint;
+})
 
 -- the ids of the canonical cover of a footprint's leaves, ascending, each as eight bytes, the most
 -- significant first
@@ -59,10 +65,18 @@ abbrev pub row_of_cover : Filed → ℕ → Block → Row
 row_of_cover p place v = sql.cover_row p.operator (id_text p.row.id) place (canon_bytes v.footprint)
 
 abbrev pub row_of_span : Filed → ℕ → Block → Span → Row
-row_of_span p place v span =
-    sql.span_row p.operator (id_text p.row.id) place (pos span.first)
-    (pos span.last) v.window.lower v.window.upper
-    v.window.start v.window.end p.row.priority
+row_of_span p place v span = sql.span_row (record {
+  operator = p.operator;
+  id = id_text p.row.id;
+  place = place;
+  first = pos span.first;
+  last = pos span.last;
+  lower = v.window.lower;
+  upper = v.window.upper;
+  start = v.window.start;
+  stop = v.window.end;
+  priority = p.row.priority;
+})
 
 abbrev pub operator_rows : World → List Row
 operator_rows w = map row_of_operator w.operators

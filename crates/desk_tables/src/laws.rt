@@ -15,8 +15,8 @@ ghost use Rattle.desk_store.specs.World.{Filed, World, text_cmp};
 ghost use Rattle.desk_store.specs.StoreChange.{changed_by, IsFitting};
 ghost use Rattle.desk_store.specs.declared.change.Change.{Change};
 ghost use Rattle.desk_store.specs.Crashes.{LeavesOnly, LeavesOldOr};
-ghost use Rattle.desk_tables.specs.Tables.{id_text, aircraft_number, row_of_plan, area_rows, area_covers};
-ghost use Rattle.desk_tables.specs.Tables.{ArePlanSpanRows, AreTables};
+ghost use Rattle.desk_tables.specs.Tables.{id_text, aircraft_number, ArePlanSpanRows, AreTables};
+ghost use Rattle.desk_tables.specs.PlanRows.{filed_put};
 ghost use Rattle.desk_store.specs.Content.{IsId, IsPlan, IsContent};
 ghost use Rattle.desk_tables.specs.Lookups.{own_of};
 ghost use Rattle.desk_tables.specs.TableChanges.{ChangesRows, EnrolsRows, PutsRows};
@@ -85,8 +85,7 @@ pub fn a_changed_content_is_a_content()
 pub fn a_plan_put_changes_rows()
     ensures { (p : Filed) (w : World) (old new : Tables) (spans : List Row) → IsContent w
         → IsPlan p.row → AreTables old w → ArePlanSpanRows p spans
-        → PutsPlan p.operator (id_text p.row.id) (row_of_plan p) (area_rows p) (area_covers p) spans old new
-        → PutsRows p old new }
+        → PutsPlan (filed_put p spans) old new → PutsRows p old new }
 {}
 
 /// Tables of a content in which the row of a stored plan is set to closed, and its spans are removed,

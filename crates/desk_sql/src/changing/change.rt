@@ -1,8 +1,11 @@
 //! The statements that change rows.
 
-ghost use Rattle.desk_sql.specs.RowChanges.{IsTextOf};
+ghost use Rattle.std.specs.Prelude.{◌≡◌};
+ghost use Rattle.desk_sql.specs.RowChanges.{IsTextOf, given_to};
 
 use crate::changing::writing::{PlanRecord, SpanRecord, VolumeRecord};
+use crate::parameters::Parameters;
+use sqlite::params;
 
 /// A change of rows, with what it is given.
 #[derive(Clone, Copy)]
@@ -47,7 +50,7 @@ pub(crate) enum Change<'a> {
     EmptyOldSpans,
 }
 
-impl Change<'_> {
+impl<'a> Change<'a> {
     /// The text, whose parameters are what the change is given.
     pub(crate) fn text(self) -> &'static str
         ensures { IsTextOf self.entry result.now }
@@ -73,6 +76,35 @@ impl Change<'_> {
             Change::RemoveSpans { .. } => "DELETE FROM span2 WHERE operator = ?1 AND id = ?2",
             Change::EmptyOldVolumes => "DELETE FROM volume",
             Change::EmptyOldSpans => "DELETE FROM span",
+        }
+    }
+
+    /// What the change is given, as the parameters of its text.
+    pub(crate) fn params(self) -> Parameters<'a>
+        ensures { result ≡ given_to self.entry }
+    {
+        match self {
+            Change::AddOperator { name, ceiling } => Parameters::of(params![name, ceiling]),
+            Change::AddPlan(p) => {
+                Parameters::of(params![p.operator, p.id, p.priority, p.usage, p.aircraft])
+            }
+            Change::AddVolume(v) => Parameters::of(params![
+                v.operator, v.id, v.place, v.lower, v.upper, v.start, v.stop, v.asked, v.canon
+            ]),
+            Change::AddSpan(s) => Parameters::of(params![
+                s.operator, s.id, s.place, s.first, s.last, s.lower, s.upper, s.start, s.stop,
+                s.priority
+            ]),
+            Change::SetCeiling { name, ceiling } => Parameters::of(params![name, ceiling]),
+            Change::SetClosed {
+                operator,
+                id,
+                priority,
+                aircraft,
+            } => { Parameters::of(params![operator, id, priority, aircraft]) }
+            Change::RemovePlan { operator, id } => Parameters::of(params![operator, id]),
+            Change::RemoveSpans { operator, id } => Parameters::of(params![operator, id]),
+            Change::EmptyOldVolumes | Change::EmptyOldSpans => Parameters::of(&[]),
         }
     }
 }

@@ -4,10 +4,10 @@ ghost use Rattle.std.specs.Prelude.{◌≡◌, ⊤, false, map};
 ghost use Rattle.desk_sql.specs.Rows.{PutsOperator, ClosesPlan, is_row_by, tables_of};
 ghost use Rattle.std.specs.List.{list_any};
 ghost use Rattle.std.specs.String.{string_bytes};
-ghost use Rattle.desk_sql.specs.Batches.{PutsPlan, RemovesPlans, volume_row_in, cover_of, span_row_in};
+ghost use Rattle.desk_sql.specs.Batches.{PutsPlan, RemovesPlans};
 ghost use Rattle.desk_sql.specs.Changing.{AreLow, HasRowids, IsShort};
 ghost use Rattle.desk_sql.specs.Putting.{IsPuttable};
-ghost use Rattle.desk_sql.specs.RowChanges.{plan_row_in};
+ghost use Rattle.desk_sql.specs.RowChanges.{plan_put};
 ghost use Rattle.desk_sql.specs.Effects.{IsReady};
 ghost use Rattle.desk_sql.specs.QueryEnds.{Answers, IsCommitted};
 
@@ -20,7 +20,7 @@ use crate::changing::writing::{
 use crate::laws::settled_and_sound;
 use crate::reading::answer::answer;
 use crate::reading::query::Query;
-use sqlite::{Alter, Connection, Error, params};
+use sqlite::{Alter, Connection, Error};
 
 /// Removes the plans of these ids, and their volumes and spans with them, as one transaction.
 pub fn clear_plans<S: Alter>(
@@ -49,10 +49,8 @@ pub fn put_plan<S: Alter>(
     requires ready { IsReady S.Store connection.old }
     requires settled { connection.old.in_transaction ≡ false }
     ensures committed { IsCommitted S.Store connection.old connection.new result
-        (PutsPlan plan.entry.operator.now plan.entry.id.now (plan_row_in plan.entry)
-        (map volume_row_in volumes.now) (map cover_of volumes.now) (map span_row_in spans.now))
-        (IsPuttable plan.entry.operator.now plan.entry.id.now (plan_row_in plan.entry)
-        (map volume_row_in volumes.now) (map cover_of volumes.now) (map span_row_in spans.now)) }
+        (PutsPlan (plan_put plan.entry volumes.now spans.now))
+        (IsPuttable (plan_put plan.entry volumes.now spans.now)) }
 {
     settled_and_sound(connection);
     let mut tx = connection.transaction();
@@ -78,7 +76,7 @@ pub fn is_enrolled<S: Alter>(connection: &mut Connection<S>, name: &str) -> Resu
     ensures answers { Answers S.Store connection.old connection.new result
         (λ db found. found ≡ list_any (is_row_by name.now) (tables_of db).operators) }
 {
-    let rows = answer(connection, Query::OperatorNamed { name }, params![name])?;
+    let rows = answer(connection, Query::OperatorNamed { name })?;
     Ok(!rows.is_empty())
 }
 

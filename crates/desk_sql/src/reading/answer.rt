@@ -1,27 +1,22 @@
 //! All rows of a query's answer.
 
 ghost use Rattle.std.specs.Prelude.{◌≡◌, false};
-ghost use Rattle.sqlite.specs.Values.{bound};
 ghost use Rattle.desk_sql.specs.Rows.{tables_of, Lists};
 ghost use Rattle.desk_sql.specs.Effects.{IsReady};
 ghost use Rattle.desk_sql.specs.QueryEnds.{WasOpen, Answers};
-ghost use Rattle.desk_sql.specs.Queries.{params_of, order_of, rows_of};
+ghost use Rattle.desk_sql.specs.Queries.{order_of, rows_of};
 
 use crate::laws::settled_and_sound;
 use crate::reading::query::Query;
 use sqlite::{Alter, Connection, Error, Row};
-use sqlite_value::value::ValueRef;
 
-/// All rows of a query's answer, given the parameters of its text. The rows of the tables stay, whatever is
-/// answered.
+/// All rows of a query's answer. The rows of the tables stay, whatever is answered.
 pub(crate) fn answer<S: Alter>(
     connection: &mut Connection<S>,
     query: Query<'_>,
-    params: &[ValueRef<'_>],
 ) -> Result<Vec<Row>, Error>
     requires ready { IsReady S.Store connection.old }
     requires settled { connection.old.in_transaction ≡ false }
-    requires given { bound params.now ≡ params_of query }
     ensures answers { Answers S.Store connection.old connection.new result
         (λ db rows. Lists (order_of query.entry) (rows_of query.entry (tables_of db)) rows.items) }
     ensures open { WasOpen S.Store connection.old connection.new result }
@@ -29,5 +24,5 @@ pub(crate) fn answer<S: Alter>(
     settled_and_sound(connection);
     // Refused on a connection that is shut, whose schema is not known.
     let statement = connection.prepare(query.text())?;
-    statement.query_all(connection, params)
+    statement.query_all(connection, query.params().as_slice())
 }

@@ -9,7 +9,7 @@ ghost use Rattle.desk_sql.specs.Others.{is_others_from};
 use crate::reading::query::Query;
 use crate::reading::rivals::SpanQuery;
 use crate::reading::taking::{RowSink, for_each_row};
-use sqlite::{Alter, Connection, Error, params};
+use sqlite::{Alter, Connection, Error};
 
 /// Hands over, one at a time and by `first`, the columns of `span2` from `first` on of each span that is
 /// reached and begins at the leaf position `low` or later, but for those of this operator's plans. Rows that
@@ -40,17 +40,6 @@ pub fn other_spans<S: Alter, T: RowSink>(
             reach,
             low,
         },
-        params![
-            reach.last,
-            reach.first,
-            reach.upper,
-            reach.lower,
-            reach.stop,
-            reach.start,
-            reach.priority,
-            operator,
-            low
-        ],
         taker,
     )
 }

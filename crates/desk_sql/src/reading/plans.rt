@@ -9,7 +9,7 @@ ghost use Rattle.desk_sql.specs.Others.{is_plans};
 use crate::reading::query::Query;
 use crate::reading::rivals::SpanQuery;
 use crate::reading::taking::{RowSink, for_each_row};
-use sqlite::{Alter, Connection, Error, params};
+use sqlite::{Alter, Connection, Error};
 
 /// Hands over, one at a time, the columns of `span2` from `first` on of each span that is reached of the plan
 /// of this operator with this id. They are looked up by their key, so no row of another plan is looked at.
@@ -39,17 +39,6 @@ pub fn plan_spans<S: Alter, T: RowSink>(
             id,
             reach,
         },
-        params![
-            reach.last,
-            reach.first,
-            reach.upper,
-            reach.lower,
-            reach.stop,
-            reach.start,
-            reach.priority,
-            operator,
-            id
-        ],
         taker,
     )
 }

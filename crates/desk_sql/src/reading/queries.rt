@@ -8,7 +8,7 @@ ghost use Rattle.desk_sql.specs.QueryEnds.{WasOpen, Answers, HandsOut};
 use crate::reading::answer::answer;
 use crate::reading::query::Query;
 use crate::reading::taking::{RowSink, for_each_row};
-use sqlite::{Alter, Connection, Error, Row, params};
+use sqlite::{Alter, Connection, Error, Row};
 
 /// The row `operator`, `id`, `priority`, `usage`, `aircraft` of the plan of this operator with this id.
 pub fn plan_of<S: Alter>(
@@ -22,11 +22,7 @@ pub fn plan_of<S: Alter>(
         (λ db rows. Lists [] (filter (is_of operator.now id.now) (tables_of db).plans) rows.items) }
     ensures open { WasOpen S.Store connection.old connection.new result }
 {
-    answer(
-        connection,
-        Query::PlanOf { operator, id },
-        params![operator, id],
-    )
+    answer(connection, Query::PlanOf { operator, id })
 }
 
 /// The rows `operator`, `id`, `place`, `lower`, `upper`, `start`, `stop`, `asked` of the volumes of a
@@ -43,11 +39,7 @@ pub fn volumes_of<S: Alter>(
         rows.items) }
     ensures open { WasOpen S.Store connection.old connection.new result }
 {
-    answer(
-        connection,
-        Query::VolumesOf { operator, id },
-        params![operator, id],
-    )
+    answer(connection, Query::VolumesOf { operator, id })
 }
 
 /// Hands over, one at a time, each plan of an operator with each of its volumes: the columns of `plan`,
@@ -69,10 +61,5 @@ pub fn own_plans<S: Alter, T: RowSink>(
         (T.has_taken taker.new) T.refuses }
     ensures open { WasOpen S.Store connection.old connection.new result }
 {
-    for_each_row(
-        connection,
-        Query::OwnPlans { operator },
-        params![operator],
-        taker,
-    )
+    for_each_row(connection, Query::OwnPlans { operator }, taker)
 }

@@ -1,9 +1,12 @@
 //! The queries that are given something.
 
+ghost use Rattle.std.specs.Prelude.{◌≡◌};
 ghost use Rattle.desk_sql.specs.Queries.{params_of, order_of, rows_of};
 ghost use Rattle.desk_sql.specs.Statements.{Selects};
 
+use crate::parameters::Parameters;
 use crate::reading::rivals::SpanQuery;
+use sqlite::params;
 
 /// A query, with what it is given.
 #[derive(Clone, Copy)]
@@ -47,7 +50,7 @@ pub(crate) enum Query<'a> {
     },
 }
 
-impl Query<'_> {
+impl<'a> Query<'a> {
     /// The text, whose parameters are what the query is given.
     pub(crate) fn text(self) -> &'static str
         ensures { Selects result.now (params_of self.entry) (order_of self.entry) (rows_of self.entry) }
@@ -84,6 +87,40 @@ impl Query<'_> {
                  WHERE first <= ?1 AND last >= ?2 AND lower < ?3 AND upper > ?4 AND start < ?5 \
                  AND stop > ?6 AND priority >= ?7 AND operator = ?8 AND id = ?9"
             }
+        }
+    }
+
+    /// What the query is given, as the parameters of its text.
+    pub(crate) fn params(self) -> Parameters<'a>
+        ensures { result ≡ params_of self.entry }
+    {
+        match self {
+            Query::OperatorNamed { name } => Parameters::of(params![name]),
+            Query::PlanOf { operator, id } => Parameters::of(params![operator, id]),
+            Query::VolumesOf { operator, id } => Parameters::of(params![operator, id]),
+            Query::OwnPlans { operator } => Parameters::of(params![operator]),
+            Query::RivalSpans {
+                operator,
+                id,
+                reach: r,
+                low,
+            } => Parameters::of(params![
+                r.last, r.first, r.upper, r.lower, r.stop, r.start, r.priority, operator, id, low
+            ]),
+            Query::OtherSpans {
+                operator,
+                reach: r,
+                low,
+            } => Parameters::of(params![
+                r.last, r.first, r.upper, r.lower, r.stop, r.start, r.priority, operator, low
+            ]),
+            Query::SpansOf {
+                operator,
+                id,
+                reach: r,
+            } => Parameters::of(params![
+                r.last, r.first, r.upper, r.lower, r.stop, r.start, r.priority, operator, id
+            ]),
         }
     }
 }

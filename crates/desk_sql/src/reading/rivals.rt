@@ -7,7 +7,7 @@ ghost use Rattle.desk_sql.specs.QueryEnds.{WasOpen, HandsOut};
 
 use crate::reading::query::Query;
 use crate::reading::taking::{RowSink, for_each_row};
-use sqlite::{Alter, Connection, Error, params};
+use sqlite::{Alter, Connection, Error};
 
 /// What spans are asked for: those that share a leaf position of `first..=last`, an altitude of
 /// `lower..upper` (decimetres above the WGS84 ellipsoid) and a moment of `start..stop` (seconds since
@@ -54,18 +54,6 @@ pub fn rival_spans<S: Alter, T: RowSink>(
             reach,
             low,
         },
-        params![
-            reach.last,
-            reach.first,
-            reach.upper,
-            reach.lower,
-            reach.stop,
-            reach.start,
-            reach.priority,
-            operator,
-            id,
-            low
-        ],
         taker,
     )
 }

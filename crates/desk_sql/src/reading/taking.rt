@@ -8,7 +8,7 @@ ghost use Rattle.sqlite.specs.Held.{state};
 ghost use Rattle.desk_sql.specs.Rows.{tables_of, Lists};
 ghost use Rattle.desk_sql.specs.Effects.{IsReady, IsOpenIfClean};
 ghost use Rattle.desk_sql.specs.QueryEnds.{WasOpen, HandsOut};
-ghost use Rattle.desk_sql.specs.Queries.{params_of, order_of, rows_of};
+ghost use Rattle.desk_sql.specs.Queries.{order_of, rows_of};
 ghost use Rattle.desk_sql.specs.Finding.{Holds};
 ghost use Rattle.desk_sql.specs.Takers.{KeepsOn};
 ghost use Rattle.desk_sql.specs.Refusals.{IsSureGiven};
@@ -129,22 +129,18 @@ pub(crate) fn hand_rows<S: Alter, T: RowSink>(
     hand_all(&mut rows, taker)
 }
 
-/// Hands over each row of a query's answer, given the parameters of its text. The rows of the tables stay,
-/// whatever is answered.
+/// Hands over each row of a query's answer. The rows of the tables stay, whatever is answered.
 ///
 /// # Errors
 ///
 /// What a query or the taker may fail with.
-// Long: what is handed over, and apart from it what holds whatever the disk returned.
 pub(crate) fn for_each_row<S: Alter, T: RowSink>(
     connection: &mut Connection<S>,
     query: Query<'_>,
-    params: &[ValueRef<'_>],
     taker: &mut T,
 ) -> Result<(), Error>
     requires ready { IsReady S.Store connection.old }
     requires settled { connection.old.in_transaction ≡ false }
-    requires given { bound params.now ≡ params_of query }
     requires fresh { T.has_taken taker.old [] }
     ensures answers { HandsOut S.Store connection.old connection.new result
         (λ db. Lists (order_of query.entry) (rows_of query.entry (tables_of db)))
@@ -154,5 +150,5 @@ pub(crate) fn for_each_row<S: Alter, T: RowSink>(
     ensures taken { OnOk result ((rows : List Values) × T.has_taken taker.new rows) }
     ensures kept { OnOk result (KeepsOn T.keeps taker.old taker.new) }
 {
-    hand_rows(connection, query.text(), params, taker)
+    hand_rows(connection, query.text(), query.params().as_slice(), taker)
 }

@@ -3,7 +3,7 @@ use Rattle.sqlite.specs.State.{HasCleanDisk}
 use Rattle.sqlite.specs.Held.{state}
 use Rattle.desk_sql.specs.Batches.{cover_of, span_row_in, volume_row_in}
 use Rattle.desk_sql.specs.Effects.{Makes}
-use Rattle.desk_sql.specs.RowChanges.{plan_row_in}
+use Rattle.desk_sql.specs.RowChanges.{plan_put}
 use Rattle.desk_sql.specs.Putting.{AreNewSpans, AreNewVolumes, IsPuttable, TakesRoom}
 use Rattle.desk_sql.specs.Rows.{RemovesPlan}
 use Rattle.desk_sql.proofs.PutSteps.{before, plan_in_turn, spans_in_turn, volumes_in_turn}
@@ -25,7 +25,7 @@ returns-in_err-insert_volumes g c =
     → Makes g.S.Store begun cut (RemovesPlan plan.operator.now plan.id.now) = search rules in
     let room : HasCleanDisk (state g.S.Store cut)
     → TakesRoom 0 0 0 (state g.S.Store begun).now.trees (state g.S.Store cut).now.trees = search rules in
-    let fits : IsPuttable plan.operator.now plan.id.now (plan_row_in plan) volumes covers spans
+    let fits : IsPuttable (plan_put plan c.args.volumes.now c.args.spans.now)
     (state g.S.Store c.args.connection.now).now → HasCleanDisk (state g.S.Store planned)
     → AreNewVolumes volumes covers (state g.S.Store planned).now = λ put clean.
     let early : HasCleanDisk (state g.S.Store cut) =
@@ -51,7 +51,7 @@ returns-in_err-insert_spans g c =
     let room : HasCleanDisk (state g.S.Store cut)
     → TakesRoom 0 0 0 (state g.S.Store begun).now.trees (state g.S.Store cut).now.trees = search rules in
     let filled = c.insert_volumes.new.tx.conn.now in
-    let fits : IsPuttable plan.operator.now plan.id.now (plan_row_in plan) volumes covers spans
+    let fits : IsPuttable (plan_put plan c.args.volumes.now c.args.spans.now)
     (state g.S.Store c.args.connection.now).now → HasCleanDisk (state g.S.Store filled)
     → AreNewSpans spans (state g.S.Store filled).now = λ put clean.
     let mid : HasCleanDisk (state g.S.Store planned) =

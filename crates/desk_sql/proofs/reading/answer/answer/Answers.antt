@@ -5,7 +5,7 @@ use Rattle.sqlite.specs.Held.{state}
 use Rattle.desk_sql.specs.Effects.{Spares, StaysShown}
 use Rattle.desk_sql.specs.Frames.{OnlyReads}
 use Rattle.desk_sql.specs.Rows.{tables_of, Lists}
-use Rattle.desk_sql.specs.Queries.{order_of, rows_of}
+use Rattle.desk_sql.specs.Queries.{params_of, order_of, rows_of}
 use Rattle.desk_sql.specs.Statements.{Selects}
 use Rattle.desk_sql.proofs.ReadLemmas.{open_if, if_either, unprepared, selected}
 use Rattle.desk_sql.proofs.StatementLemmas.{if_shown}
@@ -22,16 +22,16 @@ returns-in_err-statement-clause-answers g c =
     let new = c.prepare.new.self in
     let kept : StaysShown g.S.Store old new = λ clean live.
     (if_either g.S.Store old new (c.settled_and_sound.ensures.settled c.requires.settled)
-    live (unprepared _ _ _ _ _ (c.in_err-statement.ensures.err clean (bound c.args.params.now)))) in
+    live (unprepared _ _ _ _ _ (c.in_err-statement.ensures.err clean (params_of c.args.query)))) in
     let reads : OnlyReads g.S.Store old new =
     reads_unprepared g.S.Store old new kept (c.prepare.ensures.mode c.requires.settled)
     c.prepare.ensures.survives in
     let refused : HasCleanDisk (state g.S.Store new) → IsTrue (state g.S.Store new).is_open
     → IsRefusal g.S.Store old new c.in_err-statement.field-0.0 = λ clean live.
-    (refused_unprepared g.S.Store old new c.text.result.now (bound c.args.params.now)
-    (sure_here g.S.Store old c.text.result.now (bound c.args.params.now) c.requires.ready
-    (rw c.requires.given c.text.ensures.sure)) (omega (arith, c.prepare.ensures.survives.clean, clean)) _
-    (c.in_err-statement.ensures.err clean (bound c.args.params.now)) live) in
+    (refused_unprepared g.S.Store old new c.text.result.now (params_of c.args.query)
+    (sure_here g.S.Store old c.text.result.now (params_of c.args.query) c.requires.ready
+    c.text.ensures.sure) (omega (arith, c.prepare.ensures.survives.clean, clean)) _
+    (c.in_err-statement.ensures.err clean (params_of c.args.query)) live) in
     search (rules, reads, refused)
 
 pub returns-clause-answers : goal.returns-clause-answers
@@ -41,13 +41,13 @@ returns-clause-answers g c =
     let new = c.query_all.new.conn in
     let sql = c.text.result.now in
     let text = c.in_ok-statement.statement.text in
-    let params = bound c.args.params.now in
+    let params = bound c.as_slice.result.now in
     let early : HasCleanDisk (state g.S.Store new) → HasCleanDisk (state g.S.Store mid) = λ clean.
     omega (arith, c.query_all.ensures.survives.clean, clean) in
     let start : HasCleanDisk (state g.S.Store new) → HasCleanDisk (state g.S.Store old) = λ clean.
     omega (arith, c.prepare.ensures.survives.clean, early clean) in
     let known : Selects sql params (order_of c.args.query) (rows_of c.args.query) =
-    rw c.requires.given c.text.ensures in
+    rw (c.as_slice.ensures, c.params.ensures) c.text.ensures in
     let sure = sure_here g.S.Store old sql params c.requires.ready known.sure in
     let plain = plain_if g.S.Store old sql params sure in
     let kept : StaysShown g.S.Store old new = λ clean live.
@@ -82,11 +82,11 @@ returns-clause-open g c clean =
     let start : HasCleanDisk (state g.S.Store c.args.connection.now) =
     omega (arith, c.prepare.ensures.survives.clean, early) in
     let it = c.in_ok-statement.ensures.ok early in
-    let sure = sure_here g.S.Store c.args.connection.now c.text.result.now (bound c.args.params.now)
-    c.requires.ready (rw c.requires.given c.text.ensures.sure) in
+    let sure = sure_here g.S.Store c.args.connection.now c.text.result.now (bound c.as_slice.result.now)
+    c.requires.ready (rw (c.as_slice.ensures, c.params.ensures) c.text.ensures.sure) in
     open_if (λ v. v.items) c.text.result.now _ (state g.S.Store c.args.connection.now)
     (state g.S.Store c.query_all.new.conn) c.query_all.result
     (shown_after g.S.Store c.args.connection.now c.prepare.new.self c.query_all.new.conn
-    c.text.result.now c.in_ok-statement.statement.text (bound c.args.params.now) start
-    (plain_if g.S.Store c.args.connection.now c.text.result.now (bound c.args.params.now) sure start) it.1
+    c.text.result.now c.in_ok-statement.statement.text (bound c.as_slice.result.now) start
+    (plain_if g.S.Store c.args.connection.now c.text.result.now (bound c.as_slice.result.now) sure start) it.1
     it.0 (λ v. v.items) c.query_all.result (c.query_all.ensures.ok clean))

@@ -15,19 +15,19 @@ use Rattle.desk_sql.proofs.reading.taking.for_each_row.Goals as goal
 -- a desk's schema is the one that there is
 pub hand_rows-requires-clause-sure : goal.hand_rows-requires-clause-sure
 hand_rows-requires-clause-sure g c =
-    sure_here g.S.Store c.args.connection.now c.text.result.now (bound c.args.params.now) c.requires.ready
-    (rw c.requires.given c.text.ensures.sure)
+    sure_here g.S.Store c.args.connection.now c.text.result.now (bound c.as_slice.result.now) c.requires.ready
+    (rw (c.as_slice.ensures, c.params.ensures) c.text.ensures.sure)
 
 pub returns-clause-answers : goal.returns-clause-answers
 returns-clause-answers g c =
     let old = c.args.connection.now in
     let new = c.hand_rows.new.connection in
     let sql = c.text.result.now in
-    let params = bound c.args.params.now in
+    let params = bound c.as_slice.result.now in
     let IsAnswer : List Row → Type 0 = Lists (order_of c.args.query)
     (rows_of c.args.query (tables_of (state g.S.Store old).now.trees)) in
     let known : Selects sql params (order_of c.args.query) (rows_of c.args.query) =
-    rw c.requires.given c.text.ensures in
+    rw (c.as_slice.ensures, c.params.ensures) c.text.ensures in
     let start : HasCleanDisk (state g.S.Store new) → HasCleanDisk (state g.S.Store old) = λ clean.
     omega (arith, clean, c.hand_rows.ensures.answers.reads.doubt) in record {
       value = λ clean. if_handed g.S.Store old new sql params IsDesk IsAnswer

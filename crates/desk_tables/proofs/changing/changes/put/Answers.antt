@@ -2,7 +2,6 @@ use Rattle.std.proofs.Common.{ap, arith, sym, subst, ◌∙◌, map}
 use Rattle.std.specs.List.{AllByRecursion}
 use Rattle.sqlite.specs.State.{HasCleanDisk}
 use Rattle.sqlite.specs.Held.{state}
-use Rattle.desk_sql.specs.Rows as sql
 use Rattle.desk_sql.specs.Putting.{IsPuttable}
 use Rattle.desk_sql.specs.Batches.{PutsPlan, volume_row_in, cover_of, span_row_in}
 use Rattle.desk_store.specs.Changes.{filed_by}
@@ -13,6 +12,7 @@ use Rattle.desk_store.specs.laws.Parse.{parsed_id}
 use Rattle.desk_tables.proofs.ParseLemmas.{parsed_short}
 use Rattle.desk_tables.proofs.SpanBoundLemmas.{plan_near}
 use Rattle.desk_tables.proofs.CauseLemmas.{blamed}
+use Rattle.desk_tables.proofs.PutLemmas.{put_as}
 use Rattle.desk_tables.proofs.PuttableLemmas.{puttable}
 use Rattle.desk_tables.proofs.AfterLemmas.{committed_as, made_put}
 use Rattle.desk_tables.proofs.changing.changes.put.Goals as goal
@@ -39,12 +39,12 @@ returns-in-Ok-clause-made g c =
       volumes = c.volumes.ensures.limits;
       each = subst (AllByRecursion IsBlock) c.volumes.ensures.value c.in_ok-asked.ensures.valid;
     })
-    (committed_as (λ name. PutsPlan name text (sql.plan_row name text row.priority (usage_number row.usage)
-    (aircraft_number row.aircraft)) volumes covers spans) c.as_str-3.ensures.value
-    (committed_as (λ usage. PutsPlan c.as_str-3.result.now text (sql.plan_row c.as_str-3.result.now text
-    row.priority usage (aircraft_number row.aircraft)) volumes covers spans) c.usage_number.ensures
-    (committed_as (λ aircraft. PutsPlan c.as_str-3.result.now text (sql.plan_row c.as_str-3.result.now text
-    row.priority c.usage_number.result aircraft) volumes covers spans) c.aircraft_number.ensures
+    (committed_as (λ name. PutsPlan (put_as name text row.priority (usage_number row.usage)
+    (aircraft_number row.aircraft) volumes covers spans)) c.as_str-3.ensures.value
+    (committed_as (λ usage. PutsPlan (put_as c.as_str-3.result.now text row.priority usage
+    (aircraft_number row.aircraft) volumes covers spans)) c.usage_number.ensures
+    (committed_as (λ aircraft. PutsPlan (put_as c.as_str-3.result.now text row.priority c.usage_number.result
+    aircraft volumes covers spans)) c.aircraft_number.ensures
     c.in-Ok.ensures.committed)))
     c.requires.fits
 
@@ -83,12 +83,12 @@ returns-clause-made g c =
       volumes = c.volumes.ensures.limits;
       each = subst (AllByRecursion IsBlock) c.volumes.ensures.value c.in_ok-asked.ensures.valid;
     })
-    (committed_as (λ name. PutsPlan name text (sql.plan_row name text row.priority (usage_number row.usage)
-    (aircraft_number row.aircraft)) volumes covers spans) c.as_str-3.ensures.value
-    (committed_as (λ usage. PutsPlan c.as_str-3.result.now text (sql.plan_row c.as_str-3.result.now text
-    row.priority usage (aircraft_number row.aircraft)) volumes covers spans) c.usage_number.ensures
-    (committed_as (λ aircraft. PutsPlan c.as_str-3.result.now text (sql.plan_row c.as_str-3.result.now text
-    row.priority c.usage_number.result aircraft) volumes covers spans) c.aircraft_number.ensures
+    (committed_as (λ name. PutsPlan (put_as name text row.priority (usage_number row.usage)
+    (aircraft_number row.aircraft) volumes covers spans)) c.as_str-3.ensures.value
+    (committed_as (λ usage. PutsPlan (put_as c.as_str-3.result.now text row.priority usage
+    (aircraft_number row.aircraft) volumes covers spans)) c.usage_number.ensures
+    (committed_as (λ aircraft. PutsPlan (put_as c.as_str-3.result.now text row.priority c.usage_number.result
+    aircraft volumes covers spans)) c.aircraft_number.ensures
     c.in-Err.ensures.committed)))
     c.requires.fits
 
@@ -127,6 +127,6 @@ returns-clause-cause g c room clean live =
     (let short = parsed_short text row.id c.encode-id.ensures.parsed in omega (arith, short))
     (c.requires.fits early) stood.tables room in
     blamed g.S.Store old new c.in-Err.e c.fault_of.result c.requires.stands.unlimited c.fault_of.ensures
-    (c.in-Err.ensures.committed.cause (subst (λ name. IsPuttable name text
-    (sql.plan_row name text row.priority c.usage_number.result c.aircraft_number.result) volumes covers spans
-    (state g.S.Store old).now) (sym c.as_str-3.ensures.value) it)) clean live
+    (c.in-Err.ensures.committed.cause (subst (λ name. IsPuttable (put_as name text row.priority
+    c.usage_number.result c.aircraft_number.result volumes covers spans) (state g.S.Store old).now)
+    (sym c.as_str-3.ensures.value) it)) clean live

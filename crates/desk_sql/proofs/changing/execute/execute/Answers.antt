@@ -11,14 +11,14 @@ use Rattle.desk_sql.specs.Refusals.{IsRefusal}
 use Rattle.desk_sql.proofs.StopLemmas.{refused_change}
 use Rattle.desk_sql.proofs.WriteLemmas.{makes, changed}
 use Rattle.desk_sql.proofs.RoomTexts.{took}
-use Rattle.desk_sql.proofs.changing.execute.run_change.Goals as goal
+use Rattle.desk_sql.proofs.changing.execute.execute.Goals as goal
 
 pub returns-in_err-run-clause-changed : goal.returns-in_err-run-clause-changed
 returns-in_err-run-clause-changed g c =
     let old = c.args.tx.now.conn.now in
     let new = c.run.new.tx.conn.now in
-    let known : IsSureChange c.text.result.now (bound c.args.params.now) (fits c.args.change) =
-    rw c.requires.given c.text.ensures.sure in
+    let known : IsSureChange c.text.result.now (bound c.as_slice.result.now) (fits c.args.change) =
+    rw (c.as_slice.ensures, c.params.ensures) c.text.ensures.sure in
     let refused : IsUnderWay g.S.Store old → fits c.args.change (state g.S.Store old).now
     → HasCleanDisk (state g.S.Store new) → IsRefusal g.S.Store old new c.in_err-run.field-0.0 =
     λ way right clean.
@@ -34,10 +34,10 @@ returns-clause-changed g c =
     let change = c.args.change in
     let early : HasCleanDisk (state g.S.Store new) → HasCleanDisk (state g.S.Store old) = λ clean.
     omega (arith, c.run.ensures.remembered.doubt, clean) in
-    let known : Changes c.text.result.now (bound c.args.params.now) (changes change) =
-    rw c.requires.given c.text.ensures.changed in
-    let room : TextTakes c.text.result.now (bound c.args.params.now) (takes change) =
-    rw c.requires.given c.text.ensures.room in record {
+    let known : Changes c.text.result.now (bound c.as_slice.result.now) (changes change) =
+    rw (c.as_slice.ensures, c.params.ensures) c.text.ensures.changed in
+    let room : TextTakes c.text.result.now (bound c.as_slice.result.now) (takes change) =
+    rw (c.as_slice.ensures, c.params.ensures) c.text.ensures.room in record {
       done = λ clean. makes g.S.Store old new c.requires.ready (early clean) (changes change)
           (c.in_ok-run.ensures.shown clean)
           (λ desk. changed _ _ _ known (state g.S.Store old) (state g.S.Store new) desk c.in_ok-run.field-0
