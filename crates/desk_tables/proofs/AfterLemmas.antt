@@ -1,6 +1,5 @@
 -- What a change makes of what stood, from what its transaction came to.
-use Rattle.std.proofs.Common.{◌≡◌, inl, inr, ℕ, pos, ◌≤◌, ◌∙◌, false, List, ◌∷◌, map, arith, IsTrue, Result, Ok, Err, subst}
-use Rattle.std.specs.Prelude.{⊤}
+use Rattle.std.proofs.Common.{◌≡◌, inl, inr, ℕ, pos, ◌≤◌, ◌∙◌, None, false, List, ◌∷◌, map, arith, IsTrue, Result, Ok, Err, IfErr, IfOk, OnErr, OnOk, sym, ap, subst}
 use Rattle.sqlite_trees.specs.declared.store.Store.{Ghosts}
 use Rattle.sqlite_trees.specs.View.{doubt}
 use Rattle.sqlite.specs.State.{HasCleanDisk}
@@ -15,7 +14,7 @@ use Rattle.desk_sql.specs.Batches.{PutsPlan, RemovesPlans}
 use Rattle.desk_sql.specs.Effects.{Commits, MayMake, IsMadeOf}
 use Rattle.desk_sql.specs.Frames.{OnlyReads}
 use Rattle.desk_sql.specs.QueryEnds.{IsCommitted}
-use Rattle.desk_rules.specs.Limits.{max_priority}
+use Rattle.desk_sql.specs.Refusals.{IsRefusal}
 use Rattle.desk_rules.specs.Name.{is_operator_name}
 use Rattle.desk_store.specs.World.{World}
 use Rattle.desk_store.specs.StoreChange.{changed_by, IsFitting}
@@ -29,29 +28,21 @@ use Rattle.desk_tables.specs.PlanRows.{filed_put}
 use Rattle.desk_tables.specs.Tables.{id_text, usage_number, aircraft_number, plan_rows, area_rows, area_covers, ArePlanSpanRows, AreTables}
 use Rattle.desk_tables.specs.Lookups.{own_of}
 use Rattle.desk_tables.specs.TableChanges.{ChangesRows, PutsRows, ClosesRows, ClearsRows, IsWithinLimits}
-use Rattle.desk_tables.specs.Store.{Stands}
+use Rattle.desk_tables.specs.Causes.{BlamesStore}
+use Rattle.desk_tables.specs.Store.{HeldWorld, Stands}
 use Rattle.desk_tables.specs.Leaving.{HasWorld, MayHave}
-use Rattle.desk_tables.specs.ChangesMade.{IsMade}
+use Rattle.desk_tables.specs.ChangesMade.{HasFollowed, IsMade, IsNext}
 use Rattle.desk_tables.proofs.ChangeLemmas.{change_tables, change_content}
 use Rattle.desk_tables.proofs.SetLemmas.{operator_is_put}
 use Rattle.desk_tables.proofs.PutLemmas.{put_as, put_is_put}
 use Rattle.desk_tables.proofs.ClearLemmas.{removal_is_clear}
 use Rattle.desk_tables.proofs.CloseLemmas.{close_is_close}
+use Rattle.desk_tables.proofs.CauseLemmas.{blamed}
 use Rattle.desk_tables.proofs.StoreLemmas.{kept_stands}
 
 named : (name : List ℕ) (ceiling : ℕ) → IsTrue (is_operator_name name) → IsWithinLimits (Enrol name ceiling)
 unfolding IsWithinLimits
 named name ceiling valid = valid
-
-pub low_fits : (name : List ℕ) (ceiling : ℕ) (w : World) → ceiling ≤ max_priority
-    → IsFitting (Enrol name ceiling) w
-unfolding IsFitting
-low_fits name ceiling w low = low
-
-pub fits_low : (name : List ℕ) (ceiling : ℕ) (w : World) → IsFitting (Enrol name ceiling) w
-    → ceiling ≤ max_priority
-unfolding IsFitting
-fits_low name ceiling w fits = fits
 
 enrolled : (name : List ℕ) (ceiling : ℕ) (w : World) (old new : Tables) → IsContent w → AreTables old w
     → PutsOperator name ceiling old new → ChangesRows (Enrol name ceiling) old new
@@ -77,11 +68,17 @@ close_asked : (operator id : List ℕ) (old new : Tables) → ClosesRows operato
 unfolding ChangesRows
 close_asked operator id old new e = e
 
--- both went well, or neither
-abbrev pub AreAlike : {V E U F : Type 0} → Result V E → Result U F → Type 0
-AreAlike (Ok v) (Ok u) = ⊤
-AreAlike (Err e) (Err f) = ⊤
-AreAlike _ _ = ⊥
+-- tables that stood for a world stand for what a transaction makes of it, and that is committed, or for the
+-- same world; a crash leaves what it could leave before, or what the change makes
+pub record MakesStand {S V : Type 0} (g : Ghosts S) (old new : Held S) (r : Result V Error) (w : World)
+    (change : Change) : Type 0
+  where
+    pub ok : OnOk r (Stands g new (changed_by change w))
+    pub err : OnErr r (Stands g new w)
+    pub crash : MayHave g old new (changed_by change w)
+    pub is_open : HasCleanDisk (state g new) → OnOk r (IsTrue (state g new).is_open)
+    pub doubt : doubt (state g old).is_clean ≤ doubt (state g new).is_clean
+    pub shield : (state g old).IsShielded → (state g new).IsShielded
 
 -- of rows that are the same
 pub committed_as : {S V A : Type 0} {g : Ghosts S} {old new : Held S} {r : Result V Error}
@@ -140,110 +137,157 @@ module _ {S : Type 0} (g : Ghosts S) (old new : Held S) (w : World) (stood : Sta
               (asks one two clean before.content before.tables made.changed);
         }
 
-  module _ {V : Type 0} {Fits : Database → Type 0} (r : Result (Unit {0}) Error) (made : Result V StoreFault)
-      (alike : AreAlike r made)
-    where
-      -- a transaction that changed the rows as a change asks made the change
-      made_changed : (change : Change) (Rows : Tables → Tables → Type 0) → IsCommitted g old new r Rows Fits
-          → (HasCleanDisk (state g old) → IsFitting change w) → IsWithinLimits change
-          → ((one two : Tables) → HasCleanDisk (state g new) → IsContent w → AreTables one w → Rows one two
-          → ChangesRows change one two)
-          → IsMade g old new made w change
-      made_changed change Rows it fits within asks = by_cases r made alike it where
-        by_cases : (r : Result (Unit {0}) Error) (made : Result V StoreFault) → AreAlike r made
-            → IsCommitted g old new r Rows Fits → IsMade g old new made w change
-        by_cases (Ok u) (Ok v) alike it = record {
-          ok = stands_changed it.over.mode it.over.limit it.over.doubt change Rows it.done fits within
-              asks;
-          err = tt;
-          crash = left_changed it.over.doubt change Rows it.crash fits within asks;
-          is_open = λ clean. (it.done clean).is_open;
-          committed = λ clean. (it.done clean).settled;
-          doubt = it.over.doubt;
-          shield = it.over.shield;
-        }
-        by_cases (Err e) (Err f) alike it = record {
-          ok = tt;
-          err = kept_stands g old new w stood it.over.mode it.over.limit it.over.doubt it.kept;
-          crash = left_changed it.over.doubt change Rows it.crash fits within asks;
-          is_open = λ clean. tt;
-          committed = λ clean. tt;
-          doubt = it.over.doubt;
-          shield = it.over.shield;
-        }
-        by_cases (Ok u) (Err f) alike it = absurd alike
-        by_cases (Err e) (Ok v) alike it = absurd alike
+  module _ {Fits : Database → Type 0} (r : Result (Unit {0}) Error) where
+    -- a transaction that changed the rows as a change asks made the change
+    made_changed : (change : Change) (Rows : Tables → Tables → Type 0) → IsCommitted g old new r Rows Fits
+        → (HasCleanDisk (state g old) → IsFitting change w) → IsWithinLimits change
+        → ((one two : Tables) → HasCleanDisk (state g new) → IsContent w → AreTables one w → Rows one two
+        → ChangesRows change one two)
+        → MakesStand g old new r w change
+    made_changed change Rows it fits within asks = by_cases r it where
+      by_cases : (r : Result (Unit {0}) Error) → IsCommitted g old new r Rows Fits
+          → MakesStand g old new r w change
+      by_cases (Ok u) it = record {
+        ok = stands_changed it.over.mode it.over.limit it.over.doubt change Rows it.done fits within
+            asks;
+        err = tt;
+        crash = left_changed it.over.doubt change Rows it.crash fits within asks;
+        is_open = λ clean. (it.done clean).is_open;
+        doubt = it.over.doubt;
+        shield = it.over.shield;
+      }
+      by_cases (Err e) it = record {
+        ok = tt;
+        err = kept_stands g old new w stood it.over.mode it.over.limit it.over.doubt it.kept;
+        crash = left_changed it.over.doubt change Rows it.crash fits within asks;
+        is_open = λ clean. tt;
+        doubt = it.over.doubt;
+        shield = it.over.shield;
+      }
 
-      pub made_enrolled : (name : List ℕ) (ceiling : ℕ)
-          → IsCommitted g old new r (PutsOperator name ceiling) Fits
-          → IsTrue (is_operator_name name) → (HasCleanDisk (state g old) → ceiling ≤ max_priority)
-          → IsMade g old new made w (Enrol name ceiling)
-      made_enrolled name ceiling it valid low =
-          made_changed (Enrol name ceiling) (PutsOperator name ceiling) it
-          (λ clean. low_fits name ceiling w (low clean)) (named name ceiling valid)
-          (λ one two clean h t e. enrolled name ceiling w one two h t e)
+    pub made_enrolled : (name : List ℕ) (ceiling : ℕ)
+        → IsCommitted g old new r (PutsOperator name ceiling) Fits
+        → IsTrue (is_operator_name name) → (HasCleanDisk (state g old) → IsFitting (Enrol name ceiling) w)
+        → MakesStand g old new r w (Enrol name ceiling)
+    made_enrolled name ceiling it valid fits =
+        made_changed (Enrol name ceiling) (PutsOperator name ceiling) it fits (named name ceiling valid)
+        (λ one two clean h t e. enrolled name ceiling w one two h t e)
 
-      pub made_put : (operator : List ℕ) (row : PlanRow) (text : List ℕ) (volumes covers spans : List Row)
-          → text ≡ id_text row.id → volumes ≡ area_rows (filed_by operator row)
-          → covers ≡ area_covers (filed_by operator row)
-          → ArePlanSpanRows (filed_by operator row) spans → IsPlan row
-          → IsCommitted g old new r (PutsPlan (put_as operator text row.priority (usage_number row.usage)
-          (aircraft_number row.aircraft) volumes covers spans)) Fits
-          → (HasCleanDisk (state g old) → IsFitting (Put operator row) w)
-          → IsMade g old new made w (Put operator row)
-      made_put operator row text volumes covers spans is are covers_are span_rows plan it fits =
-          let usage = usage_number row.usage in
-          let aircraft = aircraft_number row.aircraft in
-          let area = area_rows (filed_by operator row) in
-          made_changed (Put operator row) (PutsPlan (filed_put (filed_by operator row) spans))
-          (committed_as (λ rows. PutsPlan (put_as operator (id_text row.id) row.priority usage aircraft
-          area rows spans)) covers_are
-          (committed_as (λ rows. PutsPlan (put_as operator (id_text row.id) row.priority usage aircraft
-          rows covers spans)) are
-          (committed_as (λ t. PutsPlan (put_as operator t row.priority usage aircraft volumes covers spans))
-          is it)))
-          fits (within_put operator row plan) (λ one two clean h t e. put_asked operator row one two
-          (put_is_put (filed_by operator row) w one two spans h plan t span_rows e))
+    pub made_put : (operator : List ℕ) (row : PlanRow) (text : List ℕ) (volumes covers spans : List Row)
+        → text ≡ id_text row.id → volumes ≡ area_rows (filed_by operator row)
+        → covers ≡ area_covers (filed_by operator row)
+        → ArePlanSpanRows (filed_by operator row) spans → IsPlan row
+        → IsCommitted g old new r (PutsPlan (put_as operator text row.priority (usage_number row.usage)
+        (aircraft_number row.aircraft) volumes covers spans)) Fits
+        → (HasCleanDisk (state g old) → IsFitting (Put operator row) w)
+        → MakesStand g old new r w (Put operator row)
+    made_put operator row text volumes covers spans is are covers_are span_rows plan it fits =
+        let usage = usage_number row.usage in
+        let aircraft = aircraft_number row.aircraft in
+        let area = area_rows (filed_by operator row) in
+        made_changed (Put operator row) (PutsPlan (filed_put (filed_by operator row) spans))
+        (committed_as (λ rows. PutsPlan (put_as operator (id_text row.id) row.priority usage aircraft
+        area rows spans)) covers_are
+        (committed_as (λ rows. PutsPlan (put_as operator (id_text row.id) row.priority usage aircraft
+        rows covers spans)) are
+        (committed_as (λ t. PutsPlan (put_as operator t row.priority usage aircraft volumes covers spans))
+        is it)))
+        fits (within_put operator row plan) (λ one two clean h t e. put_asked operator row one two
+        (put_is_put (filed_by operator row) w one two spans h plan t span_rows e))
 
-      pub made_cleared : (change : Change) (operator : List ℕ) (ids texts : List (List ℕ))
-          → IsWithinLimits change
-          → ((one two : Tables) → ClearsRows operator ids one two → ChangesRows change one two)
-          → texts ≡ map id_text ids → IsCommitted g old new r (RemovesPlans operator texts) Fits
-          → (HasCleanDisk (state g old) → IsFitting change w) → IsMade g old new made w change
-      made_cleared change operator ids texts within asks are it fits =
-          made_changed change (RemovesPlans operator (map id_text ids))
-          (committed_as (λ ts. RemovesPlans operator ts) are it) fits within
-          (λ one two clean h t e. asks one two (removal_is_clear operator ids w one two t e))
+    pub made_cleared : (change : Change) (operator : List ℕ) (ids texts : List (List ℕ))
+        → IsWithinLimits change
+        → ((one two : Tables) → ClearsRows operator ids one two → ChangesRows change one two)
+        → texts ≡ map id_text ids → IsCommitted g old new r (RemovesPlans operator texts) Fits
+        → (HasCleanDisk (state g old) → IsFitting change w) → MakesStand g old new r w change
+    made_cleared change operator ids texts within asks are it fits =
+        made_changed change (RemovesPlans operator (map id_text ids))
+        (committed_as (λ ts. RemovesPlans operator ts) are it) fits within
+        (λ one two clean h t e. asks one two (removal_is_clear operator ids w one two t e))
 
-      pub made_closed : (operator id : List ℕ) (priority aircraft : ℕ) (head_rows rest : List Row)
-          (head : Row)
-          → IsId id → column head 2 ≡ Int (pos priority) → column head 4 ≡ Int (pos aircraft)
-          → (HasCleanDisk (state g new) → head_rows ≡ plan_rows (own_of operator id w))
-          → head_rows ≡ head ∷ rest
-          → IsCommitted g old new r (ClosesPlan operator (id_text id) priority aircraft) Fits
-          → (HasCleanDisk (state g old) → IsFitting (Close operator id) w)
-          → IsMade g old new made w (Close operator id)
-      made_closed operator id priority aircraft head_rows rest head valid at_priority at_aircraft are some it
-          fits =
-          made_changed (Close operator id) (ClosesPlan operator (id_text id) priority aircraft) it fits
-          (within_close operator id valid)
-          (λ one two clean h t e. close_asked operator id one two
-          (close_is_close operator id head priority aircraft at_priority at_aircraft w one two head_rows rest
-          h valid t (are clean) some e))
+    pub made_closed : (operator id : List ℕ) (priority aircraft : ℕ) (head_rows rest : List Row)
+        (head : Row)
+        → IsId id → column head 2 ≡ Int (pos priority) → column head 4 ≡ Int (pos aircraft)
+        → (HasCleanDisk (state g new) → head_rows ≡ plan_rows (own_of operator id w))
+        → head_rows ≡ head ∷ rest
+        → IsCommitted g old new r (ClosesPlan operator (id_text id) priority aircraft) Fits
+        → (HasCleanDisk (state g old) → IsFitting (Close operator id) w)
+        → MakesStand g old new r w (Close operator id)
+    made_closed operator id priority aircraft head_rows rest head valid at_priority at_aircraft are some it
+        fits =
+        made_changed (Close operator id) (ClosesPlan operator (id_text id) priority aircraft) it fits
+        (within_close operator id valid)
+        (λ one two clean h t e. close_asked operator id one two
+        (close_is_close operator id head priority aircraft at_priority at_aircraft w one two head_rows rest
+        h valid t (are clean) some e))
 
-module _ {S V : Type 0} (g : Ghosts S) where
-  -- a reader before it leaves no more than before
-  pub made_after : (old mid new : Held S) (r : Result V StoreFault) (w : World) (change : Change)
-      → OnlyReads g old mid → IsMade g mid new r w change → IsMade g old new r w change
-  made_after old mid new r w change reads made = record {
-    ok = made.ok;
-    err = made.err;
-    crash = λ clean db left. elim (made.crash clean db left) [
-      | inl before ↦ inl (reads.spared (omega (arith, made.doubt, clean)) db before)
-      | inr has ↦ inr has
-    ];
-    is_open = made.is_open;
-    committed = made.committed;
-    doubt = omega (arith, reads.doubt, made.doubt);
-    shield = λ s. made.shield (reads.shield s);
-  }
+module _ {S V U : Type 0} (g : Ghosts S) (old new : Held S) (w then next : World) (answer : U) where
+  -- the world follows, or stays
+  pub followed : (change : Change) (r : Result V Error) (result : Result U StoreFault)
+      → MakesStand g old new r w change → HasFollowed r answer result w then next
+      → next ≡ changed_by change w → Stands g new then
+      × IsMade g (record { held = old; world = w }) (record { held = new; world = then }) result change
+  followed change (Ok v) (Ok u) it h is = (
+    subst (Stands g new) (sym (h.1 ∙ is)) it.ok,
+    record {
+      ok = h.1 ∙ is;
+      err = tt;
+      crash = it.crash;
+      is_open = it.is_open;
+      doubt = it.doubt;
+      shield = it.shield;
+    },
+  )
+  followed change (Err e) (Err f) it h is = (
+    subst (Stands g new) (sym h.1) it.err,
+    record {
+      ok = tt;
+      err = h.1;
+      crash = it.crash;
+      is_open = λ clean. tt;
+      doubt = it.doubt;
+      shield = it.shield;
+    },
+  )
+  followed change (Ok v) (Err f) it h is = let whole = h.0 in cc
+  followed change (Err e) (Ok u) it h is = absurd h.0
+
+  -- why it is refused
+  pub followed_blamed : (r : Result V Error) (result : Result U StoreFault) → old.step_limit ≡ None
+      → HasFollowed r answer result w then next
+      → (HasCleanDisk (state g new) → IsTrue (state g new).is_open → IfErr r (IsRefusal g old new))
+      → IfErr result (BlamesStore g old new)
+  followed_blamed (Ok v) result unlimited h refusal =
+      subst (λ r. IfErr r (BlamesStore g old new)) (sym h.0) tt
+  followed_blamed (Err e) (Err f) unlimited h refusal = blamed g old new e f unlimited h.0 refusal
+  followed_blamed (Err e) (Ok u) unlimited h refusal = absurd h.0
+
+pub followed_value : {V U : Type 0} (P : U → Type 0) (w then next : World) (answer : U) (r : Result V Error)
+    (result : Result U StoreFault) → HasFollowed r answer result w then next → P answer → IfOk result P
+followed_value P w then next answer (Ok v) result h holds = subst (λ r. IfOk r P) (sym h.0) holds
+followed_value P w then next answer (Err e) (Err f) h holds = tt
+followed_value P w then next answer (Err e) (Ok u) h holds = absurd h.0
+
+module _ {S : Type 0} (g : Ghosts S) (old mid new : HeldWorld S) (same : mid.world ≡ old.world)
+    (reads : OnlyReads g old.held mid.held)
+  where
+    -- a reader before it leaves no more than before
+    pub made_after : {V : Type 0} (r : Result V StoreFault) (change : Change) → IsMade g mid new r change
+        → IsMade g old new r change
+    made_after r change made = record {
+      ok = subst (λ w. OnOk r (new.world ≡ changed_by change w)) same made.ok;
+      err = subst (λ w. OnErr r (new.world ≡ w)) same made.err;
+      crash = λ clean db left. elim (made.crash clean db left) [
+        | inl before ↦ inl (reads.spared (omega (arith, made.doubt, clean)) db before)
+        | inr has ↦ inr (subst (λ w. HasWorld db (changed_by change w)) same has)
+      ];
+      is_open = made.is_open;
+      doubt = omega (arith, reads.doubt, made.doubt);
+      shield = λ s. made.shield (reads.shield s);
+    }
+
+    pub next_after : (next : World) (change : Change) → IsNext g old next change → IsNext g mid next change
+    next_after next change it = record {
+      world = it.world ∙ sym (ap (changed_by change) same);
+      fits = λ clean. subst (IsFitting change) (sym same) (it.fits (omega (arith, reads.doubt, clean)));
+    }

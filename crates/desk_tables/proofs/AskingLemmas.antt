@@ -1,54 +1,65 @@
 -- Questions of the spans of others, one after the other over a connection.
-use Rattle.std.proofs.Common.{◌<◌, ℕ, ◌+◌, Bool, List, ◌++◌, length, take, get_or, Result, Ok, Err, IfOk, OnOk, IsTrue, sym, ap, subst, arith}
+use Rattle.std.proofs.Common.{◌≡◌, ◌<◌, ℕ, ◌+◌, Bool, List, [], ◌++◌, length, take, get_or, Result, Ok, Err, IfOk, OnOk, IsTrue, refl, sym, ap, subst, ◌∙◌, arith}
 use Rattle.std.proofs.lemmas.List.{take_more}
+use Rattle.std.proofs.lemmas.List.Sorted.{IsPermutation-refl}
 use Rattle.sqlite_trees.specs.declared.store.Store.{Ghosts}
 use Rattle.sqlite_value.specs.Order.{Row}
 use Rattle.sqlite.specs.State.{HasCleanDisk}
-use Rattle.sqlite.specs.Held.{Held, state}
+use Rattle.sqlite.specs.Held.{state}
 use Rattle.volume4d.specs.declared.slab.Held.{Held as One}
 use Rattle.desk_sql.specs.Frames.{OnlyReads}
 use Rattle.desk_sql.specs.Rows.{tables_of}
-use Rattle.desk_store.specs.World.{World}
-use Rattle.desk_tables.specs.RivalRows.{HaveTaken, HaveTakenAll}
-use Rattle.desk_tables.specs.Store.{Stands}
+use Rattle.desk_tables.specs.RivalRows.{HasTakenHelds, HaveTaken, HaveTakenAll}
+use Rattle.desk_tables.specs.ReadsMade.{spans_shown}
+use Rattle.desk_tables.specs.Store.{HeldWorld, Stands}
 use Rattle.desk_tables.proofs.HeldLemmas.{all_taken}
-use Rattle.desk_tables.proofs.FrameLemmas.{reads_then}
+use Rattle.desk_tables.proofs.FrameLemmas.{reads_itself, reads_then}
 
 module _ {S : Type 0} (g : Ghosts S) where
   -- some questions are answered, and nothing was changed
-  pub record IsAsking {Q : Type 0} (old new : Held S) (w : World) (asked : Q → Row → Bool)
-      (questions : List Q) (helds : List One) : Type 0
+  pub record IsAsking {Q : Type 0} (old new : HeldWorld S) (asked : Q → Row → Bool) (questions : List Q)
+      (helds : List One) : Type 0
     where
-      pub stands : Stands g new w
-      pub reads : OnlyReads g old new
-      pub opened : HasCleanDisk (state g new) → 0 < length questions → IsTrue (state g old).is_open
-      pub taken : HasCleanDisk (state g new)
-          → HaveTakenAll asked questions (tables_of (state g old).now.trees).spans helds
+      pub same : new.world ≡ old.world
+      pub reads : OnlyReads g old.held new.held
+      pub opened : HasCleanDisk (state g new.held) → 0 < length questions → IsTrue (state g old.held).is_open
+      pub taken : HasCleanDisk (state g new.held) → HaveTakenAll asked questions (spans_shown g old) helds
 
-  module _ {Q : Type 0} (w : World) (asked : Q → Row → Bool) where
-    module _ (old mid new : Held S) (all : List Q) (i : ℕ) (d : Q) (helds more : List One)
-        (before : IsAsking old mid w asked (take i all) helds)
-        (reads : OnlyReads g mid new) where
-      was_clean : HasCleanDisk (state g new) → HasCleanDisk (state g mid)
+  module _ {Q : Type 0} (asked : Q → Row → Bool) where
+    pub asking_begins : (t : HeldWorld S) (helds : List One) → Stands g t.held t.world → helds ≡ []
+        → IsAsking t t asked [] helds
+    asking_begins t helds stands none = record {
+      same = refl;
+      reads = reads_itself g t.held stands.settled;
+      opened = λ clean some. absurd (omega (arith, some));
+      taken = λ clean. (
+        [],
+        IsPermutation-refl [],
+        subst (λ hs. HasTakenHelds hs []) (sym none) tt,
+      );
+    }
+
+    module _ (old mid new : HeldWorld S) (all : List Q) (i : ℕ) (d : Q) (helds more : List One)
+        (before : IsAsking old mid asked (take i all) helds) (same : new.world ≡ mid.world)
+        (reads : OnlyReads g mid.held new.held) where
+      was_clean : HasCleanDisk (state g new.held) → HasCleanDisk (state g mid.held)
       was_clean clean = omega (arith, reads.doubt, clean)
 
-      pub asking_on : i < length all → Stands g new w
-          → (HasCleanDisk (state g new) → IsTrue (state g mid).is_open)
-          → (HasCleanDisk (state g new)
-          → HaveTaken (asked (get_or all i d)) (tables_of (state g mid).now.trees).spans more)
-          → IsAsking old new w asked (take (i + 1) all) (helds ++ more)
-      asking_on within stands live taken = record {
-        stands = stands;
-        reads = reads_then g old mid new before.reads reads;
+      pub asking_on : i < length all → (HasCleanDisk (state g new.held) → IsTrue (state g mid.held).is_open)
+          → (HasCleanDisk (state g new.held) → HaveTaken (asked (get_or all i d)) (spans_shown g mid) more)
+          → IsAsking old new asked (take (i + 1) all) (helds ++ more)
+      asking_on within live taken = record {
+        same = same ∙ before.same;
+        reads = reads_then g old.held mid.held new.held before.reads reads;
         opened = λ clean some. (before.reads.kept (was_clean clean) (live clean)).was_open;
         taken = λ clean.
-            let same = ap (λ db. (tables_of db.trees).spans)
+            let shown = ap (λ db. (tables_of db.trees).spans)
             (before.reads.kept (was_clean clean) (live clean)).now in
-            subst (λ questions. HaveTakenAll asked questions (tables_of (state g old).now.trees).spans
-            (helds ++ more)) (sym (take_more all i d within))
-            (all_taken asked (tables_of (state g old).now.trees).spans (take i all) (get_or all i d)
+            subst (λ questions. HaveTakenAll asked questions (spans_shown g old) (helds ++ more))
+            (sym (take_more all i d within))
+            (all_taken asked (spans_shown g old) (take i all) (get_or all i d)
             helds more (before.taken (was_clean clean))
-            (subst (λ spans. HaveTaken (asked (get_or all i d)) spans more) same (taken clean)));
+            (subst (λ spans. HaveTaken (asked (get_or all i d)) spans more) shown (taken clean)));
       }
 
 pub both_ok : {V E A : Type 0} {P Q : V → Type 0} (r : Result V E) → OnOk r A → IfOk r P

@@ -1,5 +1,5 @@
 -- Why a reader answers that the store failed.
-use Rattle.std.proofs.Common.{◌≡◌, ◌≢◌, ◌≤◌, ◌<◌, ◌^◌, ◌⊎◌, ◌∙◌, ◌∷◌, inl, inr, ℕ, List, [], length, true, false, cond, Bool, Option, Some, None, Result, Ok, Err, IfErr, OnOk, IsTrue, IsPermutation, map, sym, ap, subst, true≢false, arith}
+use Rattle.std.proofs.Common.{◌≡◌, ◌≢◌, ◌≤◌, ◌<◌, ◌^◌, ◌⊎◌, ◌∙◌, ◌∷◌, inl, inr, ℕ, List, [], length, true, false, cond, Bool, Option, Some, None, Result, Ok, Err, IfErr, IfOk, OnErr, OnOk, IsTrue, IsPermutation, map, sym, ap, subst, true≢false, arith}
 use Rattle.std.specs.Prelude.{IsSome, nat_le}
 use Rattle.std.proofs.lemmas.Bool.{and_parts, leb-true}
 use Rattle.desk_rules.specs.Name.{is_operator_name}
@@ -25,6 +25,7 @@ use Rattle.desk_store.specs.World.{Filed, World, plans_of, stored_of}
 use Rattle.desk_store.specs.declared.fault.StoreFault.{StoreFault}
 use Rattle.desk_store.specs.declared.fault.StoreFault.TheVariants.{Store}
 use Rattle.desk_tables.specs.Causes.{BlamesStore}
+use Rattle.desk_tables.specs.ReadsMade.{IsToldAs}
 use Rattle.desk_store.specs.Content.{IsContent, IsPlan}
 use Rattle.desk_tables.specs.Lookups.{one_or_none, own_of}
 use Rattle.desk_tables.specs.RowsRead.{IsHead, IsVolumeAt}
@@ -70,6 +71,28 @@ pub err_weaker : {V : Type 0} (r : Result V StoreFault) {P : StoreFault → Type
     (Q : StoreFault → Type 0) → IfErr r P → ((e : StoreFault) → P e → Q e) → IfErr r Q
 err_weaker (Ok v) Q h gives = tt
 err_weaker (Err e) Q h gives = gives e h
+
+-- what holds of a refusal
+pub on_refused : {V E A : Type 0} (P : E → Type 0) (r : Result V E) → OnErr r A → (A → IfErr r P)
+    → IfErr r P
+on_refused P (Ok v) holds gives = tt
+on_refused P (Err e) holds gives = gives holds
+
+-- what is told of an answer of SQLite
+pub told_value : {V : Type 0} (P : V → Type 0) (answer : Result V Error) (result : Result V StoreFault)
+    → IsToldAs answer result → IfOk answer P → IfOk result P
+told_value P (Ok v) result is holds = subst (λ r. IfOk r P) (sym is) holds
+told_value P (Err e) (Err f) is holds = tt
+told_value P (Err e) (Ok v) is holds = absurd is
+
+pub told_cause : {S V : Type 0} (g : Ghosts S) (old new : Held S) (answer : Result V Error)
+    (result : Result V StoreFault) → old.step_limit ≡ None → IsToldAs answer result
+    → (HasCleanDisk (state g new) → IsTrue (state g new).is_open → IfErr answer (IsRefusal g old new))
+    → IfErr result (BlamesStore g old new)
+told_cause g old new (Ok v) result unlimited is refusal =
+    subst (λ r. IfErr r (BlamesStore g old new)) (sym is) tt
+told_cause g old new (Err e) (Err f) unlimited is refusal = blamed g old new e f unlimited is refusal
+told_cause g old new (Err e) (Ok v) unlimited is refusal = absurd is
 
 pub within_bits : (ps : List Filed) → AllByRecursion (λ p. p.row.priority ≤ max_priority) ps
     → AllByRecursion (λ p. p.row.priority < 2 ^ 32) ps

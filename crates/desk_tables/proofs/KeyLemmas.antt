@@ -3,12 +3,11 @@ use Rattle.std.proofs.Common.{◌≡◌, ◌<◌, ◌+◌, ℕ, Bool, false, tru
 use Rattle.std.specs.List.{AllByRecursion, flat_map, list_any}
 use Rattle.std.proofs.Math.Bool.{and-or_distrib_left, and-false}
 use Rattle.std.proofs.lemmas.List.{take_more}
-use Rattle.std.proofs.lemmas.List.Sorted.{IsPermutation-refl}
 use Rattle.sqlite_trees.specs.declared.store.Store.{Ghosts}
 use Rattle.sqlite_value.specs.declared.value.Value.TheVariants.{Text}
 use Rattle.sqlite_value.specs.Order.{Row}
 use Rattle.sqlite.specs.State.{HasCleanDisk}
-use Rattle.sqlite.specs.Held.{Held, state}
+use Rattle.sqlite.specs.Held.{state}
 use Rattle.volume4d.specs.declared.slab.Slab.{Slab}
 use Rattle.volume4d.specs.declared.slab.Held.{Held as One}
 use Rattle.volume4d.specs.Level.{top_by}
@@ -26,11 +25,11 @@ use Rattle.desk_store.specs.laws.Order.{all_append}
 use Rattle.desk_live.specs.declared.near.PlanKey.{PlanKey}
 use Rattle.desk_live.specs.Near.{is_listed, listed_level, listed_top}
 use Rattle.desk_tables.specs.RivalRows.{HasTakenHelds, HaveTaken, HaveTakenAll, is_asked_of_plan, reach_of}
-use Rattle.desk_tables.specs.Store.{Stands}
+use Rattle.desk_tables.specs.ReadsMade.{spans_shown}
+use Rattle.desk_tables.specs.Store.{HeldWorld, Stands}
 use Rattle.desk_tables.specs.Tables.{AreTables, id_text}
-use Rattle.desk_tables.proofs.AskingLemmas.{IsAsking, asking_on}
+use Rattle.desk_tables.proofs.AskingLemmas.{IsAsking, asking_begins, asking_on}
 use Rattle.desk_tables.proofs.FilterLemmas.{own_row}
-use Rattle.desk_tables.proofs.FrameLemmas.{reads_itself}
 use Rattle.desk_tables.proofs.HeldLemmas.{is_in, on_plans, row_has, row_priority, taken_top, top_asked, top_permuted}
 use Rattle.desk_tables.proofs.StoreLemmas.{no_row}
 
@@ -86,53 +85,43 @@ none_taken (one ∷ helds) h = absurd h
 
 module _ {S : Type 0} (g : Ghosts S) (least : ℕ) (e : Slab) where
   -- some plans are read, and nothing was changed
-  pub record IsReadingPlans (old new : Held S) (w : World) (keys : List PlanKey) (helds : List One) : Type 0
-    where
-      pub asking : IsAsking g old new w (is_asked_of_plan least e) keys helds
-      pub ids : AreIds keys
+  pub record IsReadingPlans (old new : HeldWorld S) (keys : List PlanKey) (helds : List One) : Type 0 where
+    pub asking : IsAsking g old new (is_asked_of_plan least e) keys helds
+    pub ids : AreIds keys
 
-  pub plans_begin : (w : World) (h : Held S) (helds : List One) → Stands g h w → helds ≡ []
-      → IsReadingPlans h h w [] helds
-  plans_begin w h helds stands none = record {
-    asking = record {
-      stands = stands;
-      reads = reads_itself g h stands.settled;
-      opened = λ clean some. absurd (omega (arith, some));
-      taken = λ clean. (
-        [],
-        IsPermutation-refl [],
-        subst (λ hs. HasTakenHelds hs []) (sym none) tt,
-      );
-    };
+  pub plans_begin : (t : HeldWorld S) (helds : List One) → Stands g t.held t.world → helds ≡ []
+      → IsReadingPlans t t [] helds
+  plans_begin t helds stands none = record {
+    asking = asking_begins g (is_asked_of_plan least e) t helds stands none;
     ids = tt;
   }
 
-  pub plans_on : (w : World) (old mid new : Held S) (all : List PlanKey) (i : ℕ) (key : PlanKey)
-      (helds more next : List One) → IsReadingPlans old mid w (take i all) helds → OnlyReads g mid new
-      → i < length all → key ≡ get_or all i key → Stands g new w → IsId key.id
-      → (HasCleanDisk (state g new) → IsTrue (state g mid).is_open)
-      → (HasCleanDisk (state g new)
-      → HaveTaken (is_asked_of_plan least e key) (tables_of (state g mid).now.trees).spans more)
-      → next ≡ helds ++ more → IsReadingPlans old new w (take (i + 1) all) next
-  plans_on w old mid new all i key helds more next before reads within is stands id live taken then = record {
-    asking = subst (IsAsking g old new w (is_asked_of_plan least e) (take (i + 1) all)) (sym then)
-        (asking_on g w (is_asked_of_plan least e) old mid new all i key helds more before.asking reads within
-        stands live (λ clean. subst (λ k. HaveTaken (is_asked_of_plan least e k)
-        (tables_of (state g mid).now.trees).spans more) is (taken clean)));
+  pub plans_on : (old mid new : HeldWorld S) (all : List PlanKey) (i : ℕ) (key : PlanKey)
+      (helds more next : List One) → IsReadingPlans old mid (take i all) helds → new.world ≡ mid.world
+      → OnlyReads g mid.held new.held → i < length all → key ≡ get_or all i key → IsId key.id
+      → (HasCleanDisk (state g new.held) → IsTrue (state g mid.held).is_open)
+      → (HasCleanDisk (state g new.held)
+      → HaveTaken (is_asked_of_plan least e key) (spans_shown g mid) more)
+      → next ≡ helds ++ more → IsReadingPlans old new (take (i + 1) all) next
+  plans_on old mid new all i key helds more next before same reads within is id live taken then = record {
+    asking = subst (IsAsking g old new (is_asked_of_plan least e) (take (i + 1) all)) (sym then)
+        (asking_on g (is_asked_of_plan least e) old mid new all i key helds more before.asking same reads
+        within live (λ clean. subst (λ k. HaveTaken (is_asked_of_plan least e k) (spans_shown g mid) more) is
+        (taken clean)));
     ids = subst AreIds (sym (take_more all i key within)) (all_append (λ k. IsId k.id) (take i all)
         (get_or all i key ∷ []) before.ids (subst (λ k. IsId k.id) is id, tt));
   }
 
-  pub plans_level : (w : World) (old new : Held S) (keys : List PlanKey) (helds : List One)
-      → Stands g old w → IsReadingPlans old new w keys helds → HasCleanDisk (state g new)
-      → HaveLevel e helds (λ x. at_least least (listed_top keys w.plans x))
-  plans_level w old new [] helds stands h clean = λ x inside.
+  pub plans_level : (old new : HeldWorld S) (keys : List PlanKey) (helds : List One)
+      → Stands g old.held old.world → IsReadingPlans old new keys helds → HasCleanDisk (state g new.held)
+      → HaveLevel e helds (λ x. at_least least (listed_top keys old.world.plans x))
+  plans_level old new [] helds stands h clean = λ x inside.
       let (rows, alike, taken) = h.asking.taken clean in
       ap (λ hs. top_held hs x)
       (none_taken helds (subst (HasTakenHelds helds) (no_row rows alike) taken)) ∙ top_held-nil x
-      ∙ sym (ap (at_least least) (none_listed w.plans x))
-  plans_level w old new (k ∷ keys) helds stands h clean = λ x inside.
+      ∙ sym (ap (at_least least) (none_listed old.world.plans x))
+  plans_level old new (k ∷ keys) helds stands h clean = λ x inside.
       let standing = stands.standing (omega (arith, h.asking.reads.doubt, clean))
       (h.asking.opened clean (omega arith)) in
-      at_point (k ∷ keys) least e (tables_of (state g old).now.trees) w helds h.ids standing.content
-      standing.tables (h.asking.taken clean) x inside
+      at_point (k ∷ keys) least e (tables_of (state g old.held).now.trees) old.world helds h.ids
+      standing.content standing.tables (h.asking.taken clean) x inside

@@ -3,7 +3,7 @@ use Rattle.std.proofs.Common.{◌≡◌, ◌<◌, ℕ, ◌+◌, Bool, true, fals
 use Rattle.std.proofs.lemmas.List.Folds.{list_any_more}
 use Rattle.sqlite_trees.specs.declared.store.Store.{Ghosts}
 use Rattle.sqlite.specs.State.{HasCleanDisk}
-use Rattle.sqlite.specs.Held.{Held, state}
+use Rattle.sqlite.specs.Held.{state}
 use Rattle.volume4d.specs.declared.slab.Slab.{Slab}
 use Rattle.volume4d.specs.declared.slab.Held.{Held as One}
 use Rattle.volume4d.specs.Point.{Point}
@@ -15,7 +15,7 @@ use Rattle.desk_rules.specs.Conflict.{at_least}
 use Rattle.desk_store.specs.World.{World, held}
 use Rattle.desk_store.specs.Rivals.{AddsLevel, AreHeldByOthers, HaveLevel}
 use Rattle.desk_live.specs.Regions.{HoldNothingBeside}
-use Rattle.desk_tables.specs.Store.{Stands}
+use Rattle.desk_tables.specs.Store.{HeldWorld, Stands}
 use Rattle.desk_tables.proofs.HeldLemmas.{any_level}
 use Rattle.desk_tables.proofs.FrameLemmas.{reads_itself, reads_then}
 
@@ -52,34 +52,35 @@ theirs_more w o regions i region helds more new below is before level added x =
 
 module _ {S : Type 0} (g : Ghosts S) where
   -- some regions are read, and nothing was changed
-  pub record IsReading (old new : Held S) (w : World) (o : List ℕ) (regions : List Slab)
-      (helds : List One) : Type 0
+  pub record IsReading (old new : HeldWorld S) (o : List ℕ) (regions : List Slab) (helds : List One) : Type 0
     where
-      pub stands : Stands g new w
-      pub reads : OnlyReads g old new
-      pub theirs : HasCleanDisk (state g new) → HoldTheirs w o regions helds
+      pub same : new.world ≡ old.world
+      pub reads : OnlyReads g old.held new.held
+      pub theirs : HasCleanDisk (state g new.held) → HoldTheirs old.world o regions helds
 
-  pub reading_begins : (h : Held S) (w : World) (o : List ℕ) (helds : List One) → Stands g h w
-      → helds ≡ [] → IsReading h h w o [] helds
-  reading_begins h w o helds stands none = record {
-    stands = stands;
-    reads = reads_itself g h stands.settled;
+  pub reading_begins : (t : HeldWorld S) (o : List ℕ) (helds : List One) → Stands g t.held t.world
+      → helds ≡ [] → IsReading t t o [] helds
+  reading_begins t o helds stands none = record {
+    same = refl;
+    reads = reads_itself g t.held stands.settled;
     theirs = λ clean x. ap (λ hs. top_held hs x) none ∙ top_held-nil x;
   }
 
-  pub reading_on : (old mid new : Held S) (w : World) (o : List ℕ) (regions : List Slab) (i : ℕ)
-      (region : Slab) (helds more given next : List One) → IsReading old mid w o (take i regions) helds
-      → OnlyReads g mid new → Stands g new w → i < length regions → region ≡ get_or regions i region
-      → (HasCleanDisk (state g new) → HaveLevel region more (λ x. at_least 0 (held w o x))) → given ≡ more
-      → AddsLevel helds next (λ x. cond (slab_has region x) (top_held given x) None)
-      → IsReading old new w o (take (i + 1) regions) next
-  reading_on old mid new w o regions i region helds more given next before reads stands below is level same
+  pub reading_on : (old mid new : HeldWorld S) (o : List ℕ) (regions : List Slab) (i : ℕ)
+      (region : Slab) (helds more given next : List One) → IsReading old mid o (take i regions) helds
+      → new.world ≡ mid.world → OnlyReads g mid.held new.held → i < length regions
+      → region ≡ get_or regions i region
+      → (HasCleanDisk (state g new.held) → HaveLevel region more (λ x. at_least 0 (held mid.world o x)))
+      → given ≡ more → AddsLevel helds next (λ x. cond (slab_has region x) (top_held given x) None)
+      → IsReading old new o (take (i + 1) regions) next
+  reading_on old mid new o regions i region helds more given next before same reads below is level alike
       added = record {
-        stands = stands;
-        reads = reads_then g old mid new before.reads reads;
-        theirs = λ clean. theirs_more w o regions i region helds given next below is
+        same = same ∙ before.same;
+        reads = reads_then g old.held mid.held new.held before.reads reads;
+        theirs = λ clean. theirs_more old.world o regions i region helds given next below is
             (before.theirs (omega (arith, reads.doubt, clean)))
-            (λ x here. ap (λ hs. top_held hs x) same ∙ level clean x here ∙ any_level (held w o x)) added;
+            (λ x here. ap (λ hs. top_held hs x) alike ∙ level clean x here
+            ∙ ap (λ w. at_least 0 (held w o x)) before.same ∙ any_level (held old.world o x)) added;
       }
 
 -- where the regions lie, and where others hold nothing

@@ -1,5 +1,5 @@
 -- What is read stands in the rows, and what is not read stands in none.
-use Rattle.std.proofs.Common.{◌≡◌, ℕ, ℤ, pos, zero, suc, ◌+◌, ◌<◌, inl, inr, Bool, true, false, ◌&&◌, cond, List, [], ◌∷◌, ◌++◌, length, take, get_or, Option, Some, None, Result, Ok, Err, refl, sym, ap, subst, ◌∙◌, arith, IsTrue, true≢false, w32, SFits}
+use Rattle.std.proofs.Common.{◌≡◌, ℕ, ℤ, pos, zero, suc, ◌+◌, ◌<◌, inl, inr, IfOk, Bool, true, false, ◌&&◌, cond, List, [], ◌∷◌, ◌++◌, length, take, get_or, Option, Some, None, Result, Ok, Err, refl, sym, ap, subst, ◌∙◌, arith, IsTrue, true≢false, w32, SFits}
 use Rattle.std.specs.Prelude.{IsErrAnd, IfErr, IsUtf8, ◌↔◌, ◌⊎◌}
 use Rattle.std.specs.List.{AllByRecursion, AllZip}
 use Rattle.std.proofs.lemmas.Int.{ints}
@@ -34,6 +34,11 @@ pub on_err : {T E : Type 0} (r : Result T E) (fault : E) (P : E → Type 0) → 
     → P fault → IfErr r P
 on_err (Err e) fault P is holds = subst P (sym is) holds
 on_err (Ok v) fault P is holds = tt
+
+pub no_value : {T E : Type 0} (P : T → Type 0) (r : Result T E) (fault : E) → IsErrAnd r (λ e. e ≡ fault)
+    → IfOk r P
+no_value P (Err e) fault is = tt
+no_value P (Ok v) fault is = absurd is
 
 -- ids
 pub id_is_text : (id : List ℕ) → IsUtf8 (id_text id)

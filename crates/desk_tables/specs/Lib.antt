@@ -23,6 +23,7 @@ pub mod Files
 pub mod Leaving
 pub mod CutShort
 pub mod OpeningSteps
+pub mod ReadsMade
 pub mod ChangesMade
 pub mod LyingDisk
 pub mod Closing

@@ -23,6 +23,17 @@ shown_code {S} store =
     (λ p. record { held = p.0; world = p.1.0; faults = p.1.1 })
     (λ _. refl)
 
+-- a connection, and the world that the tables which it shows stand for
+pub record HeldWorld (S : Type 0) : Type 0 where
+  pub held : Held S
+  pub world : World
+
+abbrev pub held_world_code : {S : Type 0} → Coded S → Coded (HeldWorld S)
+held_world_code {S} store =
+    code_by (Held S × World) (coded× (held_code store) list.the_row.coded) (λ t. (t.held, t.world))
+    (λ p. record { held = p.0; world = p.1 })
+    (λ _. refl)
+
 -- the database has the desk's tables, and their rows are those of the world
 pub record IsStanding {S : Type 0} (g : Ghosts S) (h : Held S) (w : World) : Type 0 where
   pub content : IsContent w

@@ -11,6 +11,7 @@ mod opening;
 mod reading;
 mod span_bounds;
 mod store;
+mod tables;
 
 pub use closing::Unclosed;
 pub use desk_live::ListedOperator;

@@ -9,16 +9,14 @@ ghost use Rattle.desk_tables.specs.Store.{Stands};
 ghost use Rattle.desk_tables.specs.Known.{Knows};
 ghost use Rattle.desk_tables.specs.Leaving.{IsSettledAt};
 
-use crate::changing::changes;
 use crate::kept::GhostWorld;
 use crate::known::Known;
 use crate::laws::one_content;
-use crate::reading::{others, readers};
+use crate::tables::DeskTables;
 use desk_live::{ListedOperator, Wanted};
 use desk_rules::operator::Operator;
 use desk_rules::plan::{PlanRow, States};
 use desk_rules::plan_id::PlanId;
-use desk_sql::laws::settled_and_sound;
 use desk_store::laws::spans_are_few;
 use desk_store::{Change, PlanStore, StoreFault};
 use sqlite::Connection;
@@ -33,8 +31,7 @@ use volume4d::{Held, Slab};
 /// the four tables are, up to order, those of the store's content.
 #[derive(Drop)]
 pub struct SqliteStore<S: Alter> {
-    connection: Connection<S>,
-    kept: GhostWorld,
+    tables: DeskTables<S>,
     // the roll of operators, with how many spans each plan takes; and of live plans bounds round each volume,
     // and how long spans are, which is forgotten at an opening alone
     known: Known,
@@ -44,11 +41,10 @@ pub struct SqliteStore<S: Alter> {
     told: StoreFault,
     // whether an operator was listed when it was opened
     is_enrolled: bool,
-    alloc: Global,
 }
 
 impl<S: Alter> Model for SqliteStore<S> {
-    ghost use Rattle.desk_tables.specs.Store.{Shown, shown_code, Stands};
+    ghost use Rattle.desk_tables.specs.Store.{Shown, shown_code};
     ghost use Rattle.desk_tables.specs.Known.{Knows};
     ghost use Rattle.desk_store.specs.Content.{IsContent};
     ghost use Rattle.sqlite.specs.Held.{state};
@@ -59,13 +55,13 @@ impl<S: Alter> Model for SqliteStore<S> {
     ghost coded = { shown_code S.code };
 
     ghost view = { λ s. record {
-      held = s.connection;
-      world = s.kept.world;
+      held = s.tables.held;
+      world = s.tables.world;
       faults = s.faults;
     } };
 
-    ghost invariant = { λ s. Stands S.Store s.connection s.kept.world × Knows s.known s.kept.world
-        × (HasCleanDisk (state S.Store s.connection) → IsContent s.kept.world) };
+    ghost invariant = { λ s. Knows s.known s.tables.world
+        × (HasCleanDisk (state S.Store s.tables.held) → IsContent s.tables.world) };
 }
 
 impl<S: Alter> SqliteStore<S> {
@@ -86,16 +82,18 @@ impl<S: Alter> SqliteStore<S> {
         ensures value { result ≡ record { held = connection; world = kept.world; faults = 0 } }
         ensures left { IsSettledAt S.Store connection kept.world }
     {
-        settled_and_sound(&connection);
-        one_content();
-        SqliteStore {
+        let tables = DeskTables {
             connection,
             kept,
+            alloc,
+        };
+        tables.settled();
+        SqliteStore {
+            tables,
             known,
             faults: 0,
             told,
             is_enrolled,
-            alloc,
         }
     }
 
@@ -114,7 +112,7 @@ impl<S: Alter> SqliteStore<S> {
         ensures { HasCleanDisk (state S.Store self.now.held) →
             IfOk result (λ roll. roll.items ≡ self.now.world.operators) }
     {
-        self.known.roll.listed(self.alloc)
+        self.known.roll.listed(self.tables.allocator())
     }
 
     /// The connection, in which the rows of the four tables are those of the store's content.
@@ -122,7 +120,7 @@ impl<S: Alter> SqliteStore<S> {
         ensures value { result ≡ self.held }
         ensures rows { Stands S.Store result self.world }
     {
-        self.connection
+        self.tables.release()
     }
 }
 
@@ -146,7 +144,7 @@ impl<S: Alter> PlanStore for SqliteStore<S> {
     }
 
     fn plan(&mut self, operator: &Operator, id: &PlanId) -> Result<Option<PlanRow>, StoreFault> {
-        let answer = readers::plan(self.alloc, &mut self.connection, &self.kept, operator, id);
+        let answer = self.tables.plan(operator, id);
         counted(&mut self.faults, self.told, answer)
     }
 
@@ -164,7 +162,7 @@ impl<S: Alter> PlanStore for SqliteStore<S> {
     }
 
     fn own_plans(&mut self, operator: &Operator) -> Result<Vec<PlanRow>, StoreFault> {
-        let answer = readers::own_plans(self.alloc, &mut self.connection, &self.kept, operator);
+        let answer = self.tables.own_plans(operator);
         counted(&mut self.faults, self.told, answer)
     }
 
@@ -180,14 +178,7 @@ impl<S: Alter> PlanStore for SqliteStore<S> {
             id: Some(*id),
             least,
         };
-        let answer = readers::rivals(
-            self.alloc,
-            &mut self.connection,
-            &self.kept,
-            &wanted,
-            extent,
-            &self.known,
-        );
+        let answer = self.tables.rivals(&wanted, extent, &self.known);
         counted(&mut self.faults, self.told, answer)
     }
 
@@ -196,30 +187,16 @@ impl<S: Alter> PlanStore for SqliteStore<S> {
         operator: &Operator,
         extents: &[Slab],
     ) -> Result<Vec<Held>, StoreFault> {
-        let answer = others::held_by_others(
-            self.alloc,
-            &mut self.connection,
-            &self.kept,
-            operator,
-            extents,
-            &self.known,
-        );
+        let answer = self.tables.held_by_others(operator, extents, &self.known);
         counted(&mut self.faults, self.told, answer)
     }
 
     fn apply(&mut self, change: &Change) -> Result<(), StoreFault> {
         one_content();
-        let fresh = self.known.prepare(self.alloc, change)?;
-        match changes::make(
-            self.alloc,
-            &mut self.connection,
-            &self.kept,
-            &self.known.span_bounds,
-            change,
-        ) {
+        let fresh = self.known.prepare(self.tables.allocator(), change)?;
+        match self.tables.make(&self.known.span_bounds, change) {
             Ok(span_bounds) => {
-                settled_and_sound(&self.connection);
-                self.kept = GhostWorld::after(&self.kept, change);
+                self.tables.settled();
                 self.known.follow(change, span_bounds, &fresh);
                 Ok(())
             }

@@ -1,167 +1,167 @@
 //! Changes of a store's tables.
 
-ghost use Rattle.std.specs.Prelude.{◌≡◌, ◌≤◌, ◌<◌, ◌^◌, pos, IfOk, IfErr};
+ghost use Rattle.std.specs.Prelude.{◌≡◌, ◌<◌, ◌^◌, pos, IfOk, IfErr};
 ghost use Rattle.sqlite_value.specs.declared.value.Value.TheVariants.{Int};
 ghost use Rattle.sqlite_value.specs.Order.{column};
 ghost use Rattle.sqlite.specs.State.{HasCleanDisk};
 ghost use Rattle.sqlite.specs.Held.{state};
-ghost use Rattle.desk_rules.specs.Limits.{max_priority};
 ghost use Rattle.desk_store.specs.Changes.{filed_by};
-ghost use Rattle.desk_store.specs.StoreChange.{IsFitting};
+ghost use Rattle.desk_store.specs.StoreChange.{IsFitting, changed_by};
 ghost use Rattle.desk_store.specs.declared.change.Change.TheVariants as change;
 ghost use Rattle.desk_sql.specs.Changing.{AreLow, HasRowids};
 ghost use Rattle.desk_rules.specs.declared.plan.PlanRow.{PlanRow as Plan};
 ghost use Rattle.desk_tables.specs.RowsRead.{IsHead};
 ghost use Rattle.desk_tables.specs.Causes.{BlamesChange, BlamesStore, HasRoomForPlan};
-ghost use Rattle.desk_tables.specs.Store.{Stands};
 ghost use Rattle.desk_tables.specs.SpanBounds.{IsKnownPlan, BringsKnown, Keeps};
-ghost use Rattle.desk_tables.specs.ChangesMade.{IsMade};
+ghost use Rattle.desk_tables.specs.ChangesMade.{HasFollowed, IsMade, IsNext};
 
 use crate::canon::canons_of;
 use crate::changing::records::{
     aircraft_number, asked_of, lengths_with, span_rows, texts_of, usage_number, volume_rows,
 };
 use crate::kept::GhostWorld;
-use crate::reading::readers::head_rows;
 use crate::reading::values::{count_at, fault_of};
 use crate::span_bounds::SpanBounds;
+use crate::tables::DeskTables;
 use desk_rules::operator::Operator;
 use desk_rules::plan::PlanRow;
 use desk_rules::plan_id::PlanId;
 use desk_sql::{PlanRecord, clear_plans, close_plan, put_operator, put_plan};
 use desk_store::{Change, StoreFault};
 use s2_cover::laws::one_list_of_ranges;
-use sqlite::{Connection, Row};
+use sqlite::{Error, Row};
 use sqlite_trees::store::Alter;
-use std::alloc::Global;
 use volume4d::laws::covers_are_few;
 
-/// Makes a change that fits what the store keeps, as one transaction. The answer is how long spans are then.
-///
-/// # Errors
-///
-/// `OutOfMemory` if memory runs out. `Store` if SQLite refuses the change for another cause, or if
-/// the rows are no plan's. The store then keeps what it kept.
-pub(crate) fn make<S: Alter>(
-    alloc: Global,
-    connection: &mut Connection<S>,
-    kept: &GhostWorld,
-    span_bounds: &SpanBounds,
-    change: &Change,
-) -> Result<SpanBounds, StoreFault>
-    requires stands { Stands S.Store connection.old kept.now.world }
-    requires fits { HasCleanDisk (state S.Store connection.old)
-        → IsFitting change.now kept.now.world }
-    ensures made { IsMade S.Store connection.old connection.new result kept.now.world change.now }
-    ensures known { IfOk result (λ after. Keeps span_bounds.now after × BringsKnown after change.now) }
-    ensures cause { IfErr result (BlamesChange S.Store connection.old connection.new change.now) }
-{
-    let before = *span_bounds;
-    match change {
-        Change::Enrol { operator, ceiling } => enrol(connection, kept, operator, *ceiling)?,
-        Change::Put { operator, row } => return put(
-            alloc,
-            connection,
-            kept,
-            span_bounds,
-            operator,
-            row,
-        ),
-        Change::Close { operator, id } => close(connection, kept, operator, id)?,
-        Change::Clear { operator, ids } => clear(alloc, connection, kept, operator, ids)?,
+impl<S: Alter> DeskTables<S> {
+    /// Makes a change that fits the world, as one transaction. The answer is how long spans are then.
+    ///
+    /// # Errors
+    ///
+    /// `OutOfMemory` if memory runs out. `Store` if SQLite refuses the change for another cause, or if
+    /// the rows are no plan's. The tables then stand for the world that they stood for.
+    pub(crate) fn make(
+        &mut self,
+        span_bounds: &SpanBounds,
+        change: &Change,
+    ) -> Result<SpanBounds, StoreFault>
+        requires { HasCleanDisk (state S.Store self.old.held) → IsFitting change.now self.old.world }
+        ensures made { IsMade S.Store self.old self.new result change.now }
+        ensures known { IfOk result (λ after. Keeps span_bounds.now after × BringsKnown after change.now) }
+        ensures cause { IfErr result (BlamesChange S.Store self.old.held self.new.held change.now) }
+    {
+        let before = *span_bounds;
+        let next = self.next(change);
+        match change {
+            Change::Enrol { operator, ceiling } => self.enrol(operator, *ceiling, next)?,
+            Change::Put { operator, row } => return self.put(span_bounds, operator, row, next),
+            Change::Close { operator, id } => self.close(operator, id, next)?,
+            Change::Clear { operator, ids } => self.clear(operator, ids, next)?,
+        }
+        Ok(before)
     }
-    Ok(before)
-}
 
-/// Lists an operator under a ceiling.
-///
-/// # Errors
-///
-/// `OutOfMemory` if memory runs out. `Store` if SQLite refuses the change for another cause.
-pub(crate) fn enrol<S: Alter>(
-    connection: &mut Connection<S>,
-    kept: &GhostWorld,
-    operator: &Operator,
-    ceiling: u32,
-) -> Result<(), StoreFault>
-    requires stands { Stands S.Store connection.old kept.now.world }
-    requires low { HasCleanDisk (state S.Store connection.old) → ceiling ≤ max_priority }
-    ensures made { IsMade S.Store connection.old connection.new result kept.now.world
-        (change.Enrol operator.now ceiling) }
-    ensures cause { HasRowids 1 ((state S.Store connection.old).now.trees 0)
-        → IfErr result (BlamesStore S.Store connection.old connection.new) }
-{
-    match put_operator(connection, operator.as_str(), ceiling) {
-        Ok(()) => Ok(()),
-        Err(e) => Err(fault_of(e)),
+    // The world after a change.
+    fn next(&self, change: &Change) -> GhostWorld
+        ensures { result.world ≡ changed_by change.now self.now.world }
+    {
+        GhostWorld::after(&self.kept, change)
     }
-}
 
-// Stores a plan's row for its id, with its volumes and, while it is live, their spans. The answer is how long
-// spans are then.
-fn put<S: Alter>(
-    alloc: Global,
-    connection: &mut Connection<S>,
-    kept: &GhostWorld,
-    span_bounds: &SpanBounds,
-    operator: &Operator,
-    row: &PlanRow,
-) -> Result<SpanBounds, StoreFault>
-    requires stands { Stands S.Store connection.old kept.now.world }
-    requires fits { HasCleanDisk (state S.Store connection.old)
-        → IsFitting (change.Put operator.now row.now) kept.now.world }
-    ensures made { IsMade S.Store connection.old connection.new result kept.now.world
-        (change.Put operator.now row.now) }
-    ensures known { IfOk result (λ after. Keeps span_bounds.now after × IsKnownPlan after row.now) }
-    ensures cause { HasRoomForPlan (filed_by operator.now row.now) (state S.Store connection.old).now
-        → IfErr result (BlamesStore S.Store connection.old connection.new) }
-{
-    let mut buffer = [0u8; 36];
-    let id = row.id.encode(&mut buffer);
-    let asked = asked_of(alloc, row.area.volumes())?;
-    let canon = canons_of(alloc, row.area.volumes())?;
-    let volumes = volume_rows(alloc, operator.as_str(), id, row, &asked, &canon)?;
-    let spans = span_rows(alloc, operator.as_str(), id, row)?;
-    let head = PlanRecord {
-        operator: operator.as_str(),
-        id,
-        priority: row.priority,
-        usage: usage_number(row.usage),
-        aircraft: aircraft_number(row.aircraft),
-    };
-    one_list_of_ranges();
-    covers_are_few();
-    match put_plan(connection, head, &volumes, &spans) {
-        Ok(()) => Ok(lengths_with(span_bounds, &spans)),
-        Err(e) => Err(fault_of(e)),
+    // Lists an operator under a ceiling.
+    fn enrol(
+        &mut self,
+        operator: &Operator,
+        ceiling: u32,
+        next: GhostWorld,
+    ) -> Result<(), StoreFault>
+        requires { IsNext S.Store self.old next.world (change.Enrol operator.now ceiling) }
+        ensures made { IsMade S.Store self.old self.new result (change.Enrol operator.now ceiling) }
+        ensures cause { HasRowids 1 ((state S.Store self.old.held).now.trees 0)
+            → IfErr result (BlamesStore S.Store self.old.held self.new.held) }
+    {
+        let committed = put_operator(&mut self.connection, operator.as_str(), ceiling);
+        follow(&mut self.kept, committed, next, ())
     }
-}
 
-// Closes the operator's plan of the id: its spans go, and all else of it but the usage stays.
-fn close<S: Alter>(
-    connection: &mut Connection<S>,
-    kept: &GhostWorld,
-    operator: &Operator,
-    id: &PlanId,
-) -> Result<(), StoreFault>
-    requires stands { Stands S.Store connection.old kept.now.world }
-    requires fits { HasCleanDisk (state S.Store connection.old)
-        → IsFitting (change.Close operator.now id.now) kept.now.world }
-    ensures made { IsMade S.Store connection.old connection.new result kept.now.world
-        (change.Close operator.now id.now) }
-    ensures cause { AreLow ((state S.Store connection.old).now.trees 2)
-        → IfErr result (BlamesStore S.Store connection.old connection.new) }
-{
-    let head_rows = head_rows(connection, kept, operator, id)?;
-    let Some(head) = head_rows.first() else {
-        return Err(StoreFault::Store);
-    };
-    let (priority, aircraft) = numbers_in(head)?;
-    let mut buffer = [0u8; 36];
-    let text = id.encode(&mut buffer);
-    match close_plan(connection, operator.as_str(), text, priority, aircraft) {
-        Ok(()) => Ok(()),
-        Err(e) => Err(fault_of(e)),
+    // Stores a plan's row for its id, with its volumes and, while it is live, their spans. The answer is how
+    // long spans are then.
+    fn put(
+        &mut self,
+        span_bounds: &SpanBounds,
+        operator: &Operator,
+        row: &PlanRow,
+        next: GhostWorld,
+    ) -> Result<SpanBounds, StoreFault>
+        requires { IsNext S.Store self.old next.world (change.Put operator.now row.now) }
+        ensures made { IsMade S.Store self.old self.new result (change.Put operator.now row.now) }
+        ensures known { IfOk result (λ after. Keeps span_bounds.now after × IsKnownPlan after row.now) }
+        ensures cause { HasRoomForPlan (filed_by operator.now row.now) (state S.Store self.old.held).now
+            → IfErr result (BlamesStore S.Store self.old.held self.new.held) }
+    {
+        let mut buffer = [0u8; 36];
+        let id = row.id.encode(&mut buffer);
+        let asked = asked_of(self.alloc, row.area.volumes())?;
+        let canon = canons_of(self.alloc, row.area.volumes())?;
+        let volumes = volume_rows(self.alloc, operator.as_str(), id, row, &asked, &canon)?;
+        let spans = span_rows(self.alloc, operator.as_str(), id, row)?;
+        let head = PlanRecord {
+            operator: operator.as_str(),
+            id,
+            priority: row.priority,
+            usage: usage_number(row.usage),
+            aircraft: aircraft_number(row.aircraft),
+        };
+        one_list_of_ranges();
+        covers_are_few();
+        let committed = put_plan(&mut self.connection, head, &volumes, &spans);
+        let after = lengths_with(span_bounds, &spans);
+        follow(&mut self.kept, committed, next, after)
+    }
+
+    // Closes the operator's plan of the id: its spans go, and all else of it but the usage stays.
+    fn close(
+        &mut self,
+        operator: &Operator,
+        id: &PlanId,
+        next: GhostWorld,
+    ) -> Result<(), StoreFault>
+        requires { IsNext S.Store self.old next.world (change.Close operator.now id.now) }
+        ensures made { IsMade S.Store self.old self.new result (change.Close operator.now id.now) }
+        ensures cause { AreLow ((state S.Store self.old.held).now.trees 2)
+            → IfErr result (BlamesStore S.Store self.old.held self.new.held) }
+    {
+        let head_rows = self.head_rows(operator, id)?;
+        let Some(head) = head_rows.first() else {
+            return Err(StoreFault::Store);
+        };
+        let (priority, aircraft) = numbers_in(head)?;
+        let mut buffer = [0u8; 36];
+        let text = id.encode(&mut buffer);
+        let committed = close_plan(
+            &mut self.connection,
+            operator.as_str(),
+            text,
+            priority,
+            aircraft,
+        );
+        follow(&mut self.kept, committed, next, ())
+    }
+
+    // Takes the operator's plans of the ids out.
+    fn clear(
+        &mut self,
+        operator: &Operator,
+        ids: &Vec<PlanId>,
+        next: GhostWorld,
+    ) -> Result<(), StoreFault>
+        requires { IsNext S.Store self.old next.world (change.Clear operator.now ids.now) }
+        ensures made { IsMade S.Store self.old self.new result (change.Clear operator.now ids.now) }
+        ensures cause { IfErr result (BlamesStore S.Store self.old.held self.new.held) }
+    {
+        let texts = texts_of(self.alloc, ids)?;
+        let committed = clear_plans(&mut self.connection, operator.as_str(), &texts);
+        follow(&mut self.kept, committed, next, ())
     }
 }
 
@@ -177,24 +177,20 @@ fn numbers_in(head: &Row) -> Result<(u32, u32), StoreFault>
     Ok((priority, aircraft))
 }
 
-// Takes the operator's plans of the ids out.
-fn clear<S: Alter>(
-    alloc: Global,
-    connection: &mut Connection<S>,
-    kept: &GhostWorld,
-    operator: &Operator,
-    ids: &Vec<PlanId>,
-) -> Result<(), StoreFault>
-    requires stands { Stands S.Store connection.old kept.now.world }
-    requires fits { HasCleanDisk (state S.Store connection.old)
-        → IsFitting (change.Clear operator.now ids.now) kept.now.world }
-    ensures made { IsMade S.Store connection.old connection.new result kept.now.world
-        (change.Clear operator.now ids.now) }
-    ensures cause { IfErr result (BlamesStore S.Store connection.old connection.new) }
+// What comes of a change that was asked for: where it was committed, the world after it follows.
+fn follow<T: Copy>(
+    kept: &mut GhostWorld,
+    committed: Result<(), Error>,
+    next: GhostWorld,
+    answer: T,
+) -> Result<T, StoreFault>
+    ensures { HasFollowed committed answer result kept.old.world kept.new.world next.world }
 {
-    let texts = texts_of(alloc, ids)?;
-    match clear_plans(connection, operator.as_str(), &texts) {
-        Ok(()) => Ok(()),
+    match committed {
+        Ok(()) => {
+            *kept = next;
+            Ok(answer)
+        }
         Err(e) => Err(fault_of(e)),
     }
 }

@@ -3,8 +3,6 @@
 ghost use Rattle.std.specs.Prelude.{◌≡◌, ◌≢◌, ◌<◌, ◌^◌, List, IfErr, IfOk, IsOk, OnOk, IsTrue, length, map};
 ghost use Rattle.std.specs.List.{AllByRecursion, AllZip};
 ghost use Rattle.std.specs.Result.{IsErrAnd};
-ghost use Rattle.sqlite.specs.State.{HasCleanDisk};
-ghost use Rattle.sqlite.specs.Held.{state};
 ghost use Rattle.desk_rules.specs.declared.plan.PlanRow.{PlanRow as Plan};
 ghost use Rattle.desk_store.specs.World.{Filed, plans_of, stored_of};
 ghost use Rattle.desk_tables.specs.Tables.{plan_rows, volume_rows};
@@ -12,107 +10,121 @@ ghost use Rattle.desk_store.specs.Content.{IsBlock, IsContent, IsId, IsPlan};
 ghost use Rattle.desk_tables.specs.RowsRead.{IsHead, IsVolumeAt, listing_rows};
 ghost use Rattle.desk_tables.specs.Gathering.{HasCollected, HasNoArea};
 ghost use Rattle.desk_tables.specs.Lookups.{own_of};
-ghost use Rattle.desk_tables.specs.Causes.{BlamesSpans, BlamesStore};
-ghost use Rattle.desk_tables.specs.Store.{Stands};
 ghost use Rattle.desk_tables.specs.Known.{Knows};
 ghost use Rattle.desk_tables.specs.RivalRows.{AreWanted};
-ghost use Rattle.desk_sql.specs.Frames.{OnlyReads};
+ghost use Rattle.desk_tables.specs.ReadsMade.{ReadsPlans, ReadsSpans};
 
-use crate::kept::GhostWorld;
 use crate::known::Known;
-use crate::reading::asking::wanted_in_tables;
 use crate::reading::listing::PlanCollector;
-use crate::reading::plans::held_by_plans;
 use crate::reading::rivals::Rivals;
-use crate::reading::values::{area_in, fault_of, plan_in};
+use crate::reading::values::{area_in, fault_of, or_fault, plan_in};
+use crate::tables::DeskTables;
 use desk_live::Wanted;
 use desk_rules::operator::Operator;
 use desk_rules::plan::PlanRow;
 use desk_rules::plan_id::PlanId;
 use desk_sql::{own_plans as own_listing, plan_of, volumes_of};
 use desk_store::StoreFault;
-use sqlite::{Connection, Error, ErrorCode, Row};
+use sqlite::{Error, ErrorCode, Row};
 use sqlite_trees::store::Alter;
 use std::alloc::Global;
 use volume4d::{Held, Slab};
 
-/// The row of `plan` of the operator's plan of the id, if it is stored.
-///
-/// # Errors
-///
-/// `OutOfMemory` if memory runs out. `Store` if SQLite refuses the query for another cause.
-pub(crate) fn head_rows<S: Alter>(
-    connection: &mut Connection<S>,
-    kept: &GhostWorld,
-    operator: &Operator,
-    id: &PlanId,
-) -> Result<Vec<Row>, StoreFault>
-    requires { Stands S.Store connection.old kept.now.world }
-    ensures value { HasCleanDisk (state S.Store connection.new) →
-        IfOk result (λ rows. IsContent kept.now.world
-        × (rows.items ≡ plan_rows (own_of operator.now id.now kept.now.world))) }
-    ensures cause { IfErr result (BlamesStore S.Store connection.old connection.new) }
-    ensures stands { Stands S.Store connection.new kept.now.world }
-    ensures reads { OnlyReads S.Store connection.old connection.new }
-{
-    let mut buffer = [0u8; 36];
-    let text = id.encode(&mut buffer);
-    match plan_of(connection, operator.as_str(), text) {
-        Ok(rows) => Ok(rows),
-        Err(e) => Err(fault_of(e)),
+impl<S: Alter> DeskTables<S> {
+    /// The row of `plan` of the operator's plan of the id, if it is stored.
+    ///
+    /// # Errors
+    ///
+    /// `OutOfMemory` if memory runs out. `Store` if SQLite refuses the query for another cause.
+    pub(crate) fn head_rows(
+        &mut self,
+        operator: &Operator,
+        id: &PlanId,
+    ) -> Result<Vec<Row>, StoreFault>
+        ensures { ReadsPlans S.Store self.old self.new result (λ rows. IsContent self.old.world
+            × (rows.items ≡ plan_rows (own_of operator.now id.now self.old.world))) }
+    {
+        let mut buffer = [0u8; 36];
+        let text = id.encode(&mut buffer);
+        let answer = plan_of(&mut self.connection, operator.as_str(), text);
+        or_fault(answer)
     }
-}
 
-// The rows of `volume` of the operator's plan of the id, by place.
-fn volumes<S: Alter>(
-    connection: &mut Connection<S>,
-    kept: &GhostWorld,
-    operator: &Operator,
-    id: &PlanId,
-) -> Result<Vec<Row>, StoreFault>
-    requires { Stands S.Store connection.old kept.now.world }
-    ensures value { HasCleanDisk (state S.Store connection.new) →
-        IfOk result (λ rows. IsContent kept.now.world
-        × (rows.items ≡ volume_rows (own_of operator.now id.now kept.now.world))) }
-    ensures cause { IfErr result (BlamesStore S.Store connection.old connection.new) }
-    ensures stands { Stands S.Store connection.new kept.now.world }
-    ensures reads { OnlyReads S.Store connection.old connection.new }
-{
-    let mut buffer = [0u8; 36];
-    let text = id.encode(&mut buffer);
-    match volumes_of(connection, operator.as_str(), text) {
-        Ok(rows) => Ok(rows),
-        Err(e) => Err(fault_of(e)),
+    // The rows of `volume` of the operator's plan of the id, by place.
+    fn volumes(&mut self, operator: &Operator, id: &PlanId) -> Result<Vec<Row>, StoreFault>
+        ensures { ReadsPlans S.Store self.old self.new result (λ rows. IsContent self.old.world
+            × (rows.items ≡ volume_rows (own_of operator.now id.now self.old.world))) }
+    {
+        let mut buffer = [0u8; 36];
+        let text = id.encode(&mut buffer);
+        let answer = volumes_of(&mut self.connection, operator.as_str(), text);
+        or_fault(answer)
     }
-}
 
-/// The operator's plan of the id, or none if it is not stored.
-///
-/// # Errors
-///
-/// `OutOfMemory` if memory runs out. `Store` if SQLite refuses a query for another cause, or if the
-/// rows are no plan's.
-#[tactic(auto, using(crate::proofs::FrameLemmas::reads_then))]
-pub(crate) fn plan<S: Alter>(
-    alloc: Global,
-    connection: &mut Connection<S>,
-    kept: &GhostWorld,
-    operator: &Operator,
-    id: &PlanId,
-) -> Result<Option<PlanRow>, StoreFault>
-    requires { Stands S.Store connection.old kept.now.world }
-    ensures value { HasCleanDisk (state S.Store connection.new) →
-        IfOk result (λ row. row ≡ stored_of id.now (plans_of operator.now kept.now.world)) }
-    ensures cause { IfErr result (BlamesStore S.Store connection.old connection.new) }
-    ensures stands { Stands S.Store connection.new kept.now.world }
-    ensures reads { OnlyReads S.Store connection.old connection.new }
-{
-    let head_rows = head_rows(connection, kept, operator, id)?;
-    let Some(head) = head_rows.first() else {
-        return Ok(None);
-    };
-    let rows = volumes(connection, kept, operator, id)?;
-    Ok(Some(plan_of_rows(alloc, head, &rows)?))
+    /// The operator's plan of the id, or none if it is not stored.
+    ///
+    /// # Errors
+    ///
+    /// `OutOfMemory` if memory runs out. `Store` if SQLite refuses a query for another cause, or if the
+    /// rows are no plan's.
+    #[tactic(auto, using(crate::proofs::FrameLemmas::reads_then))]
+    pub(crate) fn plan(
+        &mut self,
+        operator: &Operator,
+        id: &PlanId,
+    ) -> Result<Option<PlanRow>, StoreFault>
+        ensures { ReadsPlans S.Store self.old self.new result (λ row.
+            row ≡ stored_of id.now (plans_of operator.now self.old.world)) }
+    {
+        let head_rows = self.head_rows(operator, id)?;
+        let Some(head) = head_rows.first() else {
+            return Ok(None);
+        };
+        let rows = self.volumes(operator, id)?;
+        Ok(Some(plan_of_rows(self.allocator(), head, &rows)?))
+    }
+
+    /// The operator's plans, at most 200, ascending by id, none twice.
+    ///
+    /// # Errors
+    ///
+    /// `OutOfMemory` if memory runs out. `Store` if SQLite refuses the query for another cause, or if
+    /// the rows are no plans'.
+    pub(crate) fn own_plans(&mut self, operator: &Operator) -> Result<Vec<PlanRow>, StoreFault>
+        ensures { ReadsPlans S.Store self.old self.new result (λ rows.
+            rows.items ≡ plans_of operator.now self.old.world) }
+    {
+        let mut collector = PlanCollector::new(self.alloc);
+        let taken = own_listing(&mut self.connection, operator.as_str(), &mut collector);
+        collected(taken, collector)
+    }
+
+    /// The slabs that live plans hold, of those that are wanted, where they meet an extent. No row is read if
+    /// the bounds of none of their volumes meet it, and if those of few plans do, only the rows of these.
+    ///
+    /// # Errors
+    ///
+    /// `OutOfMemory` if memory runs out. `Store` if SQLite refuses the query for another cause, or if
+    /// a row is no slab's.
+    #[tactic(auto, using(crate::proofs::FrameLemmas::reads_itself))]
+    pub(crate) fn rivals(
+        &mut self,
+        wanted: &Wanted,
+        extent: &Slab,
+        known: &Known,
+    ) -> Result<Vec<Held>, StoreFault>
+        requires { Knows known.now self.old.world }
+        ensures { ReadsSpans S.Store self.old self.new result (λ helds.
+            AreWanted self.old.world wanted.now extent.now helds.items) }
+    {
+        if let Some(keys) = known
+            .live
+            .wanted_plans(self.allocator(), wanted, &[*extent])?
+        {
+            return self.held_by_plans(&keys, wanted.least, extent);
+        }
+        self.wanted_in_tables(wanted, extent, &known.span_bounds)
+    }
 }
 
 // The plan of a row of `plan`, with the volumes of rows of `volume`.
@@ -145,30 +157,6 @@ fn collected(taken: Result<(), Error>, collector: PlanCollector) -> Result<Vec<P
     }
 }
 
-/// The operator's plans, at most 200, ascending by id, none twice.
-///
-/// # Errors
-///
-/// `OutOfMemory` if memory runs out. `Store` if SQLite refuses the query for another cause, or if
-/// the rows are no plans'.
-pub(crate) fn own_plans<S: Alter>(
-    alloc: Global,
-    connection: &mut Connection<S>,
-    kept: &GhostWorld,
-    operator: &Operator,
-) -> Result<Vec<PlanRow>, StoreFault>
-    requires { Stands S.Store connection.old kept.now.world }
-    ensures value { HasCleanDisk (state S.Store connection.new) →
-        IfOk result (λ rows. rows.items ≡ plans_of operator.now kept.now.world) }
-    ensures cause { IfErr result (BlamesStore S.Store connection.old connection.new) }
-    ensures stands { Stands S.Store connection.new kept.now.world }
-    ensures reads { OnlyReads S.Store connection.old connection.new }
-{
-    let mut collector = PlanCollector::new(alloc);
-    let taken = own_listing(connection, operator.as_str(), &mut collector);
-    collected(taken, collector)
-}
-
 // The slabs of spans that were handed over, if all were.
 pub(crate) fn held_by(handed: Result<(), Error>, rivals: Rivals) -> Result<Vec<Held>, StoreFault>
     ensures whole { OnOk result (IsOk handed) }
@@ -180,34 +168,4 @@ pub(crate) fn held_by(handed: Result<(), Error>, rivals: Rivals) -> Result<Vec<H
         Ok(()) => Ok(rivals.finish()),
         Err(e) => Err(fault_of(e)),
     }
-}
-
-/// The slabs that live plans hold, of those that are wanted, where they meet an extent. No row is read if the
-/// bounds of none of their volumes meet it, and if those of few plans do, only the rows of these.
-///
-/// # Errors
-///
-/// `OutOfMemory` if memory runs out. `Store` if SQLite refuses the query for another cause, or if
-/// a row is no slab's.
-#[tactic(auto, using(crate::proofs::FrameLemmas::reads_itself))]
-pub(crate) fn rivals<S: Alter>(
-    alloc: Global,
-    connection: &mut Connection<S>,
-    kept: &GhostWorld,
-    wanted: &Wanted,
-    extent: &Slab,
-    known: &Known,
-) -> Result<Vec<Held>, StoreFault>
-    requires stands { Stands S.Store connection.old kept.now.world }
-    requires bounded { Knows known.now kept.now.world }
-    ensures value { HasCleanDisk (state S.Store connection.new) → IfOk result (λ helds.
-        AreWanted kept.now.world wanted.now extent.now helds.items) }
-    ensures cause { IfErr result (BlamesSpans S.Store connection.old connection.new) }
-    ensures stands { Stands S.Store connection.new kept.now.world }
-    ensures reads { OnlyReads S.Store connection.old connection.new }
-{
-    if let Some(keys) = known.live.wanted_plans(alloc, wanted, &[*extent])? {
-        return held_by_plans(alloc, connection, kept, &keys, wanted.least, extent);
-    }
-    wanted_in_tables(alloc, connection, kept, wanted, extent, &known.span_bounds)
 }

@@ -16,6 +16,7 @@ ghost use Rattle.desk_store.specs.Content.{IsId, IsBlock};
 ghost use Rattle.desk_tables.specs.RowsRead.{IsVolumeAt, IsHead};
 ghost use Rattle.desk_tables.specs.Records.{AreNumbersOf};
 ghost use Rattle.desk_tables.specs.Gathering.{plan_with};
+ghost use Rattle.desk_tables.specs.ReadsMade.{IsToldAs};
 
 use desk_rules::plan::PlanRow;
 use desk_rules::plan_id::PlanId;
@@ -33,6 +34,20 @@ pub(crate) fn fault_of(error: Error) -> StoreFault
     match error {
         Error::SqliteFailure(ErrorCode::OutOfMemory) => StoreFault::OutOfMemory,
         _ => StoreFault::Store,
+    }
+}
+
+/// What SQLite answered, or its error as a fault of the store.
+///
+/// # Errors
+///
+/// `OutOfMemory` if memory ran out, else `Store`.
+pub(crate) fn or_fault<T>(answer: Result<T, Error>) -> Result<T, StoreFault>
+    ensures { IsToldAs answer result }
+{
+    match answer {
+        Ok(value) => Ok(value),
+        Err(e) => Err(fault_of(e)),
     }
 }
 

@@ -7,6 +7,6 @@ use Rattle.desk_tables.proofs.store.SqliteStorePlanStore.own_plans.Goals as goal
 
 pub returns-clause-content : goal.returns-clause-content
 returns-clause-content g c = λ honest.
-    let clean : HasCleanDisk (state g.S.Store c.self.inside.connection) =
+    let clean : HasCleanDisk (state g.S.Store c.self.inside.tables.held) =
     omega (arith, c.own_plans-answer.ensures.reads.doubt, honest) in
-    on_any c.counted.result (subst (λ s. IsContent s.world) c.self.view_is (c.self.invariant.2 clean))
+    on_any c.counted.result (subst (λ s. IsContent s.world) c.self.view_is (c.self.invariant.1 clean))

@@ -1,9 +1,0 @@
-use Rattle.std.proofs.Common.{take}
-use Rattle.desk_tables.specs.RivalRows.{is_asked}
-use Rattle.desk_tables.proofs.AskingLemmas.{IsAsking}
-use Rattle.desk_tables.proofs.reading.asking.asked_all.Given as goal
-
-abbrev pub invariant-loop-question : goal.invariant-loop-question
-invariant-loop-question g l =
-    IsAsking g.S.Store l.fn.connection l.connection l.kept.world (is_asked l.wanted l.extent)
-    (take l.question-index l.questions) l.helds.items

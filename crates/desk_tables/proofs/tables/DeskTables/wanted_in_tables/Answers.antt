@@ -1,0 +1,33 @@
+use Rattle.std.proofs.Common.{◌<◌, List, length, sym, subst, arith}
+use Rattle.sqlite.specs.Held.{state}
+use Rattle.s2_cover.specs.declared.spans.Span.{Span}
+use Rattle.desk_sql.specs.Rows.{tables_of}
+use Rattle.desk_tables.specs.RivalRows.{HaveTakenAll, is_asked}
+use Rattle.desk_tables.proofs.AskingLemmas.{both_ok}
+use Rattle.desk_tables.proofs.HeldLemmas.{are_wanted}
+use Rattle.desk_tables.proofs.tables.DeskTables.wanted_in_tables.Goals as goal
+
+pub returns : goal.returns
+returns g c =
+    let read = c.asked_all.ensures.read in
+    record {
+      value = λ clean.
+          both_ok c.asked_all.result (c.asked_all.ensures.open clean) (read.value clean)
+          (λ helds opened taken.
+          (let wanted = c.args.wanted.now in
+          let extent = c.args.extent.now in
+          let questions = c.in_ok-questions.questions.items in
+          let tables = tables_of (state g.S.Store c.args.self.now.held).now.trees in
+          let live = opened (subst (λ (qs : List Span). 0 < length qs) (sym c.deref.ensures.value)
+          c.in_ok-questions.ensures.some) in
+          let standing = c.allocator.ensures.standing (omega (arith, read.reads.doubt, clean)) live in
+          let mine = subst (λ qs. HaveTakenAll (is_asked wanted extent) qs tables.spans helds.items)
+          c.deref.ensures.value taken in
+          are_wanted tables c.args.self.now.world wanted.operator wanted.id wanted.least extent
+          c.args.span_bounds.now questions helds.items c.named_by_an_id.ensures
+          standing.content standing.tables c.requires
+          c.in_ok-questions.ensures.whole c.in_ok-questions.ensures.within mine));
+      cause = read.cause;
+      same = read.same;
+      reads = read.reads;
+    }

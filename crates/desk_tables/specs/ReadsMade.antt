@@ -1,0 +1,42 @@
+-- What a reader of a store's tables comes to.
+use Rattle.std.specs.Prelude.{◌≡◌, ◌≢◌, List, Ok, Result, IfErr, IfOk, MatchResult}
+use Rattle.std.specs.Result.{IsErrAnd}
+use Rattle.sqlite_trees.specs.declared.store.Store.{Ghosts}
+use Rattle.sqlite_value.specs.Order.{Row}
+use Rattle.sqlite.specs.declared.error.Error.{Error}
+use Rattle.sqlite.specs.declared.error.Error.TheVariants.{SqliteFailure}
+use Rattle.sqlite.specs.declared.error.ErrorCode.TheVariants as code
+use Rattle.sqlite.specs.State.{HasCleanDisk}
+use Rattle.sqlite.specs.Held.{state}
+use Rattle.desk_sql.specs.Frames.{OnlyReads}
+use Rattle.desk_sql.specs.Rows.{tables_of}
+use Rattle.desk_store.specs.declared.fault.StoreFault.{StoreFault}
+use Rattle.desk_store.specs.declared.fault.StoreFault.TheVariants.{Store}
+use Rattle.desk_tables.specs.Causes.{BlamesSpans, BlamesStore}
+use Rattle.desk_tables.specs.Store.{HeldWorld}
+
+-- what SQLite answered, or its error as a fault: a growth that was refused is told as that
+abbrev pub IsToldAs : {V : Type 0} → Result V Error → Result V StoreFault → Type 0
+IsToldAs answer result =
+    MatchResult answer (λ v. result ≡ Ok v)
+    (λ error. IsErrAnd result (λ fault. fault ≡ Store → error ≢ SqliteFailure code.OutOfMemory))
+
+module _ {S V : Type 0} (g : Ghosts S) (old new : HeldWorld S) (result : Result V StoreFault) where
+  -- what it answers over a clean disk, and why it fails; the world stays, and the connection is only read
+  pub record ReadsWorld (Gives : V → Type 0) (Blames : StoreFault → Type 0) : Type 0 where
+    pub value : HasCleanDisk (state g new.held) → IfOk result Gives
+    pub cause : IfErr result Blames
+    pub same : new.world ≡ old.world
+    pub reads : OnlyReads g old.held new.held
+
+  -- a reader that fails as the disk does
+  abbrev pub ReadsPlans : (V → Type 0) → Type 0
+  ReadsPlans Gives = ReadsWorld Gives (BlamesStore g old.held new.held)
+
+  -- or where more spans are there than a reading counts
+  abbrev pub ReadsSpans : (V → Type 0) → Type 0
+  ReadsSpans Gives = ReadsWorld Gives (BlamesSpans g old.held new.held)
+
+-- the rows of spans that the connection shows
+abbrev pub spans_shown : {S : Type 0} → Ghosts S → HeldWorld S → List Row
+spans_shown g t = (tables_of (state g t.held).now.trees).spans
