@@ -4,9 +4,11 @@ use Rattle.std.specs.Prelude.{⊤, IfErr, OnOk}
 use Rattle.std.specs.Result.{IsErrAnd}
 use Rattle.std.proofs.lemmas.List.{length-append, map-append}
 use Rattle.std.proofs.lemmas.List.Elements.{All-append, All-cons, All-nil}
+use Rattle.desk_store.specs.declared.store.PlanStore.{Ghosts}
+use Rattle.desk_store.specs.StoreFaults.{IsHonest}
 use Rattle.desk_store.specs.World.{World}
 use Rattle.desk_store.specs.Crashes.{LeavesNoMore, LeavesOldOr, LeavesOnly}
-use Rattle.desk_run.specs.DeskWorld.{DeskWorld, enrolled}
+use Rattle.desk_run.specs.DeskWorld.{DeskWorld, Parts, enrolled, world_of}
 use Rattle.desk_ends.specs.declared.playing.PlayEnd.{PlayEnd}
 use Rattle.desk_wire.specs.Given.{told_in_play}
 use Rattle.desk_wire.specs.RequestsKept.{IsCertain, IsFoundNow, IsKept, IsLeftBy}
@@ -140,16 +142,23 @@ both_found xs ys last u v w before mid found first (inr p) = by (first p.1)
 
 -- so many connections, and then others
 module _ {A B C : Type 0} where
-  pub both_kept : (H K : Type 0) → (K → H) → (d : A) (then : Result B Failure)
-      (whole : Result C Failure) (m k n : ℕ) (a b c : Traffic) (u v w : DeskWorld)
-      (before mid now : Option World → Type 0) → AreKept {A = A} H (Ok d) m a b u v before mid
-      → AreKept K then k b c v w mid now → m + k ≤ n
+  pub both_kept : {S : Type 0} (g : Ghosts S) (d : A) (then : Result B Failure) (whole : Result C Failure)
+      (m k n : ℕ) (a b c : Traffic) (begun between left : Parts S)
+      → (IsHonest (g.doubt left.store) → IsHonest (g.doubt between.store))
+      → AreKept {A = A} g (Ok d) m (course a b) begun between
+      → AreKept g then k (course b c) between left → m + k ≤ n
       → ((xs ys : List Exchange) (one last : Option (List Enrolment)) → EndsAfter {A = A} (Ok d) m xs one
       → EndsAfter then k ys last → EndsAfter whole n (xs ++ ys) last)
-      → ((last : Option (List Enrolment)) (x y : DeskWorld) → IsLastNews K last then x y
-      → IsLastNews K last whole x y) → ((P : Type 0) → OnOk then P → OnOk whole P)
-      → AreKept K whole n a c u w before now
-  both_kept H K by d then whole m k n a b c u v w before mid now h t few ends lasts well =
+      → ((last : Option (List Enrolment)) (x y : DeskWorld)
+      → IsLastNews (IsHonest (g.doubt left.store)) last then x y
+      → IsLastNews (IsHonest (g.doubt left.store)) last whole x y)
+      → ((P : Type 0) → OnOk then P → OnOk whole P) → AreKept g whole n (course a c) begun left
+  both_kept g d then whole m k n a b c begun between left by h t few ends lasts well =
+      let H = IsHonest (g.doubt between.store) in
+      let K = IsHonest (g.doubt left.store) in
+      let u = world_of g.content begun in
+      let v = world_of g.content between in
+      let w = world_of g.content left in
       let xs = h.taken.exchanges in
       let ys = t.taken.exchanges in
       let goes = none_last H h.taken.last d h.taken.between v h.taken.untaken in
@@ -181,20 +190,20 @@ module _ {A B C : Type 0} where
           untaken = lasts t.taken.last t.taken.between w t.taken.untaken;
           ends = ends xs ys h.taken.last t.taken.last h.taken.ends t.taken.ends;
         };
-        finds = λ p found may. both_found xs ys t.taken.last u v w (before found) (mid found) found
-            (λ was. subst (λ l. IsFoundServed xs l v found ⊎ ((v ≡ u) × before found)) goes.0
+        finds = λ p found may. both_found xs ys t.taken.last u v w (g.may_leave begun.store found)
+            (g.may_leave between.store found) found (λ was.
+            subst (λ l. IsFoundServed xs l v found ⊎ ((v ≡ u) × g.may_leave begun.store found)) goes.0
             (h.finds (by p) found was)) (t.finds p found may);
       }
 
 -- nothing is taken
-pub none_kept : {A : Type 0} (H : Type 0) (done : Result A Failure) (count : ℕ)
-    (old new : Traffic) (w after : DeskWorld) (before now : Option World → Type 0)
-    → Denies old new → (IsOpen old.recorded → OnOk done (IsOpen new.recorded)) → after ≡ w
-    → EndsAfter done count [] None → ((found : Option World) → now found → before found)
-    → AreKept H done count old new w after before now
-none_kept H done count old new w after before now denies still left ends no_more = record {
-  taken = none H done count old new w after denies still left ends;
-  finds = λ p found may. inr (left, no_more found may);
+pub none_kept : {A S : Type 0} (g : Ghosts S) (done : Result A Failure) (count : ℕ) (old new : Traffic)
+    (desk : Parts S) → Denies old new → (IsOpen old.recorded → OnOk done (IsOpen new.recorded))
+    → EndsAfter done count [] None → AreKept g done count (course old new) desk desk
+none_kept g done count old new desk denies still ends = record {
+  taken = none (IsHonest (g.doubt desk.store)) done count old new (world_of g.content desk)
+      (world_of g.content desk) denies still refl ends;
+  finds = λ p found may. inr (refl, may);
 }
 
 -- news are brought, and no connection is taken then
@@ -209,17 +218,19 @@ ends_news : {A : Type 0} (done : Result A Failure) (f : Failure) (news : List En
 ends_news (Ok d) f news is = absurd is
 ends_news (Err e) f news is = tt
 
-pub news_kept : {A : Type 0} (H : Type 0) (done : Result A Failure) (f : Failure) (news : List Enrolment)
-    (old mid new : Traffic) (w after : DeskWorld) (before now : Option World → Type 0)
-    → IsErrAnd done (λ e. e ≡ f) → BringsNews old mid news → Denies mid new → EndsAtNews H f news w after
-    → (H → (found : Option World) → now found
-    → IsFoundServed [] (Some news) after found ⊎ ((after ≡ w) × before found))
-    → AreKept H done 1 old new w after before now
-news_kept H done f news old mid new w after before now is brings denies ends finds = record {
+pub news_kept : {A S : Type 0} (g : Ghosts S) (done : Result A Failure) (f : Failure)
+    (news : List Enrolment) (old mid new : Traffic) (begun left : Parts S)
+    → IsErrAnd done (λ e. e ≡ f) → BringsNews old mid news → Denies mid new
+    → EndsAtNews (IsHonest (g.doubt left.store)) f news (world_of g.content begun) (world_of g.content left)
+    → (IsHonest (g.doubt left.store) → (found : Option World) → g.may_leave left.store found
+    → IsFoundServed [] (Some news) (world_of g.content left) found
+    ⊎ ((world_of g.content left ≡ world_of g.content begun) × g.may_leave begun.store found))
+    → AreKept g done 1 (course old new) begun left
+news_kept g done f news old mid new begun left is brings denies ends finds = record {
   taken = record {
     exchanges = [];
     last = Some news;
-    between = w;
+    between = world_of g.content begun;
     few = omega arith;
     listened = denies.0 ∙ brings.3;
     taken = none_more old.taken new.taken (denies.1 ∙ brings.1);
@@ -230,7 +241,8 @@ news_kept H done f news old mid new w after before now is brings denies ends fin
     recorded = (mid.recorded, brings.4, denies.4);
     stays_open = λ was. not_ok done f (IsOpen new.recorded) is;
     served = refl;
-    untaken = last_news H done f news w after is ends;
+    untaken = last_news (IsHonest (g.doubt left.store)) done f news (world_of g.content begun)
+        (world_of g.content left) is ends;
     ends = ends_news done f news is;
   };
   finds = finds;
@@ -297,23 +309,32 @@ after_news x w listed after before mid found news (inr p) = by (news p.1)
     by (inl is) = inl (inl (is ∙ ap (λ v. Some v.content) (sym p.0)))
     by (inr q) = inr (p.0 ∙ q.0, q.1)
 
-pub one_kept : {A : Type 0} (H : Type 0) (done : Result A Failure) (x : Exchange)
-    (closed : Result ⊤ Failure) (old new : Traffic) (w listed after : DeskWorld)
-    (before mid now : Option World → Type 0)
+pub one_kept : {A S : Type 0} (g : Ghosts S) (done : Result A Failure) (x : Exchange)
+    (closed : Result ⊤ Failure) (old new : Traffic) (begun listed left : Parts S)
     → new.listened ≡ old.listened → Grows old.taken new.taken (x.arrival ∷ [])
     → Grows old.closed new.closed (x.parting ∷ []) → IsUnsent old x.out
     → x.parting.outcome ≡ outcome_of x.served → Grows old.news new.news (x.news ∷ [])
-    → AreNoted old.recorded (x ∷ []) None new.recorded → AreEnrolled H x.news w listed
-    → HasServed H x.served (passage_of x) listed x.arrival.moment after
+    → AreNoted old.recorded (x ∷ []) None new.recorded
+    → AreEnrolled (IsHonest (g.doubt left.store)) x.news (world_of g.content begun)
+    (world_of g.content listed)
+    → HasServed (IsHonest (g.doubt left.store)) x.served (passage_of x) (world_of g.content listed)
+    x.arrival.moment (world_of g.content left)
     → failing done ≡ first_failure (failure_at x.served) (failing closed)
     → OnOk closed (IsOpen new.recorded) → IfErr closed IsDenied
-    → (H → (found : Option World) → mid found
-    → (found ≡ Some listed.content) ⊎ ((listed ≡ w) × before found))
-    → (H → (found : Option World) → now found → IsFoundNow x.served mid
-    (IsTaken x.arrival.bytes x.parting.unread) listed x.arrival.moment after found)
-    → AreKept H done 1 old new w after before now
-one_kept H done x closed old new w listed after before mid now listened takes closes fresh told news noted
-    lists served is still denied first finds = record {
+    → (IsHonest (g.doubt left.store) → (found : Option World) → g.may_leave listed.store found
+    → (found ≡ Some (world_of g.content listed).content)
+    ⊎ ((world_of g.content listed ≡ world_of g.content begun) × g.may_leave begun.store found))
+    → (IsHonest (g.doubt left.store) → (found : Option World) → g.may_leave left.store found
+    → IsFoundNow x.served (g.may_leave listed.store) (IsTaken x.arrival.bytes x.parting.unread)
+    (world_of g.content listed) x.arrival.moment (world_of g.content left) found)
+    → AreKept g done 1 (course old new) begun left
+one_kept g done x closed old new begun listed left listened takes closes fresh told news noted lists served
+    is still denied first finds =
+    let H = IsHonest (g.doubt left.store) in
+    let w = world_of g.content begun in
+    let then = world_of g.content listed in
+    let after = world_of g.content left in
+    record {
       taken = record {
         exchanges = x ∷ [];
         last = None;
@@ -328,13 +349,14 @@ one_kept H done x closed old new w listed after before mid now listened takes cl
         news = news;
         recorded = noted;
         stays_open = λ was. one_closed (IsOpen new.recorded) done (failure_at x.served) closed is still;
-        served = (listed, after, lists, served, refl);
+        served = (then, after, lists, served, refl);
         untaken = refl;
         ends = one_ends done x closed denied is;
       };
-      finds = λ p found may. after_news x w listed after (before found) (mid found) found (first p found)
-          (one_found x listed after (mid found) found
-          (served_then H ⊤ (λ k. p) x.served (passage_of x) listed x.arrival.moment after served)
+      finds = λ p found may. after_news x w then after (g.may_leave begun.store found)
+          (g.may_leave listed.store found) found (first p found)
+          (one_found x then after (g.may_leave listed.store found) found
+          (served_then H ⊤ (λ k. p) x.served (passage_of x) then x.arrival.moment after served)
           (finds p found may));
     }
 
@@ -346,29 +368,44 @@ found_served xs last w after before found only (inl is) = is
 found_served xs last w after before found only (inr p) =
     inl (only p.1 ∙ ap (λ x. Some x.content) (sym p.0))
 
-module _ {A : Type 0} (H : Type 0) (done : Result A Failure) (serve : ServeWords)
-    (w begun after : DeskWorld) (before now : Option World → Type 0) (p : H)
-    (listed : H → begun ≡ with_operators (on_terms w serve.terms) serve.enrolments.items)
-    (only : (found : Option World) → before found → found ≡ Some begun.content) where
-  pub port_kept : (old mid new : Traffic) → Listens old mid serve.port
-      → AreKept H done serve.connections mid new begun after before now
-      → (found : Option World) → now found → IsPortKept H done serve (course old new) w after found
-  port_kept old mid new listens h found may =
+module _ {A S : Type 0} (g : Ghosts S) (done : Result A Failure) (serve : ServeWords) (w : DeskWorld) where
+  pub port_kept : (begun left : Parts S) → IsHonest (g.doubt left.store)
+      → (IsHonest (g.doubt left.store)
+      → world_of g.content begun ≡ with_operators (on_terms w serve.terms) serve.enrolments.items)
+      → ((found : Option World) → g.may_leave begun.store found
+      → found ≡ Some (world_of g.content begun).content)
+      → (old mid new : Traffic) → Listens old mid serve.port
+      → AreKept g done serve.connections (course mid new) begun left
+      → (found : Option World) → g.may_leave left.store found
+      → IsPortKept (IsHonest (g.doubt left.store)) done serve (course old new) w (world_of g.content left)
+      found
+  port_kept begun left p listed only old mid new listens h found may =
       inl (
-        record { begun = begun; listed = listed; port = mid; listens = listens; taken = h.taken },
-        found_served h.taken.exchanges h.taken.last begun after (before found) found (only found)
-            (h.finds p found may),
+        record {
+          begun = world_of g.content begun;
+          listed = listed;
+          listening = mid;
+          listens = listens;
+          taken = h.taken;
+        },
+        found_served h.taken.exchanges h.taken.last (world_of g.content begun) (world_of g.content left)
+            (g.may_leave begun.store found) found (only found) (h.finds p found may),
       )
 
   -- the operators are listed, and no connection is taken
-  pub unserved_kept : (f : Failure) (old new : Traffic) → IsErrAnd done (λ e. e ≡ f)
-      → IsDenied f → Listens old new serve.port → after ≡ begun
-      → ((found : Option World) → now found → before found)
-      → (found : Option World) → now found → IsPortKept H done serve (course old new) w after found
-  unserved_kept f old new is denied listens left no_more = port_kept old new new listens
-      (none_kept H done serve.connections new new begun after before now (stays new)
-      (λ was. not_ok done f (IsOpen new.recorded) is) left
-      (stops done f is serve.connections [] None denied) no_more)
+  pub unserved_kept : (desk : Parts S) → IsHonest (g.doubt desk.store)
+      → (IsHonest (g.doubt desk.store)
+      → world_of g.content desk ≡ with_operators (on_terms w serve.terms) serve.enrolments.items)
+      → ((found : Option World) → g.may_leave desk.store found
+      → found ≡ Some (world_of g.content desk).content)
+      → (f : Failure) (old new : Traffic) → IsErrAnd done (λ e. e ≡ f) → IsDenied f
+      → Listens old new serve.port → (found : Option World) → g.may_leave desk.store found
+      → IsPortKept (IsHonest (g.doubt desk.store)) done serve (course old new) w (world_of g.content desk)
+      found
+  unserved_kept desk p listed only f old new is denied listens =
+      port_kept desk desk p listed only old new new listens
+      (none_kept g done serve.connections new new desk (stays new)
+      (λ was. not_ok done f (IsOpen new.recorded) is) (stops done f is serve.connections [] None denied))
 
 -- ---- a run over the input
 

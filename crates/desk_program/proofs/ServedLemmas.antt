@@ -9,7 +9,7 @@ use Rattle.desk_ends.specs.declared.serving.Served.{Served}
 use Rattle.desk_ends.specs.declared.serving.Served.TheVariants.{Answered, End}
 use Rattle.desk_ends.specs.declared.serving.ServeFault.{ServeFault}
 use Rattle.desk_ends.specs.declared.serving.ServeFault.TheVariants.{Read, Write, CutShort, OutOfMemory}
-use Rattle.desk_wire.specs.Passage.{Passage}
+use Rattle.desk_wire.specs.Passage.{Passage, course}
 use Rattle.desk_wire.specs.OneRequest.{HasServed, IsReplied}
 use Rattle.desk_wire.specs.declared.response.ServerError.{ServerError}
 use Rattle.desk_line.specs.declared.failure.Failure.{Failure}
@@ -193,7 +193,7 @@ none_last H (Some news) d w after h = absurd h
 pub none : {A : Type 0} (H : Type 0) (done : Result A Failure) (count : ℕ)
     (old new : Traffic)
     (w after : DeskWorld) → Denies old new → (IsOpen old.recorded → OnOk done (IsOpen new.recorded))
-    → after ≡ w → EndsAfter done count [] None → AreTaken H done count old new w after
+    → after ≡ w → EndsAfter done count [] None → AreTaken H done count (course old new) w after
 none H done count old new w after denies still left ends = record {
   exchanges = [];
   last = None;
@@ -309,11 +309,11 @@ pub unserved : {A : Type 0} (H : Type 0) (done : Result A Failure) (f : Failure)
     (old new : Traffic) (w after : DeskWorld) → IsErrAnd done (λ e. e ≡ f)
     → IsDenied f → Listens old new serve.port → (H → after ≡ with_operators (on_terms w serve.terms)
     serve.enrolments.items)
-    → IsAtPort H done serve old new w after
+    → IsAtPort H done serve (course old new) w after
 unserved H done f serve old new w after is denied listens listed = inl (record {
   begun = after;
   listed = listed;
-  port = new;
+  listening = new;
   listens = listens;
   taken = none H done serve.connections new new after after (stays new)
       (λ was. not_ok done f (IsOpen new.recorded) is) refl

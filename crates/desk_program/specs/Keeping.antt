@@ -1,8 +1,11 @@
 -- Keeping: what a start may find of a desk's content, whatever ended the program that carried out a line
 -- there.
-use Rattle.std.specs.Prelude.{◌≡◌, ◌⊎◌, ◌+◌, ⊤, ℕ, List, [], ◌∷◌, take, Option, Some, None, Result, Ok, Err}
+use Rattle.std.specs.Prelude.{◌≡◌, ◌⊎◌, ◌+◌, ⊤, ℕ, List, [], ◌∷◌, take, Option, Some, Result, Ok, Err}
+use Rattle.std.specs.Option.{IsSomeAnd}
+use Rattle.desk_store.specs.declared.store.PlanStore.{Ghosts}
+use Rattle.desk_store.specs.StoreFaults.{IsHonest}
 use Rattle.desk_store.specs.World.{World}
-use Rattle.desk_run.specs.DeskWorld.{DeskWorld, enrolled}
+use Rattle.desk_run.specs.DeskWorld.{DeskWorld, Parts, enrolled, world_of}
 use Rattle.desk_wire.specs.Given.{told_in_play}
 use Rattle.desk_wire.specs.RequestsKept.{IsCertain, IsKept, IsLeftBy}
 use Rattle.desk_wire.specs.Passage.{Course, Passage}
@@ -73,8 +76,8 @@ IsLeftByOne w found (x ∷ xs) = IsLeftUncertain w found x ⊎ IsLeftByOne w fou
 
 -- of the last news an operator could not be listed, and what is found has it listed, or has not
 abbrev pub IsLeftByNews : DeskWorld → Option World → Option (List Enrolment) → Type 0
-IsLeftByNews w found None = ⊥
-IsLeftByNews w found (Some news) = (before : DeskWorld) × AreKeptSoFar ⊤ news before w found
+IsLeftByNews w found last =
+    IsSomeAnd last (λ news. (before : DeskWorld) × AreKeptSoFar ⊤ news before w found)
 
 -- what is found after connections is what their requests and the news left; or what one of these would leave
 -- of that, which left it as it was, and its answer was a 500 or is not whole; or one more enrolment
@@ -82,23 +85,24 @@ abbrev pub IsFoundServed : List Exchange → Option (List Enrolment) → DeskWor
 IsFoundServed xs last after found =
     (found ≡ Some after.content) ⊎ IsLeftByOne after found xs ⊎ IsLeftByNews after found last
 
--- connections are taken, and that is what is found, where `now` says what may be found now; or, if their
--- requests left all as it was, what might have been found before
-pub record AreKept {A : Type 0} (H : Type 0) (done : Result A Failure) (count : ℕ)
-    (old new : Traffic) (w after : DeskWorld) (before now : Option World → Type 0) :
-    Type 0 where
-  pub taken : AreTaken H done count old new w after
-  pub finds : H → (found : Option World) → now found
-      → IsFoundServed taken.exchanges taken.last after found ⊎ ((after ≡ w) × before found)
+-- connections are taken at a desk, and that is what may be found then; or, if their requests left all as it
+-- was, what might have been found before
+pub record AreKept {A S : Type 0} (g : Ghosts S) (done : Result A Failure) (count : ℕ) (port : Course Traffic)
+    (old new : Parts S) : Type 0 where
+  pub taken : AreTaken (IsHonest (g.doubt new.store)) done count port (world_of g.content old)
+      (world_of g.content new)
+  pub finds : IsHonest (g.doubt new.store) → (found : Option World) → g.may_leave new.store found
+      → IsFoundServed taken.exchanges taken.last (world_of g.content new) found
+      ⊎ ((world_of g.content new ≡ world_of g.content old) × g.may_leave old.store found)
 
 -- connections are taken once all operators are listed, or an operator could not be listed
 abbrev pub IsPortKept :
     {A : Type 0} → Type 0 → Result A Failure → ServeWords → Course Traffic → DeskWorld → DeskWorld
     → Option World → Type 0
 IsPortKept H done serve port w after found =
-    ((begun : HasBegunServing H done serve port.before port.after w after)
+    ((begun : HasBegunServing H done serve port w after)
     × IsFoundServed begun.taken.exchanges begun.taken.last after found)
-    ⊎ (IsNotBegun H done serve port.before port.after w after
+    ⊎ (IsNotBegun H done serve port w after
     × AreKeptSoFar H serve.enrolments.items (on_terms w serve.terms) after found)
 
 -- a line of `serve` is carried out, and that is what is found

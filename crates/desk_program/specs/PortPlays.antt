@@ -17,7 +17,7 @@ pub record AreInputsTaken {A : Type 0} (H : Type 0) (done : Result A Failure) (p
     (port : Course Traffic) (w after : DeskWorld) : Type 0 where
   pub begun : DeskWorld
   pub listed : H → begun ≡ with_operators (on_terms w play.terms) play.enrolments.items
-  pub taken : AreTaken H done max_answered port.before port.after begun after
+  pub taken : AreTaken H done max_answered port begun after
 
 -- an operator could not be listed: those before it are, and no request is taken
 pub record AreNoneTaken {A : Type 0} (H : Type 0) (done : Result A Failure) (play : PlayWords)

@@ -5,7 +5,7 @@ use Rattle.desk_run.specs.DeskWorld.{DeskWorld}
 use Rattle.desk_ends.specs.declared.serving.Served.{Served}
 use Rattle.desk_ends.specs.declared.serving.Served.TheVariants.{Answered, End}
 use Rattle.desk_ends.specs.declared.serving.ServeFault.{ServeFault}
-use Rattle.desk_wire.specs.Passage.{Course, Passage, passed}
+use Rattle.desk_wire.specs.Passage.{Course, Passage, course, passed}
 use Rattle.desk_wire.specs.OneRequest.{HasServed}
 use Rattle.desk_line.specs.declared.failure.Failure.{Failure}
 use Rattle.desk_line.specs.declared.line.Serve.{Serve as ServeWords}
@@ -181,8 +181,7 @@ EndsAtNews H f news w after =
 abbrev pub IsLastNews :
     {A : Type 0} → Type 0 → Option (List Enrolment) → Result A Failure → DeskWorld → DeskWorld → Type 0
 IsLastNews H None done w after = after ≡ w
-IsLastNews H (Some news) (Ok done) w after = ⊥
-IsLastNews H (Some news) (Err failure) w after = EndsAtNews H failure news w after
+IsLastNews H (Some news) done w after = IsErrAnd done (λ failure. EndsAtNews H failure news w after)
 
 -- the news of connections, and the last of them
 abbrev pub news_of : List Exchange → Option (List Enrolment) → List (List Enrolment)
@@ -206,19 +205,19 @@ EndsAfter (Err failure) count exchanges last = EndsDeskBy failure exchanges last
 -- connections are taken, at most so many, and what is left is what their requests and the news leave. If that
 -- ended well, all that was to be recorded is
 pub record AreTaken {A : Type 0} (H : Type 0) (done : Result A Failure) (count : ℕ)
-    (old new : Traffic) (w after : DeskWorld) : Type 0 where
+    (port : Course Traffic) (w after : DeskWorld) : Type 0 where
   pub exchanges : List Exchange
   pub last : Option (List Enrolment)
   pub between : DeskWorld
   pub few : length exchanges ≤ count
-  pub listened : new.listened ≡ old.listened
-  pub taken : Grows old.taken new.taken (map (λ x. x.arrival) exchanges)
-  pub closed : Grows old.closed new.closed (map (λ x. x.parting) exchanges)
-  pub fresh : All (λ x. IsUnsent old x.out) exchanges
+  pub listened : port.after.listened ≡ port.before.listened
+  pub taken : Grows port.before.taken port.after.taken (map (λ x. x.arrival) exchanges)
+  pub closed : Grows port.before.closed port.after.closed (map (λ x. x.parting) exchanges)
+  pub fresh : All (λ x. IsUnsent port.before x.out) exchanges
   pub told : All (λ x. x.parting.outcome ≡ outcome_of x.served) exchanges
-  pub news : Grows old.news new.news (news_of exchanges last)
-  pub recorded : AreNoted old.recorded exchanges last new.recorded
-  pub stays_open : IsOpen old.recorded → OnOk done (IsOpen new.recorded)
+  pub news : Grows port.before.news port.after.news (news_of exchanges last)
+  pub recorded : AreNoted port.before.recorded exchanges last port.after.recorded
+  pub stays_open : IsOpen port.before.recorded → OnOk done (IsOpen port.after.recorded)
   pub served : AreServed H exchanges w between
   pub untaken : IsLastNews H last done between after
   pub ends : EndsAfter done count exchanges last
@@ -226,25 +225,24 @@ pub record AreTaken {A : Type 0} (H : Type 0) (done : Result A Failure) (count :
 -- the desk plans on the line's terms and its operators are listed, the port is asked to listen at the line's
 -- number, and then connections are taken
 pub record HasBegunServing {A : Type 0} (H : Type 0) (done : Result A Failure) (serve : ServeWords)
-    (old new : Traffic) (w after : DeskWorld) : Type 0 where
+    (port : Course Traffic) (w after : DeskWorld) : Type 0 where
   pub begun : DeskWorld
   pub listed : H → begun ≡ with_operators (on_terms w serve.terms) serve.enrolments.items
-  pub port : Traffic
-  pub listens : Listens old port serve.port
-  pub taken : AreTaken H done serve.connections port new begun after
+  pub listening : Traffic
+  pub listens : Listens port.before listening serve.port
+  pub taken : AreTaken H done serve.connections (course listening port.after) begun after
 
 -- an operator could not be listed: those before it are, and no connection is taken
 pub record IsNotBegun {A : Type 0} (H : Type 0) (done : Result A Failure) (serve : ServeWords)
-    (old new : Traffic) (w after : DeskWorld) : Type 0 where
+    (port : Course Traffic) (w after : DeskWorld) : Type 0 where
   pub broken : IsErrAnd done IsLineBreakdown
-  pub untaken : new ≡ old
+  pub untaken : port.after ≡ port.before
   pub listed : AreListedSoFar H serve.enrolments.items (on_terms w serve.terms) after
 
 abbrev pub IsAtPort :
-    {A : Type 0} → Type 0 → Result A Failure → ServeWords → Traffic → Traffic
-    → DeskWorld → DeskWorld → Type 0
-IsAtPort H done serve old new w after =
-    HasBegunServing H done serve old new w after ⊎ IsNotBegun H done serve old new w after
+    {A : Type 0} → Type 0 → Result A Failure → ServeWords → Course Traffic → DeskWorld → DeskWorld → Type 0
+IsAtPort H done serve port w after =
+    HasBegunServing H done serve port w after ⊎ IsNotBegun H done serve port w after
 
 -- a line of `serve` is carried out, prints that it listens, and ends as that does
 pub record IsLineServed (H : Type 0) (serve : ServeWords) (end : Ending) (port : Course Traffic)
@@ -252,4 +250,4 @@ pub record IsLineServed (H : Type 0) (serve : ServeWords) (end : Ending) (port :
   pub done : Result ⊤ Failure
   pub ends : EndsWith done end
   pub printed : IsAnnounced done (listening_line serve.port) writes.before writes.after
-  pub came : IsAtPort H done serve port.before port.after w after
+  pub came : IsAtPort H done serve port w after

@@ -15,7 +15,7 @@ ghost use Rattle.desk_program.specs.PortPlays.{IsInputKept, IsInputPlayed};
 ghost use Rattle.desk_program.specs.Keeping.{AreKept, IsPortKept, IsServeKept};
 ghost use Rattle.desk_program.specs.Outside.{bytes_written, ended};
 ghost use Rattle.desk_program.specs.Serving as spec;
-ghost use Rattle.desk_program.specs.Serving.{AreTaken, IsAtPort, IsDenied, IsLineServed, Listens, failing};
+ghost use Rattle.desk_program.specs.Serving.{IsAtPort, IsDenied, IsLineServed, Listens, failing};
 ghost use Rattle.desk_program.specs.Serving.{first_failure, listening_line};
 
 use crate::port::{Connection, Outcome, Port};
@@ -67,8 +67,8 @@ fn serve_line<S: PlanStore, P: Port, W: Write>(
     output: &mut W,
 ) -> Result<(), Failure>
     requires { IsServe line.now }
-    ensures served { IsAtPort (IsHonest (S.doubt desk.new.store)) result line.now (P.traffic port.old)
-        (P.traffic port.new) (world_of S.content desk.old) (world_of S.content desk.new) }
+    ensures served { IsAtPort (IsHonest (S.doubt desk.new.store)) result line.now (course (P.traffic port.old)
+        (P.traffic port.new)) (world_of S.content desk.old) (world_of S.content desk.new) }
     ensures kept { FindsOnly S.PlanStore desk.old desk.new (IsPortKept (IsHonest (S.doubt desk.new.store))
         result line.now (course (P.traffic port.old) (P.traffic port.new)) (world_of S.content desk.old)
         (world_of S.content desk.new)) }
@@ -150,12 +150,8 @@ fn serve_connections<S: PlanStore, P: Port>(
     count: u32,
     desk: &mut Desk<S>,
 ) -> Result<(), Failure>
-    ensures served { AreTaken (IsHonest (S.doubt desk.new.store)) result count
-        (P.traffic port.old) (P.traffic port.new) (world_of S.content desk.old)
-        (world_of S.content desk.new) }
-    ensures kept { AreKept (IsHonest (S.doubt desk.new.store)) result count
-        (P.traffic port.old) (P.traffic port.new) (world_of S.content desk.old)
-        (world_of S.content desk.new) (S.may_leave desk.old.store) (S.may_leave desk.new.store) }
+    ensures kept { AreKept S.PlanStore result count (course (P.traffic port.old) (P.traffic port.new))
+        desk.old desk.new }
     ensures remembered { Remembers S.doubt S.faults S.is_shielded desk.old.store desk.new.store }
     ensures cause { IsEndCounted result (S.faults desk.old.store) (S.faults desk.new.store) }
 {
@@ -172,12 +168,8 @@ fn serve_connection<S: PlanStore, P: Port>(
     port: &mut P,
     desk: &mut Desk<S>,
 ) -> Result<(), Failure>
-    ensures served { AreTaken (IsHonest (S.doubt desk.new.store)) result 1
-        (P.traffic port.old) (P.traffic port.new) (world_of S.content desk.old)
-        (world_of S.content desk.new) }
-    ensures kept { AreKept (IsHonest (S.doubt desk.new.store)) result 1
-        (P.traffic port.old) (P.traffic port.new) (world_of S.content desk.old)
-        (world_of S.content desk.new) (S.may_leave desk.old.store) (S.may_leave desk.new.store) }
+    ensures kept { AreKept S.PlanStore result 1 (course (P.traffic port.old) (P.traffic port.new)) desk.old
+        desk.new }
     ensures remembered { Remembers S.doubt S.faults S.is_shielded desk.old.store desk.new.store }
     ensures cause { IsEndCounted result (S.faults desk.old.store) (S.faults desk.new.store) }
 {

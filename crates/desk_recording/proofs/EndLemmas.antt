@@ -14,7 +14,7 @@ use Rattle.desk_run.specs.Verdicts.{step}
 use Rattle.desk_run.specs.laws.Repeat.{step_again}
 use Rattle.desk_wire.specs.Bytes.{world_after}
 use Rattle.desk_wire.specs.RequestsKept.{IsCertain}
-use Rattle.desk_wire.specs.Passage.{passed}
+use Rattle.desk_wire.specs.Passage.{Course, passed}
 use Rattle.desk_wire.specs.OneRequest.{HasServed}
 use Rattle.desk_wire.specs.Streams.{IsRequest, request_len}
 use Rattle.desk_line.specs.Exits.{failure_at}
@@ -511,19 +511,20 @@ module _ (H : Type 0) (h : H) (Ends : (request rest : List ℕ) → IsRequest re
       (All-tail (λ x. x.parting.outcome ≡ outcome_of x.served) x xs told) here) at
 
   -- connections that were taken, however they ended
-  pub taken_end : (done : Result ⊤ Failure) (count : ℕ) (old new : Traffic) (w left : DeskWorld) (n : Noted)
-      (s : State) → (taken : AreTaken {A = ⊤} H done count old new w left) → old.recorded ≡ Some (Open n)
-      → IsPlayedTo s w → EndsPlayed n new.recorded taken.exchanges taken.last s left
-  taken_end done count old new w left n s taken was at =
-      all_end taken.exchanges taken.last done n new.recorded s w taken.between left
-      (subst (λ r. AreNoted r taken.exchanges taken.last new.recorded) was taken.recorded) taken.served
+  pub taken_end : (done : Result ⊤ Failure) (count : ℕ) (port : Course Traffic) (w left : DeskWorld)
+      (n : Noted) (s : State) → (taken : AreTaken {A = ⊤} H done count port w left)
+      → port.before.recorded ≡ Some (Open n) → IsPlayedTo s w
+      → EndsPlayed n port.after.recorded taken.exchanges taken.last s left
+  taken_end done count port w left n s taken was at =
+      all_end taken.exchanges taken.last done n port.after.recorded s w taken.between left
+      (subst (λ r. AreNoted r taken.exchanges taken.last port.after.recorded) was taken.recorded) taken.served
       taken.untaken (only_last done count taken.exchanges taken.last taken.ends) taken.told at
 
   -- and what is found then
-  pub taken_found : (done : Result ⊤ Failure) (count : ℕ) (old new : Traffic) (w left : DeskWorld) (n : Noted)
-      (s : State) (found : Option World) → (taken : AreTaken {A = ⊤} H done count old new w left)
-      → IsFoundServed taken.exchanges taken.last left found → old.recorded ≡ Some (Open n) → IsPlayedTo s w
-      → EndsFound n new.recorded taken.exchanges taken.last s left found
-  taken_found done count old new w left n s found taken is was at =
-      let ended = taken_end done count old new w left n s taken was at in
+  pub taken_found : (done : Result ⊤ Failure) (count : ℕ) (port : Course Traffic) (w left : DeskWorld)
+      (n : Noted) (s : State) (found : Option World) → (taken : AreTaken {A = ⊤} H done count port w left)
+      → IsFoundServed taken.exchanges taken.last left found → port.before.recorded ≡ Some (Open n)
+      → IsPlayedTo s w → EndsFound n port.after.recorded taken.exchanges taken.last s left found
+  taken_found done count port w left n s found taken is was at =
+      let ended = taken_end done count port w left n s taken was at in
       record { ended = ended; finds = ended.finds found is }

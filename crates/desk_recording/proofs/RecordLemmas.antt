@@ -7,7 +7,7 @@ use Rattle.desk_record.specs.Record.{EntryParts, entries, entry}
 use Rattle.desk_reading.specs.Requests.{asked}
 use Rattle.desk_run.specs.DeskWorld.{DeskWorld}
 use Rattle.desk_wire.specs.Bytes.{text_for, world_after}
-use Rattle.desk_wire.specs.Passage.{passed}
+use Rattle.desk_wire.specs.Passage.{Course, passed}
 use Rattle.desk_wire.specs.OneRequest.{HasServed}
 use Rattle.desk_wire.specs.Streams.{IsRequest, request_len}
 use Rattle.desk_line.specs.Exits.{failure_at}
@@ -240,15 +240,16 @@ module _ (H : Type 0) (h : H) (Ends : (request rest : List ℕ) → IsRequest re
       (All-tail (λ x. x.parting.outcome ≡ outcome_of x.served) x xs told) at) now
 
   -- connections that were taken
-  pub taken_added : (count : ℕ) (old new : Traffic) (w left : DeskWorld) (n : Noted) (s : State)
-      → (taken : AreTaken {A = ⊤} H (Ok tt) count old new w left) → old.recorded ≡ Some (Open n)
-      → IsPlayedTo s w → AddsOpen n new.recorded (entries_of taken.exchanges) s left
-  taken_added count old new w left n s taken was now =
+  pub taken_added : (count : ℕ) (port : Course Traffic) (w left : DeskWorld) (n : Noted) (s : State)
+      → (taken : AreTaken {A = ⊤} H (Ok tt) count port w left) → port.before.recorded ≡ Some (Open n)
+      → IsPlayedTo s w → AddsOpen n port.after.recorded (entries_of taken.exchanges) s left
+  taken_added count port w left n s taken was now =
       let xs = taken.exchanges in
       let goes = none_last H taken.last taken.between left taken.untaken in
-      let noted = subst (λ r. AreNoted r xs None new.recorded) was
-      (subst (λ l. AreNoted old.recorded xs l new.recorded) goes.0 taken.recorded) in
-      let here = stays_open xs (Open n) new.recorded noted (taken.stays_open (subst IsOpen (sym was) tt)) in
+      let noted = subst (λ r. AreNoted r xs None port.after.recorded) was
+      (subst (λ l. AreNoted port.before.recorded xs l port.after.recorded) goes.0 taken.recorded) in
+      let here = stays_open xs (Open n) port.after.recorded noted
+      (taken.stays_open (subst IsOpen (sym was) tt)) in
       record {
         m = here.0;
         is = here.1;

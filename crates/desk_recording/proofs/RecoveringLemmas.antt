@@ -1,17 +1,15 @@
 -- A request that is asked again: two steps of its record; and what a recovery comes to.
-use Rattle.std.proofs.Common.{◌≡◌, List, [], ◌∷◌, ◌++◌, Option, None, Some, Result, Ok, Err, inl, inr, refl, ap, subst, sym, ◌∙◌, append_assoc}
+use Rattle.std.proofs.Common.{◌≡◌, List, [], ◌∷◌, ◌++◌, Option, None, Some, Result, Ok, Err, inl, inr, ap, subst, sym, ◌∙◌, append_assoc}
 use Rattle.std.specs.Prelude.{⊤, option_map}
-use Rattle.desk_rules.specs.declared.terms.Terms.{Terms}
 use Rattle.desk_run.specs.CallFaults as call
 use Rattle.desk_run.specs.DeskWorld.{DeskWorld}
 use Rattle.desk_run.specs.declared.fault.DeskFault.{DeskFault}
+use Rattle.desk_wire.specs.Passage.{Course, course}
 use Rattle.desk_line.specs.Exits.{IsLineBreakdown, enrolment_failure}
 use Rattle.desk_line.specs.declared.failure.Failure.{Failure}
-use Rattle.desk_line.specs.declared.line.Enrolment.{Enrolment}
 use Rattle.desk_program.specs.Enrolling.{AreListedSoFar, on_terms, with_operators}
 use Rattle.desk_recording.specs.Recording.{AddsStep, Step}
-use Rattle.desk_recording.specs.Recovering.{AddsBoth, AsksAgainIfAny, Recovers}
-use Rattle.desk_recording.specs.Tail.{UnansweredParts}
+use Rattle.desk_recording.specs.Recovering.{AddsBoth, AsksAgainIfAny, Recovers, Undone}
 
 pub both_added : (old mid new : Option (List Step)) (one other : Step) → AddsStep old mid one
     → AddsStep mid new other
@@ -22,13 +20,13 @@ both_added (Some steps) mid new one other first next =
     ∙ ap Some (append_assoc steps (one ∷ []) (other ∷ []))
 
 -- all are listed, and then the request is asked, if there is one
-pub recovers : {H G : Type 0} (terms : Terms) (missing : List Enrolment) (u : Option UnansweredParts)
-    (w listed after : DeskWorld) (old new : Option (List Step)) (done : Result ⊤ Failure) → (H → G)
-    → (G → listed ≡ with_operators (on_terms w terms) missing)
-    → AsksAgainIfAny H u listed after old new done → Recovers H terms missing u w after old new done
-recovers terms missing u w listed after old new (Ok d) down are asks =
+pub recovers : {H G : Type 0} (u : Undone) (world : Course DeskWorld) (listed : DeskWorld)
+    (steps : Course (Option (List Step))) (done : Result ⊤ Failure) → (H → G)
+    → (G → listed ≡ with_operators (on_terms world.before u.terms) u.missing)
+    → AsksAgainIfAny H u.asked (course listed world.after) steps done → Recovers H u world steps done
+recovers u world listed steps (Ok d) down are asks =
     record { listed = listed; are = λ h. are (down h); asks = asks }
-recovers terms missing u w listed after old new (Err f) down are asks =
+recovers u world listed steps (Err f) down are asks =
     inl (record { listed = listed; are = λ h. are (down h); asks = asks })
 
 failed_as : (fault : DeskFault) → call.IsBreakdown fault → IsLineBreakdown (enrolment_failure fault)
@@ -36,14 +34,15 @@ failed_as fault (inl memory) = inl (ap enrolment_failure memory)
 failed_as fault (inr store) = inr (ap enrolment_failure store)
 
 -- one could not be listed
-pub unlisted : {H : Type 0} (terms : Terms) (missing : List Enrolment) (u : Option UnansweredParts)
-    (w after : DeskWorld) (old : Option (List Step)) (fault : DeskFault) (f : Failure)
-    → f ≡ enrolment_failure fault → call.IsBreakdown fault → AreListedSoFar H missing (on_terms w terms) after
-    → Recovers H terms missing u w after old old (Err f)
-unlisted terms missing u w after old fault f is broken so_far =
+pub unlisted : {H : Type 0} (u : Undone) (world : Course DeskWorld) (steps : Course (Option (List Step)))
+    (fault : DeskFault) (f : Failure) → f ≡ enrolment_failure fault → call.IsBreakdown fault
+    → steps.after ≡ steps.before
+    → AreListedSoFar H u.missing (on_terms world.before u.terms) world.after
+    → Recovers H u world steps (Err f)
+unlisted u world steps fault f is broken same so_far =
     inr (record {
       broken = subst IsLineBreakdown (sym is)
           (failed_as fault broken);
-      kept = refl;
+      kept = same;
       listed = so_far;
     })

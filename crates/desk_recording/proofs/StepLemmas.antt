@@ -3,6 +3,7 @@ use Rattle.std.proofs.Common.{◌≡◌, ◌<◌, ◌⊎◌, ℕ, ℤ, pos, nat_
 use Rattle.std.specs.Prelude.{not, option_map}
 use Rattle.desk_ends.specs.Moments.{IsMoment}
 use Rattle.desk_record.specs.Record.{entry}
+use Rattle.desk_wire.specs.Passage.{Course, course}
 use Rattle.desk_wire.specs.Streams.{IsRequest}
 use Rattle.desk_line.specs.Lines.{AreEnrolments}
 use Rattle.desk_line.specs.declared.line.Enrolment.{Enrolment}
@@ -223,22 +224,22 @@ closes (Some steps) new recorded after parting (inr is) answer =
       answer,
     )
 
-kept_or_lost : (old new : Option (List Step)) (parting : Parting) (answer : List ℕ)
-    (out now : Option (List ℕ)) → SendsKept old new parting answer out now
+kept_or_lost : (old new : Option (List Step)) (parting : Parting) (writes : Course (Option (List ℕ)))
+    → SendsKept (course old new) parting writes
     → AddsStep old new (Answered parting) ⊎ AddsStep old new (Lost parting)
-kept_or_lost old new parting answer out now (inl kept) = inl kept.0
-kept_or_lost old new parting answer out now (inr lost) = inr lost.0
+kept_or_lost old new parting writes (inl kept) = inl kept.0
+kept_or_lost old new parting writes (inr lost) = inr lost.0
 
 module _ (old new : Option (List Step)) (noted now : Option Noted) (is_broken is_kept : Bool)
     (parting : Parting) (answer : List ℕ) (out sent : Option (List ℕ)) where
-  pub closes_so : SendsKept old new parting answer out sent → parting.sent ≡ Some answer
+  pub closes_so : SendsKept (course old new) parting (course out sent) → parting.sent ≡ Some answer
       → Notes noted now is_kept (λ n. with_answer n answer)
       → (is_kept ≡ true → (is_broken ≡ false) × (parting.outcome.is_answered ≡ true))
       → Closes (traffic_of old (recorded_by is_broken noted))
       (traffic_of new (recorded_by (not is_kept) now)) parting
   closes_so sends said noting may =
       closes old new (recorded_by is_broken noted) (recorded_by (not is_kept) now) parting
-      (kept_or_lost old new parting answer out sent sends)
+      (kept_or_lost old new parting (course out sent) sends)
       (subst (λ s. RecordsAnswer (recorded_by is_broken noted) (recorded_by (not is_kept) now) s
       parting.outcome.is_answered) (sym said)
       (records_answer noted now is_broken is_kept parting.outcome.is_answered answer noting may))

@@ -20,7 +20,7 @@ use Rattle.desk_program.specs.EndCauses.{IsEndCounted}
 use Rattle.desk_program.specs.Outside.{ended}
 use Rattle.desk_program.specs.PortPlays.{IsInputKept, IsInputPlayed}
 use Rattle.desk_program.specs.Serving.{Traffic}
-use Rattle.desk_recording.specs.Telling.{told_by}
+use Rattle.desk_recording.specs.Telling.{told_of}
 use Rattle.desk_recording.specs.declared.inputs.InputPort.{InputPort}
 use Rattle.desk_recording.specs.declared.port.RecordedPort.{RecordedPort}
 use Rattle.desk_recording.specs.declared.record.Record.{Ghosts}
@@ -57,7 +57,7 @@ abbrev pub input_outside :
 input_outside k e old new exit before now = record {
   stopped = new.port.ended;
   unframed = new.port.is_unframed;
-  port = course (told_by k old.keeper old.is_broken) (told_by k new.keeper new.is_broken);
+  port = course (told_of k old) (told_of k new);
   end = ended e exit before now;
 }
 

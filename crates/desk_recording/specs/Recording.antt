@@ -1,8 +1,10 @@
 -- Recording: what a record is asked to keep, in its order, and what a port tells whose connections are kept.
 use Rattle.std.specs.Prelude.{◌≡◌, ◌<◌, ◌⊎◌, ⊤, ℕ, ℤ, length, Bool, true, false, List, [], ◌∷◌, ◌++◌, Option, None, Some, option_map}
+use Rattle.std.specs.Option.{IsSomeAnd}
 use Rattle.desk_line.specs.declared.line.Enrolment.{Enrolment}
 use Rattle.desk_ends.specs.Writing.{BreaksOff}
 use Rattle.desk_ends.specs.declared.writing.WriteFault.{WriteFault}
+use Rattle.desk_wire.specs.Passage.{Course, course}
 use Rattle.desk_wire.specs.RefusalTexts.{server_error_text}
 use Rattle.desk_wire.specs.OneRequest.{IsTaken}
 use Rattle.desk_wire.specs.declared.response.ServerError.TheVariants.{Store}
@@ -86,21 +88,30 @@ abbrev pub Sends : List ℕ → Option (List ℕ) → Option (List ℕ) → Type
 Sends bytes out now = Appends out now bytes ⊎ ((fault : WriteFault) × BreaksOff bytes out now fault)
 
 -- a client is sent the answer that is kept; or it can't be kept, and the client is sent that the desk failed
-abbrev pub SendsKept :
-    Option (List Step) → Option (List Step) → Parting → List ℕ → Option (List ℕ) → Option (List ℕ) → Type 0
-SendsKept old new parting answer out now = (AddsStep old new (Answered parting) × Sends answer out now)
-    ⊎ (AddsStep old new (Lost parting) × Sends (server_error_text Store) out now)
+abbrev pub SendsKept : Course (Option (List Step)) → Parting → Course (Option (List ℕ)) → Type 0
+SendsKept steps parting writes = (AddsStep steps.before steps.after (Answered parting)
+    × IsSomeAnd parting.sent (λ answer. Sends answer writes.before writes.after))
+    ⊎ (AddsStep steps.before steps.after (Lost parting)
+    × Sends (server_error_text Store) writes.before writes.after)
 
--- a client was sent this, and its connection is closed
-pub record IsClosedBy (old new : Option (List Step)) (parting : Parting) (answer : List ℕ)
-    (out left : Option (List ℕ)) (before after : Traffic) : Type 0 where
+-- a client: the bytes that it sent and that are left unread, and those that it was sent
+pub record Client : Type 0 where
+  pub unread : Option (List ℕ)
+  pub sent : Option (List ℕ)
+
+abbrev pub client_of : Option (List ℕ) → Option (List ℕ) → Client
+client_of unread sent = record { unread = unread; sent = sent }
+
+-- a client is sent what is kept of its connection, and that is closed
+pub record IsClosedBy (steps : Course (Option (List Step))) (parting : Parting) (client : Client)
+    (port : Course Traffic) : Type 0 where
   pub now : Option (List ℕ)
-  pub sends : SendsKept old new parting answer out now
-  pub closes : Closes before after (parted left now parting.outcome)
+  pub sends : SendsKept steps parting (course client.sent now)
+  pub closes : Closes port.before port.after (parted client.unread now parting.outcome)
 
 -- the bytes that are kept as a request are those of one that a client sent
-pub record IsTakenFrom (moment : ℤ) (request : List ℕ) (left : Option (List ℕ)) (before after : Traffic) :
+pub record IsTakenFrom (moment : ℤ) (request : List ℕ) (left : Option (List ℕ)) (port : Course Traffic) :
     Type 0 where
   pub sent : Option (List ℕ)
-  pub takes : TakesArrival before after (arrived moment sent)
+  pub takes : TakesArrival port.before port.after (arrived moment sent)
   pub whole : 0 < length request → IsTaken sent left request

@@ -1,5 +1,5 @@
 -- Recovering: what a record left undone is done at its desk.
-use Rattle.std.specs.Prelude.{◌≡◌, ◌<◌, ◌⊎◌, ⊤, ℕ, ℤ, pos, Bool, true, not, ◌&&◌, nat_lt, List, [], ◌∷◌, ◌++◌, filter, Option, None, Some, option_map, Result, Ok, Err}
+use Rattle.std.specs.Prelude.{◌≡◌, ◌<◌, ◌⊎◌, ⊤, ℕ, ℤ, pos, Bool, true, not, ◌&&◌, nat_lt, List, [], ◌∷◌, ◌++◌, filter, Option, None, Some, option_map, Result, Ok, Err, IsOkAnd}
 use Rattle.std.specs.List.{list_any}
 use Rattle.std.specs.Str.{bytes_eq}
 use Rattle.desk_rules.specs.Limits.{max_priority}
@@ -7,6 +7,7 @@ use Rattle.desk_rules.specs.declared.terms.Terms.{Terms}
 use Rattle.desk_reading.specs.Requests.{asked}
 use Rattle.desk_run.specs.DeskWorld.{DeskWorld}
 use Rattle.desk_wire.specs.Bytes.{text_for, world_after}
+use Rattle.desk_wire.specs.Passage.{Course, course}
 use Rattle.desk_line.specs.declared.failure.Failure.{Failure}
 use Rattle.desk_line.specs.declared.failure.Failure.TheVariants as failure
 use Rattle.desk_line.specs.declared.line.Enrolment.{Enrolment}
@@ -44,60 +45,67 @@ told_again answer = parted (Some []) (Some answer) whole_outcome
 abbrev pub moment_of : UnansweredParts → ℤ
 moment_of u = pos u.second
 
-module _ (H : Type 0) (u : UnansweredParts) (w after : DeskWorld) (old new : Option (List Step)) where
-  -- the request is kept, and then asked at its second; what came of its answer is kept
-  pub record IsAskedAgain (came : Parting → Step) : Type 0 where
-    pub answer : List ℕ
-    pub kept : AddsBoth old new (Asked (moment_of u) u.request) (came (told_again answer))
-    pub told : H → answer ≡ text_for w (moment_of u) (asked u.request)
-    pub left : H → after ≡ world_after w (moment_of u) (asked u.request)
+module _ (H : Type 0) (u : UnansweredParts) (world : Course DeskWorld) (steps : Course (Option (List Step)))
+  where
+    -- the request is kept, and then asked at its second; what came of its answer is kept
+    pub record IsAskedAgain (came : Parting → Step) : Type 0 where
+      pub answer : List ℕ
+      pub kept : AddsBoth steps.before steps.after (Asked (moment_of u) u.request) (came (told_again answer))
+      pub told : H → answer ≡ text_for world.before (moment_of u) (asked u.request)
+      pub left : H → world.after ≡ world_after world.before (moment_of u) (asked u.request)
 
-  -- it is kept, and the desk failed and changed nothing
-  pub record IsFailedAgain : Type 0 where
-    pub kept : AddsBoth old new (Asked (moment_of u) u.request) (Lost (told_again []))
-    pub left : H → after ≡ w
+    -- it is kept, and the desk failed and changed nothing
+    pub record IsFailedAgain : Type 0 where
+      pub kept : AddsBoth steps.before steps.after (Asked (moment_of u) u.request) (Lost (told_again []))
+      pub left : H → world.after ≡ world.before
 
-  -- it is not kept, or not in time, and so it is not asked
-  pub record IsNotAsked : Type 0 where
-    pub kept : new ≡ old
-    pub left : after ≡ w
+    -- it is not kept, or not in time, and so it is not asked
+    pub record IsNotAsked : Type 0 where
+      pub kept : steps.after ≡ steps.before
+      pub left : world.after ≡ world.before
 
-  -- it is answered again; or memory or the store was denied; or it, or its answer, can't be kept; or its
-  -- second is no moment
-  abbrev pub AsksAgain : Result ⊤ Failure → Type 0
-  AsksAgain (Ok done) = IsAskedAgain Answered
-  AsksAgain (Err f) =
-      (((f ≡ failure.Memory) ⊎ (f ≡ failure.Store)) × IsFailedAgain)
-      ⊎ (((f ≡ failure.Broken) × (IsNotAsked ⊎ IsAskedAgain Lost))
-      ⊎ ((f ≡ failure.Clock) × (last_moment < u.second) × IsNotAsked))
+    -- it is answered again; or memory or the store was denied; or it, or its answer, can't be kept; or its
+    -- second is no moment
+    abbrev pub AsksAgain : Result ⊤ Failure → Type 0
+    AsksAgain (Ok done) = IsAskedAgain Answered
+    AsksAgain (Err f) =
+        (((f ≡ failure.Memory) ⊎ (f ≡ failure.Store)) × IsFailedAgain)
+        ⊎ (((f ≡ failure.Broken) × (IsNotAsked ⊎ IsAskedAgain Lost))
+        ⊎ ((f ≡ failure.Clock) × (last_moment < u.second) × IsNotAsked))
 
--- if there is one
-abbrev pub AsksAgainIfAny :
-    Type 0 → Option UnansweredParts → DeskWorld → DeskWorld → Option (List Step) → Option (List Step)
-    → Result ⊤ Failure → Type 0
-AsksAgainIfAny H None w after old new (Ok done) = (after ≡ w) × (new ≡ old)
-AsksAgainIfAny H None w after old new (Err f) = ⊥
-AsksAgainIfAny H (Some u) w after old new done = AsksAgain H u w after old new done
+-- what a record leaves undone at a desk: the terms on which it is to plan, the operators that it lacks, and
+-- the request that is to be asked again, if there is one
+pub record Undone : Type 0 where
+  pub terms : Terms
+  pub missing : List Enrolment
+  pub asked : Option UnansweredParts
 
--- the desk plans on the record's terms and the operators are listed; then its last request is asked again
-pub record IsRecovered (H : Type 0) (terms : Terms) (missing : List Enrolment)
-    (u : Option UnansweredParts) (w after : DeskWorld) (old new : Option (List Step))
-    (done : Result ⊤ Failure) : Type 0 where
-  pub listed : DeskWorld
-  pub are : H → listed ≡ with_operators (on_terms w terms) missing
-  pub asks : AsksAgainIfAny H u listed after old new done
+abbrev pub undone : Terms → List Enrolment → Option UnansweredParts → Undone
+undone terms missing asked = record { terms = terms; missing = missing; asked = asked }
 
--- or an operator could not be listed, and nothing is asked
-pub record IsNotRecovered (H : Type 0) (terms : Terms) (missing : List Enrolment) (w after : DeskWorld)
-    (old new : Option (List Step)) (f : Failure) : Type 0 where
-  pub broken : IsLineBreakdown f
-  pub kept : new ≡ old
-  pub listed : AreListedSoFar H missing (on_terms w terms) after
+module _ (H : Type 0) where
+  -- the request is asked again, if there is one
+  abbrev pub AsksAgainIfAny :
+      Option UnansweredParts → Course DeskWorld → Course (Option (List Step)) → Result ⊤ Failure → Type 0
+  AsksAgainIfAny None world steps done =
+      IsOkAnd done (λ _. (world.after ≡ world.before) × (steps.after ≡ steps.before))
+  AsksAgainIfAny (Some u) world steps done = AsksAgain H u world steps done
 
-abbrev pub Recovers :
-    Type 0 → Terms → List Enrolment → Option UnansweredParts → DeskWorld → DeskWorld
-    → Option (List Step) → Option (List Step) → Result ⊤ Failure → Type 0
-Recovers H terms missing u w after old new (Ok done) = IsRecovered H terms missing u w after old new (Ok done)
-Recovers H terms missing u w after old new (Err f) =
-    IsRecovered H terms missing u w after old new (Err f)
-    ⊎ IsNotRecovered H terms missing w after old new f
+  -- the desk plans on the record's terms and the operators are listed; then its last request is asked again
+  pub record IsRecovered (u : Undone) (world : Course DeskWorld) (steps : Course (Option (List Step)))
+      (done : Result ⊤ Failure) : Type 0 where
+    pub listed : DeskWorld
+    pub are : H → listed ≡ with_operators (on_terms world.before u.terms) u.missing
+    pub asks : AsksAgainIfAny u.asked (course listed world.after) steps done
+
+  -- or an operator could not be listed, and nothing is asked
+  pub record IsNotRecovered (u : Undone) (world : Course DeskWorld) (steps : Course (Option (List Step)))
+      (f : Failure) : Type 0 where
+    pub broken : IsLineBreakdown f
+    pub kept : steps.after ≡ steps.before
+    pub listed : AreListedSoFar H u.missing (on_terms world.before u.terms) world.after
+
+  abbrev pub Recovers :
+      Undone → Course DeskWorld → Course (Option (List Step)) → Result ⊤ Failure → Type 0
+  Recovers u world steps (Ok done) = IsRecovered u world steps (Ok done)
+  Recovers u world steps (Err f) = IsRecovered u world steps (Err f) ⊎ IsNotRecovered u world steps f

@@ -1,9 +1,14 @@
 -- Telling: what a port tells whose connections are kept, by its record.
-use Rattle.std.specs.Prelude.{Bool, true, false, Option, option_map}
+use Rattle.std.specs.Prelude.{Bool, true, false, Option, Some, option_map}
+use Rattle.std.specs.Io.Cursor.{cursor_remaining}
 use Rattle.desk_program.specs.Recorded.{Ended, Noted, Open, Recorded}
-use Rattle.desk_program.specs.Serving.{Traffic}
+use Rattle.desk_program.specs.declared.port.Outcome.{Outcome}
+use Rattle.desk_program.specs.Serving.{Parting, Traffic, parted}
 use Rattle.desk_recording.specs.Recording.{traffic_of}
+use Rattle.desk_recording.specs.declared.port.RecordedPort.{RecordedPort}
 use Rattle.desk_recording.specs.declared.record.Record.{Ghosts}
+use Rattle.desk_recording.specs.declared.streams.Given.{Given}
+use Rattle.desk_recording.specs.declared.streams.Held.{Held}
 
 -- what was noted, by whether the port is broken
 abbrev pub recorded_as : Bool → Noted → Recorded
@@ -17,3 +22,11 @@ recorded_by is_broken noted = option_map (λ n. recorded_as is_broken n) noted
 abbrev pub told_by : {R : Type 0} → Ghosts R → R → Bool → Traffic
 told_by g keeper is_broken =
     traffic_of (g.steps keeper) (recorded_by is_broken (g.noted keeper))
+
+abbrev pub told_of : {P R : Type 0} → Ghosts R → RecordedPort P R → Traffic
+told_of g port = told_by g port.keeper port.is_broken
+
+-- a connection as it is closed, by the request that was kept of it and the answer that is held
+abbrev pub parted_in : {I O : Type 0} → Given I → Held O → Outcome → Parting
+parted_in input output outcome =
+    parted (cursor_remaining (λ v. Some v.items) input.request) (Some output.answer.items) outcome

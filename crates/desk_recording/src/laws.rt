@@ -4,6 +4,7 @@ ghost use Rattle.std.specs.Prelude.{◌≡◌, ⊤, ℕ, Ok, Option, Result, Som
 ghost use Rattle.desk_store.specs.StoreFaults.{IsHonest};
 ghost use Rattle.desk_store.specs.World.{World};
 ghost use Rattle.desk_run.specs.DeskWorld.{DeskWorld};
+ghost use Rattle.desk_wire.specs.Passage.{Course};
 ghost use Rattle.desk_line.specs.declared.failure.Failure.{Failure};
 ghost use Rattle.desk_program.specs.Keeping.{IsFoundServed};
 ghost use Rattle.desk_program.specs.Recorded.{Noted, Open};
@@ -18,10 +19,10 @@ use desk_wire::laws::request_ends;
 /// connections, with each request and its answer, and it stays open. Played where the desk's world was as it
 /// began, they differ nowhere, and leave what the desk left.
 pub fn recorded()
-    ensures { (doubt count : ℕ) (old new : Traffic) (w after : DeskWorld) (n : Noted) (s : State) →
-        IsHonest doubt → (taken : AreTaken {A = ⊤} (IsHonest doubt) (Ok tt) count old new w after) →
-        old.recorded ≡ Some (Open n) → IsPlayedTo s w →
-        AddsOpen n new.recorded (entries_of taken.exchanges) s after }
+    ensures { (doubt count : ℕ) (port : Course Traffic) (w after : DeskWorld) (n : Noted) (s : State) →
+        IsHonest doubt → (taken : AreTaken {A = ⊤} (IsHonest doubt) (Ok tt) count port w after) →
+        port.before.recorded ≡ Some (Open n) → IsPlayedTo s w →
+        AddsOpen n port.after.recorded (entries_of taken.exchanges) s after }
 {
     request_ends();
 }
@@ -31,11 +32,11 @@ pub fn recorded()
 /// that. Played as above it differs nowhere, and leaves what the desk left once that has caught up with it:
 /// once the operators are listed and the request carried out that the record has and the desk has not.
 pub fn recorded_to_the_end()
-    ensures { (doubt count : ℕ) (done : Result ⊤ Failure) (old new : Traffic) (w after : DeskWorld)
+    ensures { (doubt count : ℕ) (done : Result ⊤ Failure) (port : Course Traffic) (w after : DeskWorld)
         (n : Noted) (s : State) → IsHonest doubt →
-        (taken : AreTaken {A = ⊤} (IsHonest doubt) done count old new w after) →
-        old.recorded ≡ Some (Open n) → IsPlayedTo s w →
-        EndsPlayed n new.recorded taken.exchanges taken.last s after }
+        (taken : AreTaken {A = ⊤} (IsHonest doubt) done count port w after) →
+        port.before.recorded ≡ Some (Open n) → IsPlayedTo s w →
+        EndsPlayed n port.after.recorded taken.exchanges taken.last s after }
 {
     request_ends();
 }
@@ -46,12 +47,12 @@ pub fn recorded_to_the_end()
 /// listed the operators and carried out the request that the record has behind its last answer, even if that
 /// was done before. Or of the last news an operator could not be listed.
 pub fn recorded_and_kept()
-    ensures { (doubt count : ℕ) (done : Result ⊤ Failure) (old new : Traffic) (w after : DeskWorld)
+    ensures { (doubt count : ℕ) (done : Result ⊤ Failure) (port : Course Traffic) (w after : DeskWorld)
         (n : Noted) (s : State) (found : Option World) → IsHonest doubt →
-        (taken : AreTaken {A = ⊤} (IsHonest doubt) done count old new w after) →
+        (taken : AreTaken {A = ⊤} (IsHonest doubt) done count port w after) →
         IsFoundServed taken.exchanges taken.last after found →
-        old.recorded ≡ Some (Open n) → IsPlayedTo s w →
-        EndsFound n new.recorded taken.exchanges taken.last s after found }
+        port.before.recorded ≡ Some (Open n) → IsPlayedTo s w →
+        EndsFound n port.after.recorded taken.exchanges taken.last s after found }
 {
     request_ends();
 }

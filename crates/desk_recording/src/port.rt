@@ -3,16 +3,17 @@
 ghost use Rattle.std.specs.Prelude.{◌≡◌, ◌<◌, false, true, if◌then◌else◌, length};
 ghost use Rattle.std.specs.Prelude.{Err, Some, IfErr, IfOk, OnErr, OnOk};
 ghost use Rattle.std.specs.Io.Cursor.{cursor_inner, cursor_remaining};
+ghost use Rattle.desk_wire.specs.Passage.{course};
 ghost use Rattle.desk_wire.specs.RefusalTexts.{server_error_text};
 ghost use Rattle.desk_wire.specs.OneRequest.{IsTaken};
 ghost use Rattle.desk_wire.specs.declared.response.ServerError.TheVariants.{Store};
 ghost use Rattle.desk_line.specs.Lines.{AreEnrolments};
 ghost use Rattle.desk_program.specs.Recorded.{IsOpen, with_answer};
 ghost use Rattle.desk_program.specs.Serving.{BringsNews, Closes, Denies, IsDenied, IsFresh, Listens};
-ghost use Rattle.desk_program.specs.Serving.{TakesArrival, arrived, parted};
+ghost use Rattle.desk_program.specs.Serving.{TakesArrival, arrived};
 ghost use Rattle.desk_recording.specs.Recording.{AddsStep, Answered, IsClosedBy, IsTakenFrom, Notes, Sends};
-ghost use Rattle.desk_recording.specs.Recording.{SendsKept, parting_of};
-ghost use Rattle.desk_recording.specs.Telling.{told_by};
+ghost use Rattle.desk_recording.specs.Recording.{SendsKept, client_of, parting_of};
+ghost use Rattle.desk_recording.specs.Telling.{parted_in, told_of};
 
 use crate::record::{Parted, Record};
 use crate::streams::{Given, Held};
@@ -57,11 +58,10 @@ impl<P: Port + Drop, R: Record + Drop> Port for RecordedPort<P, R> {
 
     type Output = Held<P::Output>;
 
-    ghost traffic = { λ s. told_by R.Record s.keeper s.is_broken };
+    ghost traffic = { λ s. told_of R.Record s };
 
     fn listen(&mut self, number: u16) -> Result<(), Failure>
-        ensures listens { Listens (told_by R.Record self.old.keeper self.old.is_broken)
-            (told_by R.Record self.new.keeper self.new.is_broken) number }
+        ensures listens { Listens (told_of R.Record self.old) (told_of R.Record self.new) number }
         ensures asked { Listens (P.traffic self.old.port) (P.traffic self.new.port) number }
         ensures fault { IfErr result IsDenied }
     {
@@ -71,10 +71,9 @@ impl<P: Port + Drop, R: Record + Drop> Port for RecordedPort<P, R> {
     #[tactic(auto, using(crate::proofs::StepLemmas::brings_news))]
     fn news(&mut self, alloc: Global) -> Result<Vec<Enrolment>, Failure>
         ensures small { IfOk result (λ news. AreEnrolments news.items) }
-        ensures brings { IfOk result (λ news. BringsNews (told_by R.Record self.old.keeper self.old.is_broken)
-            (told_by R.Record self.new.keeper self.new.is_broken) news.items) }
-        ensures same { OnErr result (Denies (told_by R.Record self.old.keeper self.old.is_broken)
-            (told_by R.Record self.new.keeper self.new.is_broken)) }
+        ensures brings { IfOk result (λ news.
+            BringsNews (told_of R.Record self.old) (told_of R.Record self.new) news.items) }
+        ensures same { OnErr result (Denies (told_of R.Record self.old) (told_of R.Record self.new)) }
         ensures fault { IfErr result IsDenied }
         ensures asked { IfOk result (λ news.
             BringsNews (P.traffic self.old.port) (P.traffic self.new.port) news.items) }
@@ -92,22 +91,18 @@ impl<P: Port + Drop, R: Record + Drop> Port for RecordedPort<P, R> {
         }
     }
 
-    // Long: what each port owes, and what this one adds of the port below and of its record.
     #[tactic(auto, using(crate::proofs::StepLemmas::takes_one))]
     fn take(
         &mut self,
         alloc: Global,
     ) -> Result<Connection<Given<P::Input>, Held<P::Output>>, Failure>
-        ensures taken { IfOk result (λ c. TakesArrival (told_by R.Record self.old.keeper self.old.is_broken)
-            (told_by R.Record self.new.keeper self.new.is_broken)
+        ensures taken { IfOk result (λ c. TakesArrival (told_of R.Record self.old) (told_of R.Record self.new)
             (arrived c.moment.second (cursor_remaining (λ v. Some v.items) c.input.request))) }
-        ensures unsent { IfOk result (λ c.
-            IsFresh (told_by R.Record self.old.keeper self.old.is_broken) (Some c.output.answer.items)) }
-        ensures same { OnErr result (Denies (told_by R.Record self.old.keeper self.old.is_broken)
-            (told_by R.Record self.new.keeper self.new.is_broken)) }
+        ensures unsent { IfOk result (λ c. IsFresh (told_of R.Record self.old) (Some c.output.answer.items)) }
+        ensures same { OnErr result (Denies (told_of R.Record self.old) (told_of R.Record self.new)) }
         ensures fault { IfErr result IsDenied }
         ensures client { IfOk result (λ c. IsTakenFrom c.moment.second (cursor_inner c.input.request).items
-            (P.Input.remaining c.input.client) (P.traffic self.old.port) (P.traffic self.new.port)) }
+            (P.Input.remaining c.input.client) (course (P.traffic self.old.port) (P.traffic self.new.port))) }
         ensures waits { IfOk result (λ c.
             IsFresh (P.traffic self.old.port) (P.Output.contents c.output.to)) }
         ensures broken { self.old.is_broken ≡ true → result ≡ Err Failure.Broken }
@@ -139,7 +134,6 @@ impl<P: Port + Drop, R: Record + Drop> Port for RecordedPort<P, R> {
         Err(Failure::Broken)
     }
 
-    // Long: what each port owes, and what this one adds of the port below and of its record.
     #[tactic(auto, using(crate::proofs::StepLemmas::closes_so, crate::proofs::StepLemmas::is_open))]
     fn close(
         &mut self,
@@ -147,22 +141,16 @@ impl<P: Port + Drop, R: Record + Drop> Port for RecordedPort<P, R> {
         output: Held<P::Output>,
         outcome: Outcome,
     ) -> Result<(), Failure>
-        ensures closed { Closes (told_by R.Record self.old.keeper self.old.is_broken)
-            (told_by R.Record self.new.keeper self.new.is_broken)
-            (parted (cursor_remaining (λ v. Some v.items) input.request) (Some output.answer.items)
-            outcome) }
-        ensures recorded { OnOk result
-            (IsOpen (told_by R.Record self.new.keeper self.new.is_broken).recorded) }
+        ensures closed { Closes (told_of R.Record self.old) (told_of R.Record self.new)
+            (parted_in input output outcome) }
+        ensures recorded { OnOk result (IsOpen (told_of R.Record self.new).recorded) }
         ensures fault { IfErr result IsDenied }
         ensures told { self.new.is_broken ≡ true → result ≡ Err Failure.Broken }
-        ensures kept { IsClosedBy (R.steps self.old.keeper) (R.steps self.new.keeper)
-            (parted (cursor_remaining (λ v. Some v.items) input.request) (Some output.answer.items)
-            outcome) output.answer.items (P.Output.contents output.to) (P.Input.remaining input.client)
-            (P.traffic self.old.port) (P.traffic self.new.port) }
-        ensures broken { self.new.is_broken ≡ false → (self.old.is_broken ≡ false)
-            × AddsStep (R.steps self.old.keeper) (R.steps self.new.keeper) (Answered
-            (parted (cursor_remaining (λ v. Some v.items) input.request) (Some output.answer.items)
-            outcome)) }
+        ensures kept { IsClosedBy (course (R.steps self.old.keeper) (R.steps self.new.keeper))
+            (parted_in input output outcome) (client_of (P.Input.remaining input.client)
+            (P.Output.contents output.to)) (course (P.traffic self.old.port) (P.traffic self.new.port)) }
+        ensures broken { self.new.is_broken ≡ false → (self.old.is_broken ≡ false) × AddsStep
+            (R.steps self.old.keeper) (R.steps self.new.keeper) (Answered (parted_in input output outcome)) }
     {
         let Given { request, client } = input;
         let Held { answer, mut to } = output;
@@ -196,8 +184,8 @@ fn send_kept<R: Record, W: Write>(
     connection: Parted<'_>,
     client: &mut W,
 ) -> bool
-    ensures sends { SendsKept (R.steps keeper.old) (R.steps keeper.new) (parting_of connection.entry)
-        connection.entry.sent.now (W.contents client.old) (W.contents client.new) }
+    ensures sends { SendsKept (course (R.steps keeper.old) (R.steps keeper.new)) (parting_of connection.entry)
+        (course (W.contents client.old) (W.contents client.new)) }
     ensures kept { result ≡ true →
         AddsStep (R.steps keeper.old) (R.steps keeper.new) (Answered (parting_of connection.entry)) }
     ensures noted { Notes (R.noted keeper.old) (R.noted keeper.new) result

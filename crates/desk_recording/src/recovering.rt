@@ -5,11 +5,12 @@ ghost use Rattle.desk_rules.specs.Limits.{max_priority};
 ghost use Rattle.desk_store.specs.StoreFaults.{IsHonest};
 ghost use Rattle.desk_store.specs.StoreFrames.{Remembers};
 ghost use Rattle.desk_run.specs.DeskWorld.{world_of};
+ghost use Rattle.desk_wire.specs.Passage.{course};
 ghost use Rattle.desk_line.specs.Lines.{AreEnrolments};
 ghost use Rattle.desk_replay.specs.Replaying.{IsOwn};
 ghost use Rattle.desk_recording.specs.Recording.{AddsStep, Answered, Lost, parting_of};
 ghost use Rattle.desk_recording.specs.Recovering as spec;
-ghost use Rattle.desk_recording.specs.Recovering.{AsksAgain, AsksAgainIfAny, Recovers, told_again};
+ghost use Rattle.desk_recording.specs.Recovering.{AsksAgain, AsksAgainIfAny, Recovers, told_again, undone};
 ghost use Rattle.desk_recording.specs.Tail.{unanswered_in, unanswered_shown};
 
 use crate::record::{Parted, Record};
@@ -86,9 +87,10 @@ pub fn recover<S: PlanStore, R: Record>(
     keeper: &mut R,
 ) -> Result<(), Failure>
     requires { AreEnrolments missing.now }
-    ensures recovers { Recovers (IsHonest (S.doubt desk.new.store)) terms.now missing.now
-        (unanswered_in asked) (world_of S.content desk.old) (world_of S.content desk.new)
-        (R.steps keeper.old) (R.steps keeper.new) result }
+    ensures recovers { Recovers (IsHonest (S.doubt desk.new.store))
+        (undone terms.now missing.now (unanswered_in asked))
+        (course (world_of S.content desk.old) (world_of S.content desk.new))
+        (course (R.steps keeper.old) (R.steps keeper.new)) result }
     ensures remembered { Remembers S.doubt S.faults S.is_shielded desk.old.store desk.new.store }
 {
     if let Err(fault) = set_up(desk, terms, missing) {
@@ -105,8 +107,8 @@ fn ask_if_any<S: PlanStore, R: Record>(
     keeper: &mut R,
 ) -> Result<(), Failure>
     ensures asks { AsksAgainIfAny (IsHonest (S.doubt desk.new.store)) (unanswered_in asked)
-        (world_of S.content desk.old) (world_of S.content desk.new) (R.steps keeper.old)
-        (R.steps keeper.new) result }
+        (course (world_of S.content desk.old) (world_of S.content desk.new))
+        (course (R.steps keeper.old) (R.steps keeper.new)) result }
     ensures remembered { Remembers S.doubt S.faults S.is_shielded desk.old.store desk.new.store }
 {
     match asked {
@@ -124,8 +126,8 @@ fn ask_again<S: PlanStore, R: Record>(
     keeper: &mut R,
 ) -> Result<(), Failure>
     ensures asks { AsksAgain (IsHonest (S.doubt desk.new.store)) (unanswered_shown asked)
-        (world_of S.content desk.old) (world_of S.content desk.new) (R.steps keeper.old)
-        (R.steps keeper.new) result }
+        (course (world_of S.content desk.old) (world_of S.content desk.new))
+        (course (R.steps keeper.old) (R.steps keeper.new)) result }
     ensures remembered { Remembers S.doubt S.faults S.is_shielded desk.old.store desk.new.store }
 {
     let Unanswered { second, request } = asked;

@@ -1,11 +1,12 @@
 -- Runs of a replay: one entry more.
-use Rattle.std.proofs.Common.{◌≡◌, ◌⊎◌, ℕ, ◌+◌, ◌^◌, ◌-◌, min, arith, length, length-append, List, [], ◌∷◌, ◌++◌, map, Option, Some, None, Result, Ok, Err, refl, sym, ap, subst, ◌∙◌, append_assoc, append-nil}
-use Rattle.std.specs.List.{AllByRecursion, concat}
+use Rattle.std.proofs.Common.{◌≡◌, ◌⊎◌, ℕ, ◌+◌, ◌^◌, ◌-◌, min, arith, length, length-append, List, [], ◌∷◌, ◌++◌, Option, Result, Ok, Err, refl, sym, ap, subst, ◌∙◌, append_assoc, append-nil}
+use Rattle.std.specs.List.{AllByRecursion}
 use Rattle.std.specs.Io.KnownBytes.{Consumes}
 use Rattle.std.proofs.KnownBytes.{Consumes-nil, Consumes-trans}
 use Rattle.desk_record.specs.Record.{EntryParts, Fits, entries, entry}
 use Rattle.desk_run.specs.DeskWorld.{DeskWorld}
-use Rattle.desk_replay.specs.Replaying.{IsOwn, Outcome, State, played, progress_state, taken, then_taken}
+use Rattle.desk_wire.specs.Passage.{course}
+use Rattle.desk_replay.specs.Replaying.{IsOwn, Outcome, State, played, taken, then_taken}
 use Rattle.desk_replay.specs.Running.{AreEntriesPlayed, Ends, HasReplayed, IsEntryPlayed, size_of, start}
 use Rattle.desk_replay.specs.declared.stream.ReplayEnd.{ReplayEnd}
 use Rattle.desk_replay.specs.declared.stream.ReplayEnd.TheVariants.{End, Until, Unread, Unplayed}
@@ -52,15 +53,16 @@ sized_both place size now es e first next is =
 
 -- nothing is played yet
 pub none_played : (H : Type 0) (old : Option (List ℕ)) (w : DeskWorld)
-    → AreEntriesPlayed H 0 old old w (start w)
+    → AreEntriesPlayed H 0 (course old old) w (start w)
 unfolding played
 none_played H old w =
     record { all = []; fit = tt; sized = omega arith; read = Consumes-nil old; gives = λ h. refl }
 
 -- one entry more
 pub one_more : {H G : Type 0} (place size now : ℕ) (old mid new : Option (List ℕ)) (w : DeskWorld)
-    (s t : State) → (G → H) → now ≡ min (place + size) (2 ^ 64 - 1) → AreEntriesPlayed H place old mid w s
-    → IsEntryPlayed G size mid new s t → AreEntriesPlayed G now old new w t
+    (s t : State) → (G → H) → now ≡ min (place + size) (2 ^ 64 - 1)
+    → AreEntriesPlayed H place (course old mid) w s
+    → IsEntryPlayed G size (course mid new) s t → AreEntriesPlayed G now (course old new) w t
 one_more place size now old mid new w s t down is first next = record {
   all = first.all ++ (next.one ∷ []);
   fit = fit_more first.all next.one first.fit next.fits;
@@ -71,7 +73,7 @@ one_more place size now old mid new w s t down is first next = record {
 }
 
 ends_at : {H : Type 0} (until : Option ℕ) (end : ReplayEnd) (mid new : Option (List ℕ)) (s t : State)
-    → Ends H until end mid new s → (H → t ≡ s) → Ends H until end mid new t
+    → Ends H until end (course mid new) s → (H → t ≡ s) → Ends H until end (course mid new) t
 ends_at until End mid new s t h same = h
 ends_at until Until mid new s t h same = h
 ends_at until (Unread fault) mid new s t h same = h
@@ -86,8 +88,8 @@ ends_at until (Unplayed fault) mid new s t h same = record {
 -- no entry more
 pub no_more : {H G : Type 0} (until : Option ℕ) (end : ReplayEnd) (place : ℕ)
     (old mid new : Option (List ℕ)) (w : DeskWorld) (s t : State) → (G → H)
-    → AreEntriesPlayed H place old mid w s
-    → Ends G until end mid new s × (G → t ≡ s) → HasReplayed G until end place old new w t
+    → AreEntriesPlayed H place (course old mid) w s
+    → Ends G until end (course mid new) s × (G → t ≡ s) → HasReplayed G until end place (course old new) w t
 no_more until end place old mid new w s t down first ends = record {
   mid = mid;
   first = record {

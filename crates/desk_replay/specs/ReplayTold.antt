@@ -1,8 +1,11 @@
 -- ReplayTold: what a line tells of a replay, and how it ends.
-use Rattle.std.specs.Prelude.{◌≡◌, ◌⊎◌, ⊤, ℕ, Bool, List, [], ◌++◌, codes, decimal, Option, Some, None, Result, Ok, Err}
+use Rattle.std.specs.Prelude.{◌≡◌, ◌≤◌, ◌⊎◌, ⊤, ℕ, Bool, List, [], ◌++◌, codes, decimal, Option, Some, None, Result, Ok, Err}
+use Rattle.std.specs.Option.{IsSomeAnd}
 use Rattle.std.specs.Io.KnownBytes.{Appends}
 use Rattle.desk_record.specs.declared.reading.ReadFault.TheVariants as unread
-use Rattle.desk_run.specs.DeskWorld.{DeskWorld}
+use Rattle.desk_store.specs.declared.store.PlanStore.{Ghosts}
+use Rattle.desk_store.specs.StoreFaults.{IsHonest}
+use Rattle.desk_run.specs.DeskWorld.{DeskWorld, Parts, world_of}
 use Rattle.desk_wire.specs.Passage.{Course, Passage}
 use Rattle.desk_line.specs.Exits.{EndsWith, Ending, FailsWith}
 use Rattle.desk_line.specs.Written.{HasBegun, HasWritten}
@@ -97,6 +100,20 @@ pub record IsReplayed (H : Type 0) (until : Option ℕ) (p : Passage) (end : End
   pub ended : ReplayEnd
   pub place : ℕ
   pub state : State
-  pub replayed : HasReplayed H until ended place p.reads.before p.reads.after w state
+  pub replayed : HasReplayed H until ended place p.reads w state
   pub left : state.world ≡ after
   pub told : IsReplayTold ended state.requests state.changes place end p.writes
+
+-- so it is at the desk that was opened, which is there then: it was in no more doubt than it is now, and if
+-- each later read was tested then, each is
+abbrev pub Replays :
+    {S : Type 0} → Ghosts S → Option ℕ → Passage → Ending → Option (Parts S) → Parts S → Type 0
+Replays g until p end left desk = IsSomeAnd left (λ left.
+    IsReplayed (IsHonest (g.doubt left.store)) until p end (world_of g.content desk) (world_of g.content left)
+    × (g.doubt desk.store ≤ g.doubt left.store)
+    × (g.is_shielded desk.store → g.is_shielded left.store))
+
+-- no desk was opened: the line ends with that failure, nothing is read, and nothing is written
+abbrev pub IsUnplayed : {S : Type 0} → Passage → Ending → Option S → Failure → Type 0
+IsUnplayed p end left failure = FailsWith failure end × (left ≡ None)
+    × (p.reads.after ≡ p.reads.before) × (p.writes.after ≡ p.writes.before)

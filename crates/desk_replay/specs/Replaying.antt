@@ -11,8 +11,10 @@ use Rattle.desk_record.specs.Record.{EntryParts}
 use Rattle.desk_record.specs.declared.kind.Kind.{Kind}
 use Rattle.desk_record.specs.declared.kind.Kind.TheVariants as kind
 use Rattle.desk_reading.specs.Requests.{asked}
-use Rattle.desk_run.specs.DeskWorld.{DeskWorld, enrolled}
+use Rattle.desk_store.specs.World.{World}
+use Rattle.desk_run.specs.DeskWorld.{DeskWorld, Parts, enrolled, world_of}
 use Rattle.desk_wire.specs.Bytes.{makes_change_for, text_for, world_after}
+use Rattle.desk_wire.specs.Passage.{Course}
 use Rattle.desk_wire.specs.RefusalTexts.{server_error_text}
 use Rattle.desk_wire.specs.declared.response.ServerError.TheVariants as error
 use Rattle.desk_replay.specs.declared.fault.ReplayFault.{ReplayFault}
@@ -68,6 +70,9 @@ progress_state w p = record {
   requests = p.requests;
   changes = p.changes;
 }
+
+abbrev pub state_at : {S : Type 0} → (S → World) → Parts S → Progress → State
+state_at content desk progress = progress_state (world_of content desk) progress
 
 -- what comes of an entry: the state after it, or why it is not played
 abbrev pub Outcome : Type 0
@@ -261,3 +266,11 @@ IsOwn fault = (fault ≡ OutOfMemory) ⊎ (fault ≡ Store)
 abbrev pub GivesOutcome : Result ⊤ ReplayFault → Outcome → State → State → Type 0
 GivesOutcome (Ok done) outcome old new = outcome ≡ Ok new
 GivesOutcome (Err fault) outcome old new = (IsOwn fault ⊎ (outcome ≡ Err fault)) × (new ≡ old)
+
+-- this is so of a step that is made at a desk
+abbrev pub StepsAt :
+    {S : Type 0} → (S → World) → Result ⊤ ReplayFault → (State → Outcome) → Course (Parts S) → Course Progress
+    → Type 0
+StepsAt content done step desk progress =
+    GivesOutcome done (step (state_at content desk.before progress.before))
+    (state_at content desk.before progress.before) (state_at content desk.after progress.after)

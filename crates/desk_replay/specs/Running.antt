@@ -8,6 +8,7 @@ use Rattle.desk_record.specs.Reading.{LacksEntry}
 use Rattle.desk_record.specs.declared.kind.Kind.{Kind}
 use Rattle.desk_record.specs.declared.kind.Kind.TheVariants as kind
 use Rattle.desk_run.specs.DeskWorld.{DeskWorld}
+use Rattle.desk_wire.specs.Passage.{Course, course}
 use Rattle.desk_replay.specs.declared.fault.ReplayFault.{ReplayFault}
 use Rattle.desk_replay.specs.declared.stream.ReplayEnd.{ReplayEnd}
 use Rattle.desk_replay.specs.declared.stream.ReplayEnd.TheVariants.{End, Until, Unread, Unplayed}
@@ -39,54 +40,55 @@ abbrev pub size_of : List ℕ → ℕ
 size_of text = min (length text) (2 ^ 64 - 1)
 
 -- an entry of this size is read, and, if the store is honest, this comes of it
-pub record IsEntryPlayed (H : Type 0) (size : ℕ) (old new : Option (List ℕ)) (s t : State) : Type 0 where
-  pub one : EntryParts
-  pub fits : Fits one
-  pub sized : size ≡ size_of (entry one)
-  pub read : Consumes old new (entry one)
-  pub gives : H → taken s one ≡ Ok t
+pub record IsEntryPlayed (H : Type 0) (size : ℕ) (reads : Course (Option (List ℕ))) (s t : State) : Type 0
+  where
+    pub one : EntryParts
+    pub fits : Fits one
+    pub sized : size ≡ size_of (entry one)
+    pub read : Consumes reads.before reads.after (entry one)
+    pub gives : H → taken s one ≡ Ok t
 
 -- an entry is read that is not played, for this reason, or for one of the desk's own
-pub record IsEntryRefused (H : Type 0) (fault : ReplayFault) (old new : Option (List ℕ)) (s : State) : Type
-    0 where
+pub record IsEntryRefused (H : Type 0) (fault : ReplayFault) (reads : Course (Option (List ℕ)))
+    (s : State) : Type 0 where
   pub one : EntryParts
   pub fits : Fits one
-  pub read : Consumes old new (entry one)
+  pub read : Consumes reads.before reads.after (entry one)
   pub refused : H → IsOwn fault ⊎ (taken s one ≡ Err fault)
 
 -- a request is read that is asked later than that
-pub record IsTooLate (until : Option ℕ) (old new : Option (List ℕ)) : Type 0 where
+pub record IsTooLate (until : Option ℕ) (reads : Course (Option (List ℕ))) : Type 0 where
   pub one : EntryParts
   pub fits : Fits one
-  pub read : Consumes old new (entry one)
+  pub read : Consumes reads.before reads.after (entry one)
   pub later : IsTrue (is_too_late until one.kind one.number)
 
 -- why no more entries are played
-abbrev pub Ends : Type 0 → Option ℕ → ReplayEnd → Option (List ℕ) → Option (List ℕ) → State → Type 0
-Ends H until End old new s = IsAtEnd old
-Ends H until Until old new s = IsTooLate until old new
-Ends H until (Unread fault) old new s = LacksEntry old fault
-Ends H until (Unplayed fault) old new s = IsEntryRefused H fault old new s
+abbrev pub Ends : Type 0 → Option ℕ → ReplayEnd → Course (Option (List ℕ)) → State → Type 0
+Ends H until End reads s = IsAtEnd reads.before
+Ends H until Until reads s = IsTooLate until reads
+Ends H until (Unread fault) reads s = LacksEntry reads.before fault
+Ends H until (Unplayed fault) reads s = IsEntryRefused H fault reads s
 
 -- what comes of one step of a replay
 abbrev pub Steps :
-    Type 0 → Option ℕ → Result ℕ ReplayEnd → Option (List ℕ) → Option (List ℕ) → State → State → Type 0
-Steps H until (Ok size) old new s t = IsEntryPlayed H size old new s t
-Steps H until (Err end) old new s t = Ends H until end old new s × (H → t ≡ s)
+    Type 0 → Option ℕ → Result ℕ ReplayEnd → Course (Option (List ℕ)) → State → State → Type 0
+Steps H until (Ok size) reads s t = IsEntryPlayed H size reads s t
+Steps H until (Err end) reads s t = Ends H until end reads s × (H → t ≡ s)
 
 -- the first entries of a stream are played, as many as have so many bytes
-pub record AreEntriesPlayed (H : Type 0) (place : ℕ) (old new : Option (List ℕ)) (w : DeskWorld)
+pub record AreEntriesPlayed (H : Type 0) (place : ℕ) (reads : Course (Option (List ℕ))) (w : DeskWorld)
     (s : State) : Type 0
   where
     pub all : List EntryParts
     pub fit : AllByRecursion Fits all
     pub sized : place ≡ size_of (entries all)
-    pub read : Consumes old new (entries all)
+    pub read : Consumes reads.before reads.after (entries all)
     pub gives : H → played (start w) all ≡ Ok s
 
 -- and no more; `place` is how many bytes are before what ended it
 pub record HasReplayed (H : Type 0) (until : Option ℕ) (ended : ReplayEnd) (place : ℕ)
-    (old new : Option (List ℕ)) (w : DeskWorld) (t : State) : Type 0 where
+    (reads : Course (Option (List ℕ))) (w : DeskWorld) (t : State) : Type 0 where
   pub mid : Option (List ℕ)
-  pub first : AreEntriesPlayed H place old mid w t
-  pub ends : Ends H until ended mid new t
+  pub first : AreEntriesPlayed H place (course reads.before mid) w t
+  pub ends : Ends H until ended (course mid reads.after) t

@@ -1,15 +1,15 @@
 //! The line of a replay: a record played at the desk that was opened for it, and what is told of it.
 
-ghost use Rattle.std.specs.Prelude.{◌≡◌, ◌≤◌, ◌⊎◌, None, IfErr, IfOk, is_some, string_bytes};
-ghost use Rattle.std.specs.Option.{IsSomeAnd};
+ghost use Rattle.std.specs.Prelude.{◌≡◌, ◌⊎◌, IfErr, IfOk, is_some, string_bytes};
 ghost use Rattle.desk_store.specs.StoreFaults.{IsHonest};
 ghost use Rattle.desk_store.specs.StoreFrames.{Remembers};
 ghost use Rattle.desk_run.specs.DeskWorld.{world_of};
 ghost use Rattle.desk_wire.specs.Passage.{course, passage};
-ghost use Rattle.desk_line.specs.Exits.{FailsWith, ending};
+ghost use Rattle.desk_line.specs.Exits.{ending};
 ghost use Rattle.desk_line.specs.Written.{HasWritten};
 ghost use Rattle.desk_replay.specs.ReplayTold as spec;
-ghost use Rattle.desk_replay.specs.ReplayTold.{IsLinePrinted, IsLineWritten, IsReplayTold, IsReplayed, place_line, replayed_line};
+ghost use Rattle.desk_replay.specs.ReplayTold.{IsLinePrinted, IsLineWritten, IsReplayTold, IsReplayed};
+ghost use Rattle.desk_replay.specs.ReplayTold.{IsUnplayed, Replays, place_line, replayed_line};
 
 use crate::fault::ReplayFault;
 use crate::stream::{ReplayEnd, Replayed, replay};
@@ -25,7 +25,6 @@ use std::io::{Read, Write};
 /// later than `until` (a Unix second), if that is given. Prints how many requests were played and how many of
 /// them made a change, and answers how it ended and the desk. If an entry is not played, then where and why
 /// goes to `errors`, and the word of that failure; if no desk was opened, the word alone.
-// Long: the streams of the line stand in both clauses.
 pub fn replay_opened<S: PlanStore + Drop, R: Read, W: Write, E: Write>(
     alloc: Global,
     until: Option<u64>,
@@ -34,17 +33,12 @@ pub fn replay_opened<S: PlanStore + Drop, R: Read, W: Write, E: Write>(
     output: &mut W,
     errors: &mut E,
 ) -> (Exit<E>, Option<Desk<S>>)
-    ensures opened { IfOk opened (λ desk. IsSomeAnd result.1 (λ left.
-        IsReplayed (IsHonest (S.doubt left.store)) until
+    ensures opened { IfOk opened (Replays S.PlanStore until
         (passage R.Read W.Write input.old input.new output.old output.new)
-        (ending result.0 (E.contents errors.old) (E.contents errors.new))
-        (world_of S.content desk) (world_of S.content left)
-        × (S.doubt desk.store ≤ S.doubt left.store)
-        × (S.is_shielded desk.store → S.is_shielded left.store))) }
-    ensures unopened { IfErr opened (λ f.
-        FailsWith f (ending result.0 (E.contents errors.old) (E.contents errors.new))
-        × (result.1 ≡ None) × (R.remaining input.new ≡ R.remaining input.old)
-        × (W.contents output.new ≡ W.contents output.old)) }
+        (ending result.0 (E.contents errors.old) (E.contents errors.new)) result.1) }
+    ensures unopened { IfErr opened (IsUnplayed
+        (passage R.Read W.Write input.old input.new output.old output.new)
+        (ending result.0 (E.contents errors.old) (E.contents errors.new)) result.1) }
 {
     match opened {
         Ok(mut desk) => {

@@ -1,14 +1,16 @@
 //! Requests and answers of a record, played at a desk.
 
-ghost use Rattle.std.specs.Prelude.{◌≡◌, ◌⊎◌, pos, IfErr, IfOk, OnErr};
+ghost use Rattle.std.specs.Prelude.{◌≡◌, ◌⊎◌, IfErr, IfOk, OnErr};
 ghost use Rattle.desk_store.specs.StoreFaults.{IsHonest};
 ghost use Rattle.desk_store.specs.StoreFrames.{Remembers};
 ghost use Rattle.desk_reading.specs.Requests.{asked as asked_in};
 ghost use Rattle.desk_run.specs.DeskWorld.{DeskWorld, world_of};
 ghost use Rattle.desk_wire.specs.Bytes.{makes_change_for, text_for, world_after};
+ghost use Rattle.desk_wire.specs.Passage.{course};
 ghost use Rattle.desk_record.specs.Reading.{entry_shown};
 ghost use Rattle.desk_replay.specs.Replaying as spec;
-ghost use Rattle.desk_replay.specs.Replaying.{GivesOutcome, IsOwn, asking_in, asking_shown, bytes_of, is_failure, requested, taken_answer, progress_state, taken, request_turn};
+ghost use Rattle.desk_replay.specs.Replaying.{GivesOutcome, IsOwn, StepsAt, asking_in, asking_shown, bytes_of, is_failure};
+ghost use Rattle.desk_replay.specs.Replaying.{progress_state, request_turn, requested, taken, taken_answer};
 ghost use Rattle.desk_replay.specs.declared.fault.ReplayFault.TheVariants as replay_fault;
 
 use crate::fault::ReplayFault;
@@ -36,10 +38,8 @@ pub(crate) fn take_entry<S: PlanStore>(
     progress: &mut Progress,
     entry: Entry,
 ) -> Result<(), ReplayFault>
-    ensures given { IsHonest (S.doubt desk.new.store) → GivesOutcome result
-        (taken (progress_state (world_of S.content desk.old) progress.old) (entry_shown entry))
-        (progress_state (world_of S.content desk.old) progress.old)
-        (progress_state (world_of S.content desk.new) progress.new) }
+    ensures given { IsHonest (S.doubt desk.new.store) → StepsAt S.content result
+        (λ s. taken s (entry_shown entry)) (course desk.old desk.new) (course progress.old progress.new) }
     ensures remembered { Remembers S.doubt S.faults S.is_shielded desk.old.store desk.new.store }
 {
     let Entry {
@@ -65,11 +65,9 @@ fn take_within<S: PlanStore>(
     number: u64,
     bytes: Vec<u8>,
 ) -> Result<(), ReplayFault>
-    ensures given { IsHonest (S.doubt desk.new.store) → GivesOutcome result
-        (spec.taken_within kind (progress_state (world_of S.content desk.old) progress.old) number
-        bytes.items)
-        (progress_state (world_of S.content desk.old) progress.old)
-        (progress_state (world_of S.content desk.new) progress.new) }
+    ensures given { IsHonest (S.doubt desk.new.store) → StepsAt S.content result
+        (λ s. spec.taken_within kind s number bytes.items) (course desk.old desk.new)
+        (course progress.old progress.new) }
     ensures remembered { Remembers S.doubt S.faults S.is_shielded desk.old.store desk.new.store }
 {
     match kind {
@@ -93,10 +91,9 @@ fn ask<S: PlanStore>(
     second: u64,
     request: Vec<u8>,
 ) -> Result<(), ReplayFault>
-    ensures given { IsHonest (S.doubt desk.new.store) → GivesOutcome result
-        (requested (progress_state (world_of S.content desk.old) progress.old) second request.items)
-        (progress_state (world_of S.content desk.old) progress.old)
-        (progress_state (world_of S.content desk.new) progress.new) }
+    ensures given { IsHonest (S.doubt desk.new.store) → StepsAt S.content result
+        (λ s. requested s second request.items) (course desk.old desk.new)
+        (course progress.old progress.new) }
     ensures remembered { Remembers S.doubt S.faults S.is_shielded desk.old.store desk.new.store }
 {
     if second > MAX_SECOND as u64 {

@@ -6,7 +6,8 @@ ghost use Rattle.desk_store.specs.StoreFrames.{Remembers};
 ghost use Rattle.desk_record.specs.Reading.{entry_shown};
 ghost use Rattle.desk_record.specs.Record.{entry};
 ghost use Rattle.desk_run.specs.DeskWorld.{world_of};
-ghost use Rattle.desk_replay.specs.Replaying.{progress_state};
+ghost use Rattle.desk_wire.specs.Passage.{course};
+ghost use Rattle.desk_replay.specs.Replaying.{state_at};
 ghost use Rattle.desk_replay.specs.Running.{HasReplayed, Steps};
 ghost use Rattle.desk_replay.specs.Running as spec;
 
@@ -54,8 +55,8 @@ pub fn replay<S: PlanStore, R: Read>(
     input: &mut R,
 ) -> Replayed
     ensures played { HasReplayed (IsHonest (S.doubt desk.new.store)) until result.ended
-        result.place (R.remaining input.old) (R.remaining input.new) (world_of S.content desk.old)
-        (progress_state (world_of S.content desk.new) result.progress) }
+        result.place (course (R.remaining input.old) (R.remaining input.new)) (world_of S.content desk.old)
+        (state_at S.content desk.new result.progress) }
     ensures remembered { Remembers S.doubt S.faults S.is_shielded desk.old.store desk.new.store }
 {
     let mut progress = Progress::none(alloc);
@@ -89,9 +90,8 @@ fn replay_one<S: PlanStore, R: Read>(
     input: &mut R,
 ) -> Result<u64, ReplayEnd>
     ensures steps { Steps (IsHonest (S.doubt desk.new.store)) until result
-        (R.remaining input.old) (R.remaining input.new)
-        (progress_state (world_of S.content desk.old) progress.old)
-        (progress_state (world_of S.content desk.new) progress.new) }
+        (course (R.remaining input.old) (R.remaining input.new))
+        (state_at S.content desk.old progress.old) (state_at S.content desk.new progress.new) }
     ensures remembered { Remembers S.doubt S.faults S.is_shielded desk.old.store desk.new.store }
 {
     let entry = match read_entry(alloc, input) {

@@ -3,8 +3,8 @@
 ghost use Rattle.std.specs.Prelude.{◌≡◌};
 ghost use Rattle.desk_store.specs.StoreFaults.{IsHonest};
 ghost use Rattle.desk_store.specs.StoreFrames.{Remembers};
-ghost use Rattle.desk_run.specs.DeskWorld.{world_of};
-ghost use Rattle.desk_replay.specs.Replaying.{GivesOutcome, begun, listed, permitted, progress_state, spanned};
+ghost use Rattle.desk_wire.specs.Passage.{course};
+ghost use Rattle.desk_replay.specs.Replaying.{StepsAt, begun, listed, permitted, spanned};
 
 use crate::fault::ReplayFault;
 use crate::progress::{Progress, may_follow};
@@ -28,10 +28,8 @@ pub(crate) fn begin<S: PlanStore>(
     number: u64,
     version: &[u8],
 ) -> Result<(), ReplayFault>
-    ensures given { GivesOutcome result
-        (begun (progress_state (world_of S.content desk.old) progress.old) number version.now)
-        (progress_state (world_of S.content desk.old) progress.old)
-        (progress_state (world_of S.content desk.new) progress.new) }
+    ensures given { StepsAt S.content result (λ s. begun s number version.now) (course desk.old desk.new)
+        (course progress.old progress.new) }
     ensures store { desk.new.store ≡ desk.old.store }
 {
     if version != VERSION {
@@ -57,10 +55,8 @@ pub(crate) fn permit<S: PlanStore>(
     progress: &mut Progress,
     priority: u64,
 ) -> Result<(), ReplayFault>
-    ensures given { GivesOutcome result
-        (permitted (progress_state (world_of S.content desk.old) progress.old) priority)
-        (progress_state (world_of S.content desk.old) progress.old)
-        (progress_state (world_of S.content desk.new) progress.new) }
+    ensures given { StepsAt S.content result (λ s. permitted s priority) (course desk.old desk.new)
+        (course progress.old progress.new) }
     ensures store { desk.new.store ≡ desk.old.store }
 {
     if priority > u64::from(MAX_PRIORITY) {
@@ -85,10 +81,8 @@ pub(crate) fn limit_spans<S: PlanStore>(
     progress: &mut Progress,
     spans: u64,
 ) -> Result<(), ReplayFault>
-    ensures given { GivesOutcome result
-        (spanned (progress_state (world_of S.content desk.old) progress.old) spans)
-        (progress_state (world_of S.content desk.old) progress.old)
-        (progress_state (world_of S.content desk.new) progress.new) }
+    ensures given { StepsAt S.content result (λ s. spanned s spans) (course desk.old desk.new)
+        (course progress.old progress.new) }
     ensures store { desk.new.store ≡ desk.old.store }
 {
     if spans < 1 || spans > u64::from(MAX_SPANS) {
@@ -107,10 +101,8 @@ pub(crate) fn enrol<S: PlanStore>(
     ceiling: u64,
     name: &[u8],
 ) -> Result<(), ReplayFault>
-    ensures given { IsHonest (S.doubt desk.new.store) → GivesOutcome result
-        (listed (progress_state (world_of S.content desk.old) progress.now) ceiling name.now)
-        (progress_state (world_of S.content desk.old) progress.now)
-        (progress_state (world_of S.content desk.new) progress.now) }
+    ensures given { IsHonest (S.doubt desk.new.store) → StepsAt S.content result
+        (λ s. listed s ceiling name.now) (course desk.old desk.new) (course progress.now progress.now) }
     ensures remembered { Remembers S.doubt S.faults S.is_shielded desk.old.store desk.new.store }
 {
     let Some(operator) = Operator::try_new(name) else {

@@ -10,9 +10,9 @@ use Rattle.sqlite.specs.Held.{state}
 use Rattle.desk_run.specs.DeskWorld.{Parts}
 use Rattle.desk_tables.specs.Store.{Shown}
 use Rattle.desk_line.specs.declared.failure.Failure.{Failure}
-use Rattle.desk_line.specs.Exits.{Ending, FailsWith}
+use Rattle.desk_line.specs.Exits.{Ending}
 use Rattle.desk_wire.specs.Passage.{Passage}
-use Rattle.desk_replay.specs.ReplayTold.{IsReplayed}
+use Rattle.desk_replay.specs.ReplayTold.{IsReplayed, IsUnplayed}
 use Rattle.uss_desk.specs.declared.opening.Opened.TheVariants as opened
 use Rattle.uss_desk.specs.Guarding.{Account}
 use Rattle.uss_desk.specs.OpenedFor.{OpenedDesk, load_world, or_failure}
@@ -27,11 +27,6 @@ IsReplayedAt g until p end left desk = IsSomeAnd left (λ left.
     IsReplayed (IsSound g left) until p end (load_world desk) (load_world left)
     × (doubt (state g desk.store.held).is_clean ≤ doubt (state g left.store.held).is_clean)
     × ((state g desk.store.held).IsShielded → (state g left.store.held).IsShielded))
-
--- no desk was opened: the task ends with that failure, nothing is read, and nothing is written
-abbrev pub IsUnplayed : {S : Type 0} → Passage → Ending → Option S → Failure → Type 0
-IsUnplayed p end left failure = FailsWith failure end × (left ≡ None)
-    × (p.reads.after ≡ p.reads.before) × (p.writes.after ≡ p.writes.before)
 
 -- a record at the desk that was opened for it, or at none
 pub record IsReplayRun {S : Type 0} (g : Ghosts S) (opened : Result (Parts (Shown S)) Failure)

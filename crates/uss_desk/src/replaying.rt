@@ -5,9 +5,10 @@ ghost use Rattle.sqlite_wal.specs.Files.{image_at};
 ghost use Rattle.sqlite.specs.Files.{over_files};
 ghost use Rattle.desk_line.specs.Exits.{ending};
 ghost use Rattle.desk_wire.specs.Passage.{passage};
+ghost use Rattle.desk_replay.specs.ReplayTold.{IsUnplayed};
 ghost use Rattle.uss_desk.specs.Guarding.{account_of};
 ghost use Rattle.uss_desk.specs.OpenedFor.{IsOpenedAt};
-ghost use Rattle.uss_desk.specs.RecordsPlayed.{IsReplayDone, IsReplayedAt, IsUnplayed};
+ghost use Rattle.uss_desk.specs.RecordsPlayed.{IsReplayDone, IsReplayedAt};
 
 use crate::causes::tell_refusal;
 use crate::closing::{close_after, status_closed};

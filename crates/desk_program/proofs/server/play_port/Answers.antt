@@ -1,5 +1,4 @@
 use Rattle.std.proofs.Common.{◌∙◌, ap, inl}
-use Rattle.desk_store.specs.StoreFaults.{IsHonest}
 use Rattle.desk_store.specs.laws.Fault.{was_honest}
 use Rattle.desk_run.specs.DeskWorld.{world_of}
 use Rattle.desk_program.specs.Enrolling.{on_terms, with_operators}
@@ -14,7 +13,7 @@ returns-clause-played g c =
       begun = world_of g.S.PlanStore.content c.set_up.new.desk;
       listed = λ h. c.in_ok-set_up.ensures.listed (was_honest c.serve_connections.ensures.remembered.doubt h)
           ∙ ap (with_operators (on_terms w c.args.play.now.terms)) c.deref.ensures.value;
-      taken = c.serve_connections.ensures.served;
+      taken = c.serve_connections.ensures.kept.taken;
     })
 
 pub returns-clause-kept : goal.returns-clause-kept

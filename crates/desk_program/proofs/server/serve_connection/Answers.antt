@@ -2,9 +2,6 @@ use Rattle.std.proofs.Common.{◌≡◌, ◌≢◌, ◌∙◌, ◌∷◌, [], If
 use Rattle.desk_store.specs.StoreFaults.{IsHonest}
 use Rattle.desk_store.specs.laws.Fault.{was_honest}
 use Rattle.desk_run.specs.DeskWorld.{world_of}
-use Rattle.desk_wire.specs.RequestsKept.{IsFoundNow}
-use Rattle.desk_wire.specs.Passage.{passed}
-use Rattle.desk_wire.specs.OneRequest.{HasServed, IsTaken}
 use Rattle.desk_line.specs.Exits.{enrolment_failure, failure_at}
 use Rattle.desk_program.specs.Enrolling.{AreEnrolled, AreListedSoFar}
 use Rattle.desk_program.specs.Keeping.{FindsNews}
@@ -19,18 +16,12 @@ use Rattle.desk_program.proofs.server.serve_connection.Goals as goal
 -- no news are brought
 pub returns-in_err-news-clause-kept : goal.returns-in_err-news-clause-kept
 returns-in_err-news-clause-kept g c =
-    let w = world_of g.S.PlanStore.content c.args.desk.now in
-    let before = g.S.PlanStore.may_leave c.args.desk.now.store in
-    none_kept (IsHonest (g.S.PlanStore.doubt c.args.desk.now.store)) c.from_residual.result 1
-    (g.P.Port.traffic c.args.port.now) (g.P.Port.traffic c.news.new.self) w w before before
-    c.in_err-news.ensures.same
+    none_kept g.S.PlanStore c.from_residual.result 1 (g.P.Port.traffic c.args.port.now)
+    (g.P.Port.traffic c.news.new.self) c.args.desk.now c.in_err-news.ensures.same
     (λ was. not_ok c.from_residual.result c.in_err-news.field-0.0
     (IsOpen (g.P.Port.traffic c.news.new.self).recorded) c.from_residual.ensures.1)
-    refl (stops c.from_residual.result c.in_err-news.field-0.0
-    c.from_residual.ensures.1 1 [] _ c.in_err-news.ensures.fault) (λ found may. may)
-
-pub returns-in_err-news-clause-served : goal.returns-in_err-news-clause-served
-returns-in_err-news-clause-served g c = (returns-in_err-news-clause-kept g c).taken
+    (stops c.from_residual.result c.in_err-news.field-0.0 c.from_residual.ensures.1 1 [] _
+    c.in_err-news.ensures.fault)
 
 pub returns-in_err-news-clause-cause : goal.returns-in_err-news-clause-cause
 returns-in_err-news-clause-cause g c =
@@ -47,9 +38,9 @@ returns-in_err-enrol_news-clause-kept g c =
     let after = world_of g.S.PlanStore.content c.enrol_news.new.desk in
     let before = g.S.PlanStore.may_leave c.args.desk.now.store in
     let now = g.S.PlanStore.may_leave c.enrol_news.new.desk.store in
-    news_kept honest c.from_residual-in_err-enrol_news.result (enrolment_failure fault) news
+    news_kept g.S.PlanStore c.from_residual-in_err-enrol_news.result (enrolment_failure fault) news
     (g.P.Port.traffic c.args.port.now) (g.P.Port.traffic c.news.new.self)
-    (g.P.Port.traffic c.news.new.self) w after before now
+    (g.P.Port.traffic c.news.new.self) c.args.desk.now c.enrol_news.new.desk
     c.from_residual-in_err-enrol_news.ensures.1 c.in_ok-news.ensures.brings
     (stays (g.P.Port.traffic c.news.new.self))
     (inl (
@@ -59,9 +50,6 @@ returns-in_err-enrol_news-clause-kept g c =
     (λ p found may. unlisted_found c.enrol_news.result news w after before now
     (subst (λ es. FindsNews c.enrol_news.result es w after before now) c.deref.ensures.value
     (c.enrol_news.ensures.found p)) found fault c.in_err-enrol_news.was may)
-
-pub returns-in_err-enrol_news-clause-served : goal.returns-in_err-enrol_news-clause-served
-returns-in_err-enrol_news-clause-served g c = (returns-in_err-enrol_news-clause-kept g c).taken
 
 pub returns-in_err-enrol_news-clause-cause : goal.returns-in_err-enrol_news-clause-cause
 returns-in_err-enrol_news-clause-cause g c =
@@ -78,9 +66,9 @@ returns-in_err-client-clause-kept g c =
     let after = world_of g.S.PlanStore.content c.enrol_news.new.desk in
     let before = g.S.PlanStore.may_leave c.args.desk.now.store in
     let now = g.S.PlanStore.may_leave c.enrol_news.new.desk.store in
-    news_kept honest c.from_residual-in_err-client.result f news
+    news_kept g.S.PlanStore c.from_residual-in_err-client.result f news
     (g.P.Port.traffic c.args.port.now) (g.P.Port.traffic c.news.new.self)
-    (g.P.Port.traffic c.take.new.self) w after before now
+    (g.P.Port.traffic c.take.new.self) c.args.desk.now c.enrol_news.new.desk
     c.from_residual-in_err-client.ensures.1 c.in_ok-news.ensures.brings c.in_err-client.ensures.same
     (inr (
       c.in_err-client.ensures.fault,
@@ -89,9 +77,6 @@ returns-in_err-client-clause-kept g c =
     (λ p found may. untaken_found c.enrol_news.result news w after before now
     (subst (λ es. FindsNews c.enrol_news.result es w after before now) c.deref.ensures.value
     (c.enrol_news.ensures.found p)) found c.in_ok-enrol_news.field-0 c.in_ok-enrol_news.was may)
-
-pub returns-in_err-client-clause-served : goal.returns-in_err-client-clause-served
-returns-in_err-client-clause-served g c = (returns-in_err-client-clause-kept g c).taken
 
 pub returns-in_err-client-clause-cause : goal.returns-in_err-client-clause-cause
 returns-in_err-client-clause-cause g c =
@@ -111,7 +96,6 @@ returns-clause-kept g c =
     let now = g.P.Output.Write.contents c.serve_one-served.new.output in
     let w = world_of g.S.PlanStore.content c.args.desk.now in
     let listed = world_of g.S.PlanStore.content c.enrol_news.new.desk in
-    let after = world_of g.S.PlanStore.content c.serve_one-served.new.desk in
     let before = g.S.PlanStore.may_leave c.args.desk.now.store in
     let mid = g.S.PlanStore.may_leave c.enrol_news.new.desk.store in
     let brings = c.in_ok-news.ensures.brings in
@@ -119,14 +103,13 @@ returns-clause-kept g c =
     let asked = (g.P.Port.traffic c.take.new.self).recorded in
     let closed = (g.P.Port.traffic c.close-closed.new.self).recorded in
     let closes = c.close-closed.ensures.closed in
-    one_kept honest c.done_after.result (record {
+    one_kept g.S.PlanStore c.done_after.result (record {
       news = news;
       arrival = arrived client.moment.second bytes;
       out = out;
       served = c.serve_one-served.result;
       parting = parted unread now c.outcome_of.result;
-    }) c.close-closed.result _ _ w listed after before mid
-    (g.S.PlanStore.may_leave c.serve_one-served.new.desk.store)
+    }) c.close-closed.result _ _ c.args.desk.now c.enrol_news.new.desk c.serve_one-served.new.desk
     (closes.2 ∙ taken.2 ∙ brings.3)
     (subst (λ v. Grows v (g.P.Port.traffic c.close-closed.new.self).taken
     (arrived client.moment.second bytes ∷ [])) brings.1
@@ -159,9 +142,6 @@ returns-clause-kept g c =
     (subst (λ es. FindsNews c.enrol_news.result es w listed before mid) c.deref.ensures.value
     (c.enrol_news.ensures.found (was p))) found c.in_ok-enrol_news.field-0 c.in_ok-enrol_news.was may)
     c.serve_one-served.ensures.kept.found
-
-pub returns-clause-served : goal.returns-clause-served
-returns-clause-served g c = (returns-clause-kept g c).taken
 
 pub returns-clause-cause : goal.returns-clause-cause
 returns-clause-cause g c =

@@ -1,4 +1,4 @@
-use Rattle.std.proofs.Common.{◌∙◌, ap, inl, refl}
+use Rattle.std.proofs.Common.{◌∙◌, ap, inl}
 use Rattle.desk_store.specs.StoreFaults.{IsHonest}
 use Rattle.desk_store.specs.laws.Fault.{was_honest}
 use Rattle.desk_run.specs.DeskWorld.{world_of}
@@ -32,40 +32,32 @@ returns-in_err-listen-clause-served g c =
 
 pub returns-clause-served : goal.returns-clause-served
 returns-clause-served g c =
-    let honest = IsHonest (g.S.PlanStore.doubt c.serve_connections.new.desk.store) in
     let w = world_of g.S.PlanStore.content c.args.desk.now in
     let begun = world_of g.S.PlanStore.content c.set_up.new.desk in
-    let after = world_of g.S.PlanStore.content c.serve_connections.new.desk in
     inl (record {
       begun = begun;
       listed = λ h. c.in_ok-set_up.ensures.listed (was_honest c.serve_connections.ensures.remembered.doubt h)
           ∙ ap (with_operators (on_terms w c.args.line.now.terms)) c.deref.ensures.value;
-      port = _;
+      listening = _;
       listens = c.in_ok-listen.ensures.listens;
-      taken = c.serve_connections.ensures.served;
+      taken = c.serve_connections.ensures.kept.taken;
     })
 
 pub returns-in_err-listen-clause-kept : goal.returns-in_err-listen-clause-kept
 returns-in_err-listen-clause-kept g c = λ p settled.
-    unserved_kept (IsHonest (g.S.PlanStore.doubt c.set_up.new.desk.store))
-    c.from_residual-in_err-listen.result c.args.line.now (world_of g.S.PlanStore.content c.args.desk.now)
-    (world_of g.S.PlanStore.content c.set_up.new.desk) (world_of g.S.PlanStore.content c.set_up.new.desk)
-    (g.S.PlanStore.may_leave c.set_up.new.desk.store) (g.S.PlanStore.may_leave c.set_up.new.desk.store) p
+    unserved_kept g.S.PlanStore c.from_residual-in_err-listen.result c.args.line.now
+    (world_of g.S.PlanStore.content c.args.desk.now) c.set_up.new.desk p
     (λ h. c.in_ok-set_up.ensures.listed h
     ∙ ap (with_operators (on_terms (world_of g.S.PlanStore.content c.args.desk.now)
     c.args.line.now.terms)) c.deref.ensures.value) (c.in_ok-set_up.ensures.kept p settled)
     c.in_err-listen.field-0.0 _ _ c.from_residual-in_err-listen.ensures.1 c.in_err-listen.ensures.fault
-    c.in_err-listen.ensures.listens refl (λ found may. may)
+    c.in_err-listen.ensures.listens
 
 pub returns-clause-kept : goal.returns-clause-kept
 returns-clause-kept g c = λ p settled.
     let listed = was_honest c.serve_connections.ensures.remembered.doubt p in
-    port_kept (IsHonest (g.S.PlanStore.doubt c.serve_connections.new.desk.store)) c.serve_connections.result
-    c.args.line.now (world_of g.S.PlanStore.content c.args.desk.now)
-    (world_of g.S.PlanStore.content c.set_up.new.desk)
-    (world_of g.S.PlanStore.content c.serve_connections.new.desk)
-    (g.S.PlanStore.may_leave c.set_up.new.desk.store)
-    (g.S.PlanStore.may_leave c.serve_connections.new.desk.store) p
+    port_kept g.S.PlanStore c.serve_connections.result c.args.line.now
+    (world_of g.S.PlanStore.content c.args.desk.now) c.set_up.new.desk c.serve_connections.new.desk p
     (λ h. c.in_ok-set_up.ensures.listed (was_honest c.serve_connections.ensures.remembered.doubt h)
     ∙ ap (with_operators (on_terms (world_of g.S.PlanStore.content c.args.desk.now)
     c.args.line.now.terms)) c.deref.ensures.value) (c.in_ok-set_up.ensures.kept listed settled)

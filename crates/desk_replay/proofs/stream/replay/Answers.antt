@@ -1,5 +1,4 @@
 use Rattle.std.proofs.Common.{sym, subst, arith}
-use Rattle.desk_store.specs.StoreFaults.{IsHonest}
 use Rattle.desk_store.specs.laws.Fault.{was_honest}
 use Rattle.desk_run.specs.DeskWorld.{world_of}
 use Rattle.desk_replay.specs.Running.{AreEntriesPlayed}
@@ -10,7 +9,7 @@ pub loop-init : goal.loop-init
 loop-init g c =
     let w = world_of g.S.PlanStore.content c.args.desk.now in
     record {
-      played = subst (AreEntriesPlayed _ 0 _ _ w) (sym (c.none-progress.ensures w)) (none_played _ _ w);
+      played = subst (AreEntriesPlayed _ 0 _ w) (sym (c.none-progress.ensures w)) (none_played _ _ w);
       doubt = omega arith;
       counted = omega arith;
       shield = λ s. s;

@@ -1,6 +1,7 @@
 use Rattle.std.proofs.Common.{◌≤◌}
 use Rattle.desk_store.specs.StoreFaults.{IsHonest}
 use Rattle.desk_run.specs.DeskWorld.{world_of}
+use Rattle.desk_wire.specs.Passage.{course}
 use Rattle.desk_replay.specs.Replaying.{progress_state}
 use Rattle.desk_replay.specs.Running.{AreEntriesPlayed}
 use Rattle.desk_replay.proofs.stream.replay.Given as goal
@@ -10,7 +11,7 @@ abbrev pub invariant-loop : goal.invariant-loop
 invariant-loop g l =
     record {
       played : AreEntriesPlayed (IsHonest (g.S.PlanStore.doubt l.desk.store)) l.place
-          (g.R.Read.remaining l.fn.input) (g.R.Read.remaining l.input)
+          (course (g.R.Read.remaining l.fn.input) (g.R.Read.remaining l.input))
           (world_of g.S.PlanStore.content l.fn.desk)
           (progress_state (world_of g.S.PlanStore.content l.desk) l.progress);
       doubt : g.S.PlanStore.doubt l.fn.desk.store ≤ g.S.PlanStore.doubt l.desk.store;
