@@ -24,10 +24,9 @@ use Rattle.desk_sql.specs.declared.opening.numbers.DeskTable.{DeskTable}
 use Rattle.desk_sql.specs.declared.reading.whole.Whole.{Whole}
 use Rattle.desk_sql.specs.Queries.{table_read, table_in, key_cells, rows_read}
 use Rattle.desk_sql.specs.Schema.{desk_schema, HasTable, has_table, is_packed}
-use Rattle.desk_sql.specs.Effects.{IsReady}
 use Rattle.desk_sql.specs.Finding.{Holds}
 use Rattle.sqlite.specs.Tree.{Trees}
-use Rattle.desk_sql.specs.Rows.{Lists, tables_of, tables_in, tables_at}
+use Rattle.desk_sql.specs.Rows.{IsDesk, Lists, tables_of, tables_in, tables_at}
 use Rattle.desk_sql.specs.Statements.{SelectsAll}
 use Rattle.desk_sql.proofs.ReadLemmas.{shown_read, sure_plain}
 use Rattle.desk_sql.specs.Refusals.{NeverRefuses, IsSure, IsSureCommand, IsSureGiven, IsSureMeaning, IsRefusal}
@@ -106,7 +105,7 @@ abbrev pub KnownSure : {S : Type 0} → Ghosts S → Held S → List ℕ → Row
 KnownSure g h text params = Holds g h (λ (db : Database). IsSureGiven db.schema text params)
 
 -- over a desk's tables
-pub sure_here : {S : Type 0} (g : Ghosts S) (h : Held S) (text : List ℕ) (params : Row) → IsReady g h
+pub sure_here : {S : Type 0} (g : Ghosts S) (h : Held S) (text : List ℕ) (params : Row) → Holds g h IsDesk
     → IsSureGiven desk_schema text params → KnownSure g h text params
 sure_here g h text params ready sure clean live =
     subst (λ s. IsSureGiven s text params) (sym (ready clean live).schema) sure

@@ -11,7 +11,7 @@ use Rattle.sqlite.specs.Effect.{Database, IsDatabase}
 use Rattle.sqlite.specs.declared.error.Error.{Error}
 use Rattle.sqlite.specs.Held.{Held, state}
 use Rattle.desk_sql.specs.Rows.{IsDesk, Tables, tables_of, AddsVolume, AddsSpan}
-use Rattle.desk_sql.specs.Effects.{IsReady, Makes}
+use Rattle.desk_sql.specs.Effects.{Makes}
 use Rattle.desk_sql.specs.Frames.{Remembers}
 use Rattle.desk_sql.specs.Finding.{Holds}
 use Rattle.desk_sql.specs.Refusals.{IsRefusal}
@@ -65,7 +65,7 @@ goes_on g old mid new Before Step After joins so_far turn step = record {
 
 -- a loop before which a text was prepared, so that the connection is open
 pub begins_prepared : {S : Type 0} (g : Ghosts S) (old now : Held S) (Changes : Tables → Tables → Type 0)
-    → ((t : Tables) → Changes t t) → IsReady g old → Holds g old IsDatabase → IsTrue old.in_transaction
+    → ((t : Tables) → Changes t t) → Holds g old IsDesk → Holds g old IsDatabase → IsTrue old.in_transaction
     → (HasCleanDisk (state g now) → IsUnchanged (state g old) (state g now))
     → Survives (state g old) (state g now) (λ _. ⊥) → HasAdded g old now Changes
 begins_prepared g old now Changes none ready sound begun same last = record {

@@ -17,7 +17,6 @@ use Rattle.sqlite.specs.Store.{Ghosts}
 use Rattle.sqlite.specs.Held.{Held, state}
 use Rattle.desk_sql.specs.Rows.{IsDesk, is_row_by, is_of, is_wanted, differs, is_at_most, is_at_least, is_below, is_above, held_columns, is_same, joined, has_volume, with_volumes, by_cells, columns, tables_of, Lists}
 use Rattle.desk_sql.specs.declared.reading.rivals.SpanQuery.{SpanQuery}
-use Rattle.desk_sql.specs.Effects.{IsReady}
 use Rattle.desk_sql.specs.declared.reading.query.Query.{Query}
 use Rattle.desk_sql.specs.Queries.{params_of, order_of, rows_of}
 use Rattle.sqlite.specs.Schema.{Schema}
@@ -51,7 +50,7 @@ module _ {S V : Type 0} (g : Ghosts S) (old new : Held S) (items : V → List Ro
       gives (items v) (holds clean (was_open text params _ _ _ shown)) shown
   if_holds Is holds clean gives (Err e) shown = tt
 
-  pub if_shown : IsReady g old → HasCleanDisk (state g old)
+  pub if_shown : Holds g old IsDesk → HasCleanDisk (state g old)
       → ((rows : List Row) → IsDesk (state g old).now → Shown text params (state g old) (state g new) rows
       → P rows)
       → (r : Result V Error) → IfOk r (λ v. Shown text params (state g old) (state g new) (items v))

@@ -23,7 +23,7 @@ use Rattle.sqlite.specs.Store.{Ghosts}
 use Rattle.sqlite.specs.Held.{Held, state}
 use Rattle.desk_sql.specs.Schema.{desk_schema}
 use Rattle.desk_sql.specs.Rows.{IsDesk}
-use Rattle.desk_sql.specs.Effects.{IsReady}
+use Rattle.desk_sql.specs.Finding.{Holds}
 use Rattle.desk_sql.specs.Batches.{IsUnderWay}
 use Rattle.desk_sql.specs.Refusals.{IsRefusal}
 use Rattle.desk_sql.specs.Statements.{enforced}
@@ -198,7 +198,7 @@ not_run text params old new e live whole (inr (cause, is, h, back, _)) =
 
 pub refused_unprepared : {S : Type 0} (g : Ghosts S) (old new : Held S) (text : List ℕ) (params : Row)
     (Fits : Database → Type 0) → IsSureChange text params Fits
-    → IsReady g old → HasCleanDisk (state g old) → IsTrue (state g new).is_open
+    → Holds g old IsDesk → HasCleanDisk (state g old) → IsTrue (state g new).is_open
     → (e : Error) → IsNotRun (state g old) (state g new) text params e → IsRefusal g old new e
 refused_unprepared g old new text params Fits sure ready clean live e =
     not_run text params (state g old) (state g new) e live

@@ -34,7 +34,8 @@ use Rattle.sqlite.proofs.Callers.{IsPlain, command_of, statement_of, runs_as, on
 use Rattle.sqlite_rules.proofs.ActionLemmas.{no_works}
 use Rattle.desk_sql.specs.Schema.{desk_schema, table_of}
 use Rattle.desk_sql.specs.Rows.{IsDesk, Tables, tables_of}
-use Rattle.desk_sql.specs.Effects.{IsReady, Makes}
+use Rattle.desk_sql.specs.Finding.{Holds}
+use Rattle.desk_sql.specs.Effects.{Makes}
 use Rattle.desk_sql.specs.Statements.{IsWriting, MayWrite, Changes, enforced}
 use Rattle.desk_sql.proofs.CommandTexts.{IsCommand}
 
@@ -249,7 +250,7 @@ cast_int n = either _ (Int n)
 
 -- ---- the statement's effect, from what its text does
 
-module _ {S : Type 0} (g : Ghosts S) (old new : Held S) (ready : IsReady g old)
+module _ {S : Type 0} (g : Ghosts S) (old new : Held S) (ready : Holds g old IsDesk)
     (clean : HasCleanDisk (state g old)) (Changes : Tables → Tables → Type 0)
     (shows : Shows (state g old) (state g new) (state g new).now (state g old).committed true) where
   pub makes : (IsDesk (state g old).now → IsDesk (state g new).now

@@ -1,16 +1,18 @@
 -- What a call asks of a connection, and what it leaves.
-use Rattle.std.specs.Prelude.{◌≡◌, ◌⊎◌, IsTrue}
+use Rattle.std.specs.Prelude.{◌≡◌, ◌⊎◌, false, IsTrue}
 use Rattle.sqlite.specs.Tree.{Trees}
-use Rattle.sqlite.specs.Effect.{IsDatabase}
+use Rattle.sqlite.specs.Effect.{Database, IsDatabase}
 use Rattle.sqlite.specs.Store.{Ghosts}
 use Rattle.sqlite.specs.State.{HasCleanDisk}
 use Rattle.sqlite.specs.Held.{Held, state}
 use Rattle.desk_sql.specs.Schema.{desk_schema}
+use Rattle.desk_sql.specs.Finding.{Holds}
 use Rattle.desk_sql.specs.Rows.{IsDesk, Tables, tables_of}
 
--- what is shown means something, and is a desk's
-abbrev pub IsReady : {S : Type 0} → Ghosts S → Held S → Type 0
-IsReady g h = HasCleanDisk (state g h) → IsTrue (state g h).is_open → IsDesk (state g h).now
+-- no transaction is under way, and what is shown, if it means something, is so
+pub record IsReady {S : Type 0} (g : Ghosts S) (h : Held S) (Is : Database → Type 0) : Type 0 where
+  pub settled : h.in_transaction ≡ false
+  pub shown : Holds g h Is
 
 -- over a clean disk the connection is open
 abbrev pub IsOpenIfClean : {S : Type 0} → Ghosts S → Held S → Type 0

@@ -6,11 +6,11 @@ ghost use Rattle.sqlite.specs.Effect.{IsDatabase};
 ghost use Rattle.sqlite.specs.State.{HasCleanDisk};
 ghost use Rattle.sqlite.specs.Held.{state};
 ghost use Rattle.desk_sql.specs.Batches.{volume_row_in, cover_of, span_row_in, AddsVolumes, AddsSpans, RemovesPlans, IsUnderWay};
-ghost use Rattle.desk_sql.specs.Effects.{IsReady, Makes};
+ghost use Rattle.desk_sql.specs.Effects.{Makes};
 ghost use Rattle.desk_sql.specs.Frames.{Remembers};
 ghost use Rattle.desk_sql.specs.QueryEnds.{HasRefusal, IsChanged, IsUndone};
 ghost use Rattle.desk_sql.specs.Finding.{Holds};
-ghost use Rattle.desk_sql.specs.Rows.{RemovesPlan};
+ghost use Rattle.desk_sql.specs.Rows.{RemovesPlan, IsDesk};
 ghost use Rattle.desk_sql.specs.Putting.{AreNewSpans, AreNewVolumes, TakesRoom};
 
 use crate::changing::change::Change;
@@ -59,7 +59,7 @@ pub fn remove_plans<S: Alter>(
     operator: &str,
     ids: &[String],
 ) -> Result<(), Error>
-    requires ready { IsReady S.Store tx.old.conn.now }
+    requires desk { Holds S.Store tx.old.conn.now IsDesk }
     requires sound { Holds S.Store tx.old.conn.now IsDatabase }
     requires begun { IsTrue tx.old.conn.now.in_transaction }
     ensures same_reference { tx.new.conn.ghost_name ≡ tx.old.conn.ghost_name }
@@ -84,7 +84,7 @@ fn remove_one<S: Alter>(
     operator: &str,
     id: &String,
 ) -> Result<(), Error>
-    requires ready { IsReady S.Store tx.old.conn.now }
+    requires desk { Holds S.Store tx.old.conn.now IsDesk }
     ensures same_reference { tx.new.conn.ghost_name ≡ tx.old.conn.ghost_name }
     ensures changed { IsChanged S.Store tx.old.conn.now tx.new.conn.now result
         (RemovesPlan operator.now (string_bytes id.now)) (λ _. ⊤) (TakesRoom 0 0 0) }

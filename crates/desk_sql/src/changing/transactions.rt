@@ -1,7 +1,7 @@
 //! Whole changes of the tables, each one transaction.
 
-ghost use Rattle.std.specs.Prelude.{◌≡◌, ⊤, false, map};
-ghost use Rattle.desk_sql.specs.Rows.{PutsOperator, ClosesPlan, is_row_by, tables_of};
+ghost use Rattle.std.specs.Prelude.{◌≡◌, ⊤, map};
+ghost use Rattle.desk_sql.specs.Rows.{PutsOperator, ClosesPlan, is_row_by, tables_of, IsDesk};
 ghost use Rattle.std.specs.List.{list_any};
 ghost use Rattle.std.specs.String.{string_bytes};
 ghost use Rattle.desk_sql.specs.Batches.{PutsPlan, RemovesPlans};
@@ -28,8 +28,7 @@ pub fn clear_plans<S: Alter>(
     operator: &str,
     ids: &[String],
 ) -> Result<(), Error>
-    requires ready { IsReady S.Store connection.old }
-    requires settled { connection.old.in_transaction ≡ false }
+    requires ready { IsReady S.Store connection.old IsDesk }
     ensures committed { IsCommitted S.Store connection.old connection.new result
         (RemovesPlans operator.now (map string_bytes ids.now)) (λ _. ⊤) }
 {
@@ -46,8 +45,7 @@ pub fn put_plan<S: Alter>(
     volumes: &[VolumeRecord<'_>],
     spans: &[SpanRecord<'_>],
 ) -> Result<(), Error>
-    requires ready { IsReady S.Store connection.old }
-    requires settled { connection.old.in_transaction ≡ false }
+    requires ready { IsReady S.Store connection.old IsDesk }
     ensures committed { IsCommitted S.Store connection.old connection.new result
         (PutsPlan (plan_put plan.entry volumes.now spans.now))
         (IsPuttable (plan_put plan.entry volumes.now spans.now)) }
@@ -71,8 +69,7 @@ pub fn put_plan<S: Alter>(
 
 /// Whether there is an operator with this name.
 pub fn is_enrolled<S: Alter>(connection: &mut Connection<S>, name: &str) -> Result<bool, Error>
-    requires ready { IsReady S.Store connection.old }
-    requires settled { connection.old.in_transaction ≡ false }
+    requires ready { IsReady S.Store connection.old IsDesk }
     ensures answers { Answers S.Store connection.old connection.new result
         (λ db found. found ≡ list_any (is_row_by name.now) (tables_of db).operators) }
 {
@@ -86,8 +83,7 @@ pub fn put_operator<S: Alter>(
     name: &str,
     ceiling: u32,
 ) -> Result<(), Error>
-    requires ready { IsReady S.Store connection.old }
-    requires settled { connection.old.in_transaction ≡ false }
+    requires ready { IsReady S.Store connection.old IsDesk }
     ensures committed { IsCommitted S.Store connection.old connection.new result
         (PutsOperator name.now ceiling) (λ db. IsShort name.now × HasRowids 1 (db.trees 0)) }
 {
@@ -111,8 +107,7 @@ pub fn close_plan<S: Alter>(
     priority: u32,
     aircraft: u32,
 ) -> Result<(), Error>
-    requires ready { IsReady S.Store connection.old }
-    requires settled { connection.old.in_transaction ≡ false }
+    requires ready { IsReady S.Store connection.old IsDesk }
     ensures committed { IsCommitted S.Store connection.old connection.new result
         (ClosesPlan operator.now id.now priority aircraft)
         (λ db. IsShort operator.now × IsShort id.now × AreLow (db.trees 2)) }

@@ -1,11 +1,11 @@
 //! Rows as they are written, and the statements that add one operator or plan.
 
 ghost use Rattle.std.specs.Prelude.{◌≡◌, ⊤};
-ghost use Rattle.desk_sql.specs.Rows.{operator_row, plan_row, AddsOperator, AddsPlan};
-ghost use Rattle.desk_sql.specs.Effects.{IsReady};
+ghost use Rattle.desk_sql.specs.Rows.{operator_row, plan_row, AddsOperator, AddsPlan, IsDesk};
 ghost use Rattle.desk_sql.specs.QueryEnds.{IsChanged};
 ghost use Rattle.desk_sql.specs.Changing.{FitsOperator, FitsPlan};
 ghost use Rattle.desk_sql.specs.Putting.{TakesOperators, TakesRoom};
+ghost use Rattle.desk_sql.specs.Finding.{Holds};
 
 use crate::changing::change::Change;
 use crate::changing::execute::execute;
@@ -58,7 +58,7 @@ pub fn insert_operator<S: Alter>(
     name: &str,
     ceiling: u32,
 ) -> Result<(), Error>
-    requires ready { IsReady S.Store tx.old.conn.now }
+    requires desk { Holds S.Store tx.old.conn.now IsDesk }
     ensures same_reference { tx.new.conn.ghost_name ≡ tx.old.conn.ghost_name }
     ensures changed { IsChanged S.Store tx.old.conn.now tx.new.conn.now result
         (AddsOperator (operator_row name.now ceiling))
@@ -76,7 +76,7 @@ pub fn insert_plan<S: Alter>(
     usage: u32,
     aircraft: u32,
 ) -> Result<(), Error>
-    requires ready { IsReady S.Store tx.old.conn.now }
+    requires desk { Holds S.Store tx.old.conn.now IsDesk }
     ensures same_reference { tx.new.conn.ghost_name ≡ tx.old.conn.ghost_name }
     ensures changed { IsChanged S.Store tx.old.conn.now tx.new.conn.now result
         (AddsPlan (plan_row operator.now id.now priority usage aircraft))

@@ -1,10 +1,10 @@
 //! Whether there are rows of version 1 of the schema.
 
-ghost use Rattle.std.specs.Prelude.{◌≡◌, ◌&&◌, true, false};
+ghost use Rattle.std.specs.Prelude.{◌≡◌, ◌&&◌, true};
 ghost use Rattle.desk_sql.specs.Schema.{HasTable, has_table, tree_of};
 ghost use Rattle.desk_sql.specs.Rows.{IsMadeTo, has_old_rows, has_rows, tables_at};
-ghost use Rattle.desk_sql.specs.Finding.{Holds};
 ghost use Rattle.desk_sql.specs.QueryEnds.{WasOpen, Answers};
+ghost use Rattle.desk_sql.specs.Effects.{IsReady};
 
 use crate::opening::finding::TablesPresent;
 use crate::opening::numbers::{DeskTable, rowids_text};
@@ -13,8 +13,7 @@ use sqlite::{Alter, Connection, Error};
 
 /// Whether a table has a row.
 fn has_row<S: Alter>(connection: &mut Connection<S>, table: DeskTable) -> Result<bool, Error>
-    requires known { Holds S.Store connection.old (HasTable table) }
-    requires settled { connection.old.in_transaction ≡ false }
+    requires ready { IsReady S.Store connection.old (HasTable table) }
     ensures answers { Answers S.Store connection.old connection.new result
         (λ db found. found ≡ has_rows (db (tree_of table))) }
     ensures open { WasOpen S.Store connection.old connection.new result }
@@ -29,8 +28,7 @@ fn has_row_in<S: Alter>(
     made: TablesPresent,
     table: DeskTable,
 ) -> Result<bool, Error>
-    requires part { Holds S.Store connection.old (IsMadeTo made) }
-    requires settled { connection.old.in_transaction ≡ false }
+    requires ready { IsReady S.Store connection.old (IsMadeTo made) }
     ensures answers { Answers S.Store connection.old connection.new result
         (λ db found. found ≡ (has_table made table && has_rows (db (tree_of table)))) }
     ensures open { has_table made table ≡ true → WasOpen S.Store connection.old connection.new result }
@@ -47,8 +45,7 @@ pub fn has_old_rows<S: Alter>(
     connection: &mut Connection<S>,
     made: TablesPresent,
 ) -> Result<bool, Error>
-    requires part { Holds S.Store connection.old (IsMadeTo made) }
-    requires settled { connection.old.in_transaction ≡ false }
+    requires ready { IsReady S.Store connection.old (IsMadeTo made) }
     ensures answers { Answers S.Store connection.old connection.new result
         (λ db found. found ≡ has_old_rows (tables_at made db)) }
 {

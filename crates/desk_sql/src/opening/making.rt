@@ -1,13 +1,13 @@
 //! How the tables and the indexes are made.
 
-ghost use Rattle.std.specs.Prelude.{◌≡◌, ◌≢◌, false, suc, IfSome, IfNone, IfErr, IsTrue, OnOk, OnErr};
+ghost use Rattle.std.specs.Prelude.{◌≡◌, ◌≢◌, suc, IfSome, IfNone, IfErr, IsTrue, OnOk, OnErr};
 ghost use Rattle.sqlite.specs.Effect.{IsDatabase};
 ghost use Rattle.sqlite.specs.State.{HasCleanDisk};
 ghost use Rattle.sqlite.specs.Held.{state};
 ghost use Rattle.desk_sql.specs.Making.{left_to_make, Finishes, Completes, MayComplete, HasSmallSpans, IsStep};
 ghost use Rattle.desk_sql.specs.Rows.{IsMadeTo, tables_at};
 ghost use Rattle.desk_sql.specs.Finding.{Holds};
-ghost use Rattle.desk_sql.specs.Effects.{StaysShown};
+ghost use Rattle.desk_sql.specs.Effects.{StaysShown, IsReady};
 ghost use Rattle.desk_sql.specs.QueryEnds.{IsRunWithin};
 ghost use Rattle.desk_sql.specs.Frames.{IsOver};
 ghost use Rattle.desk_sql.specs.Refusals.{IsRefusal};
@@ -131,8 +131,7 @@ pub fn complete_tables<S: Alter>(
 ) -> Result<(), Error>
     requires missing { made ≢ TablesPresent.All }
     requires ordered { made ≢ TablesPresent.Packed }
-    requires at { Holds S.Store connection.old (IsMadeTo made) }
-    requires settled { connection.old.in_transaction ≡ false }
+    requires ready { IsReady S.Store connection.old (IsMadeTo made) }
     ensures done { HasCleanDisk (state S.Store connection.new)
         → OnOk result (Completes S.Store made connection.old connection.new) }
     ensures kept { OnErr result (StaysShown S.Store connection.old connection.new) }

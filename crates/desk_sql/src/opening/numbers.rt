@@ -11,6 +11,7 @@ ghost use Rattle.desk_sql.specs.Refusals.{AreRowsUnread, IsUnnumbered, but_memor
 ghost use Rattle.desk_sql.specs.Statements.{SelectsAll, rowids};
 ghost use Rattle.desk_sql.specs.Finding.{Holds, next_above, rises};
 ghost use Rattle.desk_sql.specs.Frames.{OnlyReads};
+ghost use Rattle.desk_sql.specs.Effects.{IsReady};
 
 use crate::opening::finding::TablesPresent;
 use crate::reading::taking::{RowSink, hand_rows};
@@ -145,8 +146,7 @@ pub(crate) fn rowids_text(table: DeskTable) -> &'static str
 
 /// Tests the rowids of a table.
 fn test_rowids<S: Alter>(connection: &mut Connection<S>, table: DeskTable) -> Result<(), Error>
-    requires known { Holds S.Store connection.old (HasTable table) }
-    requires settled { connection.old.in_transaction ≡ false }
+    requires ready { IsReady S.Store connection.old (HasTable table) }
     ensures numbered { OnOk result (Holds S.Store connection.new
         (λ db. AreNumbered (db.trees (tree_of table)))) }
     ensures cause { HasCleanDisk (state S.Store connection.new)
@@ -170,8 +170,7 @@ fn test_made<S: Alter>(
     made: TablesPresent,
     table: DeskTable,
 ) -> Result<(), Error>
-    requires known { Holds S.Store connection.old (λ db. db.schema ≡ schema_of made) }
-    requires settled { connection.old.in_transaction ≡ false }
+    requires ready { IsReady S.Store connection.old (λ db. db.schema ≡ schema_of made) }
     ensures numbered { OnOk result (has_table made table ≡ true → Holds S.Store connection.new
         (λ db. AreNumbered (db.trees (tree_of table)))) }
     ensures cause { HasCleanDisk (state S.Store connection.new)
@@ -195,8 +194,7 @@ pub(crate) fn test_tables<S: Alter>(
     connection: &mut Connection<S>,
     made: TablesPresent,
 ) -> Result<(), Error>
-    requires known { Holds S.Store connection.old (λ db. db.schema ≡ schema_of made) }
-    requires settled { connection.old.in_transaction ≡ false }
+    requires ready { IsReady S.Store connection.old (λ db. db.schema ≡ schema_of made) }
     ensures legible { OnOk result (Holds S.Store connection.new (IsMadeTo made)) }
     ensures cause { HasCleanDisk (state S.Store connection.new)
         → IsTrue (state S.Store connection.new).is_open

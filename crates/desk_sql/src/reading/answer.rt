@@ -1,7 +1,6 @@
 //! All rows of a query's answer.
 
-ghost use Rattle.std.specs.Prelude.{◌≡◌, false};
-ghost use Rattle.desk_sql.specs.Rows.{tables_of, Lists};
+ghost use Rattle.desk_sql.specs.Rows.{tables_of, Lists, IsDesk};
 ghost use Rattle.desk_sql.specs.Effects.{IsReady};
 ghost use Rattle.desk_sql.specs.QueryEnds.{WasOpen, Answers};
 ghost use Rattle.desk_sql.specs.Queries.{order_of, rows_of};
@@ -15,8 +14,7 @@ pub(crate) fn answer<S: Alter>(
     connection: &mut Connection<S>,
     query: Query<'_>,
 ) -> Result<Vec<Row>, Error>
-    requires ready { IsReady S.Store connection.old }
-    requires settled { connection.old.in_transaction ≡ false }
+    requires ready { IsReady S.Store connection.old IsDesk }
     ensures answers { Answers S.Store connection.old connection.new result
         (λ db rows. Lists (order_of query.entry) (rows_of query.entry (tables_of db)) rows.items) }
     ensures open { WasOpen S.Store connection.old connection.new result }

@@ -1,10 +1,9 @@
 //! All rows of a query that is given nothing.
 
-ghost use Rattle.std.specs.Prelude.{◌≡◌, [], false, OnOk};
+ghost use Rattle.std.specs.Prelude.{[], OnOk};
 ghost use Rattle.sqlite.specs.State.{Shown};
 ghost use Rattle.sqlite.specs.Held.{state};
-ghost use Rattle.desk_sql.specs.Effects.{StaysOpen};
-ghost use Rattle.desk_sql.specs.Finding.{Holds};
+ghost use Rattle.desk_sql.specs.Effects.{StaysOpen, IsReady};
 ghost use Rattle.desk_sql.specs.Refusals.{IsSure};
 ghost use Rattle.desk_sql.specs.QueryEnds.{WasOpen, Answers};
 
@@ -13,8 +12,7 @@ use sqlite::{Alter, Connection, Error, Row};
 
 /// All rows of a query with no parameters. The rows of the tables stay, whatever is answered.
 pub(crate) fn ask<S: Alter>(connection: &mut Connection<S>, query: &str) -> Result<Vec<Row>, Error>
-    requires settled { connection.old.in_transaction ≡ false }
-    requires sure { Holds S.Store connection.old (λ db. IsSure db.schema query.now) }
+    requires ready { IsReady S.Store connection.old (λ db. IsSure db.schema query.now) }
     ensures answers { Answers S.Store connection.old connection.new result
         (λ _ rows. Shown query.now [] (state S.Store connection.old) (state S.Store connection.new)
         rows.items) }

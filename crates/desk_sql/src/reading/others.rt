@@ -1,7 +1,7 @@
 //! The spans that other operators hold.
 
-ghost use Rattle.std.specs.Prelude.{◌≡◌, [], false, filter, map, IsPermutation};
-ghost use Rattle.desk_sql.specs.Rows.{held_columns, tables_of};
+ghost use Rattle.std.specs.Prelude.{[], filter, map, IsPermutation};
+ghost use Rattle.desk_sql.specs.Rows.{held_columns, tables_of, IsDesk};
 ghost use Rattle.desk_sql.specs.Effects.{IsReady};
 ghost use Rattle.desk_sql.specs.QueryEnds.{WasOpen, HandsOut};
 ghost use Rattle.desk_sql.specs.Others.{is_others_from};
@@ -25,8 +25,7 @@ pub fn other_spans<S: Alter, T: RowSink>(
     low: i64,
     taker: &mut T,
 ) -> Result<(), Error>
-    requires ready { IsReady S.Store connection.old }
-    requires settled { connection.old.in_transaction ≡ false }
+    requires ready { IsReady S.Store connection.old IsDesk }
     requires fresh { T.has_taken taker.old [] }
     ensures answers { HandsOut S.Store connection.old connection.new result
         (λ db. IsPermutation (map held_columns (filter (is_others_from operator.now reach low)

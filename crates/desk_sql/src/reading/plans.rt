@@ -1,7 +1,7 @@
 //! The spans of one plan.
 
-ghost use Rattle.std.specs.Prelude.{◌≡◌, [], false, filter, map, IsPermutation};
-ghost use Rattle.desk_sql.specs.Rows.{held_columns, tables_of};
+ghost use Rattle.std.specs.Prelude.{[], filter, map, IsPermutation};
+ghost use Rattle.desk_sql.specs.Rows.{held_columns, tables_of, IsDesk};
 ghost use Rattle.desk_sql.specs.Effects.{IsReady};
 ghost use Rattle.desk_sql.specs.QueryEnds.{WasOpen, HandsOut};
 ghost use Rattle.desk_sql.specs.Others.{is_plans};
@@ -24,8 +24,7 @@ pub fn plan_spans<S: Alter, T: RowSink>(
     reach: SpanQuery,
     taker: &mut T,
 ) -> Result<(), Error>
-    requires ready { IsReady S.Store connection.old }
-    requires settled { connection.old.in_transaction ≡ false }
+    requires ready { IsReady S.Store connection.old IsDesk }
     requires fresh { T.has_taken taker.old [] }
     ensures answers { HandsOut S.Store connection.old connection.new result
         (λ db. IsPermutation (map held_columns (filter (is_plans operator.now id.now reach)

@@ -1,7 +1,7 @@
 //! The queries of a running desk.
 
-ghost use Rattle.std.specs.Prelude.{◌≡◌, [], ◌∷◌, false, filter};
-ghost use Rattle.desk_sql.specs.Rows.{is_row_by, is_of, tables_of, with_volumes, Lists};
+ghost use Rattle.std.specs.Prelude.{[], ◌∷◌, filter};
+ghost use Rattle.desk_sql.specs.Rows.{is_row_by, is_of, tables_of, with_volumes, Lists, IsDesk};
 ghost use Rattle.desk_sql.specs.Effects.{IsReady};
 ghost use Rattle.desk_sql.specs.QueryEnds.{WasOpen, Answers, HandsOut};
 
@@ -16,8 +16,7 @@ pub fn plan_of<S: Alter>(
     operator: &str,
     id: &str,
 ) -> Result<Vec<Row>, Error>
-    requires ready { IsReady S.Store connection.old }
-    requires settled { connection.old.in_transaction ≡ false }
+    requires ready { IsReady S.Store connection.old IsDesk }
     ensures answers { Answers S.Store connection.old connection.new result
         (λ db rows. Lists [] (filter (is_of operator.now id.now) (tables_of db).plans) rows.items) }
     ensures open { WasOpen S.Store connection.old connection.new result }
@@ -32,8 +31,7 @@ pub fn volumes_of<S: Alter>(
     operator: &str,
     id: &str,
 ) -> Result<Vec<Row>, Error>
-    requires ready { IsReady S.Store connection.old }
-    requires settled { connection.old.in_transaction ≡ false }
+    requires ready { IsReady S.Store connection.old IsDesk }
     ensures answers { Answers S.Store connection.old connection.new result
         (λ db rows. Lists (2 ∷ []) (filter (is_of operator.now id.now) (tables_of db).volumes)
         rows.items) }
@@ -53,8 +51,7 @@ pub fn own_plans<S: Alter, T: RowSink>(
     operator: &str,
     taker: &mut T,
 ) -> Result<(), Error>
-    requires ready { IsReady S.Store connection.old }
-    requires settled { connection.old.in_transaction ≡ false }
+    requires ready { IsReady S.Store connection.old IsDesk }
     requires fresh { T.has_taken taker.old [] }
     ensures answers { HandsOut S.Store connection.old connection.new result
         (λ db. Lists (1 ∷ 5 ∷ []) (with_volumes (is_row_by operator.now) (tables_of db)))

@@ -1,15 +1,14 @@
 //! Rows of an answer, handed over one at a time.
 
-ghost use Rattle.std.specs.Prelude.{◌≡◌, List, [], false, OnOk, IsTrue};
+ghost use Rattle.std.specs.Prelude.{◌≡◌, List, [], OnOk, IsTrue};
 ghost use Rattle.sqlite.specs.Order.{Row as Values};
 ghost use Rattle.sqlite.specs.Values.{bound};
 ghost use Rattle.sqlite.specs.State.{HasCleanDisk, IsUnchanged, Shown};
 ghost use Rattle.sqlite.specs.Held.{state};
-ghost use Rattle.desk_sql.specs.Rows.{tables_of, Lists};
+ghost use Rattle.desk_sql.specs.Rows.{tables_of, Lists, IsDesk};
 ghost use Rattle.desk_sql.specs.Effects.{IsReady, IsOpenIfClean};
 ghost use Rattle.desk_sql.specs.QueryEnds.{WasOpen, HandsOut};
 ghost use Rattle.desk_sql.specs.Queries.{order_of, rows_of};
-ghost use Rattle.desk_sql.specs.Finding.{Holds};
 ghost use Rattle.desk_sql.specs.Takers.{KeepsOn};
 ghost use Rattle.desk_sql.specs.Refusals.{IsSureGiven};
 ghost use Rattle.desk_sql.specs.Taking.{FailsNext, FailsToHandAll, HandsOver, HandsAll, IsHanded, TakesOn};
@@ -111,8 +110,8 @@ pub(crate) fn hand_rows<S: Alter, T: RowSink>(
     params: &[ValueRef<'_>],
     taker: &mut T,
 ) -> Result<(), Error>
-    requires settled { connection.old.in_transaction ≡ false }
-    requires sure { Holds S.Store connection.old (λ db. IsSureGiven db.schema text.now (bound params.now)) }
+    requires ready { IsReady S.Store connection.old
+        (λ db. IsSureGiven db.schema text.now (bound params.now)) }
     requires fresh { T.has_taken taker.old [] }
     ensures answers { HandsOut S.Store connection.old connection.new result
         (λ _. Shown text.now (bound params.now) (state S.Store connection.old)
@@ -139,8 +138,7 @@ pub(crate) fn for_each_row<S: Alter, T: RowSink>(
     query: Query<'_>,
     taker: &mut T,
 ) -> Result<(), Error>
-    requires ready { IsReady S.Store connection.old }
-    requires settled { connection.old.in_transaction ≡ false }
+    requires ready { IsReady S.Store connection.old IsDesk }
     requires fresh { T.has_taken taker.old [] }
     ensures answers { HandsOut S.Store connection.old connection.new result
         (λ db. Lists (order_of query.entry) (rows_of query.entry (tables_of db)))

@@ -1,12 +1,11 @@
 //! The rows of `volume2`, each read once and kept as the two rows that it is seen as.
 
-ghost use Rattle.std.specs.Prelude.{◌≡◌, Bool, true, false, [], ◌∷◌, ◌++◌, map, IfOk, OnOk};
+ghost use Rattle.std.specs.Prelude.{◌≡◌, Bool, true, [], ◌∷◌, ◌++◌, map, IfOk, OnOk};
 ghost use Rattle.sqlite_value.specs.Value.{owned};
 ghost use Rattle.sqlite_value.specs.Order.{column};
 ghost use Rattle.desk_sql.specs.Schema.{has_table, is_packed, tree_of};
 ghost use Rattle.desk_sql.specs.Rows.{IsMadeTo, columns, tables_at};
-ghost use Rattle.desk_sql.specs.Effects.{StaysOpen};
-ghost use Rattle.desk_sql.specs.Finding.{Holds};
+ghost use Rattle.desk_sql.specs.Effects.{StaysOpen, IsReady};
 ghost use Rattle.desk_sql.specs.Statements.{SelectsAll};
 ghost use Rattle.desk_sql.specs.Queries.{table_in};
 ghost use Rattle.desk_sql.specs.QueryEnds.{WasOpen, Answers};
@@ -130,8 +129,7 @@ pub fn volume_rows<S: Alter>(
     connection: &mut Connection<S>,
     made: TablesPresent,
 ) -> Result<VolumeRows, Error>
-    requires part { Holds S.Store connection.old (IsMadeTo made) }
-    requires settled { connection.old.in_transaction ≡ false }
+    requires ready { IsReady S.Store connection.old (IsMadeTo made) }
     ensures answers { Answers S.Store connection.old connection.new result
         (λ db rows. ListVolumes (tables_at made db) rows.volumes.items rows.covers.items) }
     ensures open { has_table made (table_in Whole.Volumes (is_packed made)) ≡ true

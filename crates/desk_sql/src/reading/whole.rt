@@ -1,11 +1,10 @@
 //! The rows of whole tables, as an opening reads them.
 
-ghost use Rattle.std.specs.Prelude.{◌≡◌, Bool, true, false, OnOk, List, []};
+ghost use Rattle.std.specs.Prelude.{◌≡◌, Bool, true, OnOk, List, []};
 ghost use Rattle.sqlite.specs.Order.{Row as Values};
 ghost use Rattle.desk_sql.specs.Schema.{has_table, is_packed};
 ghost use Rattle.desk_sql.specs.Rows.{IsMadeTo, tables_in, tables_at, Lists};
-ghost use Rattle.desk_sql.specs.Effects.{StaysOpen};
-ghost use Rattle.desk_sql.specs.Finding.{Holds};
+ghost use Rattle.desk_sql.specs.Effects.{StaysOpen, IsReady};
 ghost use Rattle.desk_sql.specs.Statements.{SelectsAll};
 ghost use Rattle.desk_sql.specs.Queries.{table_read, table_in, key_cells, rows_read};
 ghost use Rattle.desk_sql.specs.Takers.{KeepsOn};
@@ -88,8 +87,7 @@ pub fn all_rows<S: Alter>(
     whole: Whole,
     made: TablesPresent,
 ) -> Result<Vec<Row>, Error>
-    requires part { Holds S.Store connection.old (IsMadeTo made) }
-    requires settled { connection.old.in_transaction ≡ false }
+    requires ready { IsReady S.Store connection.old (IsMadeTo made) }
     ensures answers { Answers S.Store connection.old connection.new result
         (λ db rows. Lists (key_cells (table_read whole)) (rows_read whole (tables_at made db)) rows.items) }
     ensures open { has_table made (table_in whole (is_packed made)) ≡ true
@@ -115,8 +113,7 @@ pub fn each_row<S: Alter, T: RowSink>(
     made: TablesPresent,
     taker: &mut T,
 ) -> Result<(), Error>
-    requires part { Holds S.Store connection.old (IsMadeTo made) }
-    requires settled { connection.old.in_transaction ≡ false }
+    requires ready { IsReady S.Store connection.old (IsMadeTo made) }
     requires fresh { T.has_taken taker.old [] }
     ensures answers { HandsOut S.Store connection.old connection.new result
         (λ db. Lists (key_cells (table_read whole)) (rows_read whole (tables_at made db)))

@@ -7,7 +7,7 @@ ghost use Rattle.desk_sql.specs.Batches.{IsUnderWay};
 ghost use Rattle.desk_sql.specs.Effects.{IsReady, IsOpenIfClean, Makes, Commits};
 ghost use Rattle.desk_sql.specs.Finding.{Holds};
 ghost use Rattle.desk_sql.specs.Frames.{IsOver, OnlyReads, Remembers};
-ghost use Rattle.desk_sql.specs.Rows.{AddsOperator, AddsPlan, IsMadeTo};
+ghost use Rattle.desk_sql.specs.Rows.{IsDesk, AddsOperator, AddsPlan, IsMadeTo};
 ghost use Rattle.desk_sql.specs.Schema.{blank_schema};
 ghost use Rattle.desk_store.specs.Content.{IsContent};
 ghost use Rattle.desk_store.specs.World.{Filed, Listed};
@@ -118,9 +118,8 @@ fn fill<S: Alter>(
     operators: &[ListedOperator],
     plans: &[FiledPlan],
 ) -> Result<(), OpenFault>
-    requires ready { IsReady S.Store connection.old }
+    requires ready { IsReady S.Store connection.old IsDesk }
     requires live { IsOpenIfClean S.Store connection.old }
-    requires settled { connection.old.in_transaction ≡ false }
     ensures done { HasCleanDisk (state S.Store connection.new)
         → OnOk result (Commits S.Store connection.old connection.new (AddsWorldRows
         (record { operators = operators.now; plans = plans.now }))) }

@@ -6,7 +6,7 @@ ghost use Rattle.sqlite.specs.State.{HasCleanDisk, KeepsCommit};
 ghost use Rattle.sqlite.specs.Held.{state};
 ghost use Rattle.sqlite_value.specs.Order.{Row as Values};
 ghost use Rattle.desk_sql.specs.Schema.{has_table};
-ghost use Rattle.desk_sql.specs.Rows.{IsMadeTo, tables_at, tables_of};
+ghost use Rattle.desk_sql.specs.Rows.{IsDesk, IsMadeTo, tables_at, tables_of};
 ghost use Rattle.desk_sql.specs.Batches.{IsUnderWay};
 ghost use Rattle.desk_sql.specs.QueryEnds.{WasOpen};
 ghost use Rattle.desk_sql.specs.Effects.{IsReady, StaysShown, IsOpenIfClean, Makes, Commits, MayMake};
@@ -146,8 +146,7 @@ fn rewrite<S: Alter>(
     connection: &mut Connection<S>,
     plans: &[FiledPlan],
 ) -> Result<(), OpenFault>
-    requires ready { IsReady S.Store connection.old }
-    requires settled { connection.old.in_transaction ≡ false }
+    requires ready { IsReady S.Store connection.old IsDesk }
     ensures done { HasCleanDisk (state S.Store connection.new)
         → OnOk result (Commits S.Store connection.old connection.new (MovesRows plans.now)) }
     ensures kept { OnErr result (StaysShown S.Store connection.old connection.new) }
@@ -168,7 +167,7 @@ fn rewrite<S: Alter>(
 
 // The rows of schema 1 go.
 fn empty_old_tables<S: Alter>(tx: &mut Transaction<'_, S>) -> Result<(), Error>
-    requires ready { IsReady S.Store tx.old.conn.now }
+    requires desk { Holds S.Store tx.old.conn.now IsDesk }
     ensures same_reference { tx.new.conn.ghost_name ≡ tx.old.conn.ghost_name }
     ensures done { HasCleanDisk (state S.Store tx.new.conn.now)
         → OnOk result (Makes S.Store tx.old.conn.now tx.new.conn.now RemovesOldRows) }

@@ -19,7 +19,7 @@ rows-init g c = (
 )
 
 pub execute-requires : goal.execute-requires
-execute-requires g c = record { ready = λ clean live. (c.rows.invariant.1.made clean).desk }
+execute-requires g c = record { desk = λ clean live. (c.rows.invariant.1.made clean).desk }
 
 pub rows-preserved : goal.rows-preserved
 rows-preserved g c =

@@ -25,7 +25,7 @@ ids-init g c = (
   c.prepare.ensures.same_reference,
   begins_prepared g.S.Store c.args.tx.now.conn.now c.prepare.new.self.conn.now
       (RemovesPlans c.args.operator.now (map string_bytes (take 0 c.args.ids.now)))
-      (none_removed c.args.operator.now) c.requires.ready c.requires.sound c.requires.begun
+      (none_removed c.args.operator.now) c.requires.desk c.requires.sound c.requires.begun
       (λ clean. (c.in_ok-_statement.ensures.ok clean).1) c.prepare.ensures.survives,
 )
 
@@ -52,7 +52,7 @@ returns-in_err-_statement-clause-cause g c clean live =
     c.in_err-_statement.field-0.0 =
     refused_unprepared g.S.Store c.args.tx.now.conn.now c.prepare.new.self.conn.now
     c.text.result.now _ _ c.text.ensures.sure
-    c.requires.ready (omega (arith, c.prepare.ensures.survives.clean, clean)) live _
+    c.requires.desk (omega (arith, c.prepare.ensures.survives.clean, clean)) live _
     (c.in_err-_statement.ensures.err clean (key_row c.args.operator.now [])) in
     search (rules, it)
 

@@ -38,14 +38,14 @@ returns-clause-changed g c =
     rw (c.as_slice.ensures, c.params.ensures) c.text.ensures.changed in
     let room : TextTakes c.text.result.now (bound c.as_slice.result.now) (takes change) =
     rw (c.as_slice.ensures, c.params.ensures) c.text.ensures.room in record {
-      done = λ clean. makes g.S.Store old new c.requires.ready (early clean) (changes change)
+      done = λ clean. makes g.S.Store old new c.requires.desk (early clean) (changes change)
           (c.in_ok-run.ensures.shown clean)
           (λ desk. changed _ _ _ known (state g.S.Store old) (state g.S.Store new) desk c.in_ok-run.field-0
           (c.in_ok-run.ensures.ran clean));
       undone = λ clean. tt;
       cause = λ way right clean. tt;
       room = λ clean. took _ _ _ _ known room (state g.S.Store old) (state g.S.Store new)
-          (c.requires.ready (early clean) (c.in_ok-run.ensures.shown clean).was_open)
+          (c.requires.desk (early clean) (c.in_ok-run.ensures.shown clean).was_open)
           c.in_ok-run.field-0 (c.in_ok-run.ensures.ran clean);
       remembered = c.run.ensures.remembered;
     }

@@ -5,9 +5,15 @@ use Rattle.desk_sql.proofs.old_tables.RowLemmas.{some_shown}
 use Rattle.desk_sql.proofs.ReadLemmas.{was_open}
 use Rattle.desk_sql.proofs.old.rows.has_row.Goals as goal
 
-pub ask-requires-clause-sure : goal.ask-requires-clause-sure
-ask-requires-clause-sure g c clean live =
-    c.rowids_text.ensures.sure (state g.S.Store c.args.connection.now).now (c.requires.known clean live)
+pub ask-requires : goal.ask-requires
+ask-requires g c = record {
+  ready = record {
+    settled = c.requires.ready.settled;
+    shown = λ clean live.
+        c.rowids_text.ensures.sure (state g.S.Store c.args.connection.now).now
+        (c.requires.ready.shown clean live);
+  };
+}
 
 pub returns-clause-answers : goal.returns-clause-answers
 returns-clause-answers g c =
@@ -21,7 +27,8 @@ returns-clause-answers g c =
           let shown = a.value clean in
           some_shown _ rows c.is_empty.result empty
           (all_selected c.args.table _ _ _ c.rowids_text.ensures old new rows
-          (c.requires.known (omega (arith, a.reads.doubt, clean)) (was_open _ _ old new rows shown)) shown);
+          (c.requires.ready.shown (omega (arith, a.reads.doubt, clean))
+          (was_open _ _ old new rows shown)) shown);
       cause = λ clean live. tt;
       reads = c.ask.ensures.answers.reads;
     }

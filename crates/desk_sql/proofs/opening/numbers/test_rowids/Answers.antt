@@ -4,9 +4,13 @@ use Rattle.sqlite.specs.Held.{state}
 use Rattle.desk_sql.proofs.RowidLemmas.{numbered_handed, unnumbered_handed}
 use Rattle.desk_sql.proofs.opening.numbers.test_rowids.Goals as goal
 
-pub hand_rows-requires-clause-sure : goal.hand_rows-requires-clause-sure
-hand_rows-requires-clause-sure g c clean live =
-    c.rowids_text.ensures.sure (state g.S.Store c.args.connection.now).now (c.requires.known clean live)
+pub hand_rows-requires-clause-ready : goal.hand_rows-requires-clause-ready
+hand_rows-requires-clause-ready g c = record {
+  settled = c.requires.ready.settled;
+  shown = λ clean live.
+      c.rowids_text.ensures.sure (state g.S.Store c.args.connection.now).now
+      (c.requires.ready.shown clean live);
+}
 
 pub returns-in-Ok-clause-numbered : goal.returns-in-Ok-clause-numbered
 returns-in-Ok-clause-numbered g c =
@@ -14,7 +18,7 @@ returns-in-Ok-clause-numbered g c =
     let a = c.in-Ok.ensures.answers in
     on_ok_weaker c.tested.result
     (numbered_handed g.S.Store c.args.connection.now c.hand_rows.new.connection c.rowids_text.result.now
-    c.args.table c.rowids_text.ensures c.requires.known a.reads rowids.rise rowids.last a.value)
+    c.args.table c.rowids_text.ensures c.requires.ready.shown a.reads rowids.rise rowids.last a.value)
     c.tested.ensures.rising
 
 pub returns-in-Ok-clause-cause : goal.returns-in-Ok-clause-cause
@@ -22,6 +26,6 @@ returns-in-Ok-clause-cause g c clean live =
     let rowids = c.hand_rows.new.taker in
     let a = c.in-Ok.ensures.answers in
     unnumbered_handed g.S.Store c.args.connection.now c.hand_rows.new.connection c.rowids_text.result.now
-    c.args.table c.rowids_text.ensures c.requires.known (omega (arith, a.reads.doubt, clean))
+    c.args.table c.rowids_text.ensures c.requires.ready.shown (omega (arith, a.reads.doubt, clean))
     (c.in-Ok.ensures.open clean) rowids.rise rowids.last (a.value clean) c.tested.result
     c.tested.ensures.broken c.tested.ensures.code

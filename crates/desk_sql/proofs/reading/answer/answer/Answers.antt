@@ -21,15 +21,15 @@ returns-in_err-statement-clause-answers g c =
     let old = c.args.connection.now in
     let new = c.prepare.new.self in
     let kept : StaysShown g.S.Store old new = λ clean live.
-    (if_either g.S.Store old new (c.settled_and_sound.ensures.settled c.requires.settled)
+    (if_either g.S.Store old new (c.settled_and_sound.ensures.settled c.requires.ready.settled)
     live (unprepared _ _ _ _ _ (c.in_err-statement.ensures.err clean (params_of c.args.query)))) in
     let reads : OnlyReads g.S.Store old new =
-    reads_unprepared g.S.Store old new kept (c.prepare.ensures.mode c.requires.settled)
+    reads_unprepared g.S.Store old new kept (c.prepare.ensures.mode c.requires.ready.settled)
     c.prepare.ensures.survives in
     let refused : HasCleanDisk (state g.S.Store new) → IsTrue (state g.S.Store new).is_open
     → IsRefusal g.S.Store old new c.in_err-statement.field-0.0 = λ clean live.
     (refused_unprepared g.S.Store old new c.text.result.now (params_of c.args.query)
-    (sure_here g.S.Store old c.text.result.now (params_of c.args.query) c.requires.ready
+    (sure_here g.S.Store old c.text.result.now (params_of c.args.query) c.requires.ready.shown
     c.text.ensures.sure) (omega (arith, c.prepare.ensures.survives.clean, clean)) _
     (c.in_err-statement.ensures.err clean (params_of c.args.query)) live) in
     search (rules, reads, refused)
@@ -48,12 +48,12 @@ returns-clause-answers g c =
     omega (arith, c.prepare.ensures.survives.clean, early clean) in
     let known : Selects sql params (order_of c.args.query) (rows_of c.args.query) =
     rw (c.as_slice.ensures, c.params.ensures) c.text.ensures in
-    let sure = sure_here g.S.Store old sql params c.requires.ready known.sure in
+    let sure = sure_here g.S.Store old sql params c.requires.ready.shown known.sure in
     let plain = plain_if g.S.Store old sql params sure in
     let kept : StaysShown g.S.Store old new = λ clean live.
     (let it = c.in_ok-statement.ensures.ok (early clean) in
     kept_by_query g.S.Store old mid new sql text params (start clean) (plain (start clean)) it.1 it.0
-    (c.settled_and_sound.ensures.settled c.requires.settled)
+    (c.settled_and_sound.ensures.settled c.requires.ready.settled)
     (λ v. v.items) c.query_all.result (c.query_all.ensures.ok clean) (c.query_all.ensures.err clean) live) in
     let spared : Spares g.S.Store old new =
     spared_after g.S.Store old mid new sql text params plain
@@ -62,7 +62,8 @@ returns-clause-answers g c =
           let it = c.in_ok-statement.ensures.ok (early clean) in
           if_shown g.S.Store old new (λ v. v.items) _ _
           (Lists (order_of c.args.query)
-          (rows_of c.args.query (tables_of (state g.S.Store old).now.trees))) c.requires.ready (start clean)
+          (rows_of c.args.query (tables_of (state g.S.Store old).now.trees))) c.requires.ready.shown
+          (start clean)
           (selected _ _ _ _ known (state g.S.Store old) (state g.S.Store new)) c.query_all.result
           (shown_after g.S.Store old mid new sql text params (start clean) (plain (start clean)) it.1 it.0
           (λ v. v.items) c.query_all.result (c.query_all.ensures.ok clean));
@@ -71,7 +72,7 @@ returns-clause-answers g c =
           refused_given g.S.Store sql params old sure mid text it.0 it.1 c.prepare.ensures.survives
           (start clean) new c.query_all.result (c.query_all.ensures.err clean) live;
       reads = reads_prepared g.S.Store old mid new _ kept
-          (c.query_all.ensures.mode (c.prepare.ensures.mode c.requires.settled)) spared
+          (c.query_all.ensures.mode (c.prepare.ensures.mode c.requires.ready.settled)) spared
           c.prepare.ensures.survives c.query_all.ensures.survives;
     }
 
@@ -83,7 +84,7 @@ returns-clause-open g c clean =
     omega (arith, c.prepare.ensures.survives.clean, early) in
     let it = c.in_ok-statement.ensures.ok early in
     let sure = sure_here g.S.Store c.args.connection.now c.text.result.now (bound c.as_slice.result.now)
-    c.requires.ready (rw (c.as_slice.ensures, c.params.ensures) c.text.ensures.sure) in
+    c.requires.ready.shown (rw (c.as_slice.ensures, c.params.ensures) c.text.ensures.sure) in
     open_if (λ v. v.items) c.text.result.now _ (state g.S.Store c.args.connection.now)
     (state g.S.Store c.query_all.new.conn) c.query_all.result
     (shown_after g.S.Store c.args.connection.now c.prepare.new.self c.query_all.new.conn

@@ -15,14 +15,14 @@ returns-in_err-statement-clause-answers g c =
     let old = c.args.connection.now in
     let new = c.prepare.new.self in
     let kept : StaysShown g.S.Store old new = λ clean live.
-    (if_either g.S.Store old new (c.settled_and_sound.ensures.settled c.requires.settled)
+    (if_either g.S.Store old new (c.settled_and_sound.ensures.settled c.requires.ready.settled)
     live (unprepared _ _ _ _ _ (c.in_err-statement.ensures.err clean []))) in
     let reads : OnlyReads g.S.Store old new =
-    reads_unprepared g.S.Store old new kept (c.prepare.ensures.mode c.requires.settled)
+    reads_unprepared g.S.Store old new kept (c.prepare.ensures.mode c.requires.ready.settled)
     c.prepare.ensures.survives in
     let refused : HasCleanDisk (state g.S.Store new) → IsTrue (state g.S.Store new).is_open
     → IsRefusal g.S.Store old new c.in_err-statement.field-0.0 = λ clean live.
-    (refused_unprepared g.S.Store old new c.args.query.now [] c.requires.sure
+    (refused_unprepared g.S.Store old new c.args.query.now [] c.requires.ready.shown
     (omega (arith, c.prepare.ensures.survives.clean, clean)) _
     (c.in_err-statement.ensures.err clean []) live) in
     search (rules, reads, refused)
@@ -41,24 +41,24 @@ returns-clause-answers g c =
     let kept : StaysShown g.S.Store old new = λ clean live.
     (let it = c.in_ok-statement.ensures.ok (early clean) in
     kept_by_query g.S.Store old mid new sql text [] (start clean)
-    (λ live. sure_plain _ sql [] (c.requires.sure (start clean) live)) it.1 it.0
-    (c.settled_and_sound.ensures.settled c.requires.settled)
+    (λ live. sure_plain _ sql [] (c.requires.ready.shown (start clean) live)) it.1 it.0
+    (c.settled_and_sound.ensures.settled c.requires.ready.settled)
     (λ v. v.items) c.query_all.result (c.query_all.ensures.ok clean) (c.query_all.ensures.err clean) live) in
     let spared : Spares g.S.Store old new =
     spared_after g.S.Store old mid new sql text []
-    (λ whole live. sure_plain _ sql [] (c.requires.sure whole live))
+    (λ whole live. sure_plain _ sql [] (c.requires.ready.shown whole live))
     c.in_ok-statement.ensures.ok c.prepare.ensures.survives c.query_all.ensures.survives in record {
       value = λ clean.
           let it = c.in_ok-statement.ensures.ok (early clean) in
           shown_after g.S.Store old mid new sql text [] (start clean)
-          (λ live. sure_plain _ sql [] (c.requires.sure (start clean) live)) it.1 it.0
+          (λ live. sure_plain _ sql [] (c.requires.ready.shown (start clean) live)) it.1 it.0
           (λ v. v.items) c.query_all.result (c.query_all.ensures.ok clean);
       cause = λ clean live.
           let it = c.in_ok-statement.ensures.ok (early clean) in
-          refused_after g.S.Store old mid new sql text c.requires.sure (start clean) (early clean)
+          refused_after g.S.Store old mid new sql text c.requires.ready.shown (start clean) (early clean)
           it.1 it.0 c.prepare.ensures.survives c.query_all.result (c.query_all.ensures.err clean) live;
       reads = reads_prepared g.S.Store old mid new _ kept
-          (c.query_all.ensures.mode (c.prepare.ensures.mode c.requires.settled)) spared
+          (c.query_all.ensures.mode (c.prepare.ensures.mode c.requires.ready.settled)) spared
           c.prepare.ensures.survives c.query_all.ensures.survives;
     }
 

@@ -13,10 +13,12 @@ use Rattle.desk_sql.proofs.TakingLemmas.{if_handed}
 use Rattle.desk_sql.proofs.reading.taking.for_each_row.Goals as goal
 
 -- a desk's schema is the one that there is
-pub hand_rows-requires-clause-sure : goal.hand_rows-requires-clause-sure
-hand_rows-requires-clause-sure g c =
-    sure_here g.S.Store c.args.connection.now c.text.result.now (bound c.as_slice.result.now) c.requires.ready
-    (rw (c.as_slice.ensures, c.params.ensures) c.text.ensures.sure)
+pub hand_rows-requires-clause-ready : goal.hand_rows-requires-clause-ready
+hand_rows-requires-clause-ready g c = record {
+  settled = c.requires.ready.settled;
+  shown = sure_here g.S.Store c.args.connection.now c.text.result.now (bound c.as_slice.result.now)
+      c.requires.ready.shown (rw (c.as_slice.ensures, c.params.ensures) c.text.ensures.sure);
+}
 
 pub returns-clause-answers : goal.returns-clause-answers
 returns-clause-answers g c =
@@ -31,13 +33,13 @@ returns-clause-answers g c =
     let start : HasCleanDisk (state g.S.Store new) → HasCleanDisk (state g.S.Store old) = λ clean.
     omega (arith, clean, c.hand_rows.ensures.answers.reads.doubt) in record {
       value = λ clean. if_handed g.S.Store old new sql params IsDesk IsAnswer
-          (g.T.RowSink.has_taken c.hand_rows.new.taker) c.requires.ready (start clean)
+          (g.T.RowSink.has_taken c.hand_rows.new.taker) c.requires.ready.shown (start clean)
           (selected _ _ _ _ known (state g.S.Store old) (state g.S.Store new)) c.hand_rows.result
           (c.hand_rows.ensures.answers.value clean);
       cause = λ clean live. cut_short_of g.S.Store old new
           (Shown sql params (state g.S.Store old) (state g.S.Store new)) IsAnswer g.T.RowSink.refuses
           (λ rows shown. selected _ _ _ _ known (state g.S.Store old) (state g.S.Store new) rows
-          (c.requires.ready (start clean)
+          (c.requires.ready.shown (start clean)
           (was_open _ _ (state g.S.Store old) (state g.S.Store new) rows shown)) shown)
           c.hand_rows.result (c.hand_rows.ensures.answers.cause clean live);
       reads = c.hand_rows.ensures.answers.reads;

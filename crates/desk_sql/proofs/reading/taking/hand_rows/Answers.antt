@@ -20,14 +20,14 @@ returns-in_err-statement-clause-answers g c =
     let old = c.args.connection.now in
     let new = c.prepare.new.self in
     let kept : StaysShown g.S.Store old new = λ clean live.
-    (if_either g.S.Store old new (c.settled_and_sound.ensures.settled c.requires.settled)
+    (if_either g.S.Store old new (c.settled_and_sound.ensures.settled c.requires.ready.settled)
     live (unprepared _ _ _ _ _ (c.in_err-statement.ensures.err clean (bound c.args.params.now)))) in
     let reads : OnlyReads g.S.Store old new =
-    reads_unprepared g.S.Store old new kept (c.prepare.ensures.mode c.requires.settled)
+    reads_unprepared g.S.Store old new kept (c.prepare.ensures.mode c.requires.ready.settled)
     c.prepare.ensures.survives in
     let refused : HasCleanDisk (state g.S.Store new) → IsTrue (state g.S.Store new).is_open
     → IsRefusal g.S.Store old new c.in_err-statement.field-0.0 = λ clean live.
-    (refused_unprepared g.S.Store old new c.args.text.now (bound c.args.params.now) c.requires.sure
+    (refused_unprepared g.S.Store old new c.args.text.now (bound c.args.params.now) c.requires.ready.shown
     (omega (arith, c.prepare.ensures.survives.clean, clean)) _
     (c.in_err-statement.ensures.err clean (bound c.args.params.now)) live) in
     search (rules, reads, refused)
@@ -40,21 +40,21 @@ returns-in_err-rows-clause-answers g c =
     let sql = c.args.text.now in
     let text = c.in_ok-statement.statement.text in
     let params = bound c.args.params.now in
-    let settled = c.settled_and_sound.ensures.settled c.requires.settled in
+    let settled = c.settled_and_sound.ensures.settled c.requires.ready.settled in
     let begins = rw c.in_err-rows.was at c.query_prepared.follows.holds-at-none in
-    let plain = plain_if g.S.Store old sql params c.requires.sure in
+    let plain = plain_if g.S.Store old sql params c.requires.ready.shown in
     let kept : StaysShown g.S.Store old new = λ clean live.
     (kept_refused g.S.Store sql text params old mid plain c.in_ok-statement.ensures.ok
     c.prepare.ensures.survives new begins.survives clean settled live _ (begins.err clean)) in
     let reads : OnlyReads g.S.Store old new = reads_prepared g.S.Store old mid new _ kept
-    (begins.mode (c.prepare.ensures.mode c.requires.settled))
+    (begins.mode (c.prepare.ensures.mode c.requires.ready.settled))
     (spared_handed g.S.Store sql text params old mid plain c.in_ok-statement.ensures.ok
     c.prepare.ensures.survives new begins.survives) c.prepare.ensures.survives begins.survives in
     let refused : HasCleanDisk (state g.S.Store new) → IsTrue (state g.S.Store new).is_open
     → IsRefusal g.S.Store old new c.in_err-rows.field-0.0 = λ clean live.
     (let early : HasCleanDisk (state g.S.Store mid) = omega (arith, begins.survives.clean, clean) in
     let prepared = c.in_ok-statement.ensures.ok early in
-    refused_begun g.S.Store sql params old c.requires.sure mid text prepared.0 prepared.1
+    refused_begun g.S.Store sql params old c.requires.ready.shown mid text prepared.0 prepared.1
     c.prepare.ensures.survives (omega (arith, c.prepare.ensures.survives.clean, early)) new _
     (begins.err clean) live) in
     search (rules, reads, refused)
@@ -65,7 +65,7 @@ hand_all-requires g c clean =
     let sql = c.args.text.now in
     let params = bound c.args.params.now in
     (begun_after g.S.Store sql c.in_ok-statement.statement.text params old c.prepare.new.self
-    (plain_if g.S.Store old sql params c.requires.sure) c.in_ok-statement.ensures.ok
+    (plain_if g.S.Store old sql params c.requires.ready.shown) c.in_ok-statement.ensures.ok
     c.prepare.ensures.survives c.in_ok-rows.rows.conn.now clean c.in_ok-rows.ensures.survives
     (c.in_ok-rows.ensures.begun clean)).0.is_open
 
@@ -82,8 +82,8 @@ returns-clause-answers g c =
     let has = g.T.RowSink.has_taken c.hand_all.new.taker in
     let begins = c.in_ok-rows.ensures in
     let survives = begins.survives in
-    let settled = c.settled_and_sound.ensures.settled c.requires.settled in
-    let plain = plain_if g.S.Store old sql params c.requires.sure in
+    let settled = c.settled_and_sound.ensures.settled c.requires.ready.settled in
+    let plain = plain_if g.S.Store old sql params c.requires.ready.shown in
     let early : HasCleanDisk (state g.S.Store new) → HasCleanDisk (state g.S.Store first) = λ clean.
     omega (arith, clean, c.hand_all.ensures.handed.remembered.doubt) in
     let start : HasCleanDisk (state g.S.Store new) → HasCleanDisk (state g.S.Store old) = λ clean.
@@ -102,7 +102,7 @@ returns-clause-answers g c =
     let given = begun g.S.Store text params mid
     (plain_text g.S.Store sql text params old mid plain c.in_ok-statement.ensures.ok
     c.prepare.ensures.survives here) first (begins.begun (early clean)) in
-    cut_short g.S.Store sql params old c.requires.sure mid text prepared.0 prepared.1
+    cut_short g.S.Store sql params old c.requires.ready.shown mid text prepared.0 prepared.1
     c.prepare.ensures.survives (start clean) first new given.0 given.1 survives.counts survives.limit
     g.T.RowSink.refuses live (g.T.RowSink.has_taken c.args.taker.now) c.requires.fresh c.hand_all.result
     (c.hand_all.ensures.handed.cause clean)) in
@@ -115,7 +115,7 @@ returns-clause-answers g c =
     c.prepare.ensures.survives first survives in
     let reads : OnlyReads g.S.Store old new =
     reads_handed g.S.Store old mid first new _ kept
-    (c.hand_all.ensures.handed.mode (begins.mode (c.prepare.ensures.mode c.requires.settled))) spared
+    (c.hand_all.ensures.handed.mode (begins.mode (c.prepare.ensures.mode c.requires.ready.settled))) spared
     c.prepare.ensures.survives survives c.hand_all.ensures.handed.remembered in
     search (rules, value, cause, reads)
 
@@ -132,7 +132,7 @@ returns-clause-open g c =
     omega (arith, clean, c.hand_all.ensures.handed.remembered.doubt) in
     open_on c.hand_all.result (state g.S.Store old)
     (was_prepared g.S.Store sql c.in_ok-statement.statement.text params old c.prepare.new.self
-    (plain_if g.S.Store old sql params c.requires.sure) c.in_ok-statement.ensures.ok
+    (plain_if g.S.Store old sql params c.requires.ready.shown) c.in_ok-statement.ensures.ok
     c.prepare.ensures.survives first early c.in_ok-rows.ensures.survives
     (c.in_ok-rows.ensures.begun early))) in
     search rules
@@ -148,7 +148,7 @@ returns-clause-live g c =
     let params = bound c.args.params.now in
     let has = g.T.RowSink.has_taken c.hand_all.new.taker in
     let begins = c.in_ok-rows.ensures in
-    let plain = plain_if g.S.Store old sql params c.requires.sure in
+    let plain = plain_if g.S.Store old sql params c.requires.ready.shown in
     let it : OnOk c.hand_all.result (HasCleanDisk (state g.S.Store new)
     → IsTrue (state g.S.Store new).is_open) =
     live_handed g.S.Store old new sql params has c.hand_all.result (λ clean.

@@ -13,15 +13,19 @@ use Rattle.desk_sql.proofs.SchemaLemmas.{has_made}
 use Rattle.desk_sql.proofs.VolumeLemmas.{parts_listed}
 use Rattle.desk_sql.proofs.reading.volumes.volume_rows.Goals as goal
 
-pub hand_rows-requires-clause-sure : goal.hand_rows-requires-clause-sure
-hand_rows-requires-clause-sure g c clean live =
-    let packed = is_packed c.args.made in
-    let db = (state g.S.Store c.args.connection.now).now in
-    let there : has_table c.args.made (table_in whole.Volumes packed) ≡ true =
-    ap (has_table c.args.made) (sym (c.table.ensures ∙ ap (table_in whole.Volumes) c.is_packed.ensures))
-    ∙ sym c.has.ensures ∙ c.if-not-has.false in
-    (c.volumes_text.ensures packed).sure db
-    (has_made c.args.made (table_in whole.Volumes packed) db there (c.requires.part clean live).schema)
+pub hand_rows-requires-clause-ready : goal.hand_rows-requires-clause-ready
+hand_rows-requires-clause-ready g c = record {
+  settled = c.requires.ready.settled;
+  shown = λ clean live.
+      let packed = is_packed c.args.made in
+      let db = (state g.S.Store c.args.connection.now).now in
+      let there : has_table c.args.made (table_in whole.Volumes packed) ≡ true =
+      ap (has_table c.args.made) (sym (c.table.ensures ∙ ap (table_in whole.Volumes) c.is_packed.ensures))
+      ∙ sym c.has.ensures ∙ c.if-not-has.false in
+      (c.volumes_text.ensures packed).sure db
+      (has_made c.args.made (table_in whole.Volumes packed) db there
+      (c.requires.ready.shown clean live).schema);
+}
 
 pub returns-in-Ok-clause-answers : goal.returns-in-Ok-clause-answers
 returns-in-Ok-clause-answers g c =
@@ -36,7 +40,7 @@ returns-in-Ok-clause-answers g c =
     let start : HasCleanDisk (state g.S.Store new) → HasCleanDisk (state g.S.Store old) = λ clean.
     omega (arith, clean, c.in-Ok.ensures.answers.reads.doubt) in
     let holds : Holds g.S.Store old (HasTable table) = λ clean live.
-    has_made c.args.made table (state g.S.Store old).now there (c.requires.part clean live).schema in
+    has_made c.args.made table (state g.S.Store old).now there (c.requires.ready.shown clean live).schema in
     let are : HasCleanDisk (state g.S.Store new) → (rows : List Row)
     → Shown c.volumes_text.result.now [] (state g.S.Store old) (state g.S.Store new) rows
     → Lists (0 ∷ 1 ∷ 2 ∷ []) (map (columns 9) (trees (tree_of table))) rows = λ clean rows shown.

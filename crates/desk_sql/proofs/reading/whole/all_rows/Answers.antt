@@ -8,15 +8,21 @@ use Rattle.desk_sql.proofs.SchemaLemmas.{has_made}
 use Rattle.desk_sql.proofs.StatementLemmas.{if_read}
 use Rattle.desk_sql.proofs.reading.whole.all_rows.Goals as goal
 
-pub ask-requires-clause-sure : goal.ask-requires-clause-sure
-ask-requires-clause-sure g c clean live =
-    let packed = is_packed c.args.made in
-    let db = (state g.S.Store c.args.connection.now).now in
-    let there : has_table c.args.made (table_in c.args.whole packed) ≡ true =
-    ap (has_table c.args.made) (sym (c.table.ensures ∙ ap (table_in c.args.whole) c.is_packed.ensures))
-    ∙ sym c.has.ensures ∙ c.if-has.true in
-    (c.text.ensures packed).sure db
-    (has_made c.args.made (table_in c.args.whole packed) db there (c.requires.part clean live).schema)
+pub ask-requires : goal.ask-requires
+ask-requires g c = record {
+  ready = record {
+    settled = c.requires.ready.settled;
+    shown = λ clean live.
+        let packed = is_packed c.args.made in
+        let db = (state g.S.Store c.args.connection.now).now in
+        let there : has_table c.args.made (table_in c.args.whole packed) ≡ true =
+        ap (has_table c.args.made) (sym (c.table.ensures ∙ ap (table_in c.args.whole) c.is_packed.ensures))
+        ∙ sym c.has.ensures ∙ c.if-has.true in
+        (c.text.ensures packed).sure db
+        (has_made c.args.made (table_in c.args.whole packed) db there
+        (c.requires.ready.shown clean live).schema);
+  };
+}
 
 pub returns-then-has-clause-answers : goal.returns-then-has-clause-answers
 returns-then-has-clause-answers g c =
@@ -30,7 +36,7 @@ returns-then-has-clause-answers g c =
           (if_read g.S.Store c.args.connection.now c.ask.new.connection (λ v. v.items) _ _
           (Lists (key_cells (table_read c.args.whole))
           (rows_read c.args.whole (tables_in packed old.now.trees))) table
-          (λ clean live. has_made c.args.made table old.now there (c.requires.part clean live).schema)
+          (λ clean live. has_made c.args.made table old.now there (c.requires.ready.shown clean live).schema)
           (omega (arith, c.ask.ensures.answers.reads.doubt, clean))
           (λ rows has shown. all_selected _ _ _ _ (c.text.ensures packed)
           old (state g.S.Store c.ask.new.connection) rows has shown) c.ask.result

@@ -13,15 +13,19 @@ use Rattle.desk_sql.proofs.SchemaLemmas.{has_made}
 use Rattle.desk_sql.proofs.TakingLemmas.{if_handed}
 use Rattle.desk_sql.proofs.reading.whole.each_row.Goals as goal
 
-pub hand_rows-requires-clause-sure : goal.hand_rows-requires-clause-sure
-hand_rows-requires-clause-sure g c clean live =
-    let packed = is_packed c.args.made in
-    let db = (state g.S.Store c.args.connection.now).now in
-    let there : has_table c.args.made (table_in c.args.whole packed) ≡ true =
-    ap (has_table c.args.made) (sym (c.table.ensures ∙ ap (table_in c.args.whole) c.is_packed.ensures))
-    ∙ sym c.has.ensures ∙ c.if-has.true in
-    (c.text.ensures packed).sure db
-    (has_made c.args.made (table_in c.args.whole packed) db there (c.requires.part clean live).schema)
+pub hand_rows-requires-clause-ready : goal.hand_rows-requires-clause-ready
+hand_rows-requires-clause-ready g c = record {
+  settled = c.requires.ready.settled;
+  shown = λ clean live.
+      let packed = is_packed c.args.made in
+      let db = (state g.S.Store c.args.connection.now).now in
+      let there : has_table c.args.made (table_in c.args.whole packed) ≡ true =
+      ap (has_table c.args.made) (sym (c.table.ensures ∙ ap (table_in c.args.whole) c.is_packed.ensures))
+      ∙ sym c.has.ensures ∙ c.if-has.true in
+      (c.text.ensures packed).sure db
+      (has_made c.args.made (table_in c.args.whole packed) db there
+      (c.requires.ready.shown clean live).schema);
+}
 
 pub returns-then-has-clause-answers : goal.returns-then-has-clause-answers
 returns-then-has-clause-answers g c =
@@ -45,7 +49,8 @@ returns-then-has-clause-answers g c =
     (all_selected _ _ _ _ (c.text.ensures packed) (state g.S.Store old) (state g.S.Store new) rows has
     shown) in
     let holds : Holds g.S.Store old (HasTable table) = λ clean live.
-    has_made c.args.made table (state g.S.Store old).now there (c.requires.part clean live).schema in record {
+    has_made c.args.made table (state g.S.Store old).now there (c.requires.ready.shown clean live).schema in
+    record {
       value = λ clean. if_handed g.S.Store old new sql [] (HasTable table) IsAnswer
           (g.T.RowSink.has_taken c.hand_rows.new.taker) holds (start clean) are c.hand_rows.result
           (c.hand_rows.ensures.answers.value clean);
