@@ -66,7 +66,8 @@ returns-clause-made g c =
     let next = next_after g.S.Store old mid mid same reads c.args.next.world change c.requires in
     let first = some_first c.deref.result.now c.in-Some.head.now c.in-Some.ensures.value in
     made_after g.S.Store old mid (record { held = new; world = c.follow.new.kept.world }) same reads
-    c.follow.result change (followed g.S.Store mid.held new mid.world c.follow.new.kept.world c.args.next.world tt change
+    c.follow.result change
+    (followed g.S.Store mid.held new mid.world c.follow.new.kept.world c.args.next.world tt change
     c.close_plan-committed.result c.follow.result
     (made_closed g.S.Store mid.held new mid.world c.self.invariant _ operator id priority aircraft rows
     first.0 c.in-Some.head.now (parsed_id c.encode-text.result.now id c.encode-text.ensures.parsed)

@@ -3,7 +3,7 @@ use Rattle.desk_tables.proofs.ListingLemmas.{none_stored, plan_stored, none_firs
 use Rattle.desk_tables.specs.Causes.{BlamesStore}
 use Rattle.desk_tables.specs.Lookups.{own_of}
 use Rattle.desk_tables.specs.Tables.{volume_rows}
-use Rattle.desk_tables.proofs.CauseLemmas.{blamed_since, plan_reads}
+use Rattle.desk_tables.proofs.CauseLemmas.{plan_reads}
 use Rattle.desk_tables.proofs.FrameLemmas.{reads_then}
 use Rattle.desk_tables.proofs.UnreadLemmas.{no_value, on_err}
 use Rattle.desk_tables.proofs.tables.DeskTables.plan.Goals as goal
@@ -14,8 +14,8 @@ returns-in_default g c =
     record {
       value = λ clean.
           let none = none_first c.deref.result.now c.in_default.ensures.value in
-          none_stored c.args.operator.now c.args.id.now c.args.self.now.world c.in_ok-head_rows.head_rows.items
-          (read.value clean).1 (sym c.deref.ensures.value ∙ none);
+          none_stored c.args.operator.now c.args.id.now c.args.self.now.world
+          c.in_ok-head_rows.head_rows.items (read.value clean).1 (sym c.deref.ensures.value ∙ none);
       cause = tt;
       same = read.same;
       reads = read.reads;
@@ -44,36 +44,6 @@ returns g c =
     }
 
 -- the rows of a stored plan are read
-pub returns-in_err-head_rows : goal.returns-in_err-head_rows
-returns-in_err-head_rows g c =
-    let read = c.in_err-head_rows.ensures in
-    record {
-      value = λ clean.
-          no_value _ c.from_residual.result c.in_err-head_rows.field-0.0 c.from_residual.ensures.1;
-      cause = on_err c.from_residual.result c.in_err-head_rows.field-0.0
-          (BlamesStore g.S.Store c.args.self.now.held c.head_rows.new.self.held) c.from_residual.ensures.1
-          read.cause;
-      same = read.same;
-      reads = read.reads;
-    }
-
-pub returns-in_err-rows : goal.returns-in_err-rows
-returns-in_err-rows g c =
-    let read = c.in_ok-head_rows.ensures in
-    let also = c.in_err-rows.ensures in
-    record {
-      value = λ clean.
-          no_value _ c.from_residual-in_err-rows.result c.in_err-rows.field-0.0
-          c.from_residual-in_err-rows.ensures.1;
-      cause = on_err c.from_residual-in_err-rows.result c.in_err-rows.field-0.0
-          (BlamesStore g.S.Store c.args.self.now.held c.volumes.new.self.held)
-          c.from_residual-in_err-rows.ensures.1
-          (blamed_since g.S.Store c.args.self.now.held c.head_rows.new.self.held c.volumes.new.self.held
-          c.in_err-rows.field-0.0 read.reads.faults also.cause);
-      same = also.same ∙ read.same;
-      reads = reads_then g.S.Store _ _ _ read.reads also.reads;
-    }
-
 pub returns-in_err-plan_of_rows : goal.returns-in_err-plan_of_rows
 returns-in_err-plan_of_rows g c =
     let operator = c.args.operator.now in

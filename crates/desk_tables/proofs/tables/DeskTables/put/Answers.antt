@@ -70,8 +70,8 @@ returns-clause-made g c =
     let volumes = map volume_row_in c.deref-3.result.now in
     let covers = map cover_of c.deref-3.result.now in
     let spans = map span_row_in c.deref-4.result.now in
-    rw (← c.self.view_is) (followed g.S.Store old new w c.follow.new.kept.world c.args.next.world c.lengths_with-after.result change
-    c.put_plan-committed.result c.follow.result
+    rw (← c.self.view_is) (followed g.S.Store old new w c.follow.new.kept.world c.args.next.world
+    c.lengths_with-after.result change c.put_plan-committed.result c.follow.result
     (made_put g.S.Store old new w c.self.invariant _ operator row text volumes covers spans
     c.encode-id.ensures.text
     (ap (map volume_row_in) c.deref-3.ensures.value ∙ c.in_ok-volumes.ensures.volumes
