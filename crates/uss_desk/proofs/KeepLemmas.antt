@@ -14,6 +14,7 @@ use Rattle.sqlite.specs.Held.{Held}
 use Rattle.desk_store.specs.World.{World}
 use Rattle.desk_ends.specs.Writing.{BreaksOff}
 use Rattle.desk_ends.specs.declared.writing.Cut.{Cut}
+use Rattle.desk_wire.specs.Passage.{course}
 use Rattle.desk_line.specs.Exits.{Ending, FailsWith}
 use Rattle.desk_program.specs.declared.looking.CheckedFile.{CheckedFile}
 use Rattle.desk_tables.specs.Copying.{AreHoldingsOf, IsMadeIn, LooksIn}
@@ -29,17 +30,18 @@ use Rattle.desk_tables.specs.declared.opening.files.FilesFault.{FilesFault}
 use Rattle.uss_desk.specs.declared.opening.Unopened.{Unopened}
 use Rattle.uss_desk.specs.FilesTold.{CopyEnd, FailsAtFiles, FailsBy, FailsToCopy, FailsToLook, FailsToRead, IsCopyMade, IsNamedIf, IsReadAs, IsUncopied, IsUntold, Tells, TellsHoldings}
 use Rattle.std.specs.Result.{IsErrAnd}
-use Rattle.uss_desk.specs.Naming.{IsUnnamed, Step, free_steps}
+use Rattle.uss_desk.specs.Naming.{IsUnnamed, Steps, free_steps}
 use Rattle.uss_desk.specs.OpenedFor.{open_failure}
 use Rattle.desk_tables.specs.Copying.{AreNotCopied, AreNotRead}
 use Rattle.uss_desk.proofs.RunLemmas.{fails_over}
 
 -- nothing is told
-pub tells_nothing : (now : Option (List ℕ)) → Tells now now
+pub tells_nothing : (now : Option (List ℕ)) → Tells (course now now)
 tells_nothing now = record { text = []; told = Appends-nil now }
 
 -- one text after the other
-pub tells_both : {old between now : Option (List ℕ)} → Tells old between → Tells between now → Tells old now
+pub tells_both : {old between now : Option (List ℕ)} → Tells (course old between)
+    → Tells (course between now) → Tells (course old now)
 tells_both {old} {between} {now} first next = record {
   text = first.text ++ next.text;
   told = Appends-trans old between now first.text next.text first.told next.told;
@@ -48,7 +50,7 @@ tells_both {old} {between} {now} first next = record {
 -- a line that is written, or broken off
 pub tells_written : {U E : Type 0} (line : List ℕ) (old now : Option (List ℕ)) (done : Result U (Cut E))
     → OnOk done (Appends old now line) → IfErr done (λ cut. BreaksOff line old now cut.fault)
-    → Tells old now
+    → Tells (course old now)
 tells_written line old now (Ok u) whole off = record { text = line; told = whole }
 tells_written line old now (Err cut) whole off =
     record { text = take cut.fault.sent line; told = off.written }
@@ -73,8 +75,8 @@ module _ {D : Type 0} {g : disk.Ghosts D} (image : Image) (database : Database)
   where
     -- a failure is told after its cause, and nothing is printed
     pub untold : (end : Ending) (between out : Option (List ℕ)) → FailsToLook image database it
-        → Tells end.before between → FailsWith it.failure (record end { before = between })
-        → IsUntold image database end it out out
+        → Tells (course end.before between) → FailsWith it.failure (record end { before = between })
+        → IsUntold image database end it (course out out)
     untold end between out look cause fails = record {
       look = look;
       told = record { between = between; cause = cause; fails = fails };
@@ -95,12 +97,12 @@ module _ {D E : Type 0} {g : disk.Ghosts D} {k : disk.Ghosts E} (image other : I
   fails_closing store unclosed made left =
       inr (record { held = store.held; failure = refl; made = made; left = left })
 
-  pub uncopied : (database : Database) (old new : Option (List Step)) (end : Ending)
-      (it : CopyEnd g k) (between out : Option (List ℕ))
-      → FailsToCopy {g = g} {k = k} image other database old new it → Tells end.before between
-      → FailsWith it.failure (record end { before = between })
-      → IsUncopied {g = g} {k = k} image other database old new end it out out
-  uncopied database old new end it between out why cause fails = record {
+  pub uncopied : (database : Database) (steps : Steps) (end : Ending) (it : CopyEnd g k)
+      (between out : Option (List ℕ)) → FailsToCopy {g = g} {k = k} image other database steps it
+      → Tells (course end.before between) → FailsWith it.failure (record end { before = between })
+      → IsUncopied {g = g} {k = k} image other database
+      (record { steps = steps; writes = course out out; end = end }) it
+  uncopied database steps end it between out why cause fails = record {
     why = why;
     told = record { between = between; cause = cause; fails = fails };
     unprinted = refl;
@@ -108,18 +110,18 @@ module _ {D E : Type 0} {g : disk.Ghosts D} {k : disk.Ghosts E} (image other : I
 
 -- what the files refused is told on
 pub copy_fails : {D E V : Type 0} {g : disk.Ghosts D} {k : disk.Ghosts E} (image other : Image)
-    (database : Database) (old new : Option (List Step)) (r : Result V (CopyEnd g k)) (it : CopyEnd g k)
+    (database : Database) (steps : Steps) (r : Result V (CopyEnd g k)) (it : CopyEnd g k)
     → IsErrAnd r (λ e. e ≡ it) → FailsAtFiles image other it
-    → IfErr r (FailsToCopy image other database old new)
-copy_fails image other database old new (Ok v) it is fails = tt
-copy_fails image other database old new (Err e) it is fails =
-    subst (FailsToCopy image other database old new) (sym is) (inr (inr (inr fails)))
+    → IfErr r (FailsToCopy image other database steps)
+copy_fails image other database steps (Ok v) it is fails = tt
+copy_fails image other database steps (Err e) it is fails =
+    subst (FailsToCopy image other database steps) (sym is) (inr (inr (inr fails)))
 
 -- what failed got no name
-pub named_if : {A B : Type 0} (P : B → Type 0) (to : List ℕ) (old new : Option (List Step)) (r : Result A B)
-    → IsErrAnd r P → IsUnnamed (free_steps to) to old new → IsNamedIf r to old new
-named_if P to old new (Ok v) is unnamed = absurd is
-named_if P to old new (Err e) is unnamed = unnamed
+pub named_if : {A B : Type 0} (P : B → Type 0) (to : List ℕ) (steps : Steps) (r : Result A B)
+    → IsErrAnd r P → IsUnnamed (free_steps to) to steps → IsNamedIf r to steps
+named_if P to steps (Ok v) is unnamed = absurd is
+named_if P to steps (Err e) is unnamed = unnamed
 
 -- what was read is told as it was counted
 pub read_as : {D : Type 0} {g : disk.Ghosts D} (image : Image) (left : Held (FileStore D g))

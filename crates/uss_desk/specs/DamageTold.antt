@@ -4,6 +4,7 @@ use Rattle.std.specs.Prelude.{Option, None, Some, IfSome, Result, Ok, Err}
 use Rattle.std.specs.Io.KnownBytes.{Appends}
 use Rattle.desk_ends.specs.Writing.{BreaksOff}
 use Rattle.desk_ends.specs.declared.writing.Cut.{Cut}
+use Rattle.desk_wire.specs.Passage.{Course}
 use Rattle.desk_line.specs.declared.failure.Failure.{Failure}
 use Rattle.desk_line.specs.declared.failure.Failure.TheVariants as failure
 use Rattle.desk_line.specs.declared.line.KeeperLine.{KeeperLine}
@@ -21,32 +22,32 @@ damage_line path frame commits =
     ++ (decimal commits ++ codes " commits from there on can't be read\n")))))
 
 -- a line is written, whole or up to the write that broke off
-abbrev pub IsWrittenUpTo : {E : Type 0} → List ℕ → Option (Cut E) → Option (List ℕ) → Option (List ℕ) → Type 0
-IsWrittenUpTo line None out now = Appends out now line
-IsWrittenUpTo line (Some cut) out now = BreaksOff line out now cut.fault
+abbrev pub IsWrittenUpTo : {E : Type 0} → List ℕ → Option (Cut E) → Course (Option (List ℕ)) → Type 0
+IsWrittenUpTo line None writes = Appends writes.before writes.after line
+IsWrittenUpTo line (Some cut) writes = BreaksOff line writes.before writes.after cut.fault
 
 -- a log is damaged, and that is told, up to the write that broke off
-pub record IsLossTold {E : Type 0} (path log : List ℕ) (cut : Option (Cut E)) (out now : Option (List ℕ)) :
-    Type 0 where
+pub record IsLossTold {E : Type 0} (path log : List ℕ) (cut : Option (Cut E))
+    (writes : Course (Option (List ℕ))) : Type 0 where
   pub frame : ℕ
   pub commits : ℕ
   pub damaged : IsDamaged log frame commits
-  pub told : IsWrittenUpTo (damage_line path frame commits) cut out now
+  pub told : IsWrittenUpTo (damage_line path frame commits) cut writes
 
 -- a log is not damaged, and nothing is told
-abbrev pub IsUndamaged : List ℕ → Option (List ℕ) → Option (List ℕ) → Type 0
-IsUndamaged log out now = ((frame commits : ℕ) → ¬ IsDamaged log frame commits) × (now ≡ out)
+abbrev pub IsUndamaged : List ℕ → Course (Option (List ℕ)) → Type 0
+IsUndamaged log writes =
+    ((frame commits : ℕ) → ¬ IsDamaged log frame commits) × (writes.after ≡ writes.before)
 
 -- A file with this log is admitted if the log is not damaged, or if the file is copied: then the loss is
 -- told. It is refused if the log is damaged and the file is not copied. If nothing is known of the log,
 -- nothing is told.
 abbrev pub IsLookedAt :
-    {E : Type 0} → Bool → List ℕ → List ℕ → Result (Look E) Unlooked → Option (List ℕ) → Option (List ℕ)
-    → Type 0
-IsLookedAt copied path log (Ok look) out now =
-    ((look.is_admitted ≡ true) × (look.is_damaged ≡ false) × IsUndamaged log out now)
-    ⊎ ((look.is_admitted ≡ copied) × (look.is_damaged ≡ true) × IsLossTold path log look.cut out now)
-IsLookedAt copied path log (Err it) out now = now ≡ out
+    {E : Type 0} → Bool → List ℕ → List ℕ → Result (Look E) Unlooked → Course (Option (List ℕ)) → Type 0
+IsLookedAt copied path log (Ok look) writes =
+    ((look.is_admitted ≡ true) × (look.is_damaged ≡ false) × IsUndamaged log writes)
+    ⊎ ((look.is_admitted ≡ copied) × (look.is_damaged ≡ true) × IsLossTold path log look.cut writes)
+IsLookedAt copied path log (Err it) writes = writes.after ≡ writes.before
 
 -- why nothing is known of a log: memory ran out for the line that tells its damage, or it can't be read
 abbrev pub HasUnlookedCause : Option (List ℕ) → Unlooked → Type 0

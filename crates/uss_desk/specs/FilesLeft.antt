@@ -1,5 +1,6 @@
 -- FilesLeft: what is left of a desk's files once its line has ended.
 use Rattle.std.specs.Prelude.{◌≡◌, ◌≢◌, ◌⊎◌, ℕ, Bool, true, false, Option, None, Some, Result, Ok, Err, IfOk, IfErr}
+use Rattle.std.specs.Option.{IsSomeAnd}
 use Rattle.sqlite_disk.specs.declared.Disk as disk
 use Rattle.sqlite_wal.specs.Reads.{AreClean}
 use Rattle.sqlite_store.specs.declared.store.FileStore.{FileStore}
@@ -33,7 +34,7 @@ module _ {D : Type 0} {g : disk.Ghosts D} where
   abbrev pub IsClosed :
       Option (Parts (Shown (FileStore D g))) → ℕ → Ending → Option (Closed D g) → Type 0
   IsClosed None status end closed = EndsAsItWas status end × (closed ≡ None)
-  IsClosed (Some desk) status end None = ⊥
-  IsClosed (Some desk) status end (Some closed) = IsEnded closed.files closed.are_at_paths status end
+  IsClosed (Some desk) status end closed = IsSomeAnd closed (λ closed.
+      IsEnded closed.files closed.are_at_paths status end
       × IfOk closed.files (λ files. AreClean g files.log files.db → IsCopied desk.store.held files)
-      × IfErr closed.files (IsLeftUnclosed desk.store.held)
+      × IfErr closed.files (IsLeftUnclosed desk.store.held))

@@ -1,5 +1,5 @@
 -- FilesTold: what a keeper is told of a file, and what is copied of it.
-use Rattle.std.specs.Prelude.{◌≡◌, ⊤, ℕ, List, length, Option, Result, Ok, Err, ◌⊎◌, None}
+use Rattle.std.specs.Prelude.{◌≡◌, ℕ, List, length, Option, Result, Ok, Err, IsErr, ◌⊎◌, None}
 use Rattle.std.specs.Option.{IsSomeAnd}
 use Rattle.std.specs.Io.KnownBytes.{Appends}
 use Rattle.sqlite_disk.specs.declared.Disk as disk
@@ -11,6 +11,7 @@ use Rattle.sqlite.specs.Closing.{IsCopied as IsClosedInto}
 use Rattle.sqlite.specs.Files.{over_files}
 use Rattle.sqlite.specs.Held.{Held}
 use Rattle.desk_store.specs.World.{World}
+use Rattle.desk_wire.specs.Passage.{Course, course}
 use Rattle.desk_line.specs.declared.failure.Failure.{Failure}
 use Rattle.desk_line.specs.declared.failure.Failure.TheVariants as failure
 use Rattle.desk_line.specs.declared.line.Database.{Database}
@@ -31,24 +32,24 @@ use Rattle.uss_desk.specs.declared.keeping.Uncopied.{Uncopied}
 use Rattle.uss_desk.specs.declared.opening.Unopened.{Unopened}
 use Rattle.uss_desk.specs.declared.opening.Opened.{Opened}
 use Rattle.uss_desk.specs.declared.opening.Opened.TheVariants as opened
-use Rattle.uss_desk.specs.Naming.{IsNamed, IsUnnamed, Step, free_steps, HasFailedStep}
+use Rattle.uss_desk.specs.KeeperOutside.{KeeperOutside}
+use Rattle.uss_desk.specs.Naming.{HasFailedStep, IsNamed, IsUnnamed, Steps, free_steps}
 use Rattle.uss_desk.specs.OpenedFor.{open_failure, FailsOver, IsInMemory, IsUnreadFor}
 
 -- files were refused over which a line was to be carried out, or from which plans were to be moved
 abbrev pub AreFilesRefused : {M D U : Type 0} → Opened M (Result D U) → Type 0
 AreFilesRefused (opened.Memory desk) = ⊥
-AreFilesRefused (opened.Files (Ok desk)) = ⊥
-AreFilesRefused (opened.Files (Err unread)) = ⊤
+AreFilesRefused (opened.Files desk) = IsErr desk
 
 -- some text is told, of which nothing is said, and nothing else
-pub record Tells (old new : Option (List ℕ)) : Type 0 where
+pub record Tells (writes : Course (Option (List ℕ))) : Type 0 where
   pub text : List ℕ
-  pub told : Appends old new text
+  pub told : Appends writes.before writes.after text
 
 -- why is told, and then the line of the failure, with which it ends
 pub record FailsTelling (f : Failure) (end : Ending) : Type 0 where
   pub between : Option (List ℕ)
-  pub cause : Tells end.before between
+  pub cause : Tells (course end.before between)
   pub fails : FailsWith f (record end { before = between })
 
 -- the numbers of operators, plans and rows of spans are those of the content
@@ -78,24 +79,23 @@ module _ {D : Type 0} {g : disk.Ghosts D} (image : Image) where
 
   -- a failure is told, and nothing is printed
   pub record IsUntold (database : Database) (end : Ending) (it : Unopened D g)
-      (out now : Option (List ℕ)) : Type 0 where
+      (writes : Course (Option (List ℕ))) : Type 0 where
     pub look : FailsToLook database it
     pub told : FailsTelling it.failure end
-    pub unprinted : now ≡ out
+    pub unprinted : writes.after ≡ writes.before
 
   -- what they hold is told
-  pub record IsFileTold (end : Ending) (left : Held (FileStore D g)) (out now : Option (List ℕ)) : Type
-      0 where
+  pub record IsFileTold (end : Ending) (left : Held (FileStore D g)) (writes : Course (Option (List ℕ)))
+      : Type 0 where
     pub file : CheckedFile
     pub read : IsReadAs left file
-    pub printed : IsTextPrinted (checked_line file) end out now
+    pub printed : IsTextPrinted (checked_line file) end writes.before writes.after
 
   -- what they hold is told, or a failure is
   abbrev pub IsChecked :
-      Database → Ending → Result (Held (FileStore D g)) (Unopened D g) → Option (List ℕ)
-      → Option (List ℕ) → Type 0
-  IsChecked database end (Ok left) out now = IsFileTold end left out now
-  IsChecked database end (Err it) out now = IsUntold database end it out now
+      Database → Ending → Result (Held (FileStore D g)) (Unopened D g) → Course (Option (List ℕ)) → Type 0
+  IsChecked database end (Ok left) writes = IsFileTold end left writes
+  IsChecked database end (Err it) writes = IsUntold database end it writes
 
 -- ---- a copy
 
@@ -137,17 +137,16 @@ module _ {D E : Type 0} {g : disk.Ghosts D} {k : disk.Ghosts E} (image other : I
   FailsAtFiles it = FailsRefused it ⊎ FailsUnclosed it
 
   -- a database in memory is not copied; memory ran out; a step of its folders failed; or the files refuse it
-  abbrev pub FailsToCopy : Database → Option (List Step) → Option (List Step) → CopyEnd g k → Type 0
-  FailsToCopy database old new it = (IsInMemory database × FailsUntried failure.Store it)
+  abbrev pub FailsToCopy : Database → Steps → CopyEnd g k → Type 0
+  FailsToCopy database steps it = (IsInMemory database × FailsUntried failure.Store it)
       ⊎ (FailsUntried failure.Memory it
-      ⊎ ((HasFailedStep old new × FailsUntried failure.Store it) ⊎ FailsAtFiles it))
+      ⊎ ((HasFailedStep steps × FailsUntried failure.Store it) ⊎ FailsAtFiles it))
 
   -- a failure is told, and nothing is printed
-  pub record IsUncopied (database : Database) (old new : Option (List Step)) (end : Ending)
-      (it : CopyEnd g k) (out now : Option (List ℕ)) : Type 0 where
-    pub why : FailsToCopy database old new it
-    pub told : FailsTelling it.failure end
-    pub unprinted : now ≡ out
+  pub record IsUncopied (database : Database) (o : KeeperOutside) (it : CopyEnd g k) : Type 0 where
+    pub why : FailsToCopy database o.steps it
+    pub told : FailsTelling it.failure o.end
+    pub unprinted : o.writes.after ≡ o.writes.before
 
 module _ {D E : Type 0} {g : disk.Ghosts D} (k : disk.Ghosts E) (image other : Image) where
   -- a connection to files that held this leaves them, and new files, whose log is empty, have their content:
@@ -161,18 +160,19 @@ module _ {D E : Type 0} {g : disk.Ghosts D} (k : disk.Ghosts E) (image other : I
     pub settled : IsSettledAt over_files held w
     pub closed : AreClean k copies.1.0.log copies.1.0.db → IsClosedInto held copies.1.0
 
+-- the connection to files that were copied, the new files and what was counted; or why they were not copied
+abbrev pub CopyOutcome : {D E : Type 0} → disk.Ghosts D → disk.Ghosts E → Type 0
+CopyOutcome {D} {E} g k = Result (Held (FileStore D g) × (Files E × Holdings)) (CopyEnd g k)
+
+module _ {D E : Type 0} {g : disk.Ghosts D} {k : disk.Ghosts E} (image other : Image) where
   -- how much was copied is told; or a failure is
-  abbrev pub IsCopied :
-      Database → Option (List Step) → Option (List Step) → Ending
-      → Result (Held (FileStore D g) × (Files E × Holdings)) (CopyEnd g k) → Option (List ℕ) → Option (List ℕ)
-      → Type 0
-  IsCopied database old new end (Ok copies) out now =
-      IsCopyMade copies × IsTextPrinted (copied_line copies.1.1.operators copies.1.1.plans) end out now
-  IsCopied database old new end (Err it) out now = IsUncopied image other database old new end it out now
+  abbrev pub IsCopied : Database → KeeperOutside → CopyOutcome g k → Type 0
+  IsCopied database o (Ok copies) = IsCopyMade k image other copies
+      × IsTextPrinted (copied_line copies.1.1.operators copies.1.1.plans) o.end o.writes.before o.writes.after
+  IsCopied database o (Err it) = IsUncopied image other database o it
 
 -- what is copied has got its name, and there was nothing at its names; or no file got a name, or the file got
 -- its own, whole, and its folder can't be synced
-abbrev pub IsNamedIf :
-    {A B : Type 0} → Result A B → List ℕ → Option (List Step) → Option (List Step) → Type 0
-IsNamedIf (Ok copies) to old new = IsNamed to old new
-IsNamedIf (Err it) to old new = IsUnnamed (free_steps to) to old new
+abbrev pub IsNamedIf : {A B : Type 0} → Result A B → List ℕ → Steps → Type 0
+IsNamedIf (Ok copies) to steps = IsNamed to steps
+IsNamedIf (Err it) to steps = IsUnnamed (free_steps to) to steps

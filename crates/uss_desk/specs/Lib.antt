@@ -9,6 +9,7 @@ pub mod RecordedPlays
 pub mod Watching
 pub mod FilesLeft
 pub mod Naming
+pub mod KeeperOutside
 pub mod FilesTold
 pub mod DamageTold
 pub mod Sums

@@ -1,5 +1,7 @@
 -- Naming: what is asked of the folders of a new file, so that it gets its name.
 use Rattle.std.specs.Prelude.{◌≡◌, ◌⊎◌, ⊤, ℕ, Bool, true, false, List, [], ◌∷◌, ◌++◌, All, codes, Option, None, Some, string_bytes}
+use Rattle.desk_wire.specs.Passage.{Course}
+use Rattle.desk_program.specs.Serving.{Grows}
 use Rattle.uss_desk.specs.declared.naming.Names.{Names}
 
 -- a step: a path is looked at, and there is nothing; what a copy that was cut off left at two paths, a file
@@ -18,21 +20,23 @@ pub data Step : Type 0 where
   Ordered : List ℕ → Step
   Failed : Step
 
+-- the steps that are known before something is done, and after it
+abbrev pub Steps : Type 0
+Steps = Course (Option (List Step))
+
 -- known steps are followed by these
-abbrev pub Follows : Option (List Step) → Option (List Step) → List Step → Type 0
-Follows None new more = ⊤
-Follows (Some old) None more = ⊥
-Follows (Some old) (Some new) more = new ≡ old ++ more
+abbrev pub Follows : Steps → List Step → Type 0
+Follows steps more = Grows steps.before steps.after more
 
 -- a step is made, or fails
-abbrev pub Takes : Option (List Step) → Option (List Step) → Bool → Step → Type 0
-Takes old new true step = Follows old new (step ∷ [])
-Takes old new false step = Follows old new (Failed ∷ [])
+abbrev pub Takes : Steps → Bool → Step → Type 0
+Takes steps true step = Follows steps (step ∷ [])
+Takes steps false step = Follows steps (Failed ∷ [])
 
 -- a step is made, or fails with a cause
-abbrev pub TakesIfNone : {X : Type 0} → Option (List Step) → Option (List Step) → Option X → Step → Type 0
-TakesIfNone old new None step = Follows old new (step ∷ [])
-TakesIfNone old new (Some cause) step = Follows old new (Failed ∷ [])
+abbrev pub TakesIfNone : {X : Type 0} → Steps → Option X → Step → Type 0
+TakesIfNone steps None step = Follows steps (step ∷ [])
+TakesIfNone steps (Some cause) step = Follows steps (Failed ∷ [])
 
 -- the name of the log of a file, and that which a new file has first
 abbrev pub log_of : List ℕ → List ℕ
@@ -70,10 +74,10 @@ GivesNoName (Renamed from to) = ⊥
 GivesNoName _ = ⊤
 
 -- steps are made by which no file gets a name
-pub record LeavesNames (old new : Option (List Step)) : Type 0 where
-  pub steps : List Step
-  pub made : Follows old new steps
-  pub unnamed : All GivesNoName steps
+pub record LeavesNames (steps : Steps) : Type 0 where
+  pub more : List Step
+  pub made : Follows steps more
+  pub unnamed : All GivesNoName more
 
 -- a step that changes nothing but what a copy left under the names that a new file has first
 abbrev pub ClearsOwn : List ℕ → Step → Type 0
@@ -93,42 +97,42 @@ ChangesOwn to Failed = ⊤
 ChangesOwn to _ = ⊥
 
 -- steps of which each is so
-pub record TakesAll (Is : Step → Type 0) (old new : Option (List Step)) : Type 0 where
-  pub steps : List Step
-  pub made : Follows old new steps
-  pub each : All Is steps
+pub record TakesAll (Is : Step → Type 0) (steps : Steps) : Type 0 where
+  pub more : List Step
+  pub made : Follows steps more
+  pub each : All Is more
 
 -- once nothing was found at the names of a new file, it alone is changed
-pub record ChangesFound (to : List ℕ) (old new : Option (List Step)) : Type 0 where
+pub record ChangesFound (to : List ℕ) (steps : Steps) : Type 0 where
   pub rest : List Step
-  pub made : Follows old new (free_steps to ++ rest)
+  pub made : Follows steps (free_steps to ++ rest)
   pub own : All (ChangesOwn to) rest
 
 -- no file is changed at whose name something was found, but what a copy left: that alone is gone, or the new
 -- file is changed too, once nothing was found at its names
-abbrev pub LeavesOthers : List ℕ → Option (List Step) → Option (List Step) → Type 0
-LeavesOthers to old new = TakesAll (ClearsOwn to) old new ⊎ ChangesFound to old new
+abbrev pub LeavesOthers : List ℕ → Steps → Type 0
+LeavesOthers to steps = TakesAll (ClearsOwn to) steps ⊎ ChangesFound to steps
 
 -- so, and no file gets a name
-abbrev pub GivesUp : List ℕ → Option (List Step) → Option (List Step) → Type 0
+abbrev pub GivesUp : List ℕ → Steps → Type 0
 GivesUp to = TakesAll (λ step. ChangesOwn to step × GivesNoName step)
 
 -- one of the steps failed
-pub record HasFailedStep (old new : Option (List Step)) : Type 0 where
+pub record HasFailedStep (steps : Steps) : Type 0 where
   pub before : List Step
   pub after : List Step
-  pub made : Follows old new (before ++ Failed ∷ after)
+  pub made : Follows steps (before ++ Failed ∷ after)
 
 -- a step failed, after steps that changed nothing but what a copy left
-pub record IsNotFree (to : List ℕ) (old new : Option (List Step)) : Type 0 where
+pub record IsNotFree (to : List ℕ) (steps : Steps) : Type 0 where
   pub before : List Step
-  pub made : Follows old new (before ++ Failed ∷ [])
+  pub made : Follows steps (before ++ Failed ∷ [])
   pub looks : All (ClearsOwn to) before
 
 -- no file gets a name; or, after these steps, the file gets its own, and its folder can't be synced
-abbrev pub IsUnnamed : List Step → List ℕ → Option (List Step) → Option (List Step) → Type 0
-IsUnnamed first to old new = LeavesNames old new ⊎ Follows old new (first ++ named_steps to Failed)
+abbrev pub IsUnnamed : List Step → List ℕ → Steps → Type 0
+IsUnnamed first to steps = LeavesNames steps ⊎ Follows steps (first ++ named_steps to Failed)
 
 -- there was nothing at any of the names, and the file gets its own, and its folder is synced
-abbrev pub IsNamed : List ℕ → Option (List Step) → Option (List Step) → Type 0
-IsNamed to old new = Follows old new (free_steps to ++ named_steps to (Synced to))
+abbrev pub IsNamed : List ℕ → Steps → Type 0
+IsNamed to steps = Follows steps (free_steps to ++ named_steps to (Synced to))

@@ -1,7 +1,7 @@
 -- Orders: the order in which a file lists its tables and indexes. They are rows of a table whose root is the
 -- file's first page, in the order of their rowids (the SQLite file format, sections 1.6, 2.1 and 2.6); the
 -- desk finds the rows of a table by the rowid under which it is listed.
-use Rattle.std.specs.Prelude.{ℕ, zero, suc, ◌+◌, ◌-◌, ◌*◌, ◌/◌, ◌==◌, nat_lt, nat_le, ◌&&◌, not, Bool, true, false, if◌then◌else◌, List, [], ◌∷◌, ◌++◌, take, drop, length, codes, slice_index_or, slice_set, Option, None, Some, option_map, option_and_then, unwrap_or}
+use Rattle.std.specs.Prelude.{ℕ, zero, suc, ◌+◌, ◌-◌, ◌*◌, ◌/◌, ◌==◌, ◌≤◌, nat_lt, nat_le, ◌&&◌, not, Bool, true, false, if◌then◌else◌, List, [], ◌∷◌, ◌++◌, take, drop, length, codes, slice_index_or, slice_set, Option, None, Some, option_map, option_and_then, unwrap_or}
 use Rattle.std.specs.Str.{bytes_eq}
 use Rattle.uss_desk.specs.Sums.{summed_file}
 
@@ -28,6 +28,11 @@ abbrev pub order_text : List ℕ
 order_text = codes "its tables stand in another order than a desk's: copy makes a desk of it"
 
 -- ---- the rows of a page
+
+-- a file's first page: it has room for a desk's tables and indexes, and no page is longer
+pub record IsFirstPage (page : List ℕ) : Type 0 where
+  pub room : 136 ≤ length page
+  pub fits : length page ≤ 65536
 
 abbrev pub byte : List ℕ → ℕ → ℕ
 byte page at = slice_index_or page at 0

@@ -1,10 +1,12 @@
 -- Reordering: the file that a line opens is put in a desk's own order, once its twin was read as a desk's.
-use Rattle.std.specs.Prelude.{◌≡◌, ◌⊎◌, ⊤, Bool, true, false, List, ℕ, [], ◌∷◌, codes}
+use Rattle.std.specs.Prelude.{◌≡◌, ⊤, Bool, true, false, List, ℕ, [], ◌∷◌, codes}
 use Rattle.std.specs.Prelude.{Option, None, Some, Result, Ok, Err}
+use Rattle.std.specs.Result.{IsErrAnd}
 use Rattle.sqlite_disk.specs.declared.Disk as disk
 use Rattle.sqlite_wal.specs.Recovery.{Image}
 use Rattle.sqlite_store.specs.declared.store.FileStore.{FileStore}
 use Rattle.sqlite.specs.Held.{Held}
+use Rattle.desk_wire.specs.Passage.{Course, course}
 use Rattle.desk_line.specs.declared.failure.Failure.{Failure}
 use Rattle.desk_line.specs.declared.failure.Failure.TheVariants as failure
 use Rattle.desk_line.specs.Exits.{IsLineBreakdown}
@@ -13,7 +15,7 @@ use Rattle.uss_desk.specs.declared.opening.Unopened.{Unopened}
 use Rattle.uss_desk.specs.declared.ways.Way.{Way}
 use Rattle.uss_desk.specs.declared.ways.Way.TheVariants as way
 use Rattle.uss_desk.specs.FilesTold.{FailsToRead, IsReadAs, Tells}
-use Rattle.uss_desk.specs.Naming.{Failed, Follows, Ordered, Step}
+use Rattle.uss_desk.specs.Naming.{Failed, Follows, Ordered, Step, Steps}
 use Rattle.uss_desk.specs.Twins.{AreRemoved, IsUntwinned, IsWrittenIfRoom, line_of, making, twin_of}
 
 -- what is told of a file that is put in order
@@ -21,16 +23,14 @@ abbrev pub reordered_text : List ℕ
 reordered_text = codes "its tables are put in a desk's own order"
 
 -- a file is put in order, or that can't be done
-abbrev pub IsOrderedOr :
-    List ℕ → Result ⊤ Failure → Option (List Step) → Option (List Step) → Type 0
-IsOrderedOr path (Ok done) old new = Follows old new (Ordered path ∷ [])
-IsOrderedOr path (Err f) old new = (f ≡ failure.Store) × Follows old new (Failed ∷ [])
+abbrev pub IsOrderedOr : List ℕ → Result ⊤ Failure → Steps → Type 0
+IsOrderedOr path (Ok done) steps = Follows steps (Ordered path ∷ [])
+IsOrderedOr path (Err f) steps = (f ≡ failure.Store) × Follows steps (Failed ∷ [])
 
 -- so, if its twin was admitted; else nothing is asked of it, and this is the failure
-abbrev pub IsOrderedIf :
-    List ℕ → Result ⊤ Failure → Result ⊤ Failure → Option (List Step) → Option (List Step) → Type 0
-IsOrderedIf path (Ok it) done old new = IsOrderedOr path done old new
-IsOrderedIf path (Err f) done old new = (done ≡ Err f) × (new ≡ old)
+abbrev pub IsOrderedIf : List ℕ → Result ⊤ Failure → Result ⊤ Failure → Steps → Type 0
+IsOrderedIf path (Ok it) done steps = IsOrderedOr path done steps
+IsOrderedIf path (Err f) done steps = (done ≡ Err f) × (steps.after ≡ steps.before)
 
 module _ {D : Type 0} {g : disk.Ghosts D} (image : Image) (takes : Bool) where
   -- a twin was read as a desk's that the line takes
@@ -52,47 +52,40 @@ module _ {D : Type 0} {g : disk.Ghosts D} (image : Image) (takes : Bool) where
       Result ⊤ Failure → Result (Held (FileStore D g)) (Unopened D g) → Type 0
   IsAdmitted (Ok it) (Ok left) = IsTaken left
   IsAdmitted (Err f) (Ok left) = IsTooOld left f
-  IsAdmitted (Ok it) (Err unread) = ⊥
-  IsAdmitted (Err f) (Err unread) = FailsToRead image unread × (f ≡ unread.failure)
+  IsAdmitted admitted (Err unread) = FailsToRead image unread × (admitted ≡ Err unread.failure)
 
 module _ {D : Type 0} {g : disk.Ghosts D} (image : Image) (path : List ℕ) (takes : Bool) where
   -- a twin is admitted or not, and is removed; then the file is put in order, if it was
   pub record IsOrderedByTwin (done : Result ⊤ Failure)
-      (judged : Result (Held (FileStore D g)) (Unopened D g))
-      (old new : Option (List Step)) : Type 0 where
+      (judged : Result (Held (FileStore D g)) (Unopened D g)) (steps : Steps) : Type 0 where
     pub admitted : Result ⊤ Failure
     pub between : Option (List Step)
     pub is : IsAdmitted image takes admitted judged
-    pub removed : AreRemoved (twin_of path) old between
-    pub ordered : IsOrderedIf path admitted done between new
+    pub removed : AreRemoved (twin_of path) (course steps.before between)
+    pub ordered : IsOrderedIf path admitted done (course between steps.after)
 
   -- so, once it was made of the file
   pub record WasJudged (done : Result ⊤ Failure)
-      (judged : Result (Held (FileStore D g)) (Unopened D g))
-      (old new : Option (List Step)) : Type 0 where
+      (judged : Result (Held (FileStore D g)) (Unopened D g)) (steps : Steps) : Type 0 where
     pub from : Option (List Step)
-    pub made : Follows old from (making path (twin_of path) true)
-    pub ordered : IsOrderedByTwin done judged from new
+    pub made : Follows (course steps.before from) (making path (twin_of path) true)
+    pub ordered : IsOrderedByTwin done judged (course from steps.after)
 
   -- what is done of a disordered file: so, or there is no twin
   abbrev pub IsReordered :
-      Result ⊤ Failure → Option (Result (Held (FileStore D g)) (Unopened D g))
-      → Option (List Step) → Option (List Step) → Type 0
-  IsReordered done (Some judged) old new = WasJudged done judged old new
-  IsReordered (Ok done) None old new = ⊥
-  IsReordered (Err f) None old new = IsLineBreakdown f × IsUntwinned (twin_of path) old new f
+      Result ⊤ Failure → Option (Result (Held (FileStore D g)) (Unopened D g)) → Steps → Type 0
+  IsReordered done (Some judged) steps = WasJudged done judged steps
+  IsReordered done None steps = IsErrAnd done (λ f. IsLineBreakdown f × IsUntwinned (twin_of path) steps f)
 
   -- nothing is done of any other
   abbrev pub IsLeftAlone :
-      Result ⊤ Failure → Option (Result (Held (FileStore D g)) (Unopened D g))
-      → Option (List Step) → Option (List Step) → Type 0
-  IsLeftAlone done judged old new = (done ≡ Ok tt) × (judged ≡ None) × (new ≡ old)
+      Result ⊤ Failure → Option (Result (Held (FileStore D g)) (Unopened D g)) → Steps → Type 0
+  IsLeftAlone done judged steps = (done ≡ Ok tt) × (judged ≡ None) × (steps.after ≡ steps.before)
 
   abbrev pub IsReorderedIf :
-      Way → Result ⊤ Failure → Option (Result (Held (FileStore D g)) (Unopened D g))
-      → Option (List Step) → Option (List Step) → Type 0
-  IsReorderedIf way.Disordered done judged old new = IsReordered done judged old new
-  IsReorderedIf _ done judged old new = IsLeftAlone done judged old new
+      Way → Result ⊤ Failure → Option (Result (Held (FileStore D g)) (Unopened D g)) → Steps → Type 0
+  IsReorderedIf way.Disordered done judged steps = IsReordered done judged steps
+  IsReorderedIf _ done judged steps = IsLeftAlone done judged steps
 
 -- the line that tells that a file was put in order
 abbrev pub reordered_line : List ℕ → List ℕ
@@ -100,7 +93,7 @@ reordered_line path = line_of path reordered_text
 
 -- of a file that was put in order that is told, of one that is left nothing, and else why
 abbrev pub IsReorderTold :
-    {X : Type 0} → List ℕ → Result ⊤ Failure → Option X → Option (List ℕ) → Option (List ℕ) → Type 0
-IsReorderTold path (Ok done) None out now = now ≡ out
-IsReorderTold path (Ok done) (Some judged) out now = IsWrittenIfRoom (reordered_line path) out now
-IsReorderTold path (Err f) judged out now = Tells out now
+    {X : Type 0} → List ℕ → Result ⊤ Failure → Option X → Course (Option (List ℕ)) → Type 0
+IsReorderTold path (Ok done) None writes = writes.after ≡ writes.before
+IsReorderTold path (Ok done) (Some judged) writes = IsWrittenIfRoom (reordered_line path) writes
+IsReorderTold path (Err f) judged writes = Tells writes

@@ -1,29 +1,31 @@
 -- Twins: files that are read by a copy beside them, which is removed afterwards.
-use Rattle.std.specs.Prelude.{◌≡◌, ◌≢◌, ◌⊎◌, ℕ, Bool, true, List, [], ◌∷◌, ◌++◌, codes, decimal, string_bytes}
+use Rattle.std.specs.Prelude.{◌≡◌, ◌≢◌, ◌⊎◌, ℕ, Bool, List, [], ◌∷◌, ◌++◌, codes, decimal, string_bytes}
 use Rattle.std.specs.Prelude.{MatchOption, Option, None, Some, Result, Ok, Err}
 use Rattle.std.specs.Io.KnownBytes.{Appends}
 use Rattle.sqlite_disk.specs.declared.Disk as disk
-use Rattle.sqlite_disk.specs.declared.Files.{Files}
 use Rattle.sqlite_wal.specs.Recovery.{Image}
 use Rattle.sqlite_store.specs.declared.store.FileStore.{FileStore}
 use Rattle.sqlite.specs.Held.{Held}
 use Rattle.desk_ends.specs.Writing.{BreaksOff}
 use Rattle.desk_ends.specs.declared.writing.WriteFault.{WriteFault}
+use Rattle.desk_wire.specs.Passage.{Course, course}
 use Rattle.desk_line.specs.declared.failure.Failure.{Failure}
 use Rattle.desk_line.specs.declared.failure.Failure.TheVariants as failure
+use Rattle.desk_line.specs.declared.line.Copying.{Copying as CopyWords}
 use Rattle.desk_line.specs.declared.line.Database.{Database}
 use Rattle.desk_line.specs.Exits.{Ending, FailsWith, IsLineBreakdown}
+use Rattle.desk_line.specs.Lines.{file_of}
 use Rattle.desk_program.specs.Looking.{IsTextPrinted, checked_line}
 use Rattle.desk_program.specs.declared.looking.CheckedFile.{CheckedFile}
-use Rattle.desk_tables.specs.declared.opening.looking.Holdings.{Holdings}
 use Rattle.uss_desk.specs.declared.opening.Unopened.{Unopened}
 use Rattle.uss_desk.specs.declared.twins.Rows.{Rows}
 use Rattle.uss_desk.specs.declared.twins.Rows.TheVariants as rows
 use Rattle.uss_desk.specs.declared.twins.Twin.{Twin}
 use Rattle.uss_desk.specs.declared.ways.Way.{Way}
 use Rattle.uss_desk.specs.declared.ways.Way.TheVariants as way
-use Rattle.uss_desk.specs.FilesTold.{CopyEnd, FailsTelling, FailsToRead, IsCopied, IsNamedIf, IsReadAs}
-use Rattle.uss_desk.specs.Naming.{Cleared, Failed, Follows, LeavesOthers, Removed, Step, Takes, Twinned, log_of}
+use Rattle.uss_desk.specs.FilesTold.{CopyOutcome, FailsTelling, FailsToRead, IsCopied, IsNamedIf, IsReadAs}
+use Rattle.uss_desk.specs.KeeperOutside.{KeeperOutside}
+use Rattle.uss_desk.specs.Naming.{Cleared, Failed, Follows, LeavesOthers, Removed, Step, Steps, Takes, Twinned, log_of}
 use Rattle.uss_desk.specs.OpenedFor.{IsInMemory}
 use Rattle.uss_desk.specs.Orders.{order_text}
 use Rattle.uss_desk.specs.Ways.{is_mended, untested}
@@ -44,27 +46,27 @@ abbrev pub making : List ℕ → List ℕ → Bool → List Step
 making source twin mended = Cleared twin (log_of twin) ∷ Twinned source twin mended ∷ []
 
 -- a step is made, or fails
-pub record IsAsked (step : Step) (old new : Option (List Step)) : Type 0 where
+pub record IsAsked (step : Step) (steps : Steps) : Type 0 where
   pub is_done : Bool
-  pub made : Takes old new is_done step
+  pub made : Takes steps is_done step
 
 -- a twin and its log are removed, as far as they can be
-pub record AreRemoved (twin : List ℕ) (old new : Option (List Step)) : Type 0 where
+pub record AreRemoved (twin : List ℕ) (steps : Steps) : Type 0 where
   pub between : Option (List Step)
-  pub file : IsAsked (Removed twin) old between
-  pub log : IsAsked (Removed (log_of twin)) between new
+  pub file : IsAsked (Removed twin) (course steps.before between)
+  pub log : IsAsked (Removed (log_of twin)) (course between steps.after)
 
 -- the making of a twin broke off, and what there was of it is removed
-pub record IsMakingBrokenOff (twin : List ℕ) (old new : Option (List Step)) : Type 0 where
+pub record IsMakingBrokenOff (twin : List ℕ) (steps : Steps) : Type 0 where
   pub between : Option (List Step)
-  pub made : Follows old between (Cleared twin (log_of twin) ∷ Failed ∷ [])
-  pub removed : AreRemoved twin between new
+  pub made : Follows (course steps.before between) (Cleared twin (log_of twin) ∷ Failed ∷ [])
+  pub removed : AreRemoved twin (course between steps.after)
 
 -- there is no twin, with this failure: memory ran out, and nothing was done; what is at its name can't be
 -- removed; or its making broke off
-abbrev pub IsUntwinned : List ℕ → Option (List Step) → Option (List Step) → Failure → Type 0
-IsUntwinned twin old new f = ((f ≡ failure.Memory) × (new ≡ old))
-    ⊎ (Follows old new (Failed ∷ []) ⊎ IsMakingBrokenOff twin old new)
+abbrev pub IsUntwinned : List ℕ → Steps → Failure → Type 0
+IsUntwinned twin steps f = ((f ≡ failure.Memory) × (steps.after ≡ steps.before))
+    ⊎ (Follows steps (Failed ∷ []) ⊎ IsMakingBrokenOff twin steps)
 
 -- ---- what is told
 
@@ -97,28 +99,28 @@ taken_line path (way.Unsummed pages) = Some (rows_line path pages rows.OfADesk)
 taken_line path way.Disordered = Some (order_line path)
 
 -- a line is written, whole or up to the write that broke off; or memory ran out for it
-abbrev pub IsWrittenIfRoom : List ℕ → Option (List ℕ) → Option (List ℕ) → Type 0
-IsWrittenIfRoom line out now =
-    (now ≡ out) ⊎ Appends out now line ⊎ ((fault : WriteFault) × BreaksOff line out now fault)
+abbrev pub IsWrittenIfRoom : List ℕ → Course (Option (List ℕ)) → Type 0
+IsWrittenIfRoom line writes =
+    (writes.after ≡ writes.before) ⊎ Appends writes.before writes.after line
+    ⊎ ((fault : WriteFault) × BreaksOff line writes.before writes.after fault)
 
 -- so, if there is a line
-abbrev pub IsNotedIf : Option (List ℕ) → Option (List ℕ) → Option (List ℕ) → Type 0
-IsNotedIf None out now = now ≡ out
-IsNotedIf (Some line) out now = IsWrittenIfRoom line out now
+abbrev pub IsNotedIf : Option (List ℕ) → Course (Option (List ℕ)) → Type 0
+IsNotedIf None writes = writes.after ≡ writes.before
+IsNotedIf (Some line) writes = IsWrittenIfRoom line writes
 
 -- there is no twin, which is told, and nothing is printed
-pub record FailsUntwinned (twin : List ℕ) (old new : Option (List Step)) (end : Ending)
-    (out now : Option (List ℕ)) : Type 0 where
+pub record FailsUntwinned (twin : List ℕ) (o : KeeperOutside) : Type 0 where
   pub failure : Failure
   pub is : IsLineBreakdown failure
-  pub untwinned : IsUntwinned twin old new failure
-  pub told : FailsTelling failure end
-  pub unprinted : now ≡ out
+  pub untwinned : IsUntwinned twin o.steps failure
+  pub told : FailsTelling failure o.end
+  pub unprinted : o.writes.after ≡ o.writes.before
 
 -- the rows of a file are no desk's, which is told
 pub record FailsNoted (path : List ℕ) (pages : ℕ) (end : Ending) : Type 0 where
   pub between : Option (List ℕ)
-  pub noted : IsWrittenIfRoom (rows_line path pages rows.OfNoDesk) end.before between
+  pub noted : IsWrittenIfRoom (rows_line path pages rows.OfNoDesk) (course end.before between)
   pub fails : FailsWith failure.Store (record end { before = between })
 
 -- by why they could not be read: want of memory says nothing of them
@@ -135,76 +137,75 @@ IsTwinRefused path way.Disordered f end = FailsTelling f end
 
 -- ---- a look
 
-module _ {D : Type 0} {g : disk.Ghosts D} (image : Image) (path : List ℕ) (way : Way) (end : Ending) where
+module _ {D : Type 0} {g : disk.Ghosts D} (image : Image) (path : List ℕ) (way : Way) where
   -- the rows of a file are a desk's, and what is told of its way is told, and what they are
-  pub record IsTakenByRows (left : Held (FileStore D g)) (out now : Option (List ℕ)) : Type 0 where
+  pub record IsTakenByRows (left : Held (FileStore D g)) (end : Ending) (writes : Course (Option (List ℕ)))
+      : Type 0 where
     pub between : Option (List ℕ)
     pub file : CheckedFile
-    pub noted : IsNotedIf (taken_line path way) end.before between
+    pub noted : IsNotedIf (taken_line path way) (course end.before between)
     pub read : IsReadAs image left file
-    pub printed : IsTextPrinted (checked_line file) (record end { before = between }) out now
+    pub printed : IsTextPrinted (checked_line file) (record end { before = between })
+        writes.before writes.after
 
   -- they can't be read as a desk's, and nothing is printed
-  pub record IsRefusedByRows (it : Unopened D g) (out now : Option (List ℕ)) : Type 0 where
+  pub record IsRefusedByRows (it : Unopened D g) (end : Ending) (writes : Course (Option (List ℕ)))
+      : Type 0 where
     pub look : FailsToRead image it
     pub told : IsTwinRefused path way it.failure end
-    pub unprinted : now ≡ out
+    pub unprinted : writes.after ≡ writes.before
 
   -- the one or the other, by what the twin showed
   abbrev pub IsJudged :
-      Result (Held (FileStore D g)) (Unopened D g) → Option (List ℕ) → Option (List ℕ) → Type 0
-  IsJudged (Ok left) out now = IsTakenByRows left out now
-  IsJudged (Err it) out now = IsRefusedByRows it out now
+      Result (Held (FileStore D g)) (Unopened D g) → Ending → Course (Option (List ℕ)) → Type 0
+  IsJudged (Ok left) end writes = IsTakenByRows left end writes
+  IsJudged (Err it) end writes = IsRefusedByRows it end writes
 
-  abbrev pub IsJudgedIf :
-      Option (Result (Held (FileStore D g)) (Unopened D g)) → Option (List Step)
-      → Option (List Step) → Option (List ℕ) → Option (List ℕ) → Type 0
-  IsJudgedIf None old new out now = FailsUntwinned (twin_of path) old new end out now
-  IsJudgedIf (Some judged) old new out now = IsJudged judged out now
+  abbrev pub IsJudgedIf : Option (Result (Held (FileStore D g)) (Unopened D g)) → KeeperOutside → Type 0
+  IsJudgedIf None o = FailsUntwinned (twin_of path) o
+  IsJudgedIf (Some judged) o = IsJudged judged o.end o.writes
 
 -- a twin is made of a file, and removed once it was read
-pub record WasTwin (source twin : List ℕ) (mended : Bool) (old new : Option (List Step)) : Type 0 where
+pub record WasTwin (source twin : List ℕ) (mended : Bool) (steps : Steps) : Type 0 where
   pub from : Option (List Step)
-  pub made : Follows old from (making source twin mended)
-  pub removed : AreRemoved twin from new
+  pub made : Follows (course steps.before from) (making source twin mended)
+  pub removed : AreRemoved twin (course from steps.after)
 
 -- ---- a copy
 
 -- that the sums were not tested is told, if the copy of such a file was made
-abbrev pub IsTestTold : List ℕ → Way → ℕ → Option (List ℕ) → Option (List ℕ) → Type 0
-IsTestTold path way status out now = MatchOption (untested way status) (now ≡ out)
-    (λ pages. IsWrittenIfRoom (rows_line path pages rows.TestedAlone) out now)
+abbrev pub IsTestTold : List ℕ → Way → ℕ → Course (Option (List ℕ)) → Type 0
+IsTestTold path way status writes = MatchOption (untested way status) (writes.after ≡ writes.before)
+    (λ pages. IsWrittenIfRoom (rows_line path pages rows.TestedAlone) writes)
 
 -- a database in memory has no file
-pub record HasNoFile (database : Database) (end : Ending) (old new : Option (List Step))
-    (out now : Option (List ℕ)) : Type 0 where
+pub record HasNoFile (database : Database) (o : KeeperOutside) : Type 0 where
   pub is : IsInMemory database
-  pub fails : FailsWith failure.Store end
-  pub undone : new ≡ old
-  pub unprinted : now ≡ out
+  pub fails : FailsWith failure.Store o.end
+  pub undone : o.steps.after ≡ o.steps.before
+  pub unprinted : o.writes.after ≡ o.writes.before
 
-module _ {D E : Type 0} {g : disk.Ghosts D} (k : disk.Ghosts E) (image other : Image) where
-  -- a twin is made of a file; it is copied, as a file is; and it is removed
-  pub record IsCopiedByTwin (source to : List ℕ) (way : Way) (database : Database) (end : Ending)
-      (copied : Result (Held (FileStore D g) × (Files E × Holdings)) (CopyEnd g k))
-      (old new : Option (List Step)) (out now : Option (List ℕ)) : Type 0 where
-    pub from : Option (List Step)
-    pub until : Option (List Step)
-    pub told : Option (List ℕ)
-    pub made : Follows old from (making source (twin_of to) (is_mended way))
-    pub copies : IsCopied k image other database from until (record end { now = told }) copied out now
-    pub named : IsNamedIf copied to from until
-    pub own : LeavesOthers to from until
-    pub removed : AreRemoved (twin_of to) until new
-    pub noted : IsTestTold source way end.status told end.now
+module _ {D E : Type 0} {g : disk.Ghosts D} {k : disk.Ghosts E} (image other : Image) (words : CopyWords)
+    (way : Way)
+  where
+    -- a twin is made of the file that the words name; it is copied, as a file is; and it is removed
+    pub record IsCopiedByTwin (copied : CopyOutcome g k) (o : KeeperOutside) : Type 0 where
+      pub source : List ℕ
+      pub from : Option (List Step)
+      pub until : Option (List Step)
+      pub told : Option (List ℕ)
+      pub file : file_of words.database ≡ Some source
+      pub made : Follows (course o.steps.before from)
+          (making source (twin_of (string_bytes words.to)) (is_mended way))
+      pub copies : IsCopied image other words.database
+          (record o { steps = course from until; end = record o.end { now = told } }) copied
+      pub named : IsNamedIf copied (string_bytes words.to) (course from until)
+      pub own : LeavesOthers (string_bytes words.to) (course from until)
+      pub removed : AreRemoved (twin_of (string_bytes words.to)) (course until o.steps.after)
+      pub noted : IsTestTold source way o.end.status (course told o.end.now)
 
-  -- so; or there is no twin, or no file, which is told, and nothing is printed or copied
-  abbrev pub IsCopiedByTwinIf :
-      Option (List ℕ) → List ℕ → Way → Database → Ending
-      → Option (Result (Held (FileStore D g) × (Files E × Holdings)) (CopyEnd g k))
-      → Option (List Step) → Option (List Step) → Option (List ℕ) → Option (List ℕ) → Type 0
-  IsCopiedByTwinIf source to way database end None old new out now =
-      FailsUntwinned (twin_of to) old new end out now ⊎ HasNoFile database end old new out now
-  IsCopiedByTwinIf None to way database end (Some copied) old new out now = ⊥
-  IsCopiedByTwinIf (Some source) to way database end (Some copied) old new out now =
-      IsCopiedByTwin source to way database end copied old new out now
+    -- so; or there is no twin, or no file, which is told, and nothing is printed or copied
+    abbrev pub IsCopiedByTwinIf : Option (CopyOutcome g k) → KeeperOutside → Type 0
+    IsCopiedByTwinIf None o =
+        FailsUntwinned (twin_of (string_bytes words.to)) o ⊎ HasNoFile words.database o
+    IsCopiedByTwinIf (Some copied) o = IsCopiedByTwin copied o

@@ -1,30 +1,26 @@
 -- Watching: what is asked of the paths of a desk's files before a change is made.
-use Rattle.std.specs.Prelude.{◌≡◌, ◌⊎◌, ⊤, ℕ, Bool, true, false, List, [], ◌∷◌, ◌++◌, Option, None, Some, Result, Err}
+use Rattle.std.specs.Prelude.{◌≡◌, ◌⊎◌, ℕ, Bool, true, false, List, [], ◌∷◌, Option, Result, Err}
 use Rattle.desk_store.specs.declared.fault.StoreFault.{StoreFault}
 use Rattle.desk_store.specs.declared.fault.StoreFault.TheVariants.{Store}
+use Rattle.desk_wire.specs.Passage.{Course}
+use Rattle.desk_program.specs.Serving.{Grows}
 
 -- a look at a path: whether that of the database file, or that of its log, leads to the file that is open
 pub data Look : Type 0 where
   File : Bool → Look
   Log : Bool → Look
 
--- known looks are followed by these
-abbrev pub FollowsLooks : Option (List Look) → Option (List Look) → List Look → Type 0
-FollowsLooks None new more = ⊤
-FollowsLooks (Some old) None more = ⊥
-FollowsLooks (Some old) (Some new) more = new ≡ old ++ more
-
 -- both paths are looked at, and lead to the files; or one of them doesn't, and no more is looked at
-abbrev pub AreAtPaths : Option (List Look) → Option (List Look) → Bool → Type 0
-AreAtPaths old new true = FollowsLooks old new (File true ∷ Log true ∷ [])
-AreAtPaths old new false =
-    FollowsLooks old new (File false ∷ []) ⊎ FollowsLooks old new (File true ∷ Log false ∷ [])
+abbrev pub AreAtPaths : Course (Option (List Look)) → Bool → Type 0
+AreAtPaths looks true = Grows looks.before looks.after (File true ∷ Log true ∷ [])
+AreAtPaths looks false = Grows looks.before looks.after (File false ∷ [])
+    ⊎ Grows looks.before looks.after (File true ∷ Log false ∷ [])
 
 -- the paths are looked at first; if one doesn't lead to its file, the store has failed, and is as it was;
 -- else no change more was refused for that
-pub record IsWatched {S U : Type 0} (from to : Option (List Look)) (before after : ℕ) (old new : S)
-    (r : Result U StoreFault) : Type 0 where
+pub record IsWatched {S U : Type 0} (looks : Course (Option (List Look))) (refused : Course ℕ)
+    (store : Course S) (r : Result U StoreFault) : Type 0 where
   pub are_there : Bool
-  pub looked : AreAtPaths from to are_there
-  pub untouched : are_there ≡ false → (new ≡ old) × (r ≡ Err Store)
-  pub unrefused : are_there ≡ true → after ≡ before
+  pub looked : AreAtPaths looks are_there
+  pub untouched : are_there ≡ false → (store.after ≡ store.before) × (r ≡ Err Store)
+  pub unrefused : are_there ≡ true → refused.after ≡ refused.before

@@ -2,7 +2,9 @@
 //! something is told, and not what.
 
 ghost use Rattle.std.specs.Prelude.{◌≡◌, [], ◌∷◌, IfSome, None};
+ghost use Rattle.desk_program.specs.Outside.{bytes_written};
 ghost use Rattle.uss_desk.specs.FilesTold.{AreFilesRefused, Tells};
+ghost use Rattle.uss_desk.specs.KeeperOutside.{steps_of};
 ghost use Rattle.uss_desk.specs.Naming.{Follows, Free, LeavesNames, TakesIfNone};
 
 use crate::naming::{Folder, IN_USE, LocalFolder, READ_ONLY, TAKEN, is_no_path};
@@ -40,7 +42,7 @@ pub fn tell_refusal<F: Start, N: Paths + Drop, E: Write>(
     opened: &OpenedDesk<F, N>,
     errors: &mut E,
 )
-    ensures tells { Tells (E.contents errors.old) (E.contents errors.new) }
+    ensures tells { Tells (bytes_written E.Write errors.old errors.new) }
     ensures silent { ¬ (AreFilesRefused opened.now) → E.contents errors.new ≡ E.contents errors.old }
 {
     match refusal_of(opened) {
@@ -62,7 +64,7 @@ fn refusal_of<F: Start, N: Paths + Drop>(opened: &OpenedDesk<F, N>) -> Option<Fa
 // Tells why a database can't be opened by a line that makes its file where there is none.
 #[tactic(auto, using(crate::proofs::KeepLemmas::tells_nothing))]
 fn tell_made<E: Write>(rt: &HostRuntime, database: &Database, failure: Failure, errors: &mut E)
-    ensures { Tells (E.contents errors.old) (E.contents errors.new) }
+    ensures { Tells (bytes_written E.Write errors.old errors.new) }
 {
     match (database, failure) {
         (Database::File(path), Failure::Store) => {
@@ -80,7 +82,7 @@ pub fn tell_database<E: Write>(
     failure: Failure,
     errors: &mut E,
 )
-    ensures { Tells (E.contents errors.old) (E.contents errors.new) }
+    ensures { Tells (bytes_written E.Write errors.old errors.new) }
 {
     match database {
         Database::File(path) => tell(rt, path, path, failure, errors),
@@ -91,7 +93,7 @@ pub fn tell_database<E: Write>(
 /// Tells which word of a line is malformed: `uss_desk: WORD: CAUSE`. A fault of the writer is passed over.
 #[tactic(auto, using(crate::proofs::KeepLemmas::tells_nothing))]
 pub fn tell_malformed<E: Write>(alloc: Global, words: &[String], errors: &mut E)
-    ensures { Tells (E.contents errors.old) (E.contents errors.new) }
+    ensures { Tells (bytes_written E.Write errors.old errors.new) }
 {
     if let Some((word, cause)) = malformed_word(alloc, words) {
         tell_of(alloc, word, cause, errors);
@@ -102,7 +104,7 @@ pub fn tell_malformed<E: Write>(alloc: Global, words: &[String], errors: &mut E)
 /// over.
 #[tactic(auto, using(crate::proofs::KeepLemmas::tells_nothing))]
 pub fn tell<E: Write>(rt: &HostRuntime, path: &str, name: &str, failure: Failure, errors: &mut E)
-    ensures { Tells (E.contents errors.old) (E.contents errors.new) }
+    ensures { Tells (bytes_written E.Write errors.old errors.new) }
 {
     let cause = match failure {
         Failure::Store => return tell_store(rt, path, name, store_cause(rt, path), errors),
@@ -116,7 +118,7 @@ pub fn tell<E: Write>(rt: &HostRuntime, path: &str, name: &str, failure: Failure
 // Tells why SQLite refuses the file at a path: of one that is damaged, how many pages, if their sums tell.
 #[tactic(auto, using(crate::proofs::KeepLemmas::tells_nothing))]
 fn tell_store<E: Write>(rt: &HostRuntime, path: &str, name: &str, cause: &str, errors: &mut E)
-    ensures { Tells (E.contents errors.old) (E.contents errors.new) }
+    ensures { Tells (bytes_written E.Write errors.old errors.new) }
 {
     match pages_of(rt, path, cause) {
         Some(count) => tell_pages(rt.alloc(), name, count, errors),
@@ -135,7 +137,7 @@ fn pages_of(rt: &HostRuntime, path: &str, cause: &str) -> Option<u64> {
 // Tells that so many pages have another sum than theirs.
 #[tactic(auto, using(crate::proofs::KeepLemmas::tells_nothing))]
 fn tell_pages<E: Write>(alloc: Global, path: &str, count: u64, errors: &mut E)
-    ensures { Tells (E.contents errors.old) (E.contents errors.new) }
+    ensures { Tells (bytes_written E.Write errors.old errors.new) }
 {
     let told = format!(in alloc;
         "{count} pages without their sums, as sqlite3 leaves them, or damaged"
@@ -156,7 +158,7 @@ pub fn tell_unenrolled(rt: &HostRuntime, path: Option<&str>) {
 /// Prints `uss_desk: PATH: TEXT`. A fault of the writer is passed over, and so is want of memory.
 #[tactic(auto, using(crate::proofs::KeepLemmas::tells_nothing))]
 pub fn tell_of<E: Write>(alloc: Global, path: &str, text: &str, errors: &mut E)
-    ensures { Tells (E.contents errors.old) (E.contents errors.new) }
+    ensures { Tells (bytes_written E.Write errors.old errors.new) }
 {
     if let Ok(text) = line_of(alloc, path, text) {
         tell_line(&text, errors);
@@ -165,7 +167,7 @@ pub fn tell_of<E: Write>(alloc: Global, path: &str, text: &str, errors: &mut E)
 
 // Tells a line. A fault of the writer is passed over.
 fn tell_line<E: Write>(line: &str, errors: &mut E)
-    ensures { Tells (E.contents errors.old) (E.contents errors.new) }
+    ensures { Tells (bytes_written E.Write errors.old errors.new) }
 {
     let _ = write_whole(errors, line.as_bytes());
 }
@@ -176,7 +178,7 @@ fn line_of(alloc: Global, path: &str, text: &str) -> Result<String, AllocError> 
 
 /// Why there can be no new file at a path, if that is so: it is no path, or something is there.
 pub fn new_cause<P: Folder>(folder: &mut P, path: &str) -> Option<&'static str>
-    ensures { TakesIfNone (P.steps folder.old) (P.steps folder.new) result (Free path.now) }
+    ensures { TakesIfNone (steps_of P.Folder folder.old folder.new) result (Free path.now) }
 {
     if folder.is_free(path) {
         return None;

@@ -1,10 +1,11 @@
 //! The first page of a database put into a desk's own order, in one commit: a crash leaves all of it or none.
 
-ghost use Rattle.std.specs.Prelude.{◌≡◌, ◌≤◌, length, IsTrue, OnOk};
+ghost use Rattle.std.specs.Prelude.{◌≡◌, IsTrue, OnOk};
 ghost use Rattle.sqlite_pager.specs.Pager.{state, visible};
 ghost use Rattle.sqlite_wal.specs.PageSize.{bytes_of};
 ghost use Rattle.uss_desk.specs.Committing as spec;
 ghost use Rattle.uss_desk.specs.Committing.{MayOrder, OrdersFirst};
+ghost use Rattle.uss_desk.specs.Orders.{IsFirstPage};
 
 use crate::orders::{byte, order_page};
 use crate::sums::{MAX_PAGE, give_sum};
@@ -106,8 +107,7 @@ pub fn order_first<D: Disk>(pager: &mut Pager<D>, size: PageSize) -> Result<(), 
 
 // Puts the first page of a file into a desk's own order, with its sum, if it keeps sums.
 fn order_summed(page: &mut [u8])
-    requires room { 136 ≤ length page.old }
-    requires fits { length page.old ≤ 65536 }
+    requires { IsFirstPage page.old }
     ensures { page.new ≡ spec.in_order page.old }
 {
     let has_sum = byte(page, RESERVED_AT) == SUM;

@@ -2,6 +2,7 @@
 
 ghost use Rattle.std.specs.Prelude.{◌≡◌, ℕ, false, IfErr, IfOk, IfSome, List, codes, length, option_map};
 ghost use Rattle.std.specs.Prelude.{string_bytes};
+ghost use Rattle.desk_program.specs.Outside.{bytes_written};
 ghost use Rattle.desk_log.specs.Damage.{IsDamaged};
 ghost use Rattle.uss_desk.specs.DamageTold as spec;
 ghost use Rattle.uss_desk.specs.DamageTold.{HasUnlookedCause, IsLookedAt, IsWrittenUpTo};
@@ -108,7 +109,7 @@ pub fn look_at_log<R: Read, E: Write>(
     errors: &mut E,
 ) -> Result<Look<E>, Unlooked>
     ensures looked { IfSome (R.remaining log.old) (λ bytes. IsLookedAt is_copied path.now bytes result
-        (E.contents errors.old) (E.contents errors.new)) }
+        (bytes_written E.Write errors.old errors.new)) }
     ensures cause { IfErr result (HasUnlookedCause (R.remaining log.old)) }
 {
     match judge_log(log) {
@@ -138,7 +139,7 @@ fn tell_damage<E: Write>(
     errors: &mut E,
 ) -> Result<Option<Cut<E>>, AllocError>
     ensures told { IfOk result (λ cut. IsWrittenUpTo (spec.damage_line path.now frame commits) cut
-        (E.contents errors.old) (E.contents errors.new)) }
+        (bytes_written E.Write errors.old errors.new)) }
     ensures untold { IfErr result (λ _. E.contents errors.new ≡ E.contents errors.old) }
 {
     let line = damage_line(alloc, path, frame, commits)?;

@@ -5,8 +5,8 @@ ghost use Rattle.sqlite_wal.specs.Files.{image_at};
 ghost use Rattle.sqlite_wal.specs.Recovery.{Image};
 ghost use Rattle.sqlite.specs.Files.{over_files};
 ghost use Rattle.desk_store.specs.World.{World};
-ghost use Rattle.desk_line.specs.Exits.{ending};
 ghost use Rattle.desk_program.specs.Looking.{IsTextPrinted, copied_line};
+ghost use Rattle.desk_program.specs.Outside.{bytes_written, ended};
 ghost use Rattle.desk_tables.specs.Copying.{AreHoldingsOf, IsMadeIn, LooksIn};
 ghost use Rattle.desk_tables.specs.Leaving.{IsSettledAt};
 ghost use Rattle.uss_desk.specs.FilesTold as spec;
@@ -14,6 +14,7 @@ ghost use Rattle.uss_desk.specs.FilesTold.{FailsAtFiles, FailsBy, FailsTelling, 
 ghost use Rattle.uss_desk.specs.FilesTold.{FailsToRead};
 ghost use Rattle.uss_desk.specs.FilesTold.{FailsUntried, IsChecked, IsCopied, IsCopyMade, IsNamedIf, IsReadAs};
 ghost use Rattle.uss_desk.specs.FilesTold.{Tells, TellsHoldings};
+ghost use Rattle.uss_desk.specs.KeeperOutside.{keeper_outside, steps_of};
 ghost use Rattle.uss_desk.specs.Naming.{AreNames, Cleared, Follows, Free, GivesUp, IsNotFree, LeavesOthers, Takes, Tried};
 ghost use Rattle.uss_desk.specs.Naming.{free_steps};
 
@@ -102,6 +103,24 @@ fn refused_copy<D: Disk + Drop, N: Disk + Drop>(refused: &CopyFault<D, N>) -> Co
     }
 }
 
+/// What a keeper's line writes to.
+#[derive(Drop)]
+pub struct Writers<W: Drop, E: Drop> {
+    /// What it prints to.
+    pub output: W,
+    /// What it tells why it fails, and the word of that.
+    pub errors: E,
+}
+
+/// What stands for what the files of a copy held before it.
+#[derive(Drop)]
+pub struct Starts<F: Drop, N: Drop> {
+    /// Those that are copied.
+    pub source: F,
+    /// Those that the copy is made in.
+    pub copy: N,
+}
+
 // What is known of a file beside what it holds.
 #[derive(Clone, Copy)]
 struct Bulk {
@@ -113,24 +132,23 @@ struct Bulk {
 /// Prints what a database holds, and answers how that ended and the connection with which it was read, or why
 /// it was not. It is left as it is. Why it can't be read, and the word of the failure, go to `errors`; a
 /// fault there is passed over.
-pub fn check_file<F: Start, W: Write, E: Write>(
+pub fn check_file<F: Start, W: Write + Drop, E: Write + Drop>(
     rt: &HostRuntime,
     database: &Database,
     start: F,
-    output: &mut W,
-    errors: &mut E,
+    writers: &mut Writers<W, E>,
 ) -> (Exit<E>, Result<Look<F>, Unread<F>>)
     ensures { IsChecked (image_at F.Start) database.now
-        (ending result.0 (E.contents errors.old) (E.contents errors.new)) result.1
-        (W.contents output.old) (W.contents output.new) }
+        (ended E.Write result.0 writers.old.errors writers.new.errors) result.1
+        (bytes_written W.Write writers.old.output writers.new.output) }
 {
     match look_for(rt, database, start) {
         Ok((connection, file)) => {
-            let exit = print_checked(rt.alloc(), &file, output, errors);
+            let exit = print_checked(rt.alloc(), &file, &mut writers.output, &mut writers.errors);
             (exit, Ok(connection))
         }
         Err(unread) => {
-            let exit = tell_unread(rt, database, unread.failure, errors);
+            let exit = tell_unread(rt, database, unread.failure, &mut writers.errors);
             (exit, Err(unread))
         }
     }
@@ -153,7 +171,7 @@ fn tell_unread<E: Write>(
     failure: Failure,
     errors: &mut E,
 ) -> Exit<E>
-    ensures { FailsTelling failure (ending result (E.contents errors.old) (E.contents errors.new)) }
+    ensures { FailsTelling failure (ended E.Write result errors.old errors.new) }
 {
     tell_database(rt, database, failure, errors);
     conclude(errors, Err(failure))
@@ -237,32 +255,36 @@ fn size_of(rt: &HostRuntime, path: &str) -> u64 {
 /// the word of the failure, go to `errors`; a fault there is passed over. If there is a `twin`, the file is
 /// read at that path, and told of as itself.
 #[tactic(auto, using(crate::proofs::KeepLemmas::uncopied))]
-pub fn copy_file<F: Start, N: Start, P: Folder, W: Write, E: Write>(
+pub fn copy_file<F: Start, N: Start, P: Folder, W: Write + Drop, E: Write + Drop>(
     rt: &HostRuntime,
     folder: &mut P,
     words: &Copying,
     twin: Option<&str>,
-    start: F,
-    other: N,
-    output: &mut W,
-    errors: &mut E,
+    starts: Starts<F, N>,
+    writers: &mut Writers<W, E>,
 ) -> (
     Exit<E>,
     Result<Copies<FileFrom<F>, FileFrom<N>>, CopyEnd<FileFrom<F>, FileFrom<N>>>,
 )
-    ensures copied { IsCopied ⟦<FileFrom<N> as Disk>⟧ (image_at F.Start) (image_at N.Start)
-        words.now.database (P.steps folder.old) (P.steps folder.new)
-        (ending result.0 (E.contents errors.old) (E.contents errors.new)) result.1
-        (W.contents output.old) (W.contents output.new) }
-    ensures named { IsNamedIf result.1 (string_bytes words.now.to) (P.steps folder.old) (P.steps folder.new) }
-    ensures own { LeavesOthers (string_bytes words.now.to) (P.steps folder.old) (P.steps folder.new) }
+    ensures copied { IsCopied (image_at F.Start) (image_at N.Start) words.now.database (keeper_outside W.Write
+        E.Write writers.old writers.new (steps_of P.Folder folder.old folder.new) result.0) result.1 }
+    ensures named { IsNamedIf result.1 (string_bytes words.now.to) (steps_of P.Folder folder.old folder.new) }
+    ensures own { LeavesOthers (string_bytes words.now.to) (steps_of P.Folder folder.old folder.new) }
 {
-    match copy_for(rt, folder, words, twin, start, other, errors) {
+    match copy_for(rt, folder, words, twin, starts, &mut writers.errors) {
         Ok(copies) => {
-            let exit = print_holdings(rt.alloc(), &copies.1.1, output, errors);
+            let exit = print_holdings(
+                rt.alloc(),
+                &copies.1.1,
+                &mut writers.output,
+                &mut writers.errors,
+            );
             (exit, Ok(copies))
         }
-        Err(uncopied) => (conclude(errors, Err(uncopied.failure)), Err(uncopied)),
+        Err(uncopied) => (
+            conclude(&mut writers.errors, Err(uncopied.failure)),
+            Err(uncopied),
+        ),
     }
 }
 
@@ -284,8 +306,7 @@ fn print_holdings<W: Write, E: Write>(
     errors: &mut E,
 ) -> Exit<E>
     ensures { IsTextPrinted (copied_line holdings.now.operators holdings.now.plans)
-        (ending result (E.contents errors.old) (E.contents errors.new))
-        (W.contents output.old) (W.contents output.new) }
+        (ended E.Write result errors.old errors.new) (W.contents output.old) (W.contents output.new) }
 {
     print_copied(alloc, holdings.operators, holdings.plans, output, errors)
 }
@@ -298,18 +319,17 @@ fn copy_for<F: Start, N: Start, P: Folder, E: Write>(
     folder: &mut P,
     words: &Copying,
     twin: Option<&str>,
-    start: F,
-    other: N,
+    starts: Starts<F, N>,
     errors: &mut E,
 ) -> Result<Copies<FileFrom<F>, FileFrom<N>>, CopyEnd<FileFrom<F>, FileFrom<N>>>
     ensures made { IfOk result
         (IsCopyMade ⟦<FileFrom<N> as Disk>⟧ (image_at F.Start) (image_at N.Start)) }
     ensures fault { IfErr result (FailsToCopy (image_at F.Start) (image_at N.Start) words.now.database
-        (P.steps folder.old) (P.steps folder.new)) }
+        (steps_of P.Folder folder.old folder.new)) }
     ensures quiet { OnOk result (E.contents errors.new ≡ E.contents errors.old) }
-    ensures told { Tells (E.contents errors.old) (E.contents errors.new) }
-    ensures named { IsNamedIf result (string_bytes words.now.to) (P.steps folder.old) (P.steps folder.new) }
-    ensures own { LeavesOthers (string_bytes words.now.to) (P.steps folder.old) (P.steps folder.new) }
+    ensures told { Tells (bytes_written E.Write errors.old errors.new) }
+    ensures named { IsNamedIf result (string_bytes words.now.to) (steps_of P.Folder folder.old folder.new) }
+    ensures own { LeavesOthers (string_bytes words.now.to) (steps_of P.Folder folder.old folder.new) }
 {
     let Database::File(path) = &words.database else {
         return Err(Uncopied::untried(Failure::Store));
@@ -319,7 +339,7 @@ fn copy_for<F: Start, N: Start, P: Folder, E: Write>(
         return Err(Uncopied::untried(Failure::Store));
     }
     let source = Source::of(path, twin);
-    let copies = copy_to(rt, folder, source, start, &names, other, errors)?;
+    let copies = copy_to(rt, folder, source, &names, starts, errors)?;
     if !put_in_place(folder, &names) {
         let cause = "it can't be given its name, or its folder can't be synced";
         tell_of(rt.alloc(), &names.to, cause, errors);
@@ -352,21 +372,20 @@ fn copy_to<F: Start, N: Start, P: Folder, E: Write>(
     rt: &HostRuntime,
     folder: &mut P,
     source: Source<'_>,
-    start: F,
     names: &Names,
-    other: N,
+    starts: Starts<F, N>,
     errors: &mut E,
 ) -> Result<Copies<FileFrom<F>, FileFrom<N>>, CopyEnd<FileFrom<F>, FileFrom<N>>>
     ensures made { IfOk result
         (IsCopyMade ⟦<FileFrom<N> as Disk>⟧ (image_at F.Start) (image_at N.Start)) }
     ensures fault { IfErr result (FailsAtFiles (image_at F.Start) (image_at N.Start)) }
     ensures quiet { OnOk result (E.contents errors.new ≡ E.contents errors.old) }
-    ensures told { Tells (E.contents errors.old) (E.contents errors.new) }
+    ensures told { Tells (bytes_written E.Write errors.old errors.new) }
     ensures kept { OnOk result (P.steps folder.new ≡ P.steps folder.old) }
     ensures gone { (to : List ℕ) → AreNames to names.now
-        → GivesUp to (P.steps folder.old) (P.steps folder.new) }
+        → GivesUp to (steps_of P.Folder folder.old folder.new) }
 {
-    match copy_closed(rt, source.path, start, &names.part, other) {
+    match copy_closed(rt, source.path, &names.part, starts) {
         Ok(copies) => Ok(copies),
         Err(uncopied) => {
             give_up(rt, folder, source, names, uncopied.failure, errors);
@@ -379,15 +398,14 @@ fn copy_to<F: Start, N: Start, P: Folder, E: Write>(
 fn copy_closed<F: Start, N: Start>(
     rt: &HostRuntime,
     path: &str,
-    start: F,
     to: &str,
-    other: N,
+    starts: Starts<F, N>,
 ) -> Result<Copies<FileFrom<F>, FileFrom<N>>, CopyEnd<FileFrom<F>, FileFrom<N>>>
     ensures made { IfOk result
         (IsCopyMade ⟦<FileFrom<N> as Disk>⟧ (image_at F.Start) (image_at N.Start)) }
     ensures fault { IfErr result (FailsAtFiles (image_at F.Start) (image_at N.Start)) }
 {
-    match copy_from(rt, path, start, to, other) {
+    match copy_from(rt, path, starts.source, to, starts.copy) {
         Ok(copied) => close_copy(copied),
         Err(refused) => Err(refused_copy(&refused)),
     }
@@ -427,11 +445,11 @@ fn is_refused<P: Folder, E: Write>(
     errors: &mut E,
 ) -> bool
     ensures quiet { result ≡ false → E.contents errors.new ≡ E.contents errors.old }
-    ensures told { Tells (E.contents errors.old) (E.contents errors.new) }
+    ensures told { Tells (bytes_written E.Write errors.old errors.new) }
     ensures free { (to : List ℕ) → AreNames to names.now → result ≡ false
-        → Follows (P.steps folder.old) (P.steps folder.new) (free_steps to) }
+        → Follows (steps_of P.Folder folder.old folder.new) (free_steps to) }
     ensures refused { (to : List ℕ) → AreNames to names.now → result ≡ true
-        → IsNotFree to (P.steps folder.old) (P.steps folder.new) }
+        → IsNotFree to (steps_of P.Folder folder.old folder.new) }
 {
     if is_taken(alloc, folder, &names.to, errors) {
         return true;
@@ -455,8 +473,8 @@ fn is_refused<P: Folder, E: Write>(
 #[tactic(auto, using(crate::proofs::NameLemmas::takes_told))]
 fn is_taken<P: Folder, E: Write>(alloc: Global, folder: &mut P, path: &str, errors: &mut E) -> bool
     ensures quiet { result ≡ false → E.contents errors.new ≡ E.contents errors.old }
-    ensures told { Tells (E.contents errors.old) (E.contents errors.new) }
-    ensures taken { Takes (P.steps folder.old) (P.steps folder.new) (not result) (Free path.now) }
+    ensures told { Tells (bytes_written E.Write errors.old errors.new) }
+    ensures taken { Takes (steps_of P.Folder folder.old folder.new) (not result) (Free path.now) }
 {
     is_told(alloc, path, new_cause(folder, path), errors)
 }
@@ -472,8 +490,8 @@ fn is_uncleared<P: Folder, E: Write>(
     errors: &mut E,
 ) -> bool
     ensures quiet { result ≡ false → E.contents errors.new ≡ E.contents errors.old }
-    ensures told { Tells (E.contents errors.old) (E.contents errors.new) }
-    ensures cleared { Takes (P.steps folder.old) (P.steps folder.new) (not result)
+    ensures told { Tells (bytes_written E.Write errors.old errors.new) }
+    ensures cleared { Takes (steps_of P.Folder folder.old folder.new) (not result)
         (Cleared part.now log.now) }
 {
     is_told(alloc, part, folder.clear(source, part, log), errors)
@@ -483,8 +501,8 @@ fn is_uncleared<P: Folder, E: Write>(
 #[tactic(auto, using(crate::proofs::NameLemmas::takes_told))]
 fn is_unmade<P: Folder, E: Write>(alloc: Global, folder: &mut P, path: &str, errors: &mut E) -> bool
     ensures quiet { result ≡ false → E.contents errors.new ≡ E.contents errors.old }
-    ensures told { Tells (E.contents errors.old) (E.contents errors.new) }
-    ensures tried { Takes (P.steps folder.old) (P.steps folder.new) (not result) (Tried path.now) }
+    ensures told { Tells (bytes_written E.Write errors.old errors.new) }
+    ensures tried { Takes (steps_of P.Folder folder.old folder.new) (not result) (Tried path.now) }
 {
     is_told(alloc, path, folder.try_file(path), errors)
 }
@@ -493,7 +511,7 @@ fn is_unmade<P: Folder, E: Write>(alloc: Global, folder: &mut P, path: &str, err
 #[tactic(auto, using(crate::proofs::KeepLemmas::tells_nothing))]
 fn is_told<E: Write>(alloc: Global, path: &str, cause: Option<&'static str>, errors: &mut E) -> bool
     ensures quiet { result ≡ false → E.contents errors.new ≡ E.contents errors.old }
-    ensures told { Tells (E.contents errors.old) (E.contents errors.new) }
+    ensures told { Tells (bytes_written E.Write errors.old errors.new) }
     ensures same { MatchOption cause.entry (result ≡ false) (λ _. result ≡ true) }
 {
     match cause {
@@ -515,9 +533,9 @@ fn give_up<P: Folder, E: Write>(
     failure: Failure,
     errors: &mut E,
 )
-    ensures told { Tells (E.contents errors.old) (E.contents errors.new) }
+    ensures told { Tells (bytes_written E.Write errors.old errors.new) }
     ensures gone { (to : List ℕ) → AreNames to names.now
-        → GivesUp to (P.steps folder.old) (P.steps folder.new) }
+        → GivesUp to (steps_of P.Folder folder.old folder.new) }
 {
     if folder.is_free(&names.part) {
         tell(rt, source.path, source.name, failure, errors);

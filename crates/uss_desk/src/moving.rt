@@ -42,7 +42,7 @@ pub fn tell_unmoved<F: Start, N: Paths + Drop, E: Write>(
     moved: &MovedDesk<F, N>,
     errors: &mut E,
 )
-    ensures tells { Tells (E.contents errors.old) (E.contents errors.new) }
+    ensures tells { Tells (bytes_written E.Write errors.old errors.new) }
     ensures silent { OnOk moved.now (E.contents errors.new ≡ E.contents errors.old) }
 {
     match moved {

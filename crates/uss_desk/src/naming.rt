@@ -1,6 +1,7 @@
 //! How a new file gets its name, once it is whole.
 
 ghost use Rattle.std.specs.Prelude.{◌≡◌, ℕ, ◌++◌, [], List, Option, None, false, true, IfOk, string_bytes};
+ghost use Rattle.desk_wire.specs.Passage.{course};
 ghost use Rattle.uss_desk.specs.Naming.{AreNames, ChangesOwn, Cleared, Follows, Free, HasFailedStep, IsUnnamed, Ordered};
 ghost use Rattle.uss_desk.specs.Naming.{Removed, Renamed, Step, Synced, Takes, TakesAll, TakesIfNone, Tried, Twinned};
 ghost use Rattle.uss_desk.specs.Naming.{named_steps};
@@ -33,40 +34,40 @@ pub trait Folder {
 
     /// Whether there is nothing at a path, and SQLite reads it as one.
     fn is_free(&mut self, path: &str) -> bool
-        ensures { Takes (steps self.old) (steps self.new) result (Free path.now) };
+        ensures { Takes (course (steps self.old) (steps self.new)) result (Free path.now) };
 
     /// Removes what a copy that was cut off left at two paths, a file and its log, unless that is `source` or
     /// its log, or a program holds it; and answers why there is still something, if so.
     fn clear(&mut self, source: &str, part: &str, log: &str) -> Option<&'static str>
-        ensures { TakesIfNone (steps self.old) (steps self.new) result (Cleared part.now log.now) };
+        ensures { TakesIfNone (course (steps self.old) (steps self.new)) result (Cleared part.now log.now) };
 
     /// Makes a file at a path, removes it, and answers why that could not be done, if so.
     fn try_file(&mut self, path: &str) -> Option<&'static str>
-        ensures { TakesIfNone (steps self.old) (steps self.new) result (Tried path.now) };
+        ensures { TakesIfNone (course (steps self.old) (steps self.new)) result (Tried path.now) };
 
     /// Makes the twin of a file at a path where there is nothing, mended (`is_mended`) or, beside that of its
     /// log, as it is; and answers why that could not be done, if so.
     fn twin(&mut self, source: &str, twin: &str, is_mended: bool) -> Option<TwinFault>
-        ensures { TakesIfNone (steps self.old) (steps self.new) result
+        ensures { TakesIfNone (course (steps self.old) (steps self.new)) result
             (Twinned source.now twin.now is_mended) };
 
     /// Removes a file, and answers whether that was done.
     fn remove(&mut self, path: &str) -> bool
-        ensures { Takes (steps self.old) (steps self.new) result (Removed path.now) };
+        ensures { Takes (course (steps self.old) (steps self.new)) result (Removed path.now) };
 
     /// Gives a file another name, and answers whether that was done. It is its owner's alone then, where the
     /// file system has modes.
     fn rename(&mut self, from: &str, to: &str) -> bool
-        ensures { Takes (steps self.old) (steps self.new) result (Renamed from.now to.now) };
+        ensures { Takes (course (steps self.old) (steps self.new)) result (Renamed from.now to.now) };
 
     /// Syncs the folder of a path, and answers whether that was done.
     fn sync(&mut self, path: &str) -> bool
-        ensures { Takes (steps self.old) (steps self.new) result (Synced path.now) };
+        ensures { Takes (course (steps self.old) (steps self.new)) result (Synced path.now) };
 
     /// Puts the first page of the file at a path into a desk's own order, in one commit, and answers whether
     /// that was done.
     fn order(&mut self, path: &str) -> bool
-        ensures { Takes (steps self.old) (steps self.new) result (Ordered path.now) };
+        ensures { Takes (course (steps self.old) (steps self.new)) result (Ordered path.now) };
 }
 
 /// The folders of the operating system, of whose steps nothing is told.
@@ -251,12 +252,12 @@ pub fn name_with(alloc: Global, path: &str, end: &str) -> Result<String, AllocEr
 #[tactic(auto, using(crate::proofs::NameLemmas::fails_after))]
 pub fn put_in_place<N: Folder>(folder: &mut N, names: &Names) -> bool
     ensures named { (to : List ℕ) → AreNames to names.now → result ≡ true
-        → Follows (N.steps folder.old) (N.steps folder.new) (named_steps to (Synced to)) }
+        → Follows (course (N.steps folder.old) (N.steps folder.new)) (named_steps to (Synced to)) }
     ensures unnamed { (to : List ℕ) → AreNames to names.now → result ≡ false
-        → IsUnnamed [] to (N.steps folder.old) (N.steps folder.new) }
+        → IsUnnamed [] to (course (N.steps folder.old) (N.steps folder.new)) }
     ensures own { (to : List ℕ) → AreNames to names.now
-        → TakesAll (ChangesOwn to) (N.steps folder.old) (N.steps folder.new) }
-    ensures failed { result ≡ false → HasFailedStep (N.steps folder.old) (N.steps folder.new) }
+        → TakesAll (ChangesOwn to) (course (N.steps folder.old) (N.steps folder.new)) }
+    ensures failed { result ≡ false → HasFailedStep (course (N.steps folder.old) (N.steps folder.new)) }
 {
     if !folder.remove(&names.part_log) {
         return false;

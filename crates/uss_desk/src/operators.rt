@@ -2,6 +2,7 @@
 
 ghost use Rattle.std.specs.Prelude.{◌≡◌, List, [], ◌∷◌, IfErr, IfOk, MatchResult, None, OnErr, Option, option_map, string_bytes};
 ghost use Rattle.desk_line.specs.Lines.{AreEnrolments};
+ghost use Rattle.desk_wire.specs.Passage.{course};
 ghost use Rattle.desk_program.specs.Serving.{Grows};
 ghost use Rattle.uss_desk.specs.Operators as spec;
 ghost use Rattle.uss_desk.specs.Operators.{AreEnrolmentsRead, AreNews, Asking, HasUnreadCause, Read, Stamped, ok_of};
@@ -166,10 +167,10 @@ impl<F: TextFiles + Drop> OperatorsFile<'_, F> {
     // The operators of the file. Lines that can't be read are told once.
     fn read_file(&mut self, alloc: Global, path: &str) -> Result<Vec<Enrolment>, Unread>
         ensures small { IfOk result (λ enrolments. AreEnrolments enrolments.items) }
-        ensures read { IfOk result (λ enrolments.
-            AreEnrolmentsRead path.now (F.asked self.old.files) (F.asked self.new.files) enrolments.items) }
+        ensures read { IfOk result (λ enrolments. AreEnrolmentsRead path.now
+            (course (F.asked self.old.files) (F.asked self.new.files)) enrolments.items) }
         ensures cause { IfErr result
-            (HasUnreadCause path.now (F.asked self.old.files) (F.asked self.new.files)) }
+            (HasUnreadCause path.now (course (F.asked self.old.files) (F.asked self.new.files))) }
         ensures path { self.new.path ≡ self.old.path }
         ensures seen { self.new.seen ≡ self.old.seen }
     {
@@ -201,7 +202,8 @@ impl<F: TextFiles + Drop> Register for OperatorsFile<'_, F> {
         ensures small { IfOk result (λ news. AreEnrolments news.items) }
         ensures fault { IfErr result (λ f. f ≡ Failure.Memory) }
         ensures news { IfOk result (λ news. AreNews (option_map (λ path. path.now) self.old.path)
-            self.old.seen self.new.seen (F.asked self.old.files) (F.asked self.new.files) news.items) }
+            (course self.old.seen self.new.seen) (course (F.asked self.old.files) (F.asked self.new.files))
+            news.items) }
     {
         let Some(path) = self.path else {
             return Ok(Vec::new(alloc));

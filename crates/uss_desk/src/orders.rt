@@ -5,6 +5,7 @@ ghost use Rattle.std.specs.Fmt.{option_append};
 ghost use Rattle.std.specs.Io.KnownBytes.{Appends};
 ghost use Rattle.sqlite_wal.specs.PageSize.{bytes_of};
 ghost use Rattle.uss_desk.specs.Orders as spec;
+ghost use Rattle.uss_desk.specs.Orders.{IsFirstPage};
 
 use crate::sums::{
     HEADER, MAX_PAGE, copy_bytes, copy_summed, keeps_sums, page_size_in, read_header,
@@ -328,8 +329,7 @@ fn put_in_order(old: &[u8], page: &mut [u8]) -> bool
 // Whether a page is a file's first and lists the tables and indexes of a desk, or the first few of them, in
 // another order than the desk takes.
 fn is_disordered(page: &[u8]) -> bool
-    requires room { 136 ≤ length page.now }
-    requires fits { length page.now ≤ 65536 }
+    requires { IsFirstPage page.now }
     ensures { result ≡ is_some (spec.ordered page.now) }
 {
     let mut room = [0u8; MAX_PAGE];
@@ -340,8 +340,7 @@ fn is_disordered(page: &[u8]) -> bool
 
 /// Puts the rows of a file's first page into a desk's own order, if they are those of a desk in another.
 pub fn order_page(page: &mut [u8])
-    requires room { 136 ≤ length page.old }
-    requires fits { length page.old ≤ 65536 }
+    requires { IsFirstPage page.old }
     ensures { page.new ≡ spec.ordered_page page.old }
 {
     let mut room = [0u8; MAX_PAGE];
@@ -355,8 +354,7 @@ pub fn order_page(page: &mut [u8])
 // Reads the first page of a file, with its rows in a desk's own order, if they are those of a desk in
 // another.
 fn read_in_order<R: Read>(file: &mut R, page: &mut [u8]) -> io::Result<()>
-    requires room { 136 ≤ length page.old }
-    requires fits { length page.old ≤ 65536 }
+    requires { IsFirstPage page.old }
     ensures length { length page.new ≡ length page.old }
     ensures size { OnOk result (IfSome (R.remaining file.old) (λ bytes.
         length (spec.ordered_file (length page.new) bytes) ≡ length bytes)) }

@@ -4,7 +4,9 @@
 ghost use Rattle.std.specs.Prelude.{◌≡◌, IfErr, IfOk, OnErr, OnOk, false, true};
 ghost use Rattle.sqlite_wal.specs.Files.{image_at};
 ghost use Rattle.sqlite_wal.specs.Recovery.{Image};
+ghost use Rattle.desk_program.specs.Outside.{bytes_written};
 ghost use Rattle.uss_desk.specs.FilesTold.{FailsToRead, IsReadAs, Tells};
+ghost use Rattle.uss_desk.specs.KeeperOutside.{steps_of};
 ghost use Rattle.uss_desk.specs.Reordering as spec;
 ghost use Rattle.uss_desk.specs.Reordering.{IsAdmitted, IsOrderedByTwin, IsOrderedOr, IsReorderTold, IsReordered};
 ghost use Rattle.uss_desk.specs.Reordering.{IsReorderedIf};
@@ -13,14 +15,12 @@ ghost use Rattle.uss_desk.specs.Twins.{AreTwins, IsWrittenIfRoom};
 use crate::causes::{access_cause, tell, tell_of};
 use crate::keeping::look_in;
 use crate::naming::{Folder, LocalFolder};
-use crate::opening::Unopened;
 use crate::orders::has_other_order;
-use crate::twins::{Judged, Twin, line_of, make_twin, remove_twin};
+use crate::twins::{Found, Judged, Twin, line_of, make_twin, remove_twin};
 use crate::ways::{Way, way_to};
 use desk_ends::write_whole;
 use desk_line::{Database, Failure};
-use desk_program::CheckedFile;
-use sqlite::{Connection, FileFrom, FileStore, Start, Unknown};
+use sqlite::{FileFrom, Start, Unknown};
 use sqlite_disk::Disk;
 use std::alloc::Global;
 use std::io::Write;
@@ -87,9 +87,9 @@ pub fn reorder<F: Start, P: Folder, E: Write>(
     errors: &mut E,
 ) -> (Result<(), Failure>, Option<Judged<FileFrom<F>>>)
     ensures reordered { IsReorderedIf (image_at F.Start) file.entry.path.now file.entry.takes_old
-        file.entry.way result.0 result.1 (P.steps folder.old) (P.steps folder.new) }
+        file.entry.way result.0 result.1 (steps_of P.Folder folder.old folder.new) }
     ensures told { IsReorderTold file.entry.path.now result.0 result.1
-        (E.contents errors.old) (E.contents errors.new) }
+        (bytes_written E.Write errors.old errors.new) }
 {
     match file.way {
         Way::Disordered => reorder_by_twin(rt, folder, file, start, errors),
@@ -106,9 +106,9 @@ fn reorder_by_twin<F: Start, P: Folder, E: Write>(
     errors: &mut E,
 ) -> (Result<(), Failure>, Option<Judged<FileFrom<F>>>)
     ensures reordered { IsReordered (image_at F.Start) file.entry.path.now file.entry.takes_old
-        result.0 result.1 (P.steps folder.old) (P.steps folder.new) }
+        result.0 result.1 (steps_of P.Folder folder.old folder.new) }
     ensures told { IsReorderTold file.entry.path.now result.0 result.1
-        (E.contents errors.old) (E.contents errors.new) }
+        (bytes_written E.Write errors.old errors.new) }
 {
     let twin = match make_twin(rt.alloc(), folder, file.path, file.path, true, errors) {
         Ok(twin) => twin,
@@ -126,16 +126,16 @@ fn order_by_twin<D: Disk + Drop, P: Folder, E: Write>(
     folder: &mut P,
     file: Incoming<'_>,
     twin: &Twin,
-    found: Result<(Connection<FileStore<D>>, CheckedFile), Unopened<D>>,
+    found: Found<D>,
     errors: &mut E,
 ) -> (Result<(), Failure>, Judged<D>)
     ensures ordered { (image : Image) → IfOk found (λ it. IsReadAs image it.0 it.1)
         → IfErr found (FailsToRead image) → AreTwins file.entry.path.now twin.now
         → IsOrderedByTwin image file.entry.path.now file.entry.takes_old result.0 result.1
-        (P.steps folder.old) (P.steps folder.new) }
+        (steps_of P.Folder folder.old folder.new) }
     ensures noted { OnOk result.0 (IsWrittenIfRoom (spec.reordered_line file.entry.path.now)
-        (E.contents errors.old) (E.contents errors.new)) }
-    ensures told { OnErr result.0 (Tells (E.contents errors.old) (E.contents errors.new)) }
+        (bytes_written E.Write errors.old errors.new)) }
+    ensures told { OnErr result.0 (Tells (bytes_written E.Write errors.old errors.new)) }
 {
     let (admitted, judged) = judge(rt, file, &twin.path, found, errors);
     remove_twin(folder, twin);
@@ -151,13 +151,13 @@ fn judge<D: Disk + Drop, E: Write>(
     rt: &HostRuntime,
     file: Incoming<'_>,
     twin: &str,
-    found: Result<(Connection<FileStore<D>>, CheckedFile), Unopened<D>>,
+    found: Found<D>,
     errors: &mut E,
 ) -> (Result<(), Failure>, Judged<D>)
     ensures admitted { (image : Image) → IfOk found (λ it. IsReadAs image it.0 it.1)
         → IfErr found (FailsToRead image) → IsAdmitted image file.entry.takes_old result.0 result.1 }
     ensures quiet { OnOk result.0 (E.contents errors.new ≡ E.contents errors.old) }
-    ensures told { OnErr result.0 (Tells (E.contents errors.old) (E.contents errors.new)) }
+    ensures told { OnErr result.0 (Tells (bytes_written E.Write errors.old errors.new)) }
 {
     match found {
         Ok((connection, read)) => {
@@ -181,10 +181,10 @@ fn order<P: Folder, E: Write>(
     path: &str,
     errors: &mut E,
 ) -> Result<(), Failure>
-    ensures ordered { IsOrderedOr path.now result (P.steps folder.old) (P.steps folder.new) }
+    ensures ordered { IsOrderedOr path.now result (steps_of P.Folder folder.old folder.new) }
     ensures noted { OnOk result (IsWrittenIfRoom (spec.reordered_line path.now)
-        (E.contents errors.old) (E.contents errors.new)) }
-    ensures told { OnErr result (Tells (E.contents errors.old) (E.contents errors.new)) }
+        (bytes_written E.Write errors.old errors.new)) }
+    ensures told { OnErr result (Tells (bytes_written E.Write errors.old errors.new)) }
 {
     if !folder.order(path) {
         let cause = access_cause(rt, path).unwrap_or(UNWRITTEN);
@@ -208,7 +208,7 @@ fn is_too_old(takes_old: bool, is_old: bool) -> bool
 
 // Tells that a file was put in order. A fault of the writer is passed over, and so is want of memory.
 fn tell_reordered<E: Write>(alloc: Global, path: &str, errors: &mut E)
-    ensures { IsWrittenIfRoom (spec.reordered_line path.now) (E.contents errors.old) (E.contents errors.new) }
+    ensures { IsWrittenIfRoom (spec.reordered_line path.now) (bytes_written E.Write errors.old errors.new) }
 {
     if let Ok(line) = line_of(alloc, path, reordered_text()) {
         let _ = write_whole(errors, line.as_bytes());

@@ -4,9 +4,10 @@
 ghost use Rattle.std.specs.Prelude.{◌≡◌, true, IfErr, IfOk, IfSome, List, OnOk, string_bytes, ℕ};
 ghost use Rattle.sqlite_wal.specs.Files.{image_at};
 ghost use Rattle.sqlite_wal.specs.Recovery.{Image};
-ghost use Rattle.desk_line.specs.Exits.{ending, IsLineBreakdown};
-ghost use Rattle.desk_line.specs.Lines.{file_of};
+ghost use Rattle.desk_line.specs.Exits.{IsLineBreakdown};
+ghost use Rattle.desk_program.specs.Outside.{bytes_written, ended};
 ghost use Rattle.uss_desk.specs.FilesTold.{FailsTelling, FailsToRead, IsReadAs, Tells};
+ghost use Rattle.uss_desk.specs.KeeperOutside.{keeper_outside, steps_of};
 ghost use Rattle.uss_desk.specs.Naming.{Follows};
 ghost use Rattle.uss_desk.specs.Twins as spec;
 ghost use Rattle.uss_desk.specs.Twins.{AreRemoved, AreRowsRefused, AreTwins, IsCopiedByTwinIf, IsJudged};
@@ -15,7 +16,7 @@ ghost use Rattle.uss_desk.specs.Twins.{WasTwin, making, twin_of};
 ghost use Rattle.uss_desk.specs.Ways.{is_mended};
 
 use crate::causes::{tell, tell_of};
-use crate::keeping::{Copies, CopyEnd, Look, copy_file, look_in};
+use crate::keeping::{Copies, CopyEnd, Look, Starts, Writers, copy_file, look_in};
 use crate::naming::{Folder, name_with};
 use crate::opening::{Unopened, Unread};
 use crate::orders::order_text;
@@ -77,31 +78,39 @@ impl Twin {
 /// A connection with which the files of a disk `D` were looked at, or what refused them.
 pub type Judged<D> = Result<Connection<FileStore<D>>, Unopened<D>>;
 
+/// So, with what the files hold.
+pub type Found<D> = Result<(Connection<FileStore<D>>, CheckedFile), Unopened<D>>;
+
 /// Prints what a file holds, read in its way by a twin beside it, and answers how that ended and the
 /// connection to the twin, or why it can't be read; nothing if there is no twin. What its rows are, if its
 /// pages lack their sums, that its tables stand in another order, or why there is no twin, and the word of
 /// the failure, go to `errors`; a fault there is passed over.
-pub fn check_by_twin<F: Start, P: Folder, W: Write, E: Write>(
+pub fn check_by_twin<F: Start, P: Folder, W: Write + Drop, E: Write + Drop>(
     rt: &HostRuntime,
     folder: &mut P,
     path: &str,
     way: Way,
     start: F,
-    output: &mut W,
-    errors: &mut E,
+    writers: &mut Writers<W, E>,
 ) -> (Exit<E>, Option<Result<Look<F>, Unread<F>>>)
-    ensures judged { IsJudgedIf (image_at F.Start) path.now way
-        (ending result.0 (E.contents errors.old) (E.contents errors.new)) result.1
-        (P.steps folder.old) (P.steps folder.new) (W.contents output.old) (W.contents output.new) }
+    ensures judged { IsJudgedIf (image_at F.Start) path.now way result.1 (keeper_outside W.Write E.Write
+        writers.old writers.new (steps_of P.Folder folder.old folder.new) result.0) }
     ensures twin { IfSome result.1 (λ _. WasTwin path.now (twin_of path.now) (is_mended way)
-        (P.steps folder.old) (P.steps folder.new)) }
+        (steps_of P.Folder folder.old folder.new)) }
 {
-    let twin = match make_twin(rt.alloc(), folder, path, path, way.is_mended(), errors) {
+    let twin = match make_twin(
+        rt.alloc(),
+        folder,
+        path,
+        path,
+        way.is_mended(),
+        &mut writers.errors,
+    ) {
         Ok(twin) => twin,
-        Err(failure) => return (conclude(errors, Err(failure)), None),
+        Err(failure) => return (conclude(&mut writers.errors, Err(failure)), None),
     };
     let found = look_in(rt, &twin.path, start);
-    let (exit, judged) = tell_found(rt, path, &twin.path, way, found, output, errors);
+    let (exit, judged) = tell_found(rt, path, &twin.path, way, found, writers);
     remove_twin(folder, &twin);
     (exit, Some(judged))
 }
@@ -115,28 +124,26 @@ pub fn status_judged<D: Disk + Drop, E>(judged: (Exit<E>, Option<Judged<D>>)) ->
 }
 
 // Tells what the twin of a file showed, and prints what its rows are. The twin is still there.
-fn tell_found<D: Disk + Drop, W: Write, E: Write>(
+fn tell_found<D: Disk + Drop, W: Write + Drop, E: Write + Drop>(
     rt: &HostRuntime,
     path: &str,
     twin: &str,
     way: Way,
-    found: Result<(Connection<FileStore<D>>, CheckedFile), Unopened<D>>,
-    output: &mut W,
-    errors: &mut E,
+    found: Found<D>,
+    writers: &mut Writers<W, E>,
 ) -> (Exit<E>, Judged<D>)
     ensures { (image : Image) → IfOk found (λ it. IsReadAs image it.0 it.1) → IfErr found (FailsToRead image)
-        → IsJudged image path.now way
-        (ending result.0 (E.contents errors.old) (E.contents errors.new)) result.1
-        (W.contents output.old) (W.contents output.new) }
+        → IsJudged image path.now way result.1 (ended E.Write result.0 writers.old.errors writers.new.errors)
+        (bytes_written W.Write writers.old.output writers.new.output) }
 {
     match found {
         Ok((connection, file)) => {
-            tell_taken(rt.alloc(), path, way, errors);
-            let exit = print_checked(rt.alloc(), &file, output, errors);
+            tell_taken(rt.alloc(), path, way, &mut writers.errors);
+            let exit = print_checked(rt.alloc(), &file, &mut writers.output, &mut writers.errors);
             (exit, Ok(connection))
         }
         Err(unread) => {
-            let exit = refuse(rt, path, twin, way, unread.failure, errors);
+            let exit = refuse(rt, path, twin, way, unread.failure, &mut writers.errors);
             (exit, Err(unread))
         }
     }
@@ -144,7 +151,7 @@ fn tell_found<D: Disk + Drop, W: Write, E: Write>(
 
 // Tells of a file whose twin is a desk's what is told of its way.
 fn tell_taken<E: Write>(alloc: Global, path: &str, way: Way, errors: &mut E)
-    ensures { IsNotedIf (spec.taken_line path.now way) (E.contents errors.old) (E.contents errors.new) }
+    ensures { IsNotedIf (spec.taken_line path.now way) (bytes_written E.Write errors.old errors.new) }
 {
     match way {
         Way::Unsummed(pages) => tell_rows(alloc, path, pages, Rows::OfADesk, errors),
@@ -162,8 +169,7 @@ fn refuse<E: Write>(
     failure: Failure,
     errors: &mut E,
 ) -> Exit<E>
-    ensures { IsTwinRefused path.now way failure
-        (ending result (E.contents errors.old) (E.contents errors.new)) }
+    ensures { IsTwinRefused path.now way failure (ended E.Write result errors.old errors.new) }
 {
     match way {
         Way::Unsummed(pages) => refuse_rows(rt.alloc(), path, pages, failure, errors),
@@ -181,7 +187,7 @@ fn refuse_as<E: Write>(
     failure: Failure,
     errors: &mut E,
 ) -> Exit<E>
-    ensures { FailsTelling failure (ending result (E.contents errors.old) (E.contents errors.new)) }
+    ensures { FailsTelling failure (ended E.Write result errors.old errors.new) }
 {
     tell(rt, twin, path, failure, errors);
     conclude(errors, Err(failure))
@@ -195,8 +201,7 @@ fn refuse_rows<E: Write>(
     failure: Failure,
     errors: &mut E,
 ) -> Exit<E>
-    ensures { AreRowsRefused path.now pages failure
-        (ending result (E.contents errors.old) (E.contents errors.new)) }
+    ensures { AreRowsRefused path.now pages failure (ended E.Write result errors.old errors.new) }
 {
     match failure {
         Failure::Memory => conclude(errors, Err(Failure::Memory)),
@@ -210,43 +215,37 @@ fn refuse_rows<E: Write>(
 /// Copies what a file holds, read by a twin beside the new file, as `copy_file` does, and answers the same;
 /// nothing if there is no twin. Why there is none, and the word of the failure, go to `errors`; and if its
 /// pages lack their sums and it was copied, that its rows alone were tested.
-pub fn copy_by_twin<F: Start, N: Start, P: Folder, W: Write, E: Write>(
+pub fn copy_by_twin<F: Start, N: Start, P: Folder, W: Write + Drop, E: Write + Drop>(
     rt: &HostRuntime,
     folder: &mut P,
     words: &Copying,
     way: Way,
-    start: F,
-    other: N,
-    output: &mut W,
-    errors: &mut E,
+    starts: Starts<F, N>,
+    writers: &mut Writers<W, E>,
 ) -> (
     Exit<E>,
     Option<Result<Copies<FileFrom<F>, FileFrom<N>>, CopyEnd<FileFrom<F>, FileFrom<N>>>>,
 )
-    ensures { IsCopiedByTwinIf ⟦<FileFrom<N> as Disk>⟧ (image_at F.Start) (image_at N.Start)
-        (file_of words.now.database) (string_bytes words.now.to) way words.now.database
-        (ending result.0 (E.contents errors.old) (E.contents errors.new)) result.1
-        (P.steps folder.old) (P.steps folder.new) (W.contents output.old) (W.contents output.new) }
+    ensures { IsCopiedByTwinIf (image_at F.Start) (image_at N.Start) words.now way result.1 (keeper_outside
+        W.Write E.Write writers.old writers.new (steps_of P.Folder folder.old folder.new) result.0) }
 {
     let Database::File(path) = &words.database else {
-        return (conclude(errors, Err(Failure::Store)), None);
+        return (conclude(&mut writers.errors, Err(Failure::Store)), None);
     };
-    let twin = match make_twin(rt.alloc(), folder, path, &words.to, way.is_mended(), errors) {
-        Ok(twin) => twin,
-        Err(failure) => return (conclude(errors, Err(failure)), None),
-    };
-    let (exit, copied) = copy_file(
-        rt,
+    let twin = match make_twin(
+        rt.alloc(),
         folder,
-        words,
-        Some(&twin.path),
-        start,
-        other,
-        output,
-        errors,
-    );
+        path,
+        &words.to,
+        way.is_mended(),
+        &mut writers.errors,
+    ) {
+        Ok(twin) => twin,
+        Err(failure) => return (conclude(&mut writers.errors, Err(failure)), None),
+    };
+    let (exit, copied) = copy_file(rt, folder, words, Some(&twin.path), starts, writers);
     remove_twin(folder, &twin);
-    tell_tested(rt.alloc(), path, way, exit.status, errors);
+    tell_tested(rt.alloc(), path, way, exit.status, &mut writers.errors);
     (exit, Some(copied))
 }
 
@@ -262,7 +261,7 @@ pub fn status_twinned<D: Disk + Drop, N: Disk + Drop, E>(
 
 // Tells that the rows alone were tested of a file that was copied with this status.
 fn tell_tested<E: Write>(alloc: Global, path: &str, way: Way, status: u8, errors: &mut E)
-    ensures { IsTestTold path.now way status (E.contents errors.old) (E.contents errors.new) }
+    ensures { IsTestTold path.now way status (bytes_written E.Write errors.old errors.new) }
 {
     if let Some(pages) = way.untested(status) {
         tell_rows(alloc, path, pages, Rows::TestedAlone, errors);
@@ -282,13 +281,13 @@ pub fn make_twin<P: Folder, E: Write>(
     is_mended: bool,
     errors: &mut E,
 ) -> Result<Twin, Failure>
-    ensures made { IfOk result (λ twin. AreTwins beside.now twin × Follows (P.steps folder.old)
-        (P.steps folder.new) (making source.now (twin_of beside.now) is_mended)) }
+    ensures made { IfOk result (λ twin. AreTwins beside.now twin × Follows
+        (steps_of P.Folder folder.old folder.new) (making source.now (twin_of beside.now) is_mended)) }
     ensures unmade { IfErr result (IsUntwinned (twin_of beside.now)
-        (P.steps folder.old) (P.steps folder.new)) }
+        (steps_of P.Folder folder.old folder.new)) }
     ensures failure { IfErr result IsLineBreakdown }
     ensures quiet { OnOk result (E.contents errors.new ≡ E.contents errors.old) }
-    ensures told { Tells (E.contents errors.old) (E.contents errors.new) }
+    ensures told { Tells (bytes_written E.Write errors.old errors.new) }
 {
     let twin = Twin::beside(alloc, beside)?;
     if let Some(cause) = folder.clear(source, &twin.path, &twin.log) {
@@ -313,7 +312,7 @@ fn tell_fault<E: Write>(
     errors: &mut E,
 ) -> Failure
     ensures failure { IsLineBreakdown result }
-    ensures told { Tells (E.contents errors.old) (E.contents errors.new) }
+    ensures told { Tells (bytes_written E.Write errors.old errors.new) }
 {
     match fault {
         TwinFault::OutOfMemory => return Failure::Memory,
@@ -326,7 +325,7 @@ fn tell_fault<E: Write>(
 /// Removes a twin and its log, as far as they are there.
 pub fn remove_twin<P: Folder>(folder: &mut P, twin: &Twin)
     ensures { (path : List ℕ) → AreTwins path twin.now
-        → AreRemoved (twin_of path) (P.steps folder.old) (P.steps folder.new) }
+        → AreRemoved (twin_of path) (steps_of P.Folder folder.old folder.new) }
 {
     folder.remove(&twin.path);
     folder.remove(&twin.log);
@@ -336,7 +335,7 @@ pub fn remove_twin<P: Folder>(folder: &mut P, twin: &Twin)
 // passed over, and so is want of memory.
 fn tell_rows<E: Write>(alloc: Global, path: &str, pages: u64, rows: Rows, errors: &mut E)
     ensures { IsWrittenIfRoom (spec.rows_line path.now pages rows)
-        (E.contents errors.old) (E.contents errors.new) }
+        (bytes_written E.Write errors.old errors.new) }
 {
     if let Ok(line) = unsummed_line(alloc, path, pages, rows.text()) {
         let _ = write_whole(errors, line.as_bytes());
@@ -346,7 +345,7 @@ fn tell_rows<E: Write>(alloc: Global, path: &str, pages: u64, rows: Rows, errors
 // Tells that the tables of a file stand in another order. A fault of the writer is passed over, and so is
 // want of memory.
 fn tell_order<E: Write>(alloc: Global, path: &str, errors: &mut E)
-    ensures { IsWrittenIfRoom (spec.order_line path.now) (E.contents errors.old) (E.contents errors.new) }
+    ensures { IsWrittenIfRoom (spec.order_line path.now) (bytes_written E.Write errors.old errors.new) }
 {
     if let Ok(line) = line_of(alloc, path, order_text()) {
         let _ = write_whole(errors, line.as_bytes());

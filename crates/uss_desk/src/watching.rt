@@ -8,7 +8,9 @@ ghost use Rattle.desk_store.specs.StoreChange.{changed_by, IsFitting};
 ghost use Rattle.desk_store.specs.StoreFaults.{HasRisen, IsHonest};
 ghost use Rattle.desk_store.specs.StoreFrames.{Remembers};
 ghost use Rattle.desk_tables.specs.Closing.{IsLeftUnclosed};
-ghost use Rattle.uss_desk.specs.Watching.{AreAtPaths, File, FollowsLooks, IsWatched, Log, Look};
+ghost use Rattle.desk_wire.specs.Passage.{course};
+ghost use Rattle.desk_program.specs.Serving.{Grows};
+ghost use Rattle.uss_desk.specs.Watching.{AreAtPaths, File, IsWatched, Log, Look};
 
 use desk_rules::operator::Operator;
 use desk_rules::plan::{PlanRow, States};
@@ -32,11 +34,11 @@ pub trait Paths {
 
     /// Whether the path of the database file leads to the file that is open.
     fn has_file(&mut self) -> bool
-        ensures { FollowsLooks (looks self.old) (looks self.new) (File result ∷ []) };
+        ensures { Grows (looks self.old) (looks self.new) (File result ∷ []) };
 
     /// Whether the path of the log leads to the log that is open.
     fn has_log(&mut self) -> bool
-        ensures { FollowsLooks (looks self.old) (looks self.new) (Log result ∷ []) };
+        ensures { Grows (looks self.old) (looks self.new) (Log result ∷ []) };
 }
 
 /// The paths of a database in memory: it has none, so that nobody can move it.
@@ -116,7 +118,7 @@ impl<D: Disk + Drop, N: Paths + Drop> Watched<FileStore<D>, N> {
 
 // Looks whether the files of a store are at their paths, and closes it.
 fn close_at<D: Disk + Drop, N: Paths>(store: SqliteStore<FileStore<D>>, paths: &mut N) -> Closed<D>
-    ensures looked { AreAtPaths (N.looks paths.old) (N.looks paths.new) result.are_at_paths }
+    ensures looked { AreAtPaths (course (N.looks paths.old) (N.looks paths.new)) result.are_at_paths }
     ensures copied { IfOk result.files (λ files. AreClean D.Disk files.log files.db →
         IsCopied store.held files) }
     ensures unclosed { IfErr result.files (IsLeftUnclosed store.held) }
@@ -130,7 +132,7 @@ fn close_at<D: Disk + Drop, N: Paths>(store: SqliteStore<FileStore<D>>, paths: &
 
 // Whether both files are at their paths. If the database file isn't, the log is not looked for.
 fn are_at_paths<N: Paths>(paths: &mut N) -> bool
-    ensures { AreAtPaths (N.looks paths.old) (N.looks paths.new) result }
+    ensures { AreAtPaths (course (N.looks paths.old) (N.looks paths.new)) result }
 {
     if !paths.has_file() {
         return false;
@@ -147,8 +149,8 @@ fn apply_at<S: PlanStore, N: Paths>(
     change: &Change,
 ) -> Result<(), StoreFault>
     requires { IsHonest (S.doubt store.old) → IsFitting change.now (S.content store.old) }
-    ensures watched { IsWatched (N.looks paths.old) (N.looks paths.new) refused.old refused.new
-        store.old store.new result }
+    ensures watched { IsWatched (course (N.looks paths.old) (N.looks paths.new))
+        (course refused.old refused.new) (course store.old store.new) result }
     ensures ok { IsHonest (S.doubt store.new) →
         OnOk result (S.content store.new ≡ changed_by change.now (S.content store.old)) }
     ensures err { OnErr result (S.content store.new ≡ S.content store.old) }

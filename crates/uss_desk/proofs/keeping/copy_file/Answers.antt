@@ -11,6 +11,6 @@ returns-in-Ok-clause-copied g c =
       subst
           (λ told. IsTextPrinted (copied_line holdings.operators holdings.plans)
           (ending exit.result told (g.E.Write.contents exit.new.errors))
-          (g.W.Write.contents c.args.output.now) (g.W.Write.contents exit.new.output))
+          (g.W.Write.contents c.args.writers.now.output) (g.W.Write.contents exit.new.output))
           c.in-Ok.ensures.quiet exit.ensures,
     )

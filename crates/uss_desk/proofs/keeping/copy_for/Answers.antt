@@ -1,5 +1,6 @@
 use Rattle.std.proofs.Common.{◌≡◌, false, inl, inr, rules, string_bytes, sym, subst, true}
 use Rattle.sqlite_wal.specs.Files.{image_at}
+use Rattle.desk_wire.specs.Passage.{course}
 use Rattle.uss_desk.proofs.KeepLemmas.{copy_fails, named_if, tells_both}
 use Rattle.uss_desk.proofs.NameLemmas.{failed_after, follows_both, found_own, gone_names, gone_own, not_free_failed, not_free_names, not_free_others, unnamed_after}
 use Rattle.uss_desk.specs.Naming.{AreNames, Follows, Synced, free_steps, named_steps}
@@ -30,7 +31,7 @@ returns-then-is_refused-clause-own g c =
 
 pub returns-in_err-copies-clause-fault : goal.returns-in_err-copies-clause-fault
 returns-in_err-copies-clause-fault g c =
-    copy_fails (image_at g.F.Start) (image_at g.N.Start) c.args.words.now.database _ _
+    copy_fails (image_at g.F.Start) (image_at g.N.Start) c.args.words.now.database _
     c.from_residual-in_err-copies.result _ c.from_residual-in_err-copies.ensures.1
     c.in_err-copies.ensures.fault
 
@@ -39,7 +40,7 @@ returns-in_err-copies-clause-named g c =
     let to = string_bytes c.args.words.now.to in
     let are : AreNames to c.in_ok-names.names = search rules in
     let free : c.is_refused.result ≡ false = search rules in
-    named_if _ _ _ _ c.from_residual-in_err-copies.result c.from_residual-in_err-copies.ensures.1
+    named_if _ _ _ c.from_residual-in_err-copies.result c.from_residual-in_err-copies.ensures.1
     (inl (gone_names _ _ _ to (c.is_refused.ensures.free to are free) (c.copy_to.ensures.gone to are)))
 
 pub returns-in_err-copies-clause-own : goal.returns-in_err-copies-clause-own
@@ -60,7 +61,7 @@ returns-then-not-put_in_place-clause-fault g c =
     let are : AreNames to c.in_ok-names.names = search rules in
     let free : c.is_refused.result ≡ false = search rules in
     let failed : c.put_in_place.result ≡ false = search rules in
-    let found = subst (λ s. Follows (steps c.args.folder.now) s (free_steps to))
+    let found = subst (λ s. Follows (course (steps c.args.folder.now) s) (free_steps to))
     (sym c.in_ok-copies.ensures.kept) (c.is_refused.ensures.free to are free) in
     inr (inr (inl (
       failed_after _ _ _ (free_steps to) found (c.put_in_place.ensures.failed failed),
@@ -74,7 +75,7 @@ returns-then-not-put_in_place-clause-named g c =
     let are : AreNames to c.in_ok-names.names = search rules in
     let free : c.is_refused.result ≡ false = search rules in
     let failed : c.put_in_place.result ≡ false = search rules in
-    let found = subst (λ s. Follows (steps c.args.folder.now) s (free_steps to))
+    let found = subst (λ s. Follows (course (steps c.args.folder.now) s) (free_steps to))
     (sym c.in_ok-copies.ensures.kept) (c.is_refused.ensures.free to are free) in
     unnamed_after _ _ _ to found (c.put_in_place.ensures.unnamed to are failed)
 
@@ -84,7 +85,7 @@ returns-then-not-put_in_place-clause-own g c =
     let steps = g.P.Folder.steps in
     let are : AreNames to c.in_ok-names.names = search rules in
     let free : c.is_refused.result ≡ false = search rules in
-    let found = subst (λ s. Follows (steps c.args.folder.now) s (free_steps to))
+    let found = subst (λ s. Follows (course (steps c.args.folder.now) s) (free_steps to))
     (sym c.in_ok-copies.ensures.kept) (c.is_refused.ensures.free to are free) in
     found_own _ _ _ to found (c.put_in_place.ensures.own to are)
 
@@ -95,7 +96,7 @@ returns-clause-named g c =
     let are : AreNames to c.in_ok-names.names = search rules in
     let free : c.is_refused.result ≡ false = search rules in
     let named : c.put_in_place.result ≡ true = search rules in
-    let found = subst (λ s. Follows (steps c.args.folder.now) s (free_steps to))
+    let found = subst (λ s. Follows (course (steps c.args.folder.now) s) (free_steps to))
     (sym c.in_ok-copies.ensures.kept) (c.is_refused.ensures.free to are free) in
     follows_both (steps c.args.folder.now) (steps c.copy_to.new.folder)
     (steps c.put_in_place.new.folder) (free_steps to) (named_steps to (Synced to))
@@ -107,6 +108,6 @@ returns-clause-own g c =
     let steps = g.P.Folder.steps in
     let are : AreNames to c.in_ok-names.names = search rules in
     let free : c.is_refused.result ≡ false = search rules in
-    let found = subst (λ s. Follows (steps c.args.folder.now) s (free_steps to))
+    let found = subst (λ s. Follows (course (steps c.args.folder.now) s) (free_steps to))
     (sym c.in_ok-copies.ensures.kept) (c.is_refused.ensures.free to are free) in
     found_own _ _ _ to found (c.put_in_place.ensures.own to are)

@@ -1,4 +1,5 @@
 use Rattle.std.proofs.Common.{Err, refl, subst, sym}
+use Rattle.desk_wire.specs.Passage.{course}
 use Rattle.uss_desk.specs.Reordering.{IsOrderedIf}
 use Rattle.uss_desk.proofs.reordering.order_by_twin.Goals as goal
 
@@ -10,8 +11,8 @@ returns-in-Ok-clause-ordered g c = λ image reads fails twins.
       between = removed;
       is = c.judge-admitted.ensures.admitted image reads fails;
       removed = c.remove_twin.ensures c.args.file.path.now twins;
-      ordered = subst (λ it. IsOrderedIf c.args.file.path.now it c.order.result removed
-          (g.P.Folder.steps c.order.new.folder)) (sym c.in-Ok.is) c.order.ensures.ordered;
+      ordered = subst (λ it. IsOrderedIf c.args.file.path.now it c.order.result
+          (course removed (g.P.Folder.steps c.order.new.folder))) (sym c.in-Ok.is) c.order.ensures.ordered;
     }
 
 pub returns-in-Err-clause-ordered : goal.returns-in-Err-clause-ordered
@@ -22,6 +23,6 @@ returns-in-Err-clause-ordered g c = λ image reads fails twins.
       between = removed;
       is = c.judge-admitted.ensures.admitted image reads fails;
       removed = c.remove_twin.ensures c.args.file.path.now twins;
-      ordered = subst (λ it. IsOrderedIf c.args.file.path.now it (Err c.in-Err.failure) removed removed)
-          (sym c.in-Err.is) (refl, refl);
+      ordered = subst (λ it. IsOrderedIf c.args.file.path.now it (Err c.in-Err.failure)
+          (course removed removed)) (sym c.in-Err.is) (refl, refl);
     }

@@ -1,4 +1,5 @@
 use Rattle.std.proofs.Common.{◌≡◌, rules, subst}
+use Rattle.desk_wire.specs.Passage.{course}
 use Rattle.uss_desk.proofs.TwinLemmas.{noted}
 use Rattle.uss_desk.specs.Twins.{IsWrittenIfRoom, rows_line}
 use Rattle.uss_desk.proofs.twins.tell_rows.Goals as goal
@@ -7,6 +8,6 @@ pub returns-in-Ok : goal.returns-in-Ok
 returns-in-Ok g c =
     let line = rows_line c.args.path.now c.args.pages c.args.rows in
     let same : c.as_bytes.result.now ≡ line = search rules in
-    subst (λ it. IsWrittenIfRoom it (g.E.Write.contents c.args.errors.now)
-    (g.E.Write.contents c.write_whole.new.output)) same
+    subst (λ it. IsWrittenIfRoom it (course (g.E.Write.contents c.args.errors.now)
+    (g.E.Write.contents c.write_whole.new.output))) same
     (noted _ _ _ c.write_whole.result c.write_whole.ensures.ok c.write_whole.ensures.err)
