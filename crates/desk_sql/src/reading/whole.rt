@@ -106,7 +106,6 @@ pub fn all_rows<S: Alter>(
 /// # Errors
 ///
 /// What a query or the taker may fail with.
-// Long: what is handed over, and apart from it what holds whatever the disk returned.
 pub fn each_row<S: Alter, T: RowSink>(
     connection: &mut Connection<S>,
     whole: Whole,
