@@ -69,8 +69,8 @@ returns-clause-crash g c =
     let found = c.in_ok-content.ensures.read in
     let whole = c.make_whole.ensures in
     let plans = c.deref.ensures.value ∙ ap (λ (w : World). w.plans) c.content.view_is in
-    moved_leaves g.S.Store c.args.made c.in_ok-content.content a b c.requires.part.part c.requires.rows found.reads
-    found.value c.deref.result.now d c.rewrite.new.connection plans whole.over.doubt
+    moved_leaves g.S.Store c.args.made c.in_ok-content.content a b c.requires.part.part c.requires.rows
+    found.reads found.value c.deref.result.now d c.rewrite.new.connection plans whole.over.doubt
     c.rewrite.ensures.over.doubt whole.crash c.in_ok-make_whole.ensures.done c.rewrite.ensures.crash
 
 pub returns-in_err-rewrite-clause-crash : goal.returns-in_err-rewrite-clause-crash
@@ -81,8 +81,8 @@ returns-in_err-rewrite-clause-crash g c =
     let found = c.in_ok-content.ensures.read in
     let whole = c.make_whole.ensures in
     let plans = c.deref.ensures.value ∙ ap (λ (w : World). w.plans) c.content.view_is in
-    moved_leaves g.S.Store c.args.made c.in_ok-content.content a b c.requires.part.part c.requires.rows found.reads
-    found.value c.deref.result.now d c.rewrite.new.connection plans whole.over.doubt
+    moved_leaves g.S.Store c.args.made c.in_ok-content.content a b c.requires.part.part c.requires.rows
+    found.reads found.value c.deref.result.now d c.rewrite.new.connection plans whole.over.doubt
     c.rewrite.ensures.over.doubt whole.crash c.in_ok-make_whole.ensures.done c.rewrite.ensures.crash
 
 pub returns-in_err-make_whole-clause-crash : goal.returns-in_err-make_whole-clause-crash

@@ -86,8 +86,8 @@ returns-in-None-clause-read g c =
           weaker c.held_by-in-None.result
           (λ helds are. (rows, mine, subst (λ hs. HasTakenHelds hs rows) (sym are) taken))
           c.held_by-in-None.ensures.value)));
-      cause = err_weaker c.held_by-in-None.result (BlamesSpans g.S.Store old new) c.held_by-in-None.ensures.none
-          (λ e why clean live is.
+      cause = err_weaker c.held_by-in-None.result (BlamesSpans g.S.Store old new)
+          c.held_by-in-None.ensures.none (λ e why clean live is.
           (let standing = c.self.invariant.standing (omega (arith, answers.reads.doubt, clean))
           (answers.reads.kept clean live).was_open in
           spans_blamed g.S.Store old new c.self.invariant.unlimited _ c.self.inside.kept.world
