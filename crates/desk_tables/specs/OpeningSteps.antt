@@ -1,14 +1,17 @@
 -- What a step of an opening comes to, by its result.
-use Rattle.std.specs.Prelude.{◌≡◌, ◌≢◌, ◌≤◌, ℕ, None, IsTrue, Result, IfOk, IfErr, OnOk, OnErr}
+use Rattle.std.specs.Prelude.{◌≡◌, ◌≢◌, ◌≤◌, ℕ, false, true, None, IsTrue, Result, IfOk, IfErr, OnOk, OnErr}
 use Rattle.sqlite_trees.specs.declared.store.Store.{Ghosts}
 use Rattle.sqlite_trees.specs.View.{doubt as doubt_of}
 use Rattle.sqlite.specs.State.{HasCleanDisk, KeepsCommit}
 use Rattle.sqlite.specs.Held.{Held, state}
 use Rattle.desk_sql.specs.declared.opening.finding.TablesPresent.{TablesPresent}
+use Rattle.desk_sql.specs.declared.opening.numbers.DeskTable.TheVariants as desk
+use Rattle.desk_sql.specs.Finding.{Holds}
+use Rattle.desk_sql.specs.Schema.{has_table}
 use Rattle.desk_sql.specs.QueryEnds.{WasOpen}
 use Rattle.desk_sql.specs.Effects.{IsOpenIfClean, Makes}
 use Rattle.desk_sql.specs.Frames.{OnlyReads, Remembers}
-use Rattle.desk_sql.specs.Rows.{Tables, tables_at}
+use Rattle.desk_sql.specs.Rows.{IsMadeTo, Tables, tables_at}
 use Rattle.desk_store.specs.World.{World}
 use Rattle.desk_tables.specs.declared.opening.open.OpenFault.{OpenFault}
 use Rattle.desk_tables.specs.declared.opening.open.OpenFault.TheVariants.{NotADesk, OldSchema}
@@ -16,6 +19,27 @@ use Rattle.desk_tables.specs.Opening.{AreNoContent, BlamesReading, BlamesDatabas
 use Rattle.desk_tables.specs.Moving.{AreNoOldContent, HasAllTables, WasMoved, told_count}
 use Rattle.desk_tables.specs.Leaving.{IsSettledAt}
 use Rattle.desk_tables.specs.Store.{Stands}
+
+-- ---- what a step begins with
+
+-- no transaction is begun, and no statement is refused for its steps
+pub record IsAtRest {S : Type 0} (h : Held S) : Type 0 where
+  pub settled : h.in_transaction ≡ false
+  pub unlimited : h.step_limit ≡ None
+
+module _ {S : Type 0} (g : Ghosts S) (h : Held S) (made : TablesPresent) where
+  -- tables are made so far, if the disk is clean and the connection open, and no transaction is begun
+  pub record ShowsPart : Type 0 where
+    pub part : Holds g h (IsMadeTo made)
+    pub settled : h.in_transaction ≡ false
+
+  -- that of operators is among them
+  pub record ShowsOperators : Type 0 where
+    pub part : Holds g h (IsMadeTo made)
+    pub settled : h.in_transaction ≡ false
+    pub some : has_table made desk.Operator ≡ true
+
+-- ---- what it comes to
 
 module _ {S : Type 0} (g : Ghosts S) (old new : Held S) where
   -- over a clean disk a store begins with tables that were completed

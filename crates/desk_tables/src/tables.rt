@@ -38,7 +38,8 @@ impl<S: Alter> Model for DeskTables<S> {
 }
 
 impl<S: Alter> DeskTables<S> {
-    /// Where what is read is kept. That the tables stand for the world is had with it.
+    /// The allocator of what is read. A call that opens no field learns by it that the tables stand for the
+    /// world.
     pub(crate) fn allocator(&self) -> Global
         ensures { Stands S.Store self.now.held self.now.world }
     {

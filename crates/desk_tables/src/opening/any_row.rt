@@ -4,12 +4,12 @@ ghost use Rattle.std.specs.Prelude.{◌≡◌, ◌≢◌, true, false, IfOk, IfE
 ghost use Rattle.sqlite.specs.State.{HasCleanDisk};
 ghost use Rattle.sqlite.specs.Held.{state};
 ghost use Rattle.desk_sql.specs.QueryEnds.{WasOpen};
-ghost use Rattle.desk_sql.specs.Finding.{Holds};
 ghost use Rattle.desk_sql.specs.Frames.{OnlyReads};
 ghost use Rattle.desk_sql.specs.Queries.{rows_read, table_in};
 ghost use Rattle.desk_sql.specs.Schema.{has_table, is_packed};
-ghost use Rattle.desk_sql.specs.Rows.{IsMadeTo, has_rows, tables_at};
+ghost use Rattle.desk_sql.specs.Rows.{has_rows, tables_at};
 ghost use Rattle.desk_tables.specs.Opening.{BlamesReading};
+ghost use Rattle.desk_tables.specs.OpeningSteps.{ShowsPart};
 
 use crate::opening::open::OpenFault;
 use crate::opening::spans::fault_of;
@@ -49,8 +49,7 @@ pub(crate) fn has_row<S: Alter>(
     whole: Whole,
     made: TablesPresent,
 ) -> Result<bool, OpenFault>
-    requires part { Holds S.Store connection.old (IsMadeTo made) }
-    requires settled { connection.old.in_transaction ≡ false }
+    requires part { ShowsPart S.Store connection.old made }
     ensures value { HasCleanDisk (state S.Store connection.new) → IfOk result (λ has. has ≡ has_rows
         (rows_read whole (tables_at made (state S.Store connection.old).now.trees))) }
     ensures open { has_table made (table_in whole (is_packed made)) ≡ true

@@ -13,7 +13,7 @@ ghost use Rattle.desk_store.specs.Content.{IsContent};
 ghost use Rattle.desk_store.specs.World.{Filed, Listed};
 ghost use Rattle.desk_tables.specs.Files.{IsUnread};
 ghost use Rattle.desk_tables.specs.Opening.{BlamesReading};
-ghost use Rattle.desk_tables.specs.OpeningSteps.{IsAdopted, IsMadeAnew};
+ghost use Rattle.desk_tables.specs.OpeningSteps.{IsAdopted, IsAtRest, IsMadeAnew};
 ghost use Rattle.desk_tables.specs.Known.{Knows};
 ghost use Rattle.desk_tables.specs.Tables.{row_of_operator, row_of_plan};
 ghost use Rattle.desk_tables.specs.Copying.{AddsHeadRows, AddsOperatorRows, AddsWorldRows, BlamesNew, IsUnmade};
@@ -75,8 +75,7 @@ fn make_world<S: Alter>(
     connection: &mut Connection<S>,
     content: &Content,
 ) -> Result<GhostWorld, OpenFault>
-    requires settled { connection.old.in_transaction ≡ false }
-    requires unlimited { connection.old.step_limit ≡ None }
+    requires rest { IsAtRest connection.old }
     requires content { IsContent content.now }
     requires few { HaveFewRows content.now.plans }
     ensures value { IfOk result (λ kept. kept.world ≡ content.now) }
@@ -94,8 +93,7 @@ fn make_world<S: Alter>(
 
 // Whether a database has no table; else it fails.
 fn find_blank<S: Alter>(connection: &mut Connection<S>) -> Result<(), OpenFault>
-    requires settled { connection.old.in_transaction ≡ false }
-    requires unlimited { connection.old.step_limit ≡ None }
+    requires rest { IsAtRest connection.old }
     ensures blank { OnOk result (Holds S.Store connection.new (IsMadeTo TablesPresent.Nothing)) }
     ensures fault { IfErr result IsUnread }
     ensures cause { IfErr result (BlamesNew S.Store connection.old connection.new) }

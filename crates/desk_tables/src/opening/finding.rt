@@ -5,7 +5,6 @@ ghost use Rattle.sqlite_value.specs.Order.{Row as Values};
 ghost use Rattle.sqlite.specs.State.{HasCleanDisk};
 ghost use Rattle.sqlite.specs.Held.{state};
 ghost use Rattle.desk_sql.specs.QueryEnds.{WasOpen};
-ghost use Rattle.desk_sql.specs.Schema.{has_table};
 ghost use Rattle.desk_sql.specs.Rows.{IsMadeTo, tables_at};
 ghost use Rattle.desk_sql.specs.Effects.{IsOpenIfClean, StaysShown};
 ghost use Rattle.desk_sql.specs.Frames.{OnlyReads};
@@ -24,6 +23,7 @@ ghost use Rattle.desk_tables.specs.Opening.{BeginsWith, HasRowsOld, HasNewRows};
 ghost use Rattle.desk_tables.specs.Opening.{ShowsNoDesk, ShowsOldRows};
 ghost use Rattle.desk_tables.specs.Opening.{BlamesReading, BlamesDatabase};
 ghost use Rattle.desk_tables.specs.OpeningSteps.{BeginsCompleted, HadNone, IsOpening, IsRead, IsSetUp};
+ghost use Rattle.desk_tables.specs.OpeningSteps.{IsAtRest, ShowsOperators, ShowsPart};
 
 use crate::kept::GhostWorld;
 use crate::known::{Known, live_among, roll_of};
@@ -38,8 +38,7 @@ use crate::opening::spans::{SpanCheck, take_spans};
 use crate::span_bounds::SpanBounds;
 use desk_live::ListedOperator;
 use desk_sql::{
-    DeskTable, TablesPresent, Whole, all_rows, complete_tables, find_tables, has_old_rows,
-    volume_rows,
+    TablesPresent, Whole, all_rows, complete_tables, find_tables, has_old_rows, volume_rows,
 };
 use s2_cover::laws::one_list_of_ranges;
 use sqlite::{Connection, Row};
@@ -61,8 +60,7 @@ pub(crate) fn load_world<S: Alter>(
     alloc: Global,
     connection: &mut Connection<S>,
 ) -> Result<(GhostWorld, Known, bool), OpenFault>
-    requires settled { connection.old.in_transaction ≡ false }
-    requires unlimited { connection.old.step_limit ≡ None }
+    requires rest { IsAtRest connection.old }
     ensures opened { IsOpening S.Store connection.old connection.new result (λ found. found.0.world)
         (λ found. BeginsWith S.Store connection.old connection.new found.0.world)
         (ShowsNoDesk S.Store connection.old connection.new)
@@ -109,9 +107,8 @@ pub(crate) fn world_of<S: Alter>(
     connection: &mut Connection<S>,
     made: TablesPresent,
 ) -> Result<(GhostWorld, Known, bool), OpenFault>
-    requires part { Holds S.Store connection.old (IsMadeTo made) }
+    requires part { ShowsPart S.Store connection.old made }
     requires new { Holds S.Store connection.old (HasNewRows made) }
-    requires settled { connection.old.in_transaction ≡ false }
     requires unlimited { connection.old.step_limit ≡ None }
     ensures set_up { IsSetUp S.Store connection.old connection.new result (λ found. found.0.world)
         (λ found. BeginsWith S.Store connection.old connection.new found.0.world)
@@ -132,8 +129,7 @@ pub(crate) fn world_of<S: Alter>(
 pub(crate) fn create_tables<S: Alter>(
     connection: &mut Connection<S>,
 ) -> Result<GhostWorld, OpenFault>
-    requires blank { Holds S.Store connection.old (IsMadeTo TablesPresent.Nothing) }
-    requires settled { connection.old.in_transaction ≡ false }
+    requires blank { ShowsPart S.Store connection.old TablesPresent.Nothing }
     requires unlimited { connection.old.step_limit ≡ None }
     ensures set_up { IsSetUp S.Store connection.old connection.new result (λ kept. kept.world)
         (λ kept. kept.world ≡ record { operators = []; plans = [] }) ⊥
@@ -146,19 +142,18 @@ pub(crate) fn create_tables<S: Alter>(
 }
 
 // The world whose rows the tables have, which get what is missing of them.
-// Long: which tables there are is told by six facts; one record says how it may end.
+// Long: which tables there are is told by five facts; one record says how it may end.
 #[tactic(auto, using(crate::proofs::OpeningLemmas::some_operators))]
 fn completed_in<S: Alter>(
     alloc: Global,
     connection: &mut Connection<S>,
     made: TablesPresent,
 ) -> Result<(GhostWorld, Known, bool), OpenFault>
-    requires part { Holds S.Store connection.old (IsMadeTo made) }
+    requires part { ShowsPart S.Store connection.old made }
     requires new { Holds S.Store connection.old (HasNewRows made) }
     requires missing { made ≢ TablesPresent.All }
     requires ordered { made ≢ TablesPresent.Packed }
     requires some { made ≢ TablesPresent.Nothing }
-    requires settled { connection.old.in_transaction ≡ false }
     requires unlimited { connection.old.step_limit ≡ None }
     ensures set_up { IsSetUp S.Store connection.old connection.new result (λ found. found.0.world)
         (λ found. BeginsCompleted S.Store connection.old connection.new found.0.world)
@@ -178,10 +173,8 @@ fn load_tables<S: Alter>(
     connection: &mut Connection<S>,
     made: TablesPresent,
 ) -> Result<(GhostWorld, Known, bool), OpenFault>
-    requires part { Holds S.Store connection.old (IsMadeTo made) }
+    requires part { ShowsOperators S.Store connection.old made }
     requires new { Holds S.Store connection.old (HasNewRows made) }
-    requires some { has_table made DeskTable.Operator ≡ true }
-    requires settled { connection.old.in_transaction ≡ false }
     ensures read { IsRead S.Store connection.old connection.new result made
         (λ tables found. IsContentOf tables found.0.world) AreNoContent }
     ensures bounded { IfOk result (λ found. Knows found.1 found.0.world) }
@@ -198,10 +191,8 @@ pub(crate) fn content_found<S: Alter>(
     connection: &mut Connection<S>,
     made: TablesPresent,
 ) -> Result<(Content, Known), OpenFault>
-    requires part { Holds S.Store connection.old (IsMadeTo made) }
+    requires part { ShowsOperators S.Store connection.old made }
     requires new { Holds S.Store connection.old (HasNewRows made) }
-    requires some { has_table made DeskTable.Operator ≡ true }
-    requires settled { connection.old.in_transaction ≡ false }
     ensures read { IsRead S.Store connection.old connection.new result made
         (λ tables found. IsContentOf tables found.0) AreNoContent }
     ensures content { IfOk result (λ found. IsContent found.0) }
@@ -313,9 +304,7 @@ pub(crate) fn heads_in<S: Alter>(
     connection: &mut Connection<S>,
     made: TablesPresent,
 ) -> Result<TableRows, OpenFault>
-    requires part { Holds S.Store connection.old (IsMadeTo made) }
-    requires some { has_table made DeskTable.Operator ≡ true }
-    requires settled { connection.old.in_transaction ≡ false }
+    requires part { ShowsOperators S.Store connection.old made }
     ensures value { HasCleanDisk (state S.Store connection.new) →
         IfOk result (AreSortedHeads (tables_at made (state S.Store connection.old).now.trees)) }
     ensures open { WasOpen S.Store connection.old connection.new result }

@@ -4,12 +4,11 @@ ghost use Rattle.std.specs.Prelude.{◌≡◌, ◌≢◌, false, IfOk, IfErr};
 ghost use Rattle.desk_rules.specs.Plan.{is_live};
 ghost use Rattle.desk_sql.specs.Frames.{OnlyReads};
 ghost use Rattle.desk_sql.specs.Finding.{Holds};
-ghost use Rattle.desk_sql.specs.Rows.{IsMadeTo};
 ghost use Rattle.desk_store.specs.World.{World};
 ghost use Rattle.desk_store.specs.Content.{IsContent};
 ghost use Rattle.desk_tables.specs.Known.{Knows};
 ghost use Rattle.desk_tables.specs.Opening.{BlamesDatabase, HasRowsOld};
-ghost use Rattle.desk_tables.specs.OpeningSteps.{IsRead};
+ghost use Rattle.desk_tables.specs.OpeningSteps.{IsRead, ShowsPart};
 ghost use Rattle.desk_tables.specs.Writable.{HaveFewRows};
 ghost use Rattle.desk_tables.specs.Copying as spec;
 ghost use Rattle.desk_tables.specs.Copying.{AreHoldingsOf, AreNoContentIn, IsContentIn, ShowsContent, ShowsNone};
@@ -122,10 +121,9 @@ fn content_at<S: Alter>(
     made: TablesPresent,
     old: bool,
 ) -> Result<(Content, Known), OpenFault>
-    requires part { Holds S.Store connection.old (IsMadeTo made) }
+    requires part { ShowsPart S.Store connection.old made }
     requires rows { Holds S.Store connection.old (HasRowsOld made old) }
     requires some { made ≢ TablesPresent.Nothing }
-    requires settled { connection.old.in_transaction ≡ false }
     ensures read { IsRead S.Store connection.old connection.new result made
         (λ tables found. IsContentIn old tables found.0) (AreNoContentIn old) }
     ensures content { IfOk result (λ found. IsContent found.0) }

@@ -5,8 +5,7 @@ ghost use Rattle.std.specs.List.{AllByRecursion};
 ghost use Rattle.sqlite.specs.State.{HasCleanDisk, KeepsCommit};
 ghost use Rattle.sqlite.specs.Held.{state};
 ghost use Rattle.sqlite_value.specs.Order.{Row as Values};
-ghost use Rattle.desk_sql.specs.Schema.{has_table};
-ghost use Rattle.desk_sql.specs.Rows.{IsDesk, IsMadeTo, tables_at, tables_of};
+ghost use Rattle.desk_sql.specs.Rows.{tables_at, tables_of};
 ghost use Rattle.desk_sql.specs.Batches.{IsUnderWay};
 ghost use Rattle.desk_sql.specs.QueryEnds.{WasOpen};
 ghost use Rattle.desk_sql.specs.Effects.{IsReady, StaysShown, IsOpenIfClean, Makes, Commits, MayMake};
@@ -21,6 +20,7 @@ ghost use Rattle.desk_tables.specs.Known.{Knows};
 ghost use Rattle.desk_tables.specs.Tables as tables;
 ghost use Rattle.desk_tables.specs.Opening.{AreRows, BlamesReading, HasRowsOld};
 ghost use Rattle.desk_tables.specs.OpeningSteps.{BeginsAllMoved, HadNoOld, IsAdded, IsOpening, IsRead, IsSetUp};
+ghost use Rattle.desk_tables.specs.OpeningSteps.{IsAtRest, ShowsOperators, ShowsPart};
 ghost use Rattle.desk_tables.specs.OpeningSteps.{MakesWhole};
 ghost use Rattle.desk_tables.specs.Moving.{AddsPlanRows, AddsPlansRows, MovesRows, RemovesOldRows, AreNoOldContent};
 ghost use Rattle.desk_tables.specs.Moving.{BeginsMoved, KeepsRows, IsOldArea, IsOldContent};
@@ -43,7 +43,7 @@ use crate::opening::spans::{SpanCheck, take_spans};
 use desk_live::ListedOperator;
 use desk_sql::laws::settled_and_sound;
 use desk_sql::{
-    DeskTable, TablesPresent, Whole, all_rows, complete_tables, empty_old_spans, empty_old_volumes,
+    TablesPresent, Whole, all_rows, complete_tables, empty_old_spans, empty_old_volumes,
     insert_spans, insert_volumes,
 };
 use s2_cover::laws::{canonical_list_is, one_canonical_list, one_list_of_ranges};
@@ -70,8 +70,7 @@ pub(crate) fn moved_world_in<S: Alter>(
     alloc: Global,
     connection: &mut Connection<S>,
 ) -> Result<(GhostWorld, Known, u32), OpenFault>
-    requires settled { connection.old.in_transaction ≡ false }
-    requires unlimited { connection.old.step_limit ≡ None }
+    requires rest { IsAtRest connection.old }
     ensures opened { IsOpening S.Store connection.old connection.new result (λ moved. moved.0.world)
         (λ moved. BeginsMoved S.Store connection.old connection.new moved.0.world moved.2)
         (ShowsNoContent S.Store connection.old connection.new) ⊥
@@ -88,17 +87,15 @@ pub(crate) fn moved_world_in<S: Alter>(
 }
 
 // The world whose rows the tables of schema 1 have, which are moved.
-// Long: which tables there are is told by five facts; one record says how it may end.
 #[tactic(auto, using(crate::proofs::OpeningLemmas::some_operators))]
 fn move_tables<S: Alter>(
     alloc: Global,
     connection: &mut Connection<S>,
     made: TablesPresent,
 ) -> Result<(GhostWorld, Known, u32), OpenFault>
-    requires part { Holds S.Store connection.old (IsMadeTo made) }
+    requires part { ShowsPart S.Store connection.old made }
     requires rows { Holds S.Store connection.old (HasRowsOld made true) }
     requires some { made ≢ TablesPresent.Nothing }
-    requires settled { connection.old.in_transaction ≡ false }
     requires unlimited { connection.old.step_limit ≡ None }
     ensures set_up { IsSetUp S.Store connection.old connection.new result (λ moved. moved.0.world)
         (λ moved. BeginsAllMoved S.Store connection.old connection.new moved.0.world moved.2)
@@ -119,9 +116,8 @@ fn make_whole<S: Alter>(
     connection: &mut Connection<S>,
     made: TablesPresent,
 ) -> Result<(), OpenFault>
-    requires part { Holds S.Store connection.old (IsMadeTo made) }
+    requires part { ShowsPart S.Store connection.old made }
     requires empty { Holds S.Store connection.old (λ db. HasNoNewRows (tables_at made db.trees)) }
-    requires settled { connection.old.in_transaction ≡ false }
     ensures done { MakesWhole S.Store connection.old connection.new result made }
     ensures kept { OnErr result (StaysShown S.Store connection.old connection.new) }
     ensures cause { Holds S.Store connection.old (HasSpansToIndex made)
@@ -234,9 +230,7 @@ pub(crate) fn load_old_tables<S: Alter>(
     connection: &mut Connection<S>,
     made: TablesPresent,
 ) -> Result<(Content, Known), OpenFault>
-    requires part { Holds S.Store connection.old (IsMadeTo made) }
-    requires some { has_table made DeskTable.Operator ≡ true }
-    requires settled { connection.old.in_transaction ≡ false }
+    requires part { ShowsOperators S.Store connection.old made }
     ensures read { IsRead S.Store connection.old connection.new result made
         (λ tables found. IsOldContentOf tables found.0) AreNoOldContent }
     ensures content { IfOk result (λ found. IsContent found.0) }
@@ -258,9 +252,7 @@ fn old_heads_alone<S: Alter>(
     connection: &mut Connection<S>,
     made: TablesPresent,
 ) -> Result<TableRows, OpenFault>
-    requires part { Holds S.Store connection.old (IsMadeTo made) }
-    requires some { has_table made DeskTable.Operator ≡ true }
-    requires settled { connection.old.in_transaction ≡ false }
+    requires part { ShowsOperators S.Store connection.old made }
     ensures value { HasCleanDisk (state S.Store connection.new) → IfOk result (λ heads.
         HasNoNewRows (tables_at made (state S.Store connection.old).now.trees)
         × AreSortedOld (tables_at made (state S.Store connection.old).now.trees) heads) }
@@ -284,8 +276,7 @@ pub(crate) fn are_new_empty<S: Alter>(
     connection: &mut Connection<S>,
     made: TablesPresent,
 ) -> Result<bool, OpenFault>
-    requires part { Holds S.Store connection.old (IsMadeTo made) }
-    requires settled { connection.old.in_transaction ≡ false }
+    requires part { ShowsPart S.Store connection.old made }
     ensures value { HasCleanDisk (state S.Store connection.new) → IfOk result (λ empty.
         IsTrue empty ↔ HasNoNewRows (tables_at made (state S.Store connection.old).now.trees)) }
     ensures fault { IfErr result (λ e. (e ≢ OpenFault.NotADesk)
@@ -308,9 +299,7 @@ pub(crate) fn old_heads_in<S: Alter>(
     connection: &mut Connection<S>,
     made: TablesPresent,
 ) -> Result<TableRows, OpenFault>
-    requires part { Holds S.Store connection.old (IsMadeTo made) }
-    requires some { has_table made DeskTable.Operator ≡ true }
-    requires settled { connection.old.in_transaction ≡ false }
+    requires part { ShowsOperators S.Store connection.old made }
     ensures value { HasCleanDisk (state S.Store connection.new) → IfOk result
         (AreSortedOld (tables_at made (state S.Store connection.old).now.trees)) }
     ensures open { WasOpen S.Store connection.old connection.new result }

@@ -5,9 +5,7 @@
 ghost use Rattle.std.specs.Prelude.{◌≡◌, ◌≢◌, true, false};
 ghost use Rattle.sqlite.specs.Held.{IsNew};
 ghost use Rattle.desk_sql.specs.Frames.{OnlyReads};
-ghost use Rattle.desk_sql.specs.Finding.{Holds};
-ghost use Rattle.desk_sql.specs.Rows.{IsMadeTo};
-ghost use Rattle.desk_sql.specs.Schema.{has_table};
+ghost use Rattle.desk_tables.specs.OpeningSteps.{ShowsOperators, ShowsPart};
 
 use crate::opening::content::{
     TableRows, are_shared, keys_ascend, names_ascend, operators_in, plans_in,
@@ -21,7 +19,7 @@ use crate::opening::path::connect_there;
 use crate::opening::spans::{SpanCheck, take_spans};
 use crate::reading::values::{count_at, head_in, id_in};
 use desk_rules::decide::MAX_PRIORITY;
-use desk_sql::{DeskTable, TablesPresent, Whole};
+use desk_sql::{TablesPresent, Whole};
 use sqlite::{Connection, FileStore, Row, Unknown};
 use sqlite_disk::Disk;
 use sqlite_trees::store::Alter;
@@ -104,9 +102,7 @@ fn new_fault<S: Alter>(
     connection: &mut Connection<S>,
     made: TablesPresent,
 ) -> Option<PartFault>
-    requires part { Holds S.Store connection.old (IsMadeTo made) }
-    requires some { has_table made DeskTable.Operator ≡ true }
-    requires settled { connection.old.in_transaction ≡ false }
+    requires part { ShowsOperators S.Store connection.old made }
     ensures { OnlyReads S.Store connection.old connection.new }
 {
     let Ok(heads) = heads_in(alloc, connection, made) else {
@@ -130,9 +126,8 @@ fn old_fault<S: Alter>(
     connection: &mut Connection<S>,
     made: TablesPresent,
 ) -> Option<PartFault>
-    requires part { Holds S.Store connection.old (IsMadeTo made) }
+    requires part { ShowsPart S.Store connection.old made }
     requires some { made ≢ TablesPresent.Nothing }
-    requires settled { connection.old.in_transaction ≡ false }
     ensures { OnlyReads S.Store connection.old connection.new }
 {
     match are_new_empty(connection, made) {
@@ -150,9 +145,7 @@ fn old_part<S: Alter>(
     connection: &mut Connection<S>,
     made: TablesPresent,
 ) -> Option<PartFault>
-    requires part { Holds S.Store connection.old (IsMadeTo made) }
-    requires some { has_table made DeskTable.Operator ≡ true }
-    requires settled { connection.old.in_transaction ≡ false }
+    requires part { ShowsOperators S.Store connection.old made }
     ensures { OnlyReads S.Store connection.old connection.new }
 {
     let Ok(heads) = old_heads_in(alloc, connection, made) else {

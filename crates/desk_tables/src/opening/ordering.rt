@@ -1,9 +1,8 @@
 //! How a packed file, whose tables come before all indexes, is put into a desk's own order.
 
-ghost use Rattle.std.specs.Prelude.{◌≡◌, ◌≢◌, false, IfOk, IfErr, OnOk, OnErr, None};
+ghost use Rattle.std.specs.Prelude.{◌≡◌, ◌≢◌, IfOk, IfErr, OnOk, OnErr, None};
 ghost use Rattle.sqlite.specs.State.{HasCleanDisk};
 ghost use Rattle.sqlite.specs.Held.{state};
-ghost use Rattle.desk_sql.specs.Rows.{IsMadeTo};
 ghost use Rattle.desk_sql.specs.Effects.{Commits, MayMake, StaysShown};
 ghost use Rattle.desk_sql.specs.Finding.{Holds};
 ghost use Rattle.desk_sql.specs.Frames.{IsOver};
@@ -12,7 +11,7 @@ ghost use Rattle.desk_tables.specs.CutShort.{IsCompletedAs, MayBecome};
 ghost use Rattle.desk_tables.specs.Known.{Knows};
 ghost use Rattle.desk_tables.specs.Moving.{OrdersRows};
 ghost use Rattle.desk_tables.specs.Opening.{BlamesReading, HasNewRows};
-ghost use Rattle.desk_tables.specs.OpeningSteps.{BeginsOrdered, HadNone, IsSetUp};
+ghost use Rattle.desk_tables.specs.OpeningSteps.{BeginsOrdered, HadNone, IsSetUp, ShowsPart};
 ghost use Rattle.desk_tables.specs.Writable.{HasSpansToIndex, IsToOrder};
 
 use crate::kept::GhostWorld;
@@ -34,9 +33,8 @@ pub(crate) fn ordered_in<S: Alter>(
     alloc: Global,
     connection: &mut Connection<S>,
 ) -> Result<(GhostWorld, Known, bool), OpenFault>
-    requires part { Holds S.Store connection.old (IsMadeTo TablesPresent.Packed) }
+    requires part { ShowsPart S.Store connection.old TablesPresent.Packed }
     requires new { Holds S.Store connection.old (HasNewRows TablesPresent.Packed) }
-    requires settled { connection.old.in_transaction ≡ false }
     requires unlimited { connection.old.step_limit ≡ None }
     ensures set_up { IsSetUp S.Store connection.old connection.new result (λ found. found.0.world)
         (λ found. BeginsOrdered S.Store connection.old connection.new found.0.world)
@@ -58,8 +56,7 @@ fn put_in_order<S: Alter>(
     connection: &mut Connection<S>,
     plans: &[FiledPlan],
 ) -> Result<(), OpenFault>
-    requires part { Holds S.Store connection.old (IsMadeTo TablesPresent.Packed) }
-    requires settled { connection.old.in_transaction ≡ false }
+    requires part { ShowsPart S.Store connection.old TablesPresent.Packed }
     ensures done { HasCleanDisk (state S.Store connection.new)
         → OnOk result (Commits S.Store connection.old connection.new (OrdersRows plans.now)) }
     ensures kept { OnErr result (StaysShown S.Store connection.old connection.new) }
@@ -81,8 +78,7 @@ fn put_in_order<S: Alter>(
 /// The tables of a packed file come into a desk's own order, without the rows of `volume2` and `span2`, as
 /// one transaction.
 pub(crate) fn unpack<S: Alter>(connection: &mut Connection<S>) -> Result<(), OpenFault>
-    requires part { Holds S.Store connection.old (IsMadeTo TablesPresent.Packed) }
-    requires settled { connection.old.in_transaction ≡ false }
+    requires part { ShowsPart S.Store connection.old TablesPresent.Packed }
     ensures done { HasCleanDisk (state S.Store connection.new)
         → OnOk result (Commits S.Store connection.old connection.new RemakesTables) }
     ensures kept { OnErr result (StaysShown S.Store connection.old connection.new) }

@@ -7,10 +7,9 @@ ghost use Rattle.desk_rules.specs.Plan as plan_spec;
 ghost use Rattle.desk_store.specs.World.{Filed};
 ghost use Rattle.sqlite.specs.State.{HasCleanDisk};
 ghost use Rattle.sqlite.specs.Held.{state};
-ghost use Rattle.desk_sql.specs.Rows.{IsMadeTo, Lists, tables_at};
+ghost use Rattle.desk_sql.specs.Rows.{Lists, tables_at};
 ghost use Rattle.desk_sql.specs.Queries.{key_cells, rows_read, table_read};
 ghost use Rattle.desk_sql.specs.Effects.{StaysOpen};
-ghost use Rattle.desk_sql.specs.Finding.{Holds};
 ghost use Rattle.desk_sql.specs.Frames.{OnlyReads};
 ghost use Rattle.desk_tables.specs.Opening.{BlamesReading};
 ghost use Rattle.desk_tables.specs.Tables.{AreSpanRows};
@@ -24,6 +23,7 @@ ghost use Rattle.desk_tables.specs.SpanChecks.{
   after_plan,
 };
 ghost use Rattle.desk_tables.specs.SpansHeld.{AreHeld};
+ghost use Rattle.desk_tables.specs.OpeningSteps.{ShowsPart};
 
 use crate::opening::exact::{FiledPlan, is_slab_row};
 use crate::opening::finding::length_with;
@@ -264,8 +264,7 @@ pub(crate) fn take_spans<S: Alter>(
     made: TablesPresent,
     check: &mut SpanCheck,
 ) -> Result<(), OpenFault>
-    requires part { Holds S.Store connection.old (IsMadeTo made) }
-    requires settled { connection.old.in_transaction ≡ false }
+    requires part { ShowsPart S.Store connection.old made }
     requires fresh { AreHeld check.old [] }
     ensures value { HasCleanDisk (state S.Store connection.new) → OnOk result ((rows : List Columns)
         × Lists (key_cells (table_read table))

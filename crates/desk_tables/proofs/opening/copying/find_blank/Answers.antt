@@ -8,5 +8,5 @@ returns-in_err-made-clause-cause g c =
     let old = c.args.connection.now in
     let new = c.find_tables.new.connection in
     told_as (BlamesNew g.S.Store old new) c.from_residual.result _ c.from_residual.ensures.1
-    (blames_disk g.S.Store old new _ c.requires.unlimited
+    (blames_disk g.S.Store old new _ c.requires.rest.unlimited
     (blames_unread g.S.Store old new c.in_err-made.field-0.0 c.in_err-made.ensures.cause))

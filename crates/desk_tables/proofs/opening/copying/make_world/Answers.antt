@@ -35,7 +35,7 @@ returns-in_err-create_tables-clause-cause g c =
     let reads = c.find_blank.ensures.reads in
     told_as (BlamesNew g.S.Store old new) c.from_residual-in_err-create_tables.result _
     c.from_residual-in_err-create_tables.ensures.1
-    (blames_later g.S.Store old new mid reads.faults reads.limit _ c.requires.unlimited
+    (blames_later g.S.Store old new mid reads.faults reads.limit _ c.requires.rest.unlimited
     c.in_err-create_tables.ensures.set_up.cause)
 
 pub returns-in_err-fill-clause-cause : goal.returns-in_err-fill-clause-cause
@@ -62,5 +62,5 @@ returns-in_err-fill-clause-cause g c =
     told_as (BlamesNew g.S.Store old new) c.from_residual-in_err-fill.result _
     c.from_residual-in_err-fill.ensures.1
     (blames_later g.S.Store old new mid (omega (arith, reads.faults, c.create_tables.ensures.faults))
-    (tables.limit ∙ reads.limit) _ c.requires.unlimited
+    (tables.limit ∙ reads.limit) _ c.requires.rest.unlimited
     (c.in_err-fill.ensures.cause (subst (λ w. Holds g.S.Store mid (CanBeFilled w)) (sym is) can)))

@@ -23,15 +23,15 @@ pub returns-clause-crash : goal.returns-clause-crash
 returns-clause-crash g c =
     let read = c.in_ok-found.ensures.read in
     completed_leaves g.S.Store c.args.made c.in_ok-found.found.0.world c.args.connection.now
-    c.load_tables.new.connection c.complete_tables.new.connection c.requires.part c.requires.new read.reads
-    read.value c.complete_tables.ensures.over.doubt c.complete_tables.ensures.crash
+    c.load_tables.new.connection c.complete_tables.new.connection c.requires.part.part c.requires.new
+    read.reads read.value c.complete_tables.ensures.over.doubt c.complete_tables.ensures.crash
 
 pub returns-in_err-complete_tables-clause-crash : goal.returns-in_err-complete_tables-clause-crash
 returns-in_err-complete_tables-clause-crash g c =
     let read = c.in_ok-found.ensures.read in
     completed_leaves g.S.Store c.args.made c.in_ok-found.found.0.world c.args.connection.now
-    c.load_tables.new.connection c.complete_tables.new.connection c.requires.part c.requires.new read.reads
-    read.value c.complete_tables.ensures.over.doubt c.complete_tables.ensures.crash
+    c.load_tables.new.connection c.complete_tables.new.connection c.requires.part.part c.requires.new
+    read.reads read.value c.complete_tables.ensures.over.doubt c.complete_tables.ensures.crash
 
 pub returns-in_err-found-clause-crash : goal.returns-in_err-found-clause-crash
 returns-in_err-found-clause-crash g c =

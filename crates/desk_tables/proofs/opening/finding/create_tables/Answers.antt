@@ -26,10 +26,10 @@ returns-in_err-complete_tables-clause-set_up g c =
 
 pub returns-clause-crash : goal.returns-clause-crash
 returns-clause-crash g c =
-    created_leaves g.S.Store c.args.connection.now c.complete_tables.new.connection c.requires.blank
+    created_leaves g.S.Store c.args.connection.now c.complete_tables.new.connection c.requires.blank.part
     c.complete_tables.ensures.over.doubt c.complete_tables.ensures.crash
 
 pub returns-in_err-complete_tables-clause-crash : goal.returns-in_err-complete_tables-clause-crash
 returns-in_err-complete_tables-clause-crash g c =
-    created_leaves g.S.Store c.args.connection.now c.complete_tables.new.connection c.requires.blank
+    created_leaves g.S.Store c.args.connection.now c.complete_tables.new.connection c.requires.blank.part
     c.complete_tables.ensures.over.doubt c.complete_tables.ensures.crash

@@ -33,7 +33,7 @@ returns-in_default-clause-set_up g c =
     let new = c.completed_in.new.connection in
     set_up_anew g.S.Store c.args.made (λ found. found.0.world) c.completed_in.result
     (BeginsCompleted g.S.Store old new) old new (λ w begins clean live. inr (inr (inl (begins clean))))
-    c.requires.part c.requires.new c.completed_in.ensures.set_up
+    c.requires.part.part c.requires.new c.completed_in.ensures.set_up
 
 pub returns-in-All-clause-crash : goal.returns-in-All-clause-crash
 returns-in-All-clause-crash g c =

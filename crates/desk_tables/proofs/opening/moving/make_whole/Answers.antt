@@ -14,7 +14,7 @@ use Rattle.desk_tables.proofs.opening.moving.make_whole.Goals as goal
 pub returns-then-eq-clause-done : goal.returns-then-eq-clause-done
 returns-then-eq-clause-done g c =
     let all : c.args.made ≡ All = search rules in
-    whole_already g.S.Store c.args.made c.args.connection.now c.requires.part all
+    whole_already g.S.Store c.args.made c.args.connection.now c.requires.part.part all
 
 pub returns-in_err-complete_tables-clause-cause : goal.returns-in_err-complete_tables-clause-cause
 returns-in_err-complete_tables-clause-cause g c small =

@@ -48,7 +48,7 @@ returns-in_err-rewrite-clause-set_up g c =
     kept_on_err c.from_residual-in_err-rewrite.result
     (keeps_since g.S.Store a b new found.reads.kept rises
     (keeps_whole g.S.Store c.args.made b d new
-    (part_on g.S.Store c.args.made a b c.requires.part found.reads) first second
+    (part_on g.S.Store c.args.made a b c.requires.part.part found.reads) first second
     c.in_ok-make_whole.ensures.done c.in_err-rewrite.ensures.kept)) in
     let blames : IfErr c.from_residual-in_err-rewrite.result (BlamesReading g.S.Store a new) =
     told_as (BlamesReading g.S.Store a new) c.from_residual-in_err-rewrite.result _
@@ -69,8 +69,8 @@ returns-clause-crash g c =
     let found = c.in_ok-content.ensures.read in
     let whole = c.make_whole.ensures in
     let plans = c.deref.ensures.value ∙ ap (λ (w : World). w.plans) c.content.view_is in
-    moved_leaves g.S.Store c.args.made c.in_ok-content.content a b c.requires.part c.requires.rows found.reads
-    found.value c.deref.result.now d c.rewrite.new.connection plans whole.over.doubt
+    moved_leaves g.S.Store c.args.made c.in_ok-content.content a b c.requires.part.part c.requires.rows
+    found.reads found.value c.deref.result.now d c.rewrite.new.connection plans whole.over.doubt
     c.rewrite.ensures.over.doubt whole.crash c.in_ok-make_whole.ensures.done c.rewrite.ensures.crash
 
 pub returns-in_err-rewrite-clause-crash : goal.returns-in_err-rewrite-clause-crash
@@ -81,15 +81,15 @@ returns-in_err-rewrite-clause-crash g c =
     let found = c.in_ok-content.ensures.read in
     let whole = c.make_whole.ensures in
     let plans = c.deref.ensures.value ∙ ap (λ (w : World). w.plans) c.content.view_is in
-    moved_leaves g.S.Store c.args.made c.in_ok-content.content a b c.requires.part c.requires.rows found.reads
-    found.value c.deref.result.now d c.rewrite.new.connection plans whole.over.doubt
+    moved_leaves g.S.Store c.args.made c.in_ok-content.content a b c.requires.part.part c.requires.rows
+    found.reads found.value c.deref.result.now d c.rewrite.new.connection plans whole.over.doubt
     c.rewrite.ensures.over.doubt whole.crash c.in_ok-make_whole.ensures.done c.rewrite.ensures.crash
 
 pub returns-in_err-make_whole-clause-crash : goal.returns-in_err-make_whole-clause-crash
 returns-in_err-make_whole-clause-crash g c =
     let found = c.in_ok-content.ensures.read in
     whole_leaves g.S.Store c.args.made c.in_ok-content.content c.args.connection.now
-    c.load_old_tables.new.connection c.requires.part c.requires.rows found.reads found.value
+    c.load_old_tables.new.connection c.requires.part.part c.requires.rows found.reads found.value
     c.make_whole.new.connection c.make_whole.ensures.over.doubt c.make_whole.ensures.crash
 
 pub returns-in_err-content-clause-crash : goal.returns-in_err-content-clause-crash

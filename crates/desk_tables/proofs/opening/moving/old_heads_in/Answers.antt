@@ -21,4 +21,4 @@ returns-clause-live g c = λ clean.
     let one : HasCleanDisk (state g.S.Store c.all_rows.new.connection) =
     omega (arith, c.all_rows-2.ensures.answers.reads.doubt, two) in
     c.in_ok-volumes.ensures.live clean (c.in_ok-plans.ensures.live two
-    (c.in_ok-operators.ensures.live one (c.in_ok-operators.ensures.open c.requires.some one)))
+    (c.in_ok-operators.ensures.live one (c.in_ok-operators.ensures.open c.requires.part.some one)))

@@ -29,7 +29,7 @@ returns-clause-crash g c =
     let found = c.in_ok-content.ensures in
     let plans = c.deref.ensures.value ∙ ap (λ (w : World). w.plans) c.content.view_is in
     ordered_leaves g.S.Store c.in_ok-content.content c.deref.result.now c.args.connection.now
-    c.content_found.new.connection c.put_in_order.new.connection plans c.requires.part c.requires.new
+    c.content_found.new.connection c.put_in_order.new.connection plans c.requires.part.part c.requires.new
     found.read.reads found.read.value c.put_in_order.ensures.over.doubt c.put_in_order.ensures.crash
 
 pub returns-in_err-put_in_order-clause-crash : goal.returns-in_err-put_in_order-clause-crash
@@ -37,7 +37,7 @@ returns-in_err-put_in_order-clause-crash g c =
     let found = c.in_ok-content.ensures in
     let plans = c.deref.ensures.value ∙ ap (λ (w : World). w.plans) c.content.view_is in
     ordered_leaves g.S.Store c.in_ok-content.content c.deref.result.now c.args.connection.now
-    c.content_found.new.connection c.put_in_order.new.connection plans c.requires.part c.requires.new
+    c.content_found.new.connection c.put_in_order.new.connection plans c.requires.part.part c.requires.new
     found.read.reads found.read.value c.put_in_order.ensures.over.doubt c.put_in_order.ensures.crash
 
 pub returns-in_err-content-clause-crash : goal.returns-in_err-content-clause-crash
