@@ -5,7 +5,7 @@ ghost use Rattle.std.specs.List.{AllByRecursion};
 ghost use Rattle.sqlite.specs.State.{HasCleanDisk, KeepsCommit};
 ghost use Rattle.sqlite.specs.Held.{state};
 ghost use Rattle.sqlite_value.specs.Order.{Row as Values};
-ghost use Rattle.desk_sql.specs.Rows.{tables_at, tables_of};
+ghost use Rattle.desk_sql.specs.Rows.{IsDesk, tables_at, tables_of};
 ghost use Rattle.desk_sql.specs.Batches.{IsUnderWay};
 ghost use Rattle.desk_sql.specs.QueryEnds.{WasOpen};
 ghost use Rattle.desk_sql.specs.Effects.{IsReady, StaysShown, IsOpenIfClean, Makes, Commits, MayMake};
