@@ -77,6 +77,7 @@ pub record MakesStand {S V : Type 0} (g : Ghosts S) (old new : Held S) (r : Resu
     pub err : OnErr r (Stands g new w)
     pub crash : MayHave g old new (changed_by change w)
     pub is_open : HasCleanDisk (state g new) → OnOk r (IsTrue (state g new).is_open)
+    pub committed : HasCleanDisk (state g new) → OnOk r ((state g new).now ≡ (state g new).committed)
     pub doubt : doubt (state g old).is_clean ≤ doubt (state g new).is_clean
     pub shield : (state g old).IsShielded → (state g new).IsShielded
 
@@ -153,6 +154,7 @@ module _ {S : Type 0} (g : Ghosts S) (old new : Held S) (w : World) (stood : Sta
         err = tt;
         crash = left_changed it.over.doubt change Rows it.crash fits within asks;
         is_open = λ clean. (it.done clean).is_open;
+        committed = λ clean. (it.done clean).settled;
         doubt = it.over.doubt;
         shield = it.over.shield;
       }
@@ -161,6 +163,7 @@ module _ {S : Type 0} (g : Ghosts S) (old new : Held S) (w : World) (stood : Sta
         err = kept_stands g old new w stood it.over.mode it.over.limit it.over.doubt it.kept;
         crash = left_changed it.over.doubt change Rows it.crash fits within asks;
         is_open = λ clean. tt;
+        committed = λ clean. tt;
         doubt = it.over.doubt;
         shield = it.over.shield;
       }
@@ -234,6 +237,7 @@ module _ {S V U : Type 0} (g : Ghosts S) (old new : Held S) (w then next : World
       err = tt;
       crash = it.crash;
       is_open = it.is_open;
+      committed = it.committed;
       doubt = it.doubt;
       shield = it.shield;
     },
@@ -245,6 +249,7 @@ module _ {S V U : Type 0} (g : Ghosts S) (old new : Held S) (w then next : World
       err = h.1;
       crash = it.crash;
       is_open = λ clean. tt;
+      committed = λ clean. tt;
       doubt = it.doubt;
       shield = it.shield;
     },
@@ -282,6 +287,7 @@ module _ {S : Type 0} (g : Ghosts S) (old mid new : HeldWorld S) (same : mid.wor
         | inr has ↦ inr (subst (λ w. HasWorld db (changed_by change w)) same has)
       ];
       is_open = made.is_open;
+      committed = made.committed;
       doubt = omega (arith, reads.doubt, made.doubt);
       shield = λ s. made.shield (reads.shield s);
     }

@@ -40,5 +40,7 @@ pub record IsMade {S V : Type 0} (g : Ghosts S) (old new : HeldWorld S) (result 
     pub err : OnErr result (new.world ≡ old.world)
     pub crash : MayHave g old.held new.held (changed_by change old.world)
     pub is_open : HasCleanDisk (state g new.held) → OnOk result (IsTrue (state g new.held).is_open)
+    pub committed : HasCleanDisk (state g new.held)
+        → OnOk result ((state g new.held).now ≡ (state g new.held).committed)
     pub doubt : doubt_of (state g old.held).is_clean ≤ doubt_of (state g new.held).is_clean
     pub shield : (state g old.held).IsShielded → (state g new.held).IsShielded
