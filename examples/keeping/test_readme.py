@@ -84,30 +84,78 @@ def count_alone(file: pathlib.Path) -> str:
     return count_of(alone)
 
 
-def lane(name: str) -> list[str]:
-    """The crates of one of the build's lanes."""
-    found = re.search(rf'(?m)^{name}_lane="([^"]*)"', SCRIPT.read_text())
-    assert found, name
-    return found[1].split()
+# In the place of `rt`: proves what stands in a folder if all crates below it are proved there, and fails at one crate.
+RT = """#!/usr/bin/env python3
+import os, pathlib, sys
+here = pathlib.Path.cwd()
+lines = [line.split(":") for line in (here.parents[1] / "crates.txt").read_text().splitlines() if line[:1].isalpha()]
+uses = {name: set(needs.split()) & {one for one, _ in lines} for name, needs in lines}
+lacking = [one for one in uses[here.name] if not (here.parent / one / "out/rlib/stamp").is_file()]
+print(here.name, "lacks", lacking)
+if lacking or here.name == os.environ.get("FAILS"):
+    sys.exit(1)
+if (here / "out/rlib/stamp").is_file():
+    sys.exit(0)
+(here / "out/rlib").mkdir(parents=True)
+(here / "out/rlib/stamp").write_text("proved")
+with (here / "out/times").open("a") as times:
+    times.write("once ")
+"""
 
 
-def crates_below() -> dict[str, set[str]]:
-    """The crates that the program stands on, each with those of the repository that it names."""
+def crates_below() -> set[str]:
+    """The crates that the program stands on."""
     lines = [line.split(":") for line in (TOP / "crates.txt").read_text().splitlines() if re.match("[a-z]", line)]
     uses = {name: set(needs.split()) & {name for name, _ in lines} for name, needs in lines}
     below, found = set[str](), uses["uss_desk"]
     while found:
         below |= found
         found = set[str]().union(*(uses[name] for name in found)) - below
-    return {name: uses[name] for name in below}
+    return below
 
 
-def test_build_lanes() -> None:
-    """Each crate below the program is in one of the build's lanes, behind those of it that it stands on."""
-    below = crates_below()
-    assert sorted([*lane("first"), *lane("second"), "desk_tables"]) == sorted(below)
-    for names in lane("first"), lane("second"):
-        assert [(name, names[at:]) for at, name in enumerate(names) if below[name] & set(names[at:])] == []
+@pytest.fixture
+def crates(room: pathlib.Path) -> pathlib.Path:
+    """A repository of the crates of crates.txt, each of one line, with a command rt that proves nothing."""
+    (room / "packaging").mkdir()
+    shutil.copy2(TOP / "packaging" / "prove", room / "packaging" / "prove")
+    for file in ("crates.txt", "HANDLES"):
+        shutil.copy2(TOP / file, room / file)
+    for name in {*crates_below(), "uss_desk"}:
+        (room / "crates" / name / "src").mkdir(parents=True)
+        (room / "crates" / name / "src" / "lib.rt").write_text("//!\n")
+    (room / "bin").mkdir()
+    (room / "bin" / "rt").write_text(RT)
+    (room / "bin" / "rt").chmod(0o755)
+    return room
+
+
+def prove(crates: pathlib.Path, fails: str = "") -> tuple[int, list[str]]:
+    """The status of the build's proofs, where this crate isn't proved, and the crates that it tells of as proved."""
+    environment = {**os.environ, "PATH": f"{crates / 'bin'}:{os.environ['PATH']}", "FAILS": fails}
+    words = [str(crates / "packaging" / "prove"), "uss_desk"]
+    ran = subprocess.run(words, capture_output=True, text=True, env=environment, check=False)
+    return ran.returncode, re.findall(r"uss_desk: (\w+) \(\d+ min \d+ s\)", ran.stderr)
+
+
+def test_build_proves_all_below(crates: pathlib.Path) -> None:
+    """Each crate below the program is proved, once those are that it stands on."""
+    status, told = prove(crates)
+    assert (status, sorted(told)) == (0, sorted(crates_below()))
+
+
+def test_build_takes_what_is_proved(crates: pathlib.Path) -> None:
+    """What a build has proved stands in the crates' folders, and isn't proved again by the next."""
+    assert prove(crates)[0] == prove(crates)[0] == 0
+    assert {(crates / "crates" / one / "out" / "times").read_text() for one in crates_below()} == {"once "}
+    assert not list((crates / "crates" / "uss_desk" / "out").glob("lanes-*"))
+
+
+def test_build_ends_at_a_failure(crates: pathlib.Path) -> None:
+    """Where a crate isn't proved, none that stands on it is begun, and the status says so."""
+    status, told = prove(crates, "desk_rules")
+    assert status == 4
+    assert not {"desk_rules", "desk_store", "desk_wire", "desk_tables"} & set(told)
 
 
 @pytest.fixture

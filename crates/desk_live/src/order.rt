@@ -13,9 +13,9 @@ enum Axis {
     Ground,
 }
 
-// How far something reaches in each direction.
+// How large something is in each direction.
 #[derive(Clone, Copy, Debug)]
-struct Reach {
+struct Size {
     time: u64,
     height: u64,
     ground: u64,
@@ -37,20 +37,20 @@ fn axis_of(lives: &[LiveVolume]) -> Axis {
     let Some((first, others)) = lives.split_first() else {
         return Axis::Time;
     };
-    let whole = reach_of(&whole_of(first, others));
-    let mut sum = Reach {
+    let whole = size_of(&whole_of(first, others));
+    let mut sum = Size {
         time: 0,
         height: 0,
         ground: 0,
     };
     for live in lives {
-        sum = sum_with(&sum, &reach_of(&live.bounds), &whole);
+        sum = sum_with(&sum, &size_of(&live.bounds), &whole);
     }
     smallest(&sum)
 }
 
 // The direction with the smallest number.
-fn smallest(sum: &Reach) -> Axis {
+fn smallest(sum: &Size) -> Axis {
     if sum.time <= sum.height && sum.time <= sum.ground {
         Axis::Time
     } else if sum.ground <= sum.height {
@@ -65,18 +65,18 @@ fn whole_of(first: &LiveVolume, others: &[LiveVolume]) -> Slab {
     crate::fence::Fence::round(first, others).bounds
 }
 
-// How far a slab reaches.
-fn reach_of(slab: &Slab) -> Reach {
-    Reach {
+// How large a slab is.
+fn size_of(slab: &Slab) -> Size {
+    Size {
         time: slab.end.abs_diff(slab.start),
         height: u64::from(slab.upper.abs_diff(slab.lower)),
         ground: slab.last.abs_diff(slab.first),
     }
 }
 
-// A sum, with the share that a reach is of the whole.
-fn sum_with(sum: &Reach, one: &Reach, whole: &Reach) -> Reach {
-    Reach {
+// A sum, with the share that a size is of the whole.
+fn sum_with(sum: &Size, one: &Size, whole: &Size) -> Size {
+    Size {
         time: sum.time.saturating_add(share(one.time, whole.time)),
         height: sum.height.saturating_add(share(one.height, whole.height)),
         ground: sum.ground.saturating_add(share(one.ground, whole.ground)),
