@@ -63,8 +63,7 @@ Grows None new more = ⊤
 Grows (Some old) None more = ⊥
 Grows (Some old) (Some new) more = new ≡ old ++ more
 
--- it is asked to listen at a number; a connection is taken; one is closed; news are brought; and none of
--- these could be had
+-- it is asked to listen at a number; a connection is taken; one is closed; news are brought
 abbrev pub Listens : Traffic → Traffic → ℕ → Type 0
 Listens old new number = Grows old.listened new.listened (number ∷ []) × (new.taken ≡ old.taken)
     × (new.closed ≡ old.closed) × (new.news ≡ old.news) × (new.recorded ≡ old.recorded)
@@ -84,6 +83,7 @@ BringsNews old new enrolments = Grows old.news new.news (enrolments ∷ []) × (
     × (new.closed ≡ old.closed) × (new.listened ≡ old.listened)
     × RecordsNews old.recorded new.recorded enrolments
 
+-- nothing is brought, taken or closed, and the record goes on or is cut off
 abbrev pub Denies : Traffic → Traffic → Type 0
 Denies old new = (new.listened ≡ old.listened) × (new.taken ≡ old.taken) × (new.closed ≡ old.closed)
     × (new.news ≡ old.news) × RecordsNone old.recorded new.recorded
@@ -108,7 +108,7 @@ pub record Exchange : Type 0 where
 abbrev pub passage_of : Exchange → Passage
 passage_of x = passed x.arrival.bytes x.parting.unread x.out x.parting.sent
 
--- no byte of the request of a connection is left unread, as far as is known
+-- false only of a request that was answered whole, where the place of the next isn't known
 abbrev pub is_whole : Result Served ServeFault → Bool
 is_whole (Ok (Answered status framed)) = framed
 is_whole (Ok End) = true

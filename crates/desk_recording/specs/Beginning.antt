@@ -37,6 +37,6 @@ terms_entries terms =
 abbrev pub header : ℕ → Terms → List Enrolment → List EntryParts
 header n terms operators = record_entry n ∷ (terms_entries terms ++ map operator_entry operators)
 
--- it is on the disk
+-- its beginning is appended, and is on the disk
 abbrev pub header_writes : ℕ → Terms → List Enrolment → List Write
 header_writes n terms operators = Appended (entries (header n terms operators)) ∷ Synced ∷ []

@@ -19,13 +19,14 @@ use Rattle.desk_replay.specs.Replaying.{last_moment}
 use Rattle.desk_recording.specs.Recording.{Answered, Asked, Lost, Step}
 use Rattle.desk_recording.specs.Tail.{UnansweredParts}
 
--- those enrolments that have a ceiling, and whose operators are not on a roll
+-- the roll has this name
 abbrev pub is_on_roll : List Enrolment → List ℕ → Bool
 is_on_roll roll name = list_any (λ e. bytes_eq e.operator name) roll
 
 abbrev pub is_missing : List Enrolment → Enrolment → Bool
 is_missing roll e = not (nat_lt max_priority e.ceiling) && not (is_on_roll roll e.operator)
 
+-- the enrolments under ceilings in range whose operators are not on a roll
 abbrev pub missing_of : List Enrolment → List Enrolment → List Enrolment
 missing_of roll enrolments = filter (is_missing roll) enrolments
 
@@ -41,7 +42,7 @@ whole_outcome = record { is_whole = true; is_answered = true }
 abbrev pub told_again : List ℕ → Parting
 told_again answer = parted (Some []) (Some answer) whole_outcome
 
--- what is left undone: a request, and its second
+-- the moment of a request that is left undone: its second
 abbrev pub moment_of : UnansweredParts → ℤ
 moment_of u = pos u.second
 

@@ -22,7 +22,7 @@ use Rattle.desk_recording.specs.declared.tail.TailEnd.TheVariants.{End, Short, D
 use Rattle.desk_recording.specs.declared.tail.TailFault.{TailFault}
 use Rattle.desk_recording.specs.declared.tail.TailFault.TheVariants.{Read, OutOfMemory, NoRecord}
 
--- a request that has no answer
+-- a request that has no answer, or one that says that the desk failed
 pub record UnansweredParts : Type 0 where
   pub second : ℕ
   pub request : List ℕ

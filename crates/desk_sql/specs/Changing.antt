@@ -19,9 +19,9 @@ use Rattle.desk_sql.specs.Schema.{desk_schema}
 use Rattle.desk_sql.specs.Rows.{IsDesk, is_same, tables_of}
 use Rattle.desk_sql.specs.Statements.{enforced}
 
--- ---- what SQLite could store for no row
+-- ---- what SQLite can store
 
--- SQLite stores rows of at most a billion bytes
+-- at most 100 million bytes; SQLite stores rows of a billion
 abbrev pub IsShort : List ℕ → Type 0
 IsShort text = length text ≤ 10 ^ 8
 

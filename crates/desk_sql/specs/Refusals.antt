@@ -21,7 +21,7 @@ use Rattle.desk_sql.specs.declared.opening.numbers.DeskTable.{DeskTable}
 use Rattle.desk_sql.specs.Schema.{schema_of, tree_of}
 use Rattle.desk_sql.specs.Rows.{AreNumbered, IsMadeTo}
 
--- what a command that reads answers with under a schema, given these parameters, if it is refused
+-- a command that reads, under a schema and given these parameters, is refused by a limit on steps alone
 abbrev pub NeverRefuses : Schema → Command → Row → Type 0
 NeverRefuses schema command params =
     (limit : Option ℕ) (db : Database) (e : Error) → db.schema ≡ schema →

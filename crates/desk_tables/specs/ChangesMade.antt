@@ -22,8 +22,8 @@ pub record IsNext {S : Type 0} (g : Ghosts S) (old : HeldWorld S) (next : World)
     pub world : next ≡ changed_by change old.world
     pub fits : HasCleanDisk (state g old.held) → IsFitting change old.world
 
--- where a change was committed this is answered, and its world follows; else the world stays, and a refused
--- growth is told
+-- where a change was committed this is answered, and its world follows; else the world stays, and a growth
+-- that was refused isn't answered as `Store`
 abbrev pub HasFollowed : {V U : Type 0} → Result V Error → U → Result U StoreFault → World → World → World
     → Type 0
 HasFollowed committed answer result old new next =

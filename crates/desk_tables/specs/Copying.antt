@@ -60,7 +60,8 @@ HoldsNone db = (db.schema ≡ blank_schema) ⊎ (HasOthers db ⊎ (HasNoContent 
 abbrev pub live_count : List Filed → ℕ
 live_count ps = length (filter (λ p. is_live p.row.usage) ps)
 
--- they are counted
+-- what a content holds: operators, plans, those not closed, rows of spans, and those of the operator that has
+-- most
 pub record AreHoldingsOf (h : Holdings) (w : World) : Type 0 where
   pub operators : h.operators ≡ length w.operators
   pub plans : h.plans ≡ length w.plans

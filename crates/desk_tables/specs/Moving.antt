@@ -164,7 +164,7 @@ module _ {S : Type 0} (g : Ghosts S) (old new : Held S) where
       HasOthers (state g old).now
       ⊎ (HasNoContent (state g old).now ⊎ HasNoOldContent (state g old).now)
 
-  -- more of a desk's tables are made, and the rows are what they were
+  -- a desk's tables are made so far now, with the rows that there were
   pub record HasSameRows : Type 0 where
     pub made : TablesPresent
     pub next : TablesPresent

@@ -63,7 +63,7 @@ has_text (Real x) text = false
 has_text (Text t) text = is_eq (text_cmp t text)
 has_text (Blob b) text = false
 
--- a row of `plan`, `volume` or `span` of the operator's plan with this text for its id
+-- a row of any table but `operator`, of the operator's plan with this text for its id
 abbrev pub is_row_of : List ℕ → List ℕ → Row → Bool
 is_row_of operator id row = has_text (column row 0) operator && has_text (column row 1) id
 
@@ -83,7 +83,8 @@ pub record AreShared (ls : List Listed) (ps : List Filed) : Type 0 where
   pub listed : AllByRecursion (IsListed (record { operators = ls; plans = ps })) ps
   pub few : (operator : List ℕ) → length (rows_by operator ps) ≤ max_plans
 
--- operators by name, plans by operator and id, each operator's plans few, and `span` has the plans' rows
+-- operators by name, plans by operator and id, each operator's plans few, and these rows of spans are the
+-- plans'
 pub record AreAgreed (ls : List Listed) (ps : List Filed) (rows : List Row) : Type 0 where
   pub names : IsStrictlySortedBy listed_cmp ls
   pub keys : IsStrictlySortedBy filed_cmp ps
@@ -160,12 +161,12 @@ pub record WasFound {S : Type 0} (g : Ghosts S) (old new : Held S) (w : World) :
   pub standing : IsStanding g old w
   pub kept : ShowsAsBefore g old new
 
--- part of a desk's tables and index, and nothing else
+-- a desk's tables and indexes and nothing else, but not all of them in its own order
 pub record IsPart (made : TablesPresent) (db : Database) : Type 0 where
   pub missing : made ≢ All
   pub part : IsMadeTo made db
 
--- there was part of the tables and index, with the rows of the world; all are made, and have these rows
+-- so it was, with the rows of the world; all are made now, and have these rows
 pub record WasCompleted {S : Type 0} (g : Ghosts S) (old new : Held S) (w : World) : Type 0 where
   pub made : TablesPresent
   pub part : IsPart made (state g old).now

@@ -128,8 +128,8 @@ module _ {S : Type 0} (g : Ghosts S) (old new : Held S) {V : Type 0} (result : R
 -- ---- of a connection that is given away
 
 module _ {S : Type 0} (g : Ghosts S) (old new : Held S) where
-  -- a store is over the connection, which is open and the same, without a limit on steps: a crash leaves its
-  -- content
+  -- a store is over the connection, which is open if the disk is clean, without a limit on steps: a crash
+  -- leaves its content alone
   pub record IsAdopted (world : World) : Type 0 where
     pub live : IsOpenIfClean g new
     pub left : IsSettledAt g new world

@@ -27,7 +27,7 @@ pub record IsFiled (p : Filed) : Type 0 where
   pub row : IsPlan p.row
   pub priority : p.row.priority ≤ max_priority
 
--- a plan's row in `plan`, and its rows in `volume`, by place
+-- a plan's row in `plan`, and its rows in `volume2`, or in `volume` of schema 1, by place
 pub record AreRowsOf (p : Filed) (head : Row) (volumes : List Row) : Type 0 where
   pub plan : head ≡ row_of_plan p
   pub area : volumes ≡ area_rows p
@@ -51,7 +51,7 @@ pub record IsWindowAt (row : Row) (at : ℕ) (window : WindowParts) : Type 0 whe
   pub start : column row (at + 2) ≡ Int window.start
   pub end : column row (at + 3) ≡ Int window.end
 
--- the row in `span` of a slab of the volume at a place
+-- the row in `span2`, or in `span` of schema 1, of a slab of the volume at a place
 abbrev pub slab_row : Filed → ℕ → Slab → Row
 slab_row p place s = slab_record p.operator (id_text p.row.id) place p.row.priority s
 

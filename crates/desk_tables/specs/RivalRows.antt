@@ -1,4 +1,4 @@
--- Slabs that are held, as rows of `span` show them.
+-- Slabs that are held, as rows of `span2` show them.
 use Rattle.std.specs.Prelude.{◌≡◌, ◌<◌, ◌^◌, ◌*◌, ◌&&◌, ℕ, ℤ, Bool, pos, List, Option, Some, None, map, filter, IsPermutation, FitsSigned}
 use Rattle.std.specs.Int.{w32}
 use Rattle.std.specs.List.{AllZip, flat_map}
@@ -18,7 +18,7 @@ use Rattle.desk_store.specs.Rivals.{HaveLevel}
 use Rattle.desk_store.specs.World.{World}
 use Rattle.desk_tables.specs.Tables.{id_text}
 
--- the columns of `span` from `first` to `stop` are a slab's
+-- the columns of `span2` from `first` to `stop` are a slab's
 pub record IsSlabIn (row : Row) (slab : Slab) : Type 0 where
   pub first : column row 0 ≡ Int (pos slab.first)
   pub last : column row 1 ≡ Int (pos slab.last)
@@ -64,18 +64,18 @@ reach_of extent least = record {
 abbrev pub reach_from : Span → Slab → ℕ → SpanQuery
 reach_from question extent least = record (reach_of extent least) { last = pos question.last }
 
--- a row of `span` is of another plan than the operator's own one with this id, or, if there is no id, than
+-- a row of `span2` is of another plan than the operator's own one with this id, or, if there is no id, than
 -- all of its own; it is reached, and begins at a leaf position or later
 abbrev pub is_another_from : List ℕ → Option (List ℕ) → SpanQuery → ℤ → Row → Bool
 is_another_from operator None = is_others_from operator
 is_another_from operator (Some id) = is_wanted operator (id_text id)
 
--- a question of the spans that are wanted near an extent is for a row of `span`
+-- a question of the spans that are wanted near an extent is for a row of `span2`
 abbrev pub is_asked : Wanted → Slab → Span → Row → Bool
 is_asked wanted extent question =
     is_another_from wanted.operator wanted.id (reach_from question extent wanted.least) (pos question.first)
 
--- a question of the spans of a plan is for a row of `span`
+-- a question of the spans of a plan is for a row of `span2`
 abbrev pub is_asked_of_plan : ℕ → Slab → PlanKey → Row → Bool
 is_asked_of_plan least extent key = is_plans key.operator (id_text key.id) (reach_of extent least)
 

@@ -19,7 +19,7 @@ pub record IsVolumeAt (row : Row) (at : ℕ) (v : Block) : Type 0 where
   pub end : column row (at + 3) ≡ Int v.window.end
   pub asked : column row (at + 4) ≡ Blob (footprint_bytes v.footprint)
 
--- the columns from `operator` to `aircraft` are a plan's
+-- the columns from `id` to `aircraft` are a plan's
 pub record IsHead (row : Row) (p : PlanRow) : Type 0 where
   pub id : column row 1 ≡ Text (id_text p.id)
   pub priority : column row 2 ≡ Int (pos p.priority)

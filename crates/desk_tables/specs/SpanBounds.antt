@@ -87,7 +87,7 @@ BringsKnown span_bounds (Put operator row) = IsKnownPlan span_bounds row
 BringsKnown span_bounds (Close operator id) = ⊤
 BringsKnown span_bounds (Clear operator ids) = ⊤
 
--- ---- rows of `span`
+-- ---- rows of spans
 
 -- if numbers are leaf positions, they are the first and the last of a known span
 abbrev pub IsKnownBetween : SpanBounds → ℤ → ℤ → Type 0

@@ -71,9 +71,11 @@ impl RowSink for Rowids {
     }
 }
 
+/// That rowids rise.
+///
 /// # Errors
 ///
-/// `DatabaseCorrupt` if rowids do not rise.
+/// `DatabaseCorrupt` if they do not.
 fn tested(rise: bool) -> Result<(), Error>
     ensures rising { OnOk result (rise ≡ true) }
     ensures broken { OnErr result (rise ≡ false) }

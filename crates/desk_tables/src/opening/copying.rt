@@ -91,7 +91,7 @@ fn make_world<S: Alter>(
     Ok(GhostWorld::of(content))
 }
 
-// Whether a database has no table; else it fails.
+// Finds that a database has no table; else it fails.
 fn find_blank<S: Alter>(connection: &mut Connection<S>) -> Result<(), OpenFault>
     requires rest { IsAtRest connection.old }
     ensures blank { OnOk result (Holds S.Store connection.new (IsMadeTo TablesPresent.Nothing)) }

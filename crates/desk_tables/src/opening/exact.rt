@@ -97,7 +97,8 @@ pub(crate) fn listed_in(row: &Row) -> Result<ListedOperator, RowFault>
     Ok(ListedOperator { operator, ceiling })
 }
 
-/// The plan whose row in `plan` the first is, and whose rows in `volume`, by place, the others are.
+/// The plan whose row in `plan` the first is, and whose rows in `volume2`, or in `volume` of schema 1, by
+/// place, the others are.
 ///
 /// # Errors
 ///
@@ -194,7 +195,7 @@ pub(crate) fn is_slab_row(plan: &FiledPlan, id: &str, place: usize, slab: &Slab,
     is_count_at(row, 9, u64::from(plan.row.priority))
 }
 
-// Whether the columns of a row of `span` that say where it begins and ends have the leaves of a slab.
+// Whether the columns of a row of spans that say where it begins and ends have the leaves of a slab.
 fn has_leaves_of(row: &Row, slab: &Slab) -> bool
     ensures { IsTrue result ↔ ((column row.now 3 ≡ Int (pos slab.now.first))
         × (column row.now 4 ≡ Int (pos slab.now.last))) }

@@ -49,7 +49,7 @@ use volume4d::laws::one_shape;
 
 /// The world that the database stands for: that of the rows in a desk's tables; what is known of its plans;
 /// and whether it has an operator, of which no clause speaks. A database with no table gets a desk's, and its
-/// world is empty. One with part of them, or without the index, gets what is missing, if its rows are those
+/// world is empty. One with the first of these tables and indexes gets what is missing, if its rows are those
 /// of a content, and a packed file is put into a desk's own order then.
 ///
 /// # Errors

@@ -50,7 +50,7 @@ impl<S: Alter> DeskTables<S> {
         or_fault(answer)
     }
 
-    // The rows of `volume` of the operator's plan of the id, by place.
+    // The rows of `volume2` of the operator's plan of the id, by place.
     fn volumes(&mut self, operator: &Operator, id: &PlanId) -> Result<Vec<Row>, StoreFault>
         ensures { ReadsPlans S.Store self.old self.new result (λ rows. IsContent self.old.world
             × (rows.items ≡ volume_rows (own_of operator.now id.now self.old.world))) }
@@ -127,7 +127,7 @@ impl<S: Alter> DeskTables<S> {
     }
 }
 
-// The plan of a row of `plan`, with the volumes of rows of `volume`.
+// The plan of a row of `plan`, with the volumes of rows of `volume2`.
 fn plan_of_rows(alloc: Global, head: &Row, rows: &[Row]) -> Result<PlanRow, StoreFault>
     ensures value { IfOk result (λ plan. (p : Plan) → IsId p.id → IsHead head.now p
         → AllByRecursion IsBlock p.area → AllZip (λ row v. IsVolumeAt row 3 v) rows.now p.area

@@ -1,4 +1,4 @@
-//! Held slabs, from rows of `span` that are taken one at a time.
+//! Held slabs, from rows of `span2` that are taken one at a time.
 
 ghost use Rattle.std.specs.Prelude.{◌≡◌, ◌≢◌, ◌<◌, ◌*◌, ◌^◌, ℕ, pos, [], IfErr, IfOk};
 ghost use Rattle.sqlite_value.specs.declared.value.Value.TheVariants.{Int};
@@ -19,7 +19,7 @@ use volume4d::{Held, Slab};
 // How many leaf positions there are along the curve.
 const POSITIONS: i64 = 6 << 60;
 
-/// The slabs of the rows of `span` that were taken.
+/// The slabs of the rows of `span2` that were taken.
 #[derive(Drop)]
 pub(crate) struct Rivals {
     helds: Vec<Held>,
@@ -89,7 +89,7 @@ pub(crate) fn reach_from(question: &Span, extent: &Slab, least: u32) -> SpanQuer
     reach
 }
 
-// The slab of a row of `span`, of which the columns from `first` on are shown, with its plan's priority.
+// The slab of a row of `span2`, of which the columns from `first` on are shown, with its plan's priority.
 fn held_in(row: &Row) -> Result<Held, StoreFault>
     ensures value { IfOk result (λ held. IsHeldIn row.now held) }
     ensures none { IfErr result (λ e. e ≡ StoreFault.Store → IsNoHeld row.now) }

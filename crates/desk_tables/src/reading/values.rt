@@ -251,7 +251,7 @@ impl Head {
     }
 }
 
-/// What a row's columns from `operator` to `aircraft` say of a plan.
+/// What a row's columns from `id` to `aircraft` say of a plan.
 ///
 /// # Errors
 ///
@@ -271,7 +271,7 @@ pub(crate) fn head_in(row: &Row) -> Result<Head, StoreFault>
     })
 }
 
-/// The plan of a row's columns from `operator` to `aircraft`, with an area.
+/// The plan of a row's columns from `id` to `aircraft`, with an area.
 ///
 /// # Errors
 ///
