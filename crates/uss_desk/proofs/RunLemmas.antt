@@ -22,7 +22,7 @@ use Rattle.desk_program.specs.Outside.{Outside}
 use Rattle.uss_desk.specs.declared.opening.Opened.TheVariants as opened
 use Rattle.desk_tables.specs.Closing.{IsLeftUnclosed}
 use Rattle.uss_desk.specs.FilesLeft.{IsClosed, IsEnded}
-use Rattle.uss_desk.specs.Guarding.{Account, IsTrueOrCollided}
+use Rattle.uss_desk.specs.Guarding.{Past, IsTrueOrCollided}
 use Rattle.std.specs.Option.{IsSomeAnd}
 use Rattle.desk_tables.specs.declared.opening.files.FilesFault.{FilesFault}
 use Rattle.uss_desk.specs.declared.opening.Unopened.{Unopened}
@@ -54,41 +54,41 @@ unfolding doubt
 no_doubt clean up = subst (λ b. doubt b ≡ 0) (sym up) refl
 
 -- what a shield means of a desk over files whose calls are recorded
-true_or_collided : {D : Type 0} {g : disk.Ghosts D} (account : Account D)
-    → ((d : D) → g.is_fair d ≡ (replay (account.start d) (account.calls d)).is_fair)
-    → ((d : D) → g.is_clean d ≡ (replay (account.start d) (account.calls d)).is_honest)
+true_or_collided : {D : Type 0} {g : disk.Ghosts D} (past : Past D)
+    → ((d : D) → g.is_fair d ≡ (replay (past.start d) (past.calls d)).is_fair)
+    → ((d : D) → g.is_clean d ≡ (replay (past.start d) (past.calls d)).is_honest)
     → (desk : Parts (Shown (FileStore D g))) → (file_state desk.store.held).IsShielded
-    → IsTrueOrCollided account desk
-true_or_collided account fair clean desk shielded =
-    elim (shield_means account.start account.calls fair clean desk.store.held.store shielded) [
+    → IsTrueOrCollided past desk
+true_or_collided past fair clean desk shielded =
+    elim (shield_means past.start past.calls fair clean desk.store.held.store shielded) [
       | inl up ↦ inl (no_doubt (file_state desk.store.held).is_clean up)
       | inr collided ↦ inr collided
     ]
 
 -- a desk that was opened over files by honest reads stays guarded
-pub stays_guarded : {D : Type 0} {g : disk.Ghosts D} (account : Account D)
-    → ((d : D) → g.is_fair d ≡ (replay (account.start d) (account.calls d)).is_fair)
-    → ((d : D) → g.is_clean d ≡ (replay (account.start d) (account.calls d)).is_honest)
+pub stays_guarded : {D : Type 0} {g : disk.Ghosts D} (past : Past D)
+    → ((d : D) → g.is_fair d ≡ (replay (past.start d) (past.calls d)).is_fair)
+    → ((d : D) → g.is_clean d ≡ (replay (past.start d) (past.calls d)).is_honest)
     → (image : Image) (it : Line) (o : Outside) (opened : FileDesk g)
     → (left : Option (Parts (Shown (FileStore D g)))) → IsOpenedIn image opened
-    → IfOk (or_failure opened) (IsDoneAt over_files it o left) → StaysGuarded account (or_failure opened) left
-stays_guarded account fair clean image it o (Ok desk) (Some left) opens done =
-    λ honest. true_or_collided account fair clean left (done.2 (opens.guarded honest))
-stays_guarded account fair clean image it o (Ok desk) None opens done = done
-stays_guarded account fair clean image it o (Err unread) left opens done = tt
+    → IfOk (or_failure opened) (IsDoneAt over_files it o left) → StaysGuarded past (or_failure opened) left
+stays_guarded past fair clean image it o (Ok desk) (Some left) opens done =
+    λ honest. true_or_collided past fair clean left (done.2 (opens.guarded honest))
+stays_guarded past fair clean image it o (Ok desk) None opens done = done
+stays_guarded past fair clean image it o (Err unread) left opens done = tt
 
 -- so does one at which a record is played
-pub replay_guarded : {D : Type 0} {g : disk.Ghosts D} (account : Account D)
-    → ((d : D) → g.is_fair d ≡ (replay (account.start d) (account.calls d)).is_fair)
-    → ((d : D) → g.is_clean d ≡ (replay (account.start d) (account.calls d)).is_honest)
+pub replay_guarded : {D : Type 0} {g : disk.Ghosts D} (past : Past D)
+    → ((d : D) → g.is_fair d ≡ (replay (past.start d) (past.calls d)).is_fair)
+    → ((d : D) → g.is_clean d ≡ (replay (past.start d) (past.calls d)).is_honest)
     → (image : Image) (until : Option ℕ) (p : Passage) (end : Ending) (opened : FileDesk g)
     → (left : Option (Parts (Shown (FileStore D g)))) → IsOpenedIn image opened
     → IfOk (or_failure opened) (IsReplayedAt over_files until p end left)
-    → StaysGuarded account (or_failure opened) left
-replay_guarded account fair clean image until p end (Ok desk) (Some left) opens done =
-    λ honest. true_or_collided account fair clean left (done.2 (opens.guarded honest))
-replay_guarded account fair clean image until p end (Ok desk) None opens done = done
-replay_guarded account fair clean image until p end (Err unread) left opens done = tt
+    → StaysGuarded past (or_failure opened) left
+replay_guarded past fair clean image until p end (Ok desk) (Some left) opens done =
+    λ honest. true_or_collided past fair clean left (done.2 (opens.guarded honest))
+replay_guarded past fair clean image until p end (Ok desk) None opens done = done
+replay_guarded past fair clean image until p end (Err unread) left opens done = tt
 
 -- what follows of what holds of a value, if there is one
 pub ok_then : {A B : Type 0} {P Q : A → Type 0} (r : Result A B) → IfOk r P → ((a : A) → P a → Q a)
@@ -109,17 +109,17 @@ played_at g one other same {until} {p} {end} {left} run =
     subst (λ o. IsReplayRun g o until p end left) same run
 
 -- so does one at which an input is played
-pub input_guarded : {D : Type 0} {g : disk.Ghosts D} (account : Account D)
-    → ((d : D) → g.is_fair d ≡ (replay (account.start d) (account.calls d)).is_fair)
-    → ((d : D) → g.is_clean d ≡ (replay (account.start d) (account.calls d)).is_honest)
+pub input_guarded : {D : Type 0} {g : disk.Ghosts D} (past : Past D)
+    → ((d : D) → g.is_fair d ≡ (replay (past.start d) (past.calls d)).is_fair)
+    → ((d : D) → g.is_clean d ≡ (replay (past.start d) (past.calls d)).is_honest)
     → (image : Image) (play : PlayWords) (o : InputOutside)
     → (opened : FileDesk g) (left : Option (Parts (Shown (FileStore D g)))) → IsOpenedIn image opened
     → IfOk (or_failure opened) (IsInputDoneAt over_files play o left)
-    → StaysGuarded account (or_failure opened) left
-input_guarded account fair clean image play o (Ok desk) (Some left) opens done =
-    λ honest. true_or_collided account fair clean left (done.2 (opens.guarded honest))
-input_guarded account fair clean image play o (Ok desk) None opens done = done
-input_guarded account fair clean image play o (Err unread) left opens done = tt
+    → StaysGuarded past (or_failure opened) left
+input_guarded past fair clean image play o (Ok desk) (Some left) opens done =
+    λ honest. true_or_collided past fair clean left (done.2 (opens.guarded honest))
+input_guarded past fair clean image play o (Ok desk) None opens done = done
+input_guarded past fair clean image play o (Err unread) left opens done = tt
 
 pub input_at : {S : Type 0} (g : Ghosts S) (one other : Result (Parts (Shown S)) Failure) → one ≡ other
     → {play : PlayWords} {o : InputOutside} {left : Option (Parts (Shown S))} → IsInputRun g play o one left

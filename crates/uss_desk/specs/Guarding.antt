@@ -16,28 +16,28 @@ use Rattle.sqlite_trees.specs.View.{doubt}
 use Rattle.desk_run.specs.DeskWorld.{Parts}
 use Rattle.desk_tables.specs.Store.{Shown}
 
--- of a file: the bytes that it held before its first call, and its calls since with their answers, the newest
--- first
-pub record Account (D : Type 0) : Type 0 where
+-- the past of a file: the bytes that it held before its first call, and its calls since with their answers,
+-- the newest first
+pub record Past (D : Type 0) : Type 0 where
   pub start : D → List ℕ
   pub calls : D → List Event
 
--- of a file of the operating system that held what `start` stands for
-abbrev pub account_of :
-    {S : Type 0} {g : calls.Ghosts Host} (start : Ghosts S) → Account (Modelled Host S g start)
-account_of start = record { start = start_of start; calls = λ f. f.calls.log.events }
+-- that of a file of the operating system that held what `start` stands for
+abbrev pub past_of :
+    {S : Type 0} {g : calls.Ghosts Host} (start : Ghosts S) → Past (Modelled Host S g start)
+past_of start = record { start = start_of start; calls = λ f. f.calls.log.events }
 
 module _ {D : Type 0} {g : disk.Ghosts D} where
   -- a read of the log or of the database file returned other bytes than those that had been written there, of
   -- the same digest of 64 bits under the key that came with the files
-  abbrev pub HasCollided : Account D → Parts (Shown (FileStore D g)) → Type 0
-  HasCollided account desk =
+  abbrev pub HasCollided : Past D → Parts (Shown (FileStore D g)) → Type 0
+  HasCollided past desk =
       let log = (files desk.store.held.store).0 in
       let db = (files desk.store.held.store).1 in
-      HasCollision (g.key_of log) (account.start log) (account.calls log)
-      ⊎ HasCollision (g.key_of log) (account.start db) (account.calls db)
+      HasCollision (g.key_of log) (past.start log) (past.calls log)
+      ⊎ HasCollision (g.key_of log) (past.start db) (past.calls db)
 
   -- the disk has returned what was written, to the end; or a digest has collided
-  abbrev pub IsTrueOrCollided : Account D → Parts (Shown (FileStore D g)) → Type 0
-  IsTrueOrCollided account desk =
-      IsHonest (doubt (file_state desk.store.held).is_clean) ⊎ HasCollided account desk
+  abbrev pub IsTrueOrCollided : Past D → Parts (Shown (FileStore D g)) → Type 0
+  IsTrueOrCollided past desk =
+      IsHonest (doubt (file_state desk.store.held).is_clean) ⊎ HasCollided past desk

@@ -23,7 +23,7 @@ use Rattle.desk_program.specs.MovedLine.{IsCountPrinted}
 use Rattle.desk_program.specs.Outside.{Outside}
 use Rattle.desk_program.specs.CarryingOut.{IsCarriedOut, IsUnopened}
 use Rattle.uss_desk.specs.declared.opening.Opened.TheVariants as opened
-use Rattle.uss_desk.specs.Guarding.{Account, IsTrueOrCollided}
+use Rattle.uss_desk.specs.Guarding.{Past, IsTrueOrCollided}
 use Rattle.uss_desk.specs.OpenedFor.{OpenedDesk, load_world, or_failure}
 
 -- the store of a desk over tables is honest: its disk has returned what was written
@@ -62,10 +62,10 @@ pub record IsLineRun {S : Type 0} (g : Ghosts S) (opened : Result (Parts (Shown 
 -- if the disk returned what was written until the desk was open, it has done so to the end, whatever it
 -- returned since and whoever wrote into the files; or a digest has collided
 abbrev pub StaysGuarded :
-    {D : Type 0} {g : disk.Ghosts D} → Account D → Result (Parts (Shown (FileStore D g))) Failure
+    {D : Type 0} {g : disk.Ghosts D} → Past D → Result (Parts (Shown (FileStore D g))) Failure
     → Option (Parts (Shown (FileStore D g))) → Type 0
-StaysGuarded account opened left = IfOk opened (λ desk. IsSomeAnd left (λ left.
-    HasCleanDisk (file_state desk.store.held) → IsTrueOrCollided account left))
+StaysGuarded past opened left = IfOk opened (λ desk. IsSomeAnd left (λ left.
+    HasCleanDisk (file_state desk.store.held) → IsTrueOrCollided past left))
 
 -- the line that tells how many plans were moved is printed, or cut off, and the plans are moved all the same;
 -- or the move failed, and nothing is printed
@@ -77,7 +77,7 @@ IsMoveTold (Ok moved) end left writes =
 IsMoveTold (Err failure) end left writes =
     (left ≡ None) × FailsWith failure end × (writes.after ≡ writes.before)
 
-module _ {M : Type 0} {m : disk.Ghosts M} {D : Type 0} {g : disk.Ghosts D} (account : Account D) where
+module _ {M : Type 0} {m : disk.Ghosts M} {D : Type 0} {g : disk.Ghosts D} (past : Past D) where
   -- what a line says is done, at a desk in memory, or at one over files, which stays guarded
   abbrev pub IsLineDone :
       OpenedDesk m g → Line → Outside → Option (Parts (Shown (FileStore M m)))
@@ -86,4 +86,4 @@ module _ {M : Type 0} {m : disk.Ghosts M} {D : Type 0} {g : disk.Ghosts D} (acco
       (files ≡ None) × IsLineRun over_files desk line o memory
   IsLineDone (opened.Files desk) line o memory files =
       (memory ≡ None) × IsLineRun over_files (or_failure desk) line o files
-      × StaysGuarded account (or_failure desk) files
+      × StaysGuarded past (or_failure desk) files

@@ -17,7 +17,7 @@ use Rattle.desk_line.specs.declared.failure.Failure.{Failure}
 use Rattle.desk_line.specs.declared.line.Play.{Play as PlayWords}
 use Rattle.desk_recording.specs.Inputs.{InputOutside, IsPlayRecorded, IsRecordedKept, IsUnrecorded}
 use Rattle.uss_desk.specs.declared.opening.Opened.TheVariants as opened
-use Rattle.uss_desk.specs.Guarding.{Account}
+use Rattle.uss_desk.specs.Guarding.{Past}
 use Rattle.uss_desk.specs.OpenedFor.{OpenedDesk, load_world, or_failure}
 use Rattle.uss_desk.specs.OpenedLines.{IsSound, StaysGuarded}
 
@@ -44,7 +44,7 @@ module _ {S : Type 0} (g : Ghosts S) (play : PlayWords) (o : InputOutside) where
       pub kept : IfOk opened (IsInputKeptAt left)
       pub undone : IfErr opened (IsUnrecorded o left)
 
-module _ {M : Type 0} {m : disk.Ghosts M} {D : Type 0} {g : disk.Ghosts D} (account : Account D)
+module _ {M : Type 0} {m : disk.Ghosts M} {D : Type 0} {g : disk.Ghosts D} (past : Past D)
     (play : PlayWords) (o : InputOutside) where
   -- an input is played at a desk in memory, or at one over files, which stays guarded
   abbrev pub IsInputDone :
@@ -54,4 +54,4 @@ module _ {M : Type 0} {m : disk.Ghosts M} {D : Type 0} {g : disk.Ghosts D} (acco
       (files ≡ None) × IsInputRun over_files play o desk memory
   IsInputDone (opened.Files desk) memory files =
       (memory ≡ None) × IsInputRun over_files play o (or_failure desk) files
-      × StaysGuarded account (or_failure desk) files
+      × StaysGuarded past (or_failure desk) files

@@ -14,7 +14,7 @@ use Rattle.desk_line.specs.Exits.{Ending}
 use Rattle.desk_wire.specs.Passage.{Passage}
 use Rattle.desk_replay.specs.ReplayTold.{IsReplayed, IsUnplayed}
 use Rattle.uss_desk.specs.declared.opening.Opened.TheVariants as opened
-use Rattle.uss_desk.specs.Guarding.{Account}
+use Rattle.uss_desk.specs.Guarding.{Past}
 use Rattle.uss_desk.specs.OpenedFor.{OpenedDesk, load_world, or_failure}
 use Rattle.uss_desk.specs.OpenedLines.{IsSound, StaysGuarded}
 
@@ -34,7 +34,7 @@ pub record IsReplayRun {S : Type 0} (g : Ghosts S) (opened : Result (Parts (Show
   pub done : IfOk opened (IsReplayedAt g until p end left)
   pub undone : IfErr opened (IsUnplayed p end left)
 
-module _ {M : Type 0} {m : disk.Ghosts M} {D : Type 0} {g : disk.Ghosts D} (account : Account D) where
+module _ {M : Type 0} {m : disk.Ghosts M} {D : Type 0} {g : disk.Ghosts D} (past : Past D) where
   -- a record is played at a desk in memory, or at one over files, which stays guarded
   abbrev pub IsReplayDone :
       OpenedDesk m g → Option ℕ → Passage → Ending → Option (Parts (Shown (FileStore M m)))
@@ -43,4 +43,4 @@ module _ {M : Type 0} {m : disk.Ghosts M} {D : Type 0} {g : disk.Ghosts D} (acco
       (files ≡ None) × IsReplayRun over_files desk until p end memory
   IsReplayDone (opened.Files desk) until p end memory files =
       (memory ≡ None) × IsReplayRun over_files (or_failure desk) until p end files
-      × StaysGuarded account (or_failure desk) files
+      × StaysGuarded past (or_failure desk) files

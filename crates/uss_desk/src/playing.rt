@@ -4,7 +4,7 @@ ghost use Rattle.sqlite_wal.specs.Files.{image_at};
 ghost use Rattle.sqlite.specs.Files.{over_files};
 ghost use Rattle.desk_line.specs.Lines.{IsPlay};
 ghost use Rattle.desk_recording.specs.Inputs.{input_outside};
-ghost use Rattle.uss_desk.specs.Guarding.{account_of};
+ghost use Rattle.uss_desk.specs.Guarding.{past_of};
 ghost use Rattle.uss_desk.specs.OpenedFor.{IsOpenedAt};
 ghost use Rattle.uss_desk.specs.RecordedPlays.{IsInputDone, IsInputRun};
 
@@ -37,7 +37,7 @@ where
     E: Write,
     requires line { IsPlay words.now }
     requires opened { IsOpenedAt (image_at F.Start) words.now.database opened }
-    ensures { IsInputDone (account_of F.Start) words.now (input_outside K.Record E.Write port.old port.new
+    ensures { IsInputDone (past_of F.Start) words.now (input_outside K.Record E.Write port.old port.new
         result.0 errors.old errors.new) opened result.1 result.2 }
 {
     match opened {

@@ -6,7 +6,7 @@ ghost use Rattle.sqlite.specs.Files.{over_files};
 ghost use Rattle.desk_line.specs.Exits.{ending};
 ghost use Rattle.desk_wire.specs.Passage.{passage};
 ghost use Rattle.desk_replay.specs.ReplayTold.{IsUnplayed};
-ghost use Rattle.uss_desk.specs.Guarding.{account_of};
+ghost use Rattle.uss_desk.specs.Guarding.{past_of};
 ghost use Rattle.uss_desk.specs.OpenedFor.{IsOpenedAt};
 ghost use Rattle.uss_desk.specs.RecordsPlayed.{IsReplayDone, IsReplayedAt};
 
@@ -63,7 +63,7 @@ pub fn replay_line<F: Start, N: Paths + Drop, R: Read, W: Write, E: Write>(
     errors: &mut E,
 ) -> (Exit<E>, Option<MemoryDesk>, Option<FileDesk<F, N>>)
     requires { IsOpenedAt (image_at F.Start) words.now.database opened }
-    ensures { IsReplayDone (account_of F.Start) opened words.now.until
+    ensures { IsReplayDone (past_of F.Start) opened words.now.until
         (passage R.Read W.Write input.old input.new output.old output.new)
         (ending result.0 (E.contents errors.old) (E.contents errors.new)) result.1 result.2 }
 {

@@ -5,7 +5,7 @@ ghost use Rattle.sqlite.specs.Files.{over_files};
 ghost use Rattle.desk_line.specs.Lines.{IsLine, database_of};
 ghost use Rattle.desk_wire.specs.Passage.{course};
 ghost use Rattle.desk_program.specs.Outside.{outside};
-ghost use Rattle.uss_desk.specs.Guarding.{account_of};
+ghost use Rattle.uss_desk.specs.Guarding.{past_of};
 ghost use Rattle.uss_desk.specs.OpenedFor.{IsOpenedAt};
 ghost use Rattle.uss_desk.specs.OpenedLines.{IsLineDone, IsLineRun};
 
@@ -38,7 +38,7 @@ where
     E: Write + Drop,
     requires line { IsLine line.now }
     requires opened { IsOpenedAt (image_at F.Start) (database_of line.now) opened }
-    ensures { IsLineDone (account_of F.Start) opened line.now (outside R.Read W.Write E.Write streams.old
+    ensures { IsLineDone (past_of F.Start) opened line.now (outside R.Read W.Write E.Write streams.old
         streams.new (course (P.traffic port.old) (P.traffic port.new)) result.0) result.1 result.2 }
 {
     match opened {

@@ -1,7 +1,7 @@
 use Rattle.std.proofs.Common.{refl, subst}
 use Rattle.sqlite_wal.specs.Files.{image_at}
 use Rattle.sqlite.specs.Files.{over_files}
-use Rattle.uss_desk.specs.Guarding.{account_of}
+use Rattle.uss_desk.specs.Guarding.{past_of}
 use Rattle.uss_desk.specs.OpenedFor.{IsOpenedAt}
 use Rattle.uss_desk.proofs.RunLemmas.{for_files, input_at, input_guarded}
 use Rattle.uss_desk.proofs.playing.play_line.Goals as goal
@@ -17,6 +17,6 @@ returns-in-Files g c =
     rw c.in-Files.is (
       refl,
       run,
-      input_guarded (account_of g.F.Start) (λ _. refl) (λ _. refl) image _ _ c.in-Files.desk
+      input_guarded (past_of g.F.Start) (λ _. refl) (λ _. refl) image _ _ c.in-Files.desk
           ended.result.1 opens run.done,
     )

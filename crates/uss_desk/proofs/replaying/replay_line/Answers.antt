@@ -1,7 +1,7 @@
 use Rattle.std.proofs.Common.{refl, subst}
 use Rattle.sqlite_wal.specs.Files.{image_at}
 use Rattle.sqlite.specs.Files.{over_files}
-use Rattle.uss_desk.specs.Guarding.{account_of}
+use Rattle.uss_desk.specs.Guarding.{past_of}
 use Rattle.uss_desk.specs.OpenedFor.{IsOpenedAt}
 use Rattle.uss_desk.proofs.RunLemmas.{for_files, played_at, replay_guarded}
 use Rattle.uss_desk.proofs.replaying.replay_line.Goals as goal
@@ -20,6 +20,6 @@ returns-in-Files g c =
     rw c.in-Files.is (
       refl,
       run,
-      replay_guarded (account_of g.F.Start) (λ _. refl) (λ _. refl) image _ _ _ c.in-Files.desk
+      replay_guarded (past_of g.F.Start) (λ _. refl) (λ _. refl) image _ _ _ c.in-Files.desk
           ended.result.1 opens run.done,
     )

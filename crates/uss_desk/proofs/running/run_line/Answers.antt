@@ -3,7 +3,7 @@ use Rattle.std.specs.Prelude.{IfErr, IfOk}
 use Rattle.sqlite_wal.specs.Files.{image_at}
 use Rattle.sqlite.specs.Files.{over_files}
 use Rattle.desk_line.specs.Lines.{database_of}
-use Rattle.uss_desk.specs.Guarding.{account_of}
+use Rattle.uss_desk.specs.Guarding.{past_of}
 use Rattle.uss_desk.specs.OpenedFor.{IsOpenedAt}
 use Rattle.uss_desk.proofs.RunLemmas.{for_files, run_at, stays_guarded}
 use Rattle.uss_desk.proofs.running.run_line.Goals as goal
@@ -19,6 +19,6 @@ returns-in-Files g c =
     rw c.in-Files.is (
       refl,
       run,
-      stays_guarded (account_of g.F.Start) (λ _. refl) (λ _. refl) image c.args.line.now _
+      stays_guarded (past_of g.F.Start) (λ _. refl) (λ _. refl) image c.args.line.now _
           c.in-Files.desk ended.result.1 opens run.done,
     )
