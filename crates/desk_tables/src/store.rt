@@ -37,8 +37,8 @@ pub struct SqliteStore<S: Alter> {
     known: Known,
     // how many faults of its own it has met, up to the type's last value
     faults: u64,
-    // what a fault of its own is answered as: a disk in memory fails only where it gets no memory
-    own_fault: StoreFault,
+    // what a fault of its own is told as: a disk in memory fails only where it gets no memory
+    told: StoreFault,
     // whether an operator was listed when it was opened
     is_enrolled: bool,
 }
@@ -66,14 +66,14 @@ impl<S: Alter> Model for SqliteStore<S> {
 
 impl<S: Alter> SqliteStore<S> {
     /// A store over a connection, with the world that its rows are, and what is known of its plans. What
-    /// SQLite fails at for another cause than memory is answered as `own_fault`; no clause speaks of
-    /// `is_enrolled`, which is whether it begins with an operator.
+    /// SQLite fails at for another cause than memory is told as `told`; whether it begins with an operator,
+    /// of which no clause speaks, as `is_enrolled`.
     pub(crate) fn with(
         alloc: Global,
         connection: Connection<S>,
         kept: GhostWorld,
         known: Known,
-        own_fault: StoreFault,
+        told: StoreFault,
         is_enrolled: bool,
     ) -> SqliteStore<S>
         requires stands { Stands S.Store connection kept.world }
@@ -92,7 +92,7 @@ impl<S: Alter> SqliteStore<S> {
             tables,
             known,
             faults: 0,
-            own_fault,
+            told,
             is_enrolled,
         }
     }
@@ -145,7 +145,7 @@ impl<S: Alter> PlanStore for SqliteStore<S> {
 
     fn plan(&mut self, operator: &Operator, id: &PlanId) -> Result<Option<PlanRow>, StoreFault> {
         let answer = self.tables.plan(operator, id);
-        count_fault(&mut self.faults, self.own_fault, answer)
+        counted(&mut self.faults, self.told, answer)
     }
 
     fn states(&mut self, operator: &Operator, id: &PlanId) -> Result<Option<States>, StoreFault> {
@@ -163,7 +163,7 @@ impl<S: Alter> PlanStore for SqliteStore<S> {
 
     fn own_plans(&mut self, operator: &Operator) -> Result<Vec<PlanRow>, StoreFault> {
         let answer = self.tables.own_plans(operator);
-        count_fault(&mut self.faults, self.own_fault, answer)
+        counted(&mut self.faults, self.told, answer)
     }
 
     fn rivals(
@@ -179,7 +179,7 @@ impl<S: Alter> PlanStore for SqliteStore<S> {
             least,
         };
         let answer = self.tables.rivals(&wanted, extent, &self.known);
-        count_fault(&mut self.faults, self.own_fault, answer)
+        counted(&mut self.faults, self.told, answer)
     }
 
     fn held_by_others(
@@ -188,7 +188,7 @@ impl<S: Alter> PlanStore for SqliteStore<S> {
         extents: &[Slab],
     ) -> Result<Vec<Held>, StoreFault> {
         let answer = self.tables.held_by_others(operator, extents, &self.known);
-        count_fault(&mut self.faults, self.own_fault, answer)
+        counted(&mut self.faults, self.told, answer)
     }
 
     fn apply(&mut self, change: &Change) -> Result<(), StoreFault> {
@@ -200,27 +200,27 @@ impl<S: Alter> PlanStore for SqliteStore<S> {
                 self.known.follow(change, span_bounds, &fresh);
                 Ok(())
             }
-            Err(e) => count_fault(&mut self.faults, self.own_fault, Err(e)),
+            Err(e) => counted(&mut self.faults, self.told, Err(e)),
         }
     }
 }
 
-// The answer. A fault of the store's own is counted, and answered as this one.
-fn count_fault<T>(
+// The answer, with a fault of the store's own counted, and told as this.
+fn counted<T>(
     faults: &mut u64,
-    own_fault: StoreFault,
+    told: StoreFault,
     answer: Result<T, StoreFault>,
 ) -> Result<T, StoreFault>
     ensures same { MatchResult answer (λ value. result ≡ Ok value) (λ _. IsErr result) }
-    ensures own { answer ≡ Err StoreFault.Store → result ≡ Err own_fault }
+    ensures told { answer ≡ Err StoreFault.Store → result ≡ Err told }
     ensures memory { answer ≡ Err StoreFault.OutOfMemory → result ≡ Err StoreFault.OutOfMemory }
-    ensures grown { faults.old ≤ faults.new }
+    ensures counted { faults.old ≤ faults.new }
     ensures cause { IfErr result (λ e. e ≡ StoreFault.Store → HasRisen faults.old faults.new) }
 {
     match answer {
         Err(StoreFault::Store) => {
             *faults = faults.saturating_add(1);
-            Err(own_fault)
+            Err(told)
         }
         Err(StoreFault::OutOfMemory) => Err(StoreFault::OutOfMemory),
         Ok(value) => Ok(value),
