@@ -9,6 +9,7 @@ import subprocess
 from collections.abc import Sequence
 from typing import Any, NamedTuple
 
+import pytest
 from harness.places import CRATES, TOP
 
 PATIENCE = 600
@@ -33,6 +34,13 @@ def need_program() -> None:
         words = [str(TOP / "uss_desk"), "check", "--help"]
         subprocess.run(words, stdin=subprocess.DEVNULL, stdout=subprocess.DEVNULL, check=True)
     assert os.access(PROGRAM, os.X_OK), f"{PROGRAM} isn't there"
+
+
+def need_script() -> None:
+    """Skips a test of the script uss_desk where a program is given and the script's own isn't built."""
+    is_built = [str(TOP / "uss_desk"), "--built"]
+    if "PROGRAM" in os.environ and subprocess.run(is_built, capture_output=True, check=False).returncode != 0:
+        pytest.skip("./uss_desk isn't built of these sources")
 
 
 def quick_command() -> list[str]:

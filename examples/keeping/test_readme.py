@@ -14,7 +14,7 @@ from collections.abc import Iterator, Sequence
 import pytest
 from harness.places import TOP
 from harness.ports import free_port
-from harness.program import DESK, PROGRAM, need_program
+from harness.program import DESK, PROGRAM, need_program, need_script
 from harness.rows import Rows
 from keeping.given import KEEPING, README, SCRIPT, STORED, count_of, put_at, run, shown
 
@@ -161,6 +161,7 @@ def test_build_ends_at_a_failure(crates: pathlib.Path) -> None:
 @pytest.fixture
 def linked(room: pathlib.Path) -> pathlib.Path:
     """A folder in which ./uss_desk is a link to the script."""
+    need_script()
     (room / "uss_desk").symlink_to(SCRIPT)
     return room
 
@@ -202,6 +203,7 @@ def test_bare_program_ended(rows: Rows, linked: pathlib.Path, port: int) -> None
 def test_install_line(rows: Rows, room: pathlib.Path) -> None:
     """KEEPING's line that installs the program, into a folder; the units show the same line."""
     need_program()
+    need_script()
     line = shown(KEEPING, "install crates/")
     for name in ("uss_desk.service", "uss_desk@.service"):
         rows.has(f"{name}: how the program is installed", line, (TOP / "examples" / name).read_text())
