@@ -17,7 +17,7 @@ from harness.rows import named
 
 AT = ["play", "--at", "1780315000"]
 STATUS = b"GET /status HTTP/1.1\r\nx-operator: alfa\r\n\r\n"
-VERSION = b"uss_desk 1.0.0\nrattle-kit-13b logic dac8208d650f15bf\n"
+VERSION = b"uss_desk 1.0.0\nRattle logic dac8208d650f15bf\n"
 COVER = ["cover", "0", "0", "0", "0", "65535", "24"]
 # what is told of a word that is malformed
 PAIR = "no NAME=CEILING"

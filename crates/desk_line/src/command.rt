@@ -14,8 +14,8 @@ use desk_rules::terms::MAX_SPANS;
 use std::alloc::{AllocError, Global};
 use volume4d::MAX_SECOND;
 
-// The version, and the kit whose prover and compiler make the program.
-const VERSION: &str = "1.0.0\nrattle-kit-13b logic dac8208d650f15bf";
+// The version, and the logic of the kits whose provers prove the program.
+const VERSION: &str = "1.0.0\nRattle logic dac8208d650f15bf";
 
 // A line: its first word, what it does, and its further words.
 struct Form {
