@@ -1,3 +1,4 @@
+pub mod CommitLemmas
 pub mod CountLemmas
 pub mod DamageLemmas
 pub mod JudgeLemmas

@@ -1,3 +1,4 @@
+pub mod Commits
 pub mod Damage
 pub mod Reads
 pub mod Walks

@@ -1,8 +1,10 @@
-//! Laws of what a damaged log is. Each is the contract of a function that does nothing.
+//! Laws of what a log with a commit and a damaged log are. Each is the contract of a function that does
+//! nothing.
 
 ghost use Rattle.std.specs.Prelude.{◌≡◌, ◌<◌, ◌≤◌, ◌+◌, ℕ, suc, List, [], length, true, false};
 ghost use Rattle.sqlite_wal.specs.Format.{be32};
 ghost use Rattle.sqlite_wal.specs.Recovery.{Passes, frame, header};
+ghost use Rattle.desk_log.specs.Commits.{HasCommit, least_with_commit};
 ghost use Rattle.desk_log.specs.Damage.{IsDamaged, ends_commit, is_frame_whole, is_salted, least_damaged};
 
 /// An empty log is not damaged.
@@ -44,4 +46,9 @@ pub fn damaged_once()
 /// A damaged log has 1,104 bytes or more, so that a shorter one needn't be read.
 pub fn damaged_is_long()
     ensures { (log : List ℕ) (stop commits : ℕ) → IsDamaged log stop commits → least_damaged ≤ length log }
+{}
+
+/// A log with a commit has 568 bytes or more, so that a shorter one has none.
+pub fn commits_are_long()
+    ensures { (log : List ℕ) → HasCommit log → least_with_commit ≤ length log }
 {}

@@ -1,6 +1,7 @@
-//! Damage in a write-ahead log of SQLite, told from what a crash leaves there.
+//! A write-ahead log of SQLite: whether it has a commit, and damage, told from what a crash leaves there.
 #![tactic(auto)]
 
+mod commits;
 mod frames;
 mod header;
 mod judging;
@@ -9,8 +10,10 @@ mod numbers;
 mod reading;
 mod reads;
 
+pub use commits::takes_commit;
 pub use judging::{LogFault, Verdict, judge_log};
 pub use laws::{
-    damaged_is_long, damaged_once, empty_is_sound, good_is_sound, shut_is_sound, torn_is_sound,
+    commits_are_long, damaged_is_long, damaged_once, empty_is_sound, good_is_sound, shut_is_sound,
+    torn_is_sound,
 };
 pub use reads::{LastRead, Reads};

@@ -1,9 +1,6 @@
 mod KeepLemmas
 mod NameLemmas
 mod RunLemmas
-mod SumLemmas
-mod OrderLemmas
-mod CommitLemmas
 mod TwinLemmas
 mod OperatorLemmas
 mod WatchLemmas

@@ -1,4 +1,4 @@
--- Read first: Running, Opening, Guarding, Closing, Keeping; Damage, Sums, Orders and Committing stand alone.
+-- Read first: Running, Opening, Guarding, Closing, Keeping; DamageTold stands alone.
 pub mod OpenedFor
 pub mod Operators
 pub mod LineRecord
@@ -12,9 +12,6 @@ pub mod Naming
 pub mod KeeperOutside
 pub mod FilesTold
 pub mod DamageTold
-pub mod Sums
-pub mod Orders
-pub mod Committing
 pub mod Ways
 pub mod Twins
 pub mod Reordering

@@ -27,7 +27,7 @@ use Rattle.uss_desk.specs.FilesTold.{CopyOutcome, FailsTelling, FailsToRead, IsC
 use Rattle.uss_desk.specs.KeeperOutside.{KeeperOutside}
 use Rattle.uss_desk.specs.Naming.{Cleared, Failed, Follows, LeavesOthers, Removed, Step, Steps, Takes, Twinned, log_of}
 use Rattle.uss_desk.specs.OpenedFor.{IsInMemory}
-use Rattle.uss_desk.specs.Orders.{order_text}
+use Rattle.desk_pages.specs.Orders.{order_text}
 use Rattle.uss_desk.specs.Ways.{is_mended, untested}
 
 -- the name of a twin

@@ -9,12 +9,11 @@ ghost use Rattle.uss_desk.specs.Naming.{Follows, Free, LeavesNames, TakesIfNone}
 
 use crate::naming::{Folder, IN_USE, LocalFolder, READ_ONLY, TAKEN, is_no_path};
 use crate::opening::{Opened, OpenedDesk};
-use crate::orders::order_text;
-use crate::sums::pages_without_sums;
 use crate::watching::Paths;
 use crate::ways::{Way, way_to};
 use desk_ends::write_whole;
 use desk_line::{Database, Failure, malformed_word};
+use desk_pages::{order_text, pages_without_sums};
 use desk_tables::{PartFault, part_at};
 use sqlite::{Start, Unknown};
 use sqlite_std_file::OpenError;

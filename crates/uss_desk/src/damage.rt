@@ -3,6 +3,7 @@
 ghost use Rattle.std.specs.Prelude.{◌≡◌, ℕ, false, IfErr, IfOk, IfSome, List, codes, length, option_map};
 ghost use Rattle.std.specs.Prelude.{string_bytes};
 ghost use Rattle.desk_program.specs.Outside.{bytes_written};
+ghost use Rattle.desk_log.specs.Commits.{HasCommit};
 ghost use Rattle.desk_log.specs.Damage.{IsDamaged};
 ghost use Rattle.uss_desk.specs.DamageTold as spec;
 ghost use Rattle.uss_desk.specs.DamageTold.{HasUnlookedCause, IsLookedAt, IsWrittenUpTo};
@@ -10,7 +11,7 @@ ghost use Rattle.uss_desk.specs.DamageTold.{HasUnlookedCause, IsLookedAt, IsWrit
 use crate::causes::tell_of;
 use desk_ends::{Cut, write_whole};
 use desk_line::{Database, Failure, KeeperLine};
-use desk_log::{LogFault, Verdict, damaged_is_long, judge_log};
+use desk_log::{LogFault, Verdict, commits_are_long, damaged_is_long, judge_log};
 use sqlite::Unknown;
 use sqlite_std_file::OpenError;
 use std::alloc::{AllocError, Global};
@@ -20,7 +21,7 @@ use std::io::{self, ErrorKind, Read, Write};
 // How many bytes a damaged log has at least.
 const LEAST_DAMAGED: u64 = 1_104;
 
-// How many the least has in which one ends.
+// How many a log with a commit has at least.
 const LEAST_WITH_A_COMMIT: u64 = 568;
 
 // What is told of a file that isn't there, and its log is.
@@ -185,7 +186,15 @@ fn is_log_alone(rt: &HostRuntime, path: &str) -> Result<bool, Failure> {
 /// `AllocError` if memory runs out.
 pub fn has_commit(rt: &HostRuntime, path: &str) -> Result<bool, AllocError> {
     let name = format!(in rt.alloc(); "{path}-wal")?;
-    Ok(size_of(rt, &name) >= LEAST_WITH_A_COMMIT)
+    Ok(may_have_commit(size_of(rt, &name)))
+}
+
+// Whether a log of so many bytes may have a commit.
+fn may_have_commit(size: u64) -> bool
+    ensures { result ≡ false → (log : List ℕ) → length log ≡ size → ¬ HasCommit log }
+{
+    commits_are_long();
+    size >= LEAST_WITH_A_COMMIT
 }
 
 // The log of the file at a path, if both are files and no other program has them open.

@@ -21,8 +21,8 @@ ghost use Rattle.uss_desk.specs.Naming.{free_steps};
 use crate::causes::{new_cause, tell, tell_database, tell_of};
 use crate::naming::{Folder, Names, name_with, names_of, put_in_place};
 use crate::opening::{Unopened, Unread, open_failure};
-use crate::sums::has_sums;
 use desk_line::{Copying, Database, Exit, Failure, conclude};
+use desk_pages::has_sums;
 use desk_program::{CheckedFile, print_checked, print_copied};
 use desk_tables::{
     Copied, CopyFault, FilesFault, Holdings, OpenFault, Unclosed, copy_from, look_at,

@@ -6,8 +6,8 @@ ghost use Rattle.uss_desk.specs.Naming.{AreNames, ChangesOwn, Cleared, Follows, 
 ghost use Rattle.uss_desk.specs.Naming.{Removed, Renamed, Step, Synced, Takes, TakesAll, TakesIfNone, Tried, Twinned};
 ghost use Rattle.uss_desk.specs.Naming.{named_steps};
 
-use crate::committing::put_in_order;
 use crate::pairs::{TwinFault, write_twin};
+use desk_pages::put_in_order;
 use sqlite::Unknown;
 use sqlite_std_file::OpenError;
 use std::alloc::{AllocError, Global};

@@ -2,8 +2,7 @@
 
 use crate::causes::access_cause;
 use crate::naming::{OWNER_ALONE, unmade_text};
-use crate::orders::copy_mended;
-use crate::sums::copy_bytes;
+use desk_pages::{copy_bytes, copy_mended};
 use sqlite::Unknown;
 use sqlite_std_file::OpenError;
 use std::alloc::AllocError;

@@ -4,11 +4,11 @@
 ghost use Rattle.std.specs.Prelude.{◌≡◌};
 ghost use Rattle.uss_desk.specs.Ways as spec;
 
-use crate::committing::has_frames;
 use crate::damage::has_commit;
 use crate::naming::is_no_path;
-use crate::orders::has_other_order;
-use crate::sums::pages_without_sums;
+use desk_log::takes_commit;
+use desk_pages::{has_other_order, pages_without_sums};
+use sqlite::Unknown;
 use std::fs;
 
 /// The way in which a file is read.
@@ -78,7 +78,16 @@ fn way_for(is_damaged: bool, unsummed: Option<u64>, is_disordered: bool) -> Way
 // Whether the log of a file may have a commit, or that can't be known.
 fn has_changes(rt: &HostRuntime, path: &str) -> bool {
     match fs::canonicalize(rt, path) {
-        Ok(real) => has_commit(rt, real.as_str()).unwrap_or(true) && has_frames(rt, path),
+        Ok(real) => has_commit(rt, real.as_str()).unwrap_or(true) && may_take_commit(rt, path),
+        Err(_) => true,
+    }
+}
+
+// Whether recovery takes a commit of the log of the file at a path, or that can't be known. Of a log that was
+// cut off in the midst of its first commit it takes none.
+fn may_take_commit(rt: &HostRuntime, path: &str) -> bool {
+    match sqlite_std_file::open(rt, path, Unknown) {
+        Ok(mut files) => takes_commit(rt.alloc(), &mut files).unwrap_or(true),
         Err(_) => true,
     }
 }

@@ -1,0 +1,3 @@
+mod SumLemmas
+mod OrderLemmas
+mod CommitLemmas

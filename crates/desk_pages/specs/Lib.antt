@@ -1,0 +1,4 @@
+pub mod Header
+pub mod Sums
+pub mod Orders
+pub mod Committing
