@@ -11,6 +11,7 @@ import random
 import shutil
 import sqlite3
 import stat
+from collections.abc import Callable
 
 import pytest
 from harness.program import Ran, run
@@ -274,6 +275,32 @@ def test_with_a_log(room: pathlib.Path) -> None:
     assert copied(path, f"{path}.new") == (0, b"copied 1 operators, 0 plans\n", "")
     assert log.read_bytes() == b""
     assert rows_of(f"{path}.new")[0] == [("alfa", 99)]
+
+
+TORN: list[tuple[str, Callable[[bytes], bytes]]] = [
+    ("cut in its last frame", lambda log: log[:-1]),
+    ("cut behind the head of its first frame", lambda log: log[:56]),
+    ("with another byte in its page", lambda log: log[:600] + bytes([log[600] ^ 1]) + log[601:]),
+    ("with another mark of its commit", lambda log: log[:39] + bytes([log[39] ^ 1]) + log[40:]),
+]
+"""What is left of a log with one commit, of which recovery takes none then."""
+
+
+@pytest.mark.parametrize("tear", named(TORN))
+def test_with_a_torn_log(tear: Callable[[bytes], bytes], room: pathlib.Path) -> None:
+    """A file of whose log recovery takes no commit is read by a twin, however long the log is."""
+    path = stated_file(str(room / "logged.db"), [*by_name(), PLAN[0]])
+    left = room / "left.db"
+    with contextlib.closing(sqlite3.connect(path, isolation_level=None)) as connection:
+        connection.execute("PRAGMA journal_mode = WAL")
+        connection.execute("UPDATE operator SET ceiling = 99")
+        left.write_bytes(pathlib.Path(path).read_bytes())
+        log = pathlib.Path(path + "-wal").read_bytes()
+    (room / "left.db-wal").write_bytes(tear(log))
+    look = looked(str(left))
+    assert (look.status, look.errors) == (0, f"uss_desk: {left}: {ORDER}\n")
+    assert copied(str(left), f"{left}.new") == (0, b"copied 1 operators, 0 plans\n", "")
+    assert rows_of(f"{left}.new")[0] == [("alfa", 100)]
 
 
 def test_in_the_way(room: pathlib.Path) -> None:
