@@ -1,7 +1,7 @@
 //! Whether recovery takes a commit of a log.
 
 ghost use Rattle.std.specs.Prelude.{◌↔◌, IfSome, IsTrue};
-ghost use Rattle.sqlite_wal.specs.Reads.{AreClean};
+ghost use Rattle.sqlite_wal.specs.Reads.{AreClean, OnlyReadsBoth};
 ghost use Rattle.desk_log.specs.Commits.{HasCommit};
 
 use sqlite_disk::{Disk, Files};
@@ -15,8 +15,9 @@ use std::alloc::Global;
 pub fn takes_commit<D: Disk>(alloc: Global, files: &mut Files<D>) -> Option<bool>
     requires log { IsTrue (D.Disk.is_usable files.old.log) }
     requires db { IsTrue (D.Disk.is_usable files.old.db) }
-    ensures { IfSome result (λ taken. AreClean D.Disk files.new.log files.new.db
+    ensures taken { IfSome result (λ taken. AreClean D.Disk files.new.log files.new.db
         → IsTrue taken ↔ HasCommit (D.Disk.seen files.old.log)) }
+    ensures reads { OnlyReadsBoth D.Disk (files.old.log, files.old.db) (files.new.log, files.new.db) }
 {
     let Ok(Some(size)) = probe_page_size(files) else {
         return None;

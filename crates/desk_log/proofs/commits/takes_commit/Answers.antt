@@ -5,8 +5,8 @@ use Rattle.sqlite_wal.specs.Recovery.{AreFramesOf}
 use Rattle.desk_log.proofs.CommitLemmas.{taken_iff}
 use Rattle.desk_log.proofs.commits.takes_commit.Goals as goal
 
-pub returns-in-Ok : goal.returns-in-Ok
-returns-in-Ok g c clean =
+pub returns-in-Ok-clause-taken : goal.returns-in-Ok-clause-taken
+returns-in-Ok-clause-taken g c clean =
     let size = c.in-Ok-Some.size in
     let of_log : IsClean g.D.Disk c.probe_frames.new.log = search (rules, clean) in
     let are : AreFramesOf (bytes_of size) (g.D.Disk.seen c.args.files.now.log) c.in-Ok.pages.items =
