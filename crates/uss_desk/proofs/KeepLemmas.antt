@@ -1,5 +1,5 @@
 -- What a look and a copy come to.
-use Rattle.std.proofs.Common.{◌≡◌, ℕ, List, [], ◌++◌, take, Option, None, Some, Result, Ok, Err, OnOk, IfErr, inl, inr, refl, sym, subst}
+use Rattle.std.proofs.Common.{◌≡◌, ℕ, List, [], ◌++◌, take, Option, None, Some, Result, Ok, Err, OnOk, IfErr, IfOk, inl, inr, refl, sym, subst}
 use Rattle.std.specs.Option.{IsSomeAnd}
 use Rattle.std.proofs.KnownBytes.{Appends-nil, Appends-trans}
 use Rattle.std.specs.Io.KnownBytes.{Appends}
@@ -28,11 +28,12 @@ use Rattle.desk_tables.specs.declared.closing.Unclosed.{Unclosed}
 use Rattle.desk_tables.specs.declared.opening.files.CopyFault.{CopyFault}
 use Rattle.desk_tables.specs.declared.opening.files.FilesFault.{FilesFault}
 use Rattle.uss_desk.specs.declared.opening.Unopened.{Unopened}
-use Rattle.uss_desk.specs.FilesTold.{CopyEnd, FailsAtFiles, FailsBy, FailsToCopy, FailsToLook, FailsToRead, IsCopyMade, IsNamedIf, IsReadAs, IsUncopied, IsUntold, Tells, TellsHoldings}
-use Rattle.std.specs.Result.{IsErrAnd}
-use Rattle.uss_desk.specs.Naming.{IsUnnamed, Steps, free_steps}
+use Rattle.uss_desk.specs.FilesTold.{CopyEnd, FailsAtFiles, FailsBy, FailsToCopy, FailsToLook, FailsToRead, IsAsCopied, IsCopyMade, IsNamedIf, IsNamedNow, IsReadAs, IsUncopied, IsUntold, Tells, TellsHoldings}
+use Rattle.uss_desk.specs.Naming.{Follows, Step, Steps, Synced, free_steps, named_steps}
 use Rattle.uss_desk.specs.OpenedFor.{open_failure}
+use Rattle.uss_desk.specs.Stored.{IsStoredAs}
 use Rattle.desk_tables.specs.Copying.{AreNotCopied, AreNotRead}
+use Rattle.uss_desk.proofs.NameLemmas.{failed_after, follows_both, unnamed_after}
 use Rattle.uss_desk.proofs.RunLemmas.{fails_over}
 
 -- nothing is told
@@ -108,20 +109,29 @@ module _ {D E : Type 0} {g : disk.Ghosts D} {k : disk.Ghosts E} (image other : I
     unprinted = refl;
   }
 
--- what the files refused is told on
-pub copy_fails : {D E V : Type 0} {g : disk.Ghosts D} {k : disk.Ghosts E} (image other : Image)
-    (database : Database) (steps : Steps) (r : Result V (CopyEnd g k)) (it : CopyEnd g k)
-    → IsErrAnd r (λ e. e ≡ it) → FailsAtFiles image other it
-    → IfErr r (FailsToCopy image other database steps)
-copy_fails image other database steps (Ok v) it is fails = tt
-copy_fails image other database steps (Err e) it is fails =
-    subst (FailsToCopy image other database steps) (sym is) (inr (inr (inr fails)))
+-- what was made is made, if it gets its name
+pub made_on : {A B : Type 0} (P : A → Type 0) (copied r : Result A B) → IfOk copied P
+    → IfOk r (λ it. copied ≡ Ok it) → IfOk r P
+made_on P copied (Ok it) made is = subst (λ c. IfOk c P) is made
+made_on P copied (Err e) made is = tt
 
--- what failed got no name
-pub named_if : {A B : Type 0} (P : B → Type 0) (to : List ℕ) (steps : Steps) (r : Result A B)
-    → IsErrAnd r P → IsUnnamed (free_steps to) to steps → IsNamedIf r to steps
-named_if P to steps (Ok v) is unnamed = absurd is
-named_if P to steps (Err e) is unnamed = unnamed
+-- what fails after steps that found nothing at its names
+module _ (old mid new : Option (List Step)) (to : List ℕ) (free : Follows (course old mid) (free_steps to))
+  where
+    pub copy_fails : {D E W : Type 0} {g : disk.Ghosts D} {k : disk.Ghosts E} (image other : Image)
+        (database : Database) (copied : Result W (CopyEnd g k)) (r : Result W (CopyEnd g k))
+        → IfErr copied (FailsAtFiles image other) → IfErr r (IsAsCopied copied (course mid new))
+        → IfErr r (FailsToCopy image other database (course old new))
+    copy_fails image other database copied (Ok v) fails why = tt
+    copy_fails image other database copied (Err e) fails why = elim why [
+      | inl is ↦ inr (inr (inr (subst (λ c. IfErr c (FailsAtFiles image other)) is fails)))
+      | inr half ↦ inr (inr (inl (failed_after old mid new (free_steps to) free half.0, half.1)))
+    ]
+
+    pub named_if : {A B : Type 0} (r : Result A B) → IsNamedNow r to (course mid new)
+        → IsNamedIf r to (course old new)
+    named_if (Ok v) named = follows_both old mid new (free_steps to) (named_steps to (Synced to)) free named
+    named_if (Err e) unnamed = unnamed_after old mid new to free unnamed
 
 -- what was read is told as it was counted
 pub read_as : {D : Type 0} {g : disk.Ghosts D} (image : Image) (left : Held (FileStore D g))
@@ -135,19 +145,29 @@ read_as {g = g} image left file holdings same counted found = record {
   looks = subst (λ b. LooksIn {g = g} image left b found.0) (sym same) found.2;
 }
 
+-- what is known of a copy, apart and together
+pub stored_as : {D E : Type 0} {g : disk.Ghosts D} {k : disk.Ghosts E} (image other : Image)
+    (r : Result (Held (FileStore D g) × (Shown (FileStore E k) × Holdings)) (CopyFault D E g k))
+    → IfOk r (λ c. AreHoldingsOf c.1.1 c.1.0.world × LooksIn image c.0 c.1.1.is_old c.1.0.world)
+    → IfOk r (λ c. IsMadeIn other c.1.0.held)
+    → IfOk r (λ c. IsSettledAt over_files c.1.0.held c.1.0.world)
+    → IfOk r (IsStoredAs image other)
+stored_as image other (Ok c) looks made settled =
+    record { counted = looks.0; looks = looks.1; made = made; settled = settled }
+stored_as image other (Err e) looks made settled = tt
+
 -- a store of a content was made in new files and closed
 pub copy_made : {D E : Type 0} {g : disk.Ghosts D} (k : disk.Ghosts E) (image other : Image)
     (left : Held (FileStore D g)) (files : Files E) (counts : Holdings) (store : Shown (FileStore E k))
-    → AreHoldingsOf counts store.world → LooksIn image left counts.is_old store.world
-    → IsMadeIn other store.held → IsSettledAt over_files store.held store.world
+    → IsStoredAs image other (left, (store, counts))
     → (AreClean k files.log files.db → IsClosedInto store.held files)
     → IsCopyMade k image other (left, (files, counts))
-copy_made k image other left files counts store counted looks made settled closed = record {
+copy_made k image other left files counts store stored closed = record {
   w = store.world;
   held = store.held;
-  counted = counted;
-  looks = looks;
-  made = made;
-  settled = settled;
+  counted = stored.counted;
+  looks = stored.looks;
+  made = stored.made;
+  settled = stored.settled;
   closed = closed;
 }

@@ -187,6 +187,24 @@ free_no_name to =
     ∷ Tried (part_of to) ∷ [])
     tt two
 
+-- what was given up changed nothing but the new file, and named none
+module _ {to : List ℕ} {old new : Option (List Step)} (gone : GivesUp to (course old new)) where
+  pub gone_changes : TakesAll (ChangesOwn to) (course old new)
+  gone_changes = record {
+    more = gone.more;
+    made = gone.made;
+    each = All-weaker (λ step. ChangesOwn to step × GivesNoName step) (ChangesOwn to) (λ step is. is.0)
+        gone.more gone.each;
+  }
+
+  pub gone_unnamed : IsUnnamed [] to (course old new)
+  gone_unnamed = inl (record {
+    more = gone.more;
+    made = gone.made;
+    unnamed = All-weaker (λ step. ChangesOwn to step × GivesNoName step) GivesNoName (λ step is. is.1)
+        gone.more gone.each;
+  })
+
 module _ (old mid new : Option (List Step)) (to : List ℕ) (free : Follows (course old mid) (free_steps to))
   where
     pub found_own : TakesAll (ChangesOwn to) (course mid new) → LeavesOthers to (course old new)
@@ -195,23 +213,6 @@ module _ (old mid new : Option (List Step)) (to : List ℕ) (free : Follows (cou
       made = follows_both old mid new (free_steps to) own.more free own.made;
       own = own.each;
     })
-
-    pub gone_own : GivesUp to (course mid new) → LeavesOthers to (course old new)
-    gone_own gone = found_own (record {
-      more = gone.more;
-      made = gone.made;
-      each = All-weaker (λ step. ChangesOwn to step × GivesNoName step) (ChangesOwn to) (λ step is. is.0)
-          gone.more gone.each;
-    })
-
-    pub gone_names : GivesUp to (course mid new) → LeavesNames (course old new)
-    gone_names gone = record {
-      more = free_steps to ++ gone.more;
-      made = follows_both old mid new (free_steps to) gone.more free gone.made;
-      unnamed = All-append GivesNoName (free_steps to) gone.more (free_no_name to)
-          (All-weaker (λ step. ChangesOwn to step × GivesNoName step) GivesNoName (λ step is. is.1)
-          gone.more gone.each);
-    }
 
     -- what a naming that failed comes to
     pub unnamed_after : IsUnnamed [] to (course mid new) → IsUnnamed (free_steps to) to (course old new)

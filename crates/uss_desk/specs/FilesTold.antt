@@ -1,5 +1,5 @@
 -- FilesTold: what a keeper is told of a file, and what is copied of it.
-use Rattle.std.specs.Prelude.{◌≡◌, ℕ, List, length, Option, Result, Ok, Err, IsErr, ◌⊎◌, None}
+use Rattle.std.specs.Prelude.{◌≡◌, ℕ, List, [], length, Option, Result, Ok, Err, IsErr, ◌⊎◌, None}
 use Rattle.std.specs.Option.{IsSomeAnd}
 use Rattle.std.specs.Io.KnownBytes.{Appends}
 use Rattle.sqlite_disk.specs.declared.Disk as disk
@@ -33,7 +33,7 @@ use Rattle.uss_desk.specs.declared.opening.Unopened.{Unopened}
 use Rattle.uss_desk.specs.declared.opening.Opened.{Opened}
 use Rattle.uss_desk.specs.declared.opening.Opened.TheVariants as opened
 use Rattle.uss_desk.specs.KeeperOutside.{KeeperOutside}
-use Rattle.uss_desk.specs.Naming.{HasFailedStep, IsNamed, IsUnnamed, Steps, free_steps}
+use Rattle.uss_desk.specs.Naming.{Follows, HasFailedStep, IsNamed, IsUnnamed, Steps, Synced, free_steps, named_steps}
 use Rattle.uss_desk.specs.OpenedFor.{open_failure, FailsOver, IsInMemory, IsUnreadFor}
 
 -- files were refused over which a line was to be carried out, or from which plans were to be moved
@@ -170,6 +170,15 @@ module _ {D E : Type 0} {g : disk.Ghosts D} {k : disk.Ghosts E} (image other : I
   IsCopied database o (Ok copies) = IsCopyMade k image other copies
       × IsTextPrinted (copied_line copies.1.1.operators copies.1.1.plans) o.end o.writes.before o.writes.after
   IsCopied database o (Err it) = IsUncopied image other database o it
+
+-- why nothing is copied, once the files were asked for: they refused it; or a step failed, and alone is told
+abbrev pub IsAsCopied : {A R M U : Type 0} → Result A (Uncopied R M U) → Steps → Uncopied R M U → Type 0
+IsAsCopied copied steps it = (copied ≡ Err it) ⊎ (HasFailedStep steps × FailsUntried failure.Store it)
+
+-- what is copied gets its name; or no file gets one, or the file its own, whole, and its folder can't be synced
+abbrev pub IsNamedNow : {A B : Type 0} → Result A B → List ℕ → Steps → Type 0
+IsNamedNow (Ok copies) to steps = Follows steps (named_steps to (Synced to))
+IsNamedNow (Err it) to steps = IsUnnamed [] to steps
 
 -- what is copied has got its name, and there was nothing at its names; or no file got a name, or the file got
 -- its own, whole, and its folder can't be synced

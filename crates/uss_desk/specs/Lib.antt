@@ -1,6 +1,7 @@
 -- Read first: Running, Opening, Guarding, Closing, Keeping; DamageTold stands alone.
 pub mod OpenedFor
 pub mod Operators
+pub mod Rolls
 pub mod LineRecord
 pub mod Guarding
 pub mod OpenedLines
@@ -10,6 +11,7 @@ pub mod Watching
 pub mod FilesLeft
 pub mod Naming
 pub mod KeeperOutside
+pub mod Stored
 pub mod FilesTold
 pub mod DamageTold
 pub mod Ways

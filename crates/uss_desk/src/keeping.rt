@@ -1,22 +1,21 @@
 //! What a keeper does to a file: a look at what it holds, and a copy of it.
 
-ghost use Rattle.std.specs.Prelude.{◌≡◌, ℕ, List, MatchOption, not, false, true, IfErr, IfOk, OnOk, string_bytes};
+ghost use Rattle.std.specs.Prelude.{◌≡◌, ℕ, [], List, MatchOption, not, false, true, IfErr, IfOk, Ok, OnOk, string_bytes};
 ghost use Rattle.sqlite_wal.specs.Files.{image_at};
 ghost use Rattle.sqlite_wal.specs.Recovery.{Image};
-ghost use Rattle.sqlite.specs.Files.{over_files};
 ghost use Rattle.desk_store.specs.World.{World};
 ghost use Rattle.desk_program.specs.Looking.{IsTextPrinted, copied_line};
 ghost use Rattle.desk_program.specs.Outside.{bytes_written, ended};
-ghost use Rattle.desk_tables.specs.Copying.{AreHoldingsOf, IsMadeIn, LooksIn};
-ghost use Rattle.desk_tables.specs.Leaving.{IsSettledAt};
+ghost use Rattle.desk_tables.specs.Copying.{AreHoldingsOf, AreNotCopied};
 ghost use Rattle.uss_desk.specs.FilesTold as spec;
 ghost use Rattle.uss_desk.specs.FilesTold.{FailsAtFiles, FailsBy, FailsTelling, FailsToCopy, FailsToLook};
 ghost use Rattle.uss_desk.specs.FilesTold.{FailsToRead};
 ghost use Rattle.uss_desk.specs.FilesTold.{FailsUntried, IsChecked, IsCopied, IsCopyMade, IsNamedIf, IsReadAs};
-ghost use Rattle.uss_desk.specs.FilesTold.{Tells, TellsHoldings};
+ghost use Rattle.uss_desk.specs.FilesTold.{IsAsCopied, IsNamedNow, Tells, TellsHoldings};
+ghost use Rattle.uss_desk.specs.Stored.{IsStoredAs};
 ghost use Rattle.uss_desk.specs.KeeperOutside.{keeper_outside, steps_of};
-ghost use Rattle.uss_desk.specs.Naming.{AreNames, Cleared, Follows, Free, GivesUp, IsNotFree, LeavesOthers, Takes, Tried};
-ghost use Rattle.uss_desk.specs.Naming.{free_steps};
+ghost use Rattle.uss_desk.specs.Naming.{AreNames, ChangesOwn, Cleared, Follows, Free, GivesUp, HasFailedStep, IsNotFree};
+ghost use Rattle.uss_desk.specs.Naming.{IsUnnamed, LeavesOthers, Synced, Takes, TakesAll, Tried, free_steps, named_steps};
 
 use crate::causes::{new_cause, tell, tell_database, tell_of};
 use crate::naming::{Folder, Names, name_with, names_of, put_in_place};
@@ -339,13 +338,8 @@ fn copy_for<F: Start, N: Start, P: Folder, E: Write>(
         return Err(Uncopied::untried(Failure::Store));
     }
     let source = Source::of(path, twin);
-    let copies = copy_to(rt, folder, source, &names, starts, errors)?;
-    if !put_in_place(folder, &names) {
-        let cause = "it can't be given its name, or its folder can't be synced";
-        tell_of(rt.alloc(), &names.to, cause, errors);
-        return Err(Uncopied::untried(Failure::Store));
-    }
-    Ok(copies)
+    let copied = copy_closed(rt, source.path, &names.part, starts);
+    keep_copy(rt, folder, source, &names, copied, errors)
 }
 
 // A file that is copied: how it is told of, and where it is read.
@@ -365,33 +359,62 @@ impl<'s> Source<'s> {
     }
 }
 
-// Copies what a file holds to new files under the names that they have first, or tells why not, and removes
-// what was made.
-#[tactic(auto, using(crate::proofs::NameLemmas::takes_none))]
-fn copy_to<F: Start, N: Start, P: Folder, E: Write>(
+// Gives new files their names, if they were made, or removes what was made, on whatever disks the files are.
+// Why they were not made, or have no names, is told.
+fn keep_copy<D: Disk + Drop, N: Disk + Drop, P: Folder, E: Write>(
     rt: &HostRuntime,
     folder: &mut P,
     source: Source<'_>,
     names: &Names,
-    starts: Starts<F, N>,
+    copied: Result<Copies<D, N>, CopyEnd<D, N>>,
     errors: &mut E,
-) -> Result<Copies<FileFrom<F>, FileFrom<N>>, CopyEnd<FileFrom<F>, FileFrom<N>>>
-    ensures made { IfOk result
-        (IsCopyMade ⟦<FileFrom<N> as Disk>⟧ (image_at F.Start) (image_at N.Start)) }
-    ensures fault { IfErr result (FailsAtFiles (image_at F.Start) (image_at N.Start)) }
+) -> Result<Copies<D, N>, CopyEnd<D, N>>
+    ensures made { IfOk result (λ it. copied ≡ Ok it) }
+    ensures fault { IfErr result (IsAsCopied copied (steps_of P.Folder folder.old folder.new)) }
     ensures quiet { OnOk result (E.contents errors.new ≡ E.contents errors.old) }
     ensures told { Tells (bytes_written E.Write errors.old errors.new) }
-    ensures kept { OnOk result (P.steps folder.new ≡ P.steps folder.old) }
-    ensures gone { (to : List ℕ) → AreNames to names.now
-        → GivesUp to (steps_of P.Folder folder.old folder.new) }
+    ensures named { (to : List ℕ) → AreNames to names.now
+        → IsNamedNow result to (steps_of P.Folder folder.old folder.new) }
+    ensures own { (to : List ℕ) → AreNames to names.now
+        → TakesAll (ChangesOwn to) (steps_of P.Folder folder.old folder.new) }
 {
-    match copy_closed(rt, source.path, &names.part, starts) {
-        Ok(copies) => Ok(copies),
+    let copies = match copied {
+        Ok(copies) => copies,
         Err(uncopied) => {
             give_up(rt, folder, source, names, uncopied.failure, errors);
-            Err(uncopied)
+            return Err(uncopied);
         }
+    };
+    if is_unnamed(rt.alloc(), folder, names, errors) {
+        return Err(Uncopied::untried(Failure::Store));
     }
+    Ok(copies)
+}
+
+// Whether a new file that is whole can't be given its name, which is told.
+#[tactic(auto, using(crate::proofs::KeepLemmas::tells_nothing))]
+fn is_unnamed<P: Folder, E: Write>(
+    alloc: Global,
+    folder: &mut P,
+    names: &Names,
+    errors: &mut E,
+) -> bool
+    ensures quiet { result ≡ false → E.contents errors.new ≡ E.contents errors.old }
+    ensures told { Tells (bytes_written E.Write errors.old errors.new) }
+    ensures named { (to : List ℕ) → AreNames to names.now → result ≡ false
+        → Follows (steps_of P.Folder folder.old folder.new) (named_steps to (Synced to)) }
+    ensures unnamed { (to : List ℕ) → AreNames to names.now → result ≡ true
+        → IsUnnamed [] to (steps_of P.Folder folder.old folder.new) }
+    ensures own { (to : List ℕ) → AreNames to names.now
+        → TakesAll (ChangesOwn to) (steps_of P.Folder folder.old folder.new) }
+    ensures failed { result ≡ true → HasFailedStep (steps_of P.Folder folder.old folder.new) }
+{
+    if put_in_place(folder, names) {
+        return false;
+    }
+    let cause = "it can't be given its name, or its folder can't be synced";
+    tell_of(alloc, &names.to, cause, errors);
+    true
 }
 
 // Copies what the file at a path holds to new files at another, and closes these.
@@ -405,22 +428,32 @@ fn copy_closed<F: Start, N: Start>(
         (IsCopyMade ⟦<FileFrom<N> as Disk>⟧ (image_at F.Start) (image_at N.Start)) }
     ensures fault { IfErr result (FailsAtFiles (image_at F.Start) (image_at N.Start)) }
 {
-    match copy_from(rt, path, starts.source, to, starts.copy) {
+    close_copied(copy_from(rt, path, starts.source, to, starts.copy))
+}
+
+// Closes the store of a copy, if it was made, or answers why it was not, on whatever disks the files are.
+fn close_copied<D: Disk + Drop, N: Disk + Drop>(
+    copied: Result<Copied<D, N>, CopyFault<D, N>>,
+) -> Result<Copies<D, N>, CopyEnd<D, N>>
+    ensures made { (image other : Image) → IfOk copied (IsStoredAs image other)
+        → IfOk result (IsCopyMade N.Disk image other) }
+    ensures fault { (image other : Image) → IfOk copied (IsStoredAs image other)
+        → IfErr copied (AreNotCopied image other) → IfErr result (FailsAtFiles image other) }
+{
+    match copied {
         Ok(copied) => close_copy(copied),
         Err(refused) => Err(refused_copy(&refused)),
     }
 }
 
 // Closes the store of a copy, on whatever disks it and what was copied are.
-#[tactic(auto, using(crate::proofs::KeepLemmas::copy_made, crate::proofs::KeepLemmas::fails_closing))]
+#[tactic(auto, using(crate::proofs::KeepLemmas::fails_closing))]
 fn close_copy<D: Disk + Drop, N: Disk + Drop>(
     copied: Copied<D, N>,
 ) -> Result<Copies<D, N>, CopyEnd<D, N>>
-    ensures made { (image other : Image) → AreHoldingsOf copied.1.1 copied.1.0.world
-        → LooksIn image copied.0 copied.1.1.is_old copied.1.0.world → IsMadeIn other copied.1.0.held
-        → IsSettledAt over_files copied.1.0.held copied.1.0.world
+    ensures made { (image other : Image) → IsStoredAs image other copied
         → IfOk result (IsCopyMade N.Disk image other) }
-    ensures fault { (image other : Image) → IsMadeIn other copied.1.0.held
+    ensures fault { (image other : Image) → IsStoredAs image other copied
         → IfErr result (FailsAtFiles image other) }
 {
     let (connection, (store, holdings)) = copied;

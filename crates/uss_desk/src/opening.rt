@@ -8,6 +8,7 @@ ghost use Rattle.desk_line.specs.Lines.{database_of};
 ghost use Rattle.uss_desk.specs.OpenedFor as spec;
 ghost use Rattle.uss_desk.specs.OpenedFor.{IsBlank, IsMemory, IsMovedAt, IsMovedIn, IsOpenedAt, IsOpenedIn};
 ghost use Rattle.uss_desk.specs.OpenedFor.{IsUnreadFor};
+ghost use Rattle.uss_desk.specs.Rolls.{HasNotedAt, HasNotedDesk};
 
 use crate::causes::tell_unenrolled;
 use crate::naming::make_private;
@@ -101,7 +102,8 @@ pub fn open_for<F: Start, N: Paths + Drop>(
     paths: N,
     roll: &mut Roll,
 ) -> OpenedDesk<F, N>
-    ensures { IsOpenedAt (image_at F.Start) (database_of line.now) result }
+    ensures opened { IsOpenedAt (image_at F.Start) (database_of line.now) result }
+    ensures noted { HasNotedAt result roll.new }
 {
     open_database(rt, line.database(), enrols_none(line), start, paths, roll)
 }
@@ -116,7 +118,8 @@ fn enrols_none(line: &Line) -> bool {
 }
 
 /// Opens the desk over a database; `start` stands for what its files held, and `paths` are theirs. If it is
-/// to be told that no operator is enrolled (`is_told`), it is.
+/// to be told that no operator is enrolled (`is_told`), it is. The operators that a desk over files has then
+/// are noted in `roll`.
 pub fn open_database<F: Start, N: Paths + Drop>(
     rt: &HostRuntime,
     database: &Database,
@@ -125,7 +128,8 @@ pub fn open_database<F: Start, N: Paths + Drop>(
     paths: N,
     roll: &mut Roll,
 ) -> OpenedDesk<F, N>
-    ensures { IsOpenedAt (image_at F.Start) database.now result }
+    ensures opened { IsOpenedAt (image_at F.Start) database.now result }
+    ensures noted { HasNotedAt result roll.new }
 {
     match database {
         Database::InMemory => {
@@ -178,7 +182,8 @@ pub fn open_file<F: Start, N: Paths + Drop>(
     mut paths: N,
     roll: &mut Roll,
 ) -> FoundDesk<F, N>
-    ensures { IsOpenedIn (image_at F.Start) result }
+    ensures opened { IsOpenedIn (image_at F.Start) result }
+    ensures noted { HasNotedDesk result roll.new }
 {
     make_private(rt, path);
     paths.hold();

@@ -1,7 +1,12 @@
-//! The operators that a desk over files has as it is opened.
+//! The operators that a desk over files has as it is opened, with which its record begins.
+
+ghost use Rattle.std.specs.Prelude.{◌≡◌, [], IfOk, IfSome, map};
+ghost use Rattle.sqlite.specs.Files.{file_state};
+ghost use Rattle.sqlite.specs.State.{HasCleanDisk};
+ghost use Rattle.uss_desk.specs.Rolls.{AreOperatorsOf, HasNoted, as_listed};
 
 use desk_line::Enrolment;
-use desk_tables::SqliteStore;
+use desk_tables::{ListedOperator, SqliteStore};
 use sqlite::FileStore;
 use sqlite_disk::Disk;
 use std::alloc::{AllocError, Global};
@@ -23,22 +28,29 @@ impl Roll {
     }
 
     /// The roll of a desk that has no operator.
-    pub fn empty(alloc: Global) -> Roll {
+    pub fn empty(alloc: Global) -> Roll
+        ensures { IfSome result.operators (λ all. all.items ≡ []) }
+    {
         Roll {
             is_wanted: true,
             operators: Some(Vec::new(alloc)),
         }
     }
 
-    /// Notes the operators of a store, if they are wanted and there is memory for them.
-    pub fn note<D: Disk + Drop>(&mut self, store: &SqliteStore<FileStore<D>>) {
+    /// Notes the operators of a store, if they are wanted and there is memory for them; else none.
+    pub fn note<D: Disk + Drop>(&mut self, store: &SqliteStore<FileStore<D>>)
+        ensures { HasNoted store.now self.new }
+    {
+        self.operators = None;
         if self.is_wanted {
             self.operators = operators_of(store).ok();
         }
     }
 
     /// The operators, ascending by name, if they were noted.
-    pub fn into_operators(self) -> Option<Vec<Enrolment>> {
+    pub fn into_operators(self) -> Option<Vec<Enrolment>>
+        ensures { result ≡ self.operators }
+    {
         self.operators
     }
 }
@@ -46,10 +58,23 @@ impl Roll {
 // The operators of a store with their ceilings.
 fn operators_of<D: Disk + Drop>(
     store: &SqliteStore<FileStore<D>>,
-) -> Result<Vec<Enrolment>, AllocError> {
+) -> Result<Vec<Enrolment>, AllocError>
+    ensures { HasCleanDisk (file_state store.now.held)
+        → IfOk result (λ all. AreOperatorsOf store.now.world all.items) }
+{
     let listed = store.roll()?;
-    let mut operators = Vec::new(*listed.allocator());
-    for one in &listed {
+    enrolments_of(*listed.allocator(), &listed)
+}
+
+// Operators that are listed, as they are enrolled.
+fn enrolments_of(
+    alloc: Global,
+    listed: &[ListedOperator],
+) -> Result<Vec<Enrolment>, AllocError>
+    ensures { IfOk result (λ all. map as_listed all.items ≡ listed.now) }
+{
+    let mut operators = Vec::new(alloc);
+    for one in listed {
         operators.push(Enrolment {
             operator: one.operator,
             ceiling: one.ceiling,

@@ -4,11 +4,12 @@ use Rattle.sqlite.specs.Files.{over_files}
 use Rattle.desk_tables.specs.Files.{AreRefused, OpensIn}
 use Rattle.desk_tables.specs.LyingDisk.{IsGuarded}
 use Rattle.desk_tables.specs.Leaving.{IsSettledAt}
+use Rattle.uss_desk.specs.Rolls.{HasNoted}
 use Rattle.uss_desk.proofs.RunLemmas.{fails_over}
 use Rattle.uss_desk.proofs.opening.open_file.Goals as goal
 
-pub returns-after-is_told : goal.returns-after-is_told
-returns-after-is_told g c =
+pub returns-after-is_told-clause-opened : goal.returns-after-is_told-clause-opened
+returns-after-is_told-clause-opened g c =
     let same = ap (λ d. d.store) c.new.ensures ∙ c.over.ensures in
     let opens = subst (λ s. OpensIn (image_at g.F.Start) s.held s.world) (sym same) c.in-Ok.ensures.begins in
     let left = subst (λ s. IsSettledAt over_files s.held s.world) (sym same) c.in-Ok.ensures.left in record {
@@ -18,7 +19,12 @@ returns-after-is_told g c =
       none = ap (λ d. d.terms) c.new.ensures;
     }
 
-pub returns-in-Err : goal.returns-in-Err
-returns-in-Err g c =
+pub returns-after-is_told-clause-noted : goal.returns-after-is_told-clause-noted
+returns-after-is_told-clause-noted g c =
+    subst (λ s. HasNoted s c.note.new.self) (sym (ap (λ d. d.store) c.new.ensures ∙ c.over.ensures))
+    c.note.ensures
+
+pub returns-in-Err-clause-opened : goal.returns-in-Err-clause-opened
+returns-in-Err-clause-opened g c =
     fails_over (λ files. AreRefused (image_at g.F.Start) files.fault files.connection) c.of.result
     c.in-Err.refused c.of.ensures.failure c.of.ensures.refused c.in-Err.ensures.fault
