@@ -175,7 +175,8 @@ module _ {D E : Type 0} {g : disk.Ghosts D} {k : disk.Ghosts E} (image other : I
 abbrev pub IsAsCopied : {A R M U : Type 0} → Result A (Uncopied R M U) → Steps → Uncopied R M U → Type 0
 IsAsCopied copied steps it = (copied ≡ Err it) ⊎ (HasFailedStep steps × FailsUntried failure.Store it)
 
--- what is copied gets its name; or no file gets one, or the file its own, whole, and its folder can't be synced
+-- what is copied gets its name; or no file gets one, or the file gets its own, whole, and its folder can't be
+-- synced
 abbrev pub IsNamedNow : {A B : Type 0} → Result A B → List ℕ → Steps → Type 0
 IsNamedNow (Ok copies) to steps = Follows steps (named_steps to (Synced to))
 IsNamedNow (Err it) to steps = IsUnnamed [] to steps

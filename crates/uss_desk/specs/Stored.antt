@@ -9,8 +9,8 @@ use Rattle.desk_tables.specs.Leaving.{IsSettledAt}
 use Rattle.desk_tables.specs.Store.{Shown}
 use Rattle.desk_tables.specs.declared.opening.looking.Holdings.{Holdings}
 
--- a connection to files that held this leaves them, and a store of what they hold, with its numbers, was made in
--- new files that held the other
+-- a connection to files that held this leaves them, and a store of what they hold, with its numbers, was made
+-- in new files that held the other
 pub record IsStoredAs {D E : Type 0} {g : disk.Ghosts D} {k : disk.Ghosts E} (image other : Image)
     (copied : Held (FileStore D g) × (Shown (FileStore E k) × Holdings)) : Type 0 where
   pub counted : AreHoldingsOf copied.1.1 copied.1.0.world

@@ -67,10 +67,7 @@ fn operators_of<D: Disk + Drop>(
 }
 
 // Operators that are listed, as they are enrolled.
-fn enrolments_of(
-    alloc: Global,
-    listed: &[ListedOperator],
-) -> Result<Vec<Enrolment>, AllocError>
+fn enrolments_of(alloc: Global, listed: &[ListedOperator]) -> Result<Vec<Enrolment>, AllocError>
     ensures { IfOk result (λ all. map as_listed all.items ≡ listed.now) }
 {
     let mut operators = Vec::new(alloc);

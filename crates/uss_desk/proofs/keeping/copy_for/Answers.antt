@@ -30,7 +30,8 @@ returns-then-is_refused-clause-own g c =
 
 pub returns-clause-made : goal.returns-clause-made
 returns-clause-made g c =
-    made_on _ c.copy_closed-copied.result c.keep_copy.result c.copy_closed-copied.ensures.made c.keep_copy.ensures.made
+    made_on _ c.copy_closed-copied.result c.keep_copy.result c.copy_closed-copied.ensures.made
+    c.keep_copy.ensures.made
 
 pub returns-clause-fault : goal.returns-clause-fault
 returns-clause-fault g c =
@@ -38,8 +39,8 @@ returns-clause-fault g c =
     let are : AreNames to c.in_ok-names.names = search rules in
     let free : c.is_refused.result ≡ false = search rules in
     copy_fails _ _ _ to (c.is_refused.ensures.free to are free) (image_at g.F.Start) (image_at g.N.Start)
-    c.args.words.now.database c.copy_closed-copied.result c.keep_copy.result c.copy_closed-copied.ensures.fault
-    c.keep_copy.ensures.fault
+    c.args.words.now.database c.copy_closed-copied.result c.keep_copy.result
+    c.copy_closed-copied.ensures.fault c.keep_copy.ensures.fault
 
 pub returns-clause-told : goal.returns-clause-told
 returns-clause-told g c = tells_both c.is_refused.ensures.told c.keep_copy.ensures.told
