@@ -1,4 +1,5 @@
 pub mod WrittenLemmas
+mod ReportLemmas
 pub mod GivenLemmas
 pub mod CommandLemmas
 pub mod EqualLemmas

@@ -8,4 +8,5 @@ pub mod Malformed
 pub mod Forms
 pub mod Register
 pub mod Printing
+pub mod Reporting
 pub mod Copies

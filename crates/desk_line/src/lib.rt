@@ -3,7 +3,6 @@
 #![tactic(auto)]
 
 mod command;
-mod copies;
 mod equal;
 mod failure;
 mod line;
@@ -11,6 +10,7 @@ mod malformed;
 mod picture;
 mod printed;
 mod register;
+mod reporting;
 
 pub use failure::{Exit, Failure, conclude};
 pub use line::{
@@ -20,3 +20,4 @@ pub use line::{
 pub use malformed::malformed_word;
 pub use printed::print_line;
 pub use register::{enrolment_on, enrolments_on, lines_of};
+pub use reporting::{report, report_malformed};

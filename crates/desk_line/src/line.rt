@@ -10,6 +10,7 @@ ghost use Rattle.clap.specs.Simple.{subcommand_of, subcommand_rows_of};
 ghost use Rattle.clap.specs.Walk.{first_of, rows_of};
 ghost use Rattle.desk_rules.specs.Limits.{max_priority, max_spans};
 ghost use Rattle.desk_ends.specs.Moments.{IsMoment};
+ghost use Rattle.desk_line.specs.Copies.{SameLine};
 ghost use Rattle.desk_line.specs.Equal.{ArePermittedBy};
 ghost use Rattle.desk_line.specs.Grammar as spec;
 ghost use Rattle.desk_line.specs.Grammar.{AreTermsOf, IsMostOf, IsNumberOrNone};
@@ -67,7 +68,7 @@ pub enum CellLine {
 }
 
 /// A line that is carried out at a desk.
-#[derive(Debug, Drop)]
+#[derive(Clone, Debug, Drop)]
 pub enum Line {
     /// `play`: enrols the names, and answers the requests of the standard input.
     Play(Play),
@@ -113,6 +114,17 @@ impl Line {
             Line::Enrol(words) => &words.database,
         }
     }
+
+    /// The same line.
+    ///
+    /// # Errors
+    ///
+    /// `AllocError` if memory runs out.
+    pub fn copy(&self) -> Result<Line, AllocError>
+        ensures { IfOk result (SameLine self.now) }
+    {
+        self.clone()
+    }
 }
 
 impl KeeperLine {
@@ -129,7 +141,7 @@ impl KeeperLine {
 }
 
 /// Where operators and plans are kept.
-#[derive(Debug, Drop)]
+#[derive(Clone, Debug, Drop)]
 pub enum Database {
     /// In memory: they are gone when the program ends.
     InMemory,
@@ -138,7 +150,7 @@ pub enum Database {
 }
 
 /// The words of `play`.
-#[derive(Debug, Drop)]
+#[derive(Clone, Debug, Drop)]
 pub struct Play {
     /// Where operators and plans are kept.
     pub database: Database,
@@ -154,7 +166,7 @@ pub struct Play {
 }
 
 /// The words of `serve`.
-#[derive(Debug, Drop)]
+#[derive(Clone, Debug, Drop)]
 pub struct Serve {
     /// Where operators and plans are kept.
     pub database: Database,
@@ -193,7 +205,7 @@ pub struct Cover {
 }
 
 /// The words of `enrol`.
-#[derive(Debug, Drop)]
+#[derive(Clone, Debug, Drop)]
 pub struct Enrol {
     /// Where the operator is enrolled.
     pub database: Database,

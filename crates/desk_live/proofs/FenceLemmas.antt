@@ -4,8 +4,8 @@ use Rattle.std.specs.List.{AllByRecursion}
 use Rattle.std.proofs.lemmas.List.{take_more}
 use Rattle.volume4d.specs.declared.slab.Slab.{Slab}
 use Rattle.volume4d.specs.Bounds.{IsJoin}
-use Rattle.volume4d.specs.laws.Bounds.{left_in, within_itself, within_through}
-use Rattle.desk_store.specs.laws.Order.{all_weaker, all_append}
+use Rattle.volume4d.proofs.lemmas.Bounds.{left_in, right_in, within_itself, within_through}
+use Rattle.desk_store.proofs.lemmas.Order.{all_weaker, all_append}
 use Rattle.desk_live.specs.declared.fence.Fence.{Fence}
 use Rattle.desk_live.specs.declared.volume.LiveVolume.{LiveVolume}
 use Rattle.desk_live.specs.Live.{IsFenced}
@@ -35,3 +35,27 @@ fenced_still old right slab top live join above h = record {
   within = within_through live.bounds old.bounds slab h.within (left_in old.bounds right slab join);
   top = omega (arith, h.top, above);
 }
+
+pub fenced_right : (left : Slab) (old : Fence) (slab : Slab) (top : ℕ) (live : LiveVolume)
+    → IsJoin left old.bounds slab → old.top ≤ top → IsFenced old live
+    → IsFenced (record { bounds = slab; top = top }) live
+fenced_right left old slab top live join above h = record {
+  within = within_through live.bounds old.bounds slab h.within (right_in left old.bounds slab join);
+  top = omega (arith, h.top, above);
+}
+
+-- those within a fence, and one more
+pub fenced_with : (old new : Fence) (live : LiveVolume) (xs ys : List LiveVolume) → ys ≡ xs ++ live ∷ []
+    → IsFenced new live → ((other : LiveVolume) → IsFenced old other → IsFenced new other)
+    → AllByRecursion (IsFenced old) xs → AllByRecursion (IsFenced new) ys
+fenced_with old new live xs ys is one kept h = subst (AllByRecursion (IsFenced new)) (sym is)
+    (all_append (IsFenced new) xs (live ∷ []) (all_weaker (IsFenced old) (IsFenced new) kept xs h) (one, tt))
+
+-- those within two fences, which were joined
+pub fenced_both : (old next new : Fence) (xs ys zs : List LiveVolume) → zs ≡ xs ++ ys
+    → ((live : LiveVolume) → IsFenced old live → IsFenced new live)
+    → ((live : LiveVolume) → IsFenced next live → IsFenced new live)
+    → AllByRecursion (IsFenced old) xs → AllByRecursion (IsFenced next) ys → AllByRecursion (IsFenced new) zs
+fenced_both old next new xs ys zs is left right h k = subst (AllByRecursion (IsFenced new)) (sym is)
+    (all_append (IsFenced new) xs ys (all_weaker (IsFenced old) (IsFenced new) left xs h)
+    (all_weaker (IsFenced next) (IsFenced new) right ys k))

@@ -1,7 +1,11 @@
+pub mod lemmas
 pub mod VolumeLemmas
 pub mod FenceLemmas
+pub mod GatherLemmas
 pub mod ChunkLemmas
-pub mod RollLemmas
+pub mod LeftLemmas
+pub mod HedgeLemmas
+pub mod PlaceLemmas
+pub mod LiveLemmas
 pub mod RegionLemmas
 pub mod NearLemmas
-pub mod ListedLemmas

@@ -1,40 +1,42 @@
 -- Plans whose volumes are near: how they are gathered, and what they hold.
-use Rattle.std.proofs.Common.{◌≡◌, ℕ, zero, suc, ◌+◌, ◌≤◌, ◌<◌, Bool, true, false, true≢false, MatchBool, ◌&&◌, ◌||◌, not, cond, List, [], ◌∷◌, ◌++◌, length, get_or, take, Option, Some, None, Result, Ok, Err, IfOk, refl, sym, ap, subst, ◌∙◌, arith}
+use Rattle.std.proofs.Common.{◌≡◌, ℕ, ◌+◌, ◌≤◌, ◌<◌, Bool, true, false, true≢false, MatchBool, ◌&&◌, ◌||◌, not, cond, List, [], ◌∷◌, ◌++◌, length, get_or, take, Option, Some, None, Result, Ok, Err, IfOk, refl, sym, ap, subst, ◌∙◌, arith, Less, Equal, Greater}
 use Rattle.std.specs.Prelude.{nat_le, IfSome}
 use Rattle.std.specs.List.{AllByRecursion, AllZip, list_any}
-use Rattle.std.specs.Ordering.{is_eq}
+use Rattle.std.specs.declared.cmp.Ordering.{Ordering}
+use Rattle.std.specs.Ordering.{is_eq, match_ordering, ordering_reverse, ordering_then}
+use Rattle.std.specs.BTreeSet.{insert_key}
 use Rattle.std.specs.Cmp.Lexicographic.{nat_list_cmp_total}
 use Rattle.std.proofs.lemmas.Cmp.{tied_itself}
 use Rattle.std.proofs.lemmas.Bool.{and_from, and_parts}
 use Rattle.std.proofs.lemmas.Bool.Decides.{nat_tests}
-use Rattle.std.proofs.lemmas.List.{append_assoc, append-nil, take_more}
+use Rattle.std.proofs.lemmas.List.{take_more}
 use Rattle.std.proofs.lemmas.List.Folds.{list_any-append, list_any_more}
 use Rattle.std.proofs.lemmas.List.Sorted.{list_any-IsPermutation}
 use Rattle.std.proofs.lemmas.Map.Lookups.{exact_bytes}
 use Rattle.volume4d.specs.declared.slab.Slab.{Slab}
-use Rattle.volume4d.specs.Bounds.{overlap}
+use Rattle.volume4d.specs.Bounds.{HasAll, overlap}
 use Rattle.volume4d.specs.Level.{greater, level_where}
 use Rattle.volume4d.specs.Point.{Point}
 use Rattle.volume4d.specs.Slab.{slab_has, slabs_have}
 use Rattle.volume4d.specs.Volume.{Block, block_has, area_has}
-use Rattle.volume4d.specs.laws.Bounds.{overlapping, overlaps_round}
+use Rattle.volume4d.proofs.lemmas.Bounds.{overlapping, overlaps_round}
 use Rattle.desk_rules.specs.Conflict.{at_least}
 use Rattle.desk_rules.specs.Plan.{is_live, row_holds}
 use Rattle.desk_store.specs.World.{Filed, World, has_id, is_by, text_cmp}
 use Rattle.desk_store.specs.OwnRows as rows
 use Rattle.desk_store.specs.OwnRows.{other_level, others_top, rival_level, rivals_top}
-use Rattle.desk_store.specs.laws.Order.{all_append, is_equal}
-use Rattle.desk_store.specs.laws.Rival.{at_least_greater, others_top-cons, others_top-nil, held_by_others, rivals_top-cons, rivals_top-nil, held_by_rivals}
-use Rattle.desk_live.specs.declared.chunk.Chunk.{Chunk}
+use Rattle.desk_store.proofs.lemmas.Order.{is_equal}
+use Rattle.desk_store.proofs.lemmas.Rival.{at_least_greater, others_top-cons, others_top-nil, held_by_others, rivals_top-cons, rivals_top-nil, held_by_rivals}
 use Rattle.desk_live.specs.declared.fence.Fence.{Fence}
 use Rattle.desk_live.specs.declared.near.NearPlans.{NearPlans}
 use Rattle.desk_live.specs.declared.near.PlanKey.{PlanKey}
 use Rattle.desk_live.specs.declared.near.Wanted.{Wanted}
 use Rattle.desk_live.specs.declared.volume.LiveVolume.{LiveVolume}
-use Rattle.desk_live.specs.Live.{AreFenced, AreLive, AreVolumes, AreVolumesOf, IsFenced, IsLiveVolume, is_volume_of, may_meet, volumes_in}
-use Rattle.desk_live.specs.Near.{AddsPlans, AreNearPlans, AreWantedPlans, IsAnothers, TakesPlan, is_among, is_id, is_listed, is_missed_at, is_near_to, is_own_volume, is_wanted_volume, key_of, listed_level, listed_top}
-use Rattle.desk_live.proofs.ChunkLemmas.{gathered_more}
-use Rattle.desk_live.specs.laws.Live.{and_turned, same_key}
+use Rattle.desk_live.specs.Live.{AreLive, AreVolumes, AreVolumesOf, IsFenced, IsLiveVolume, is_volume_of, may_meet, gather}
+use Rattle.desk_live.specs.Places.{key_cmp}
+use Rattle.desk_live.specs.Near.{AddsPlans, AreNearPlans, AreWantedPlans, IsAnothers, LooksOn, TakesPlan, is_among, is_id, is_listed, is_missed_at, is_near_to, is_own_volume, is_wanted_volume, key_of, listed_level, listed_top}
+use Rattle.desk_live.proofs.GatherLemmas.{all_at, gathered_more}
+use Rattle.desk_live.proofs.lemmas.Live.{and_turned, same_key}
 
 or_false : (b : Bool) → (b || false) ≡ b
 or_false true = refl
@@ -55,23 +57,107 @@ still_low n a b h k = grind (arith, nat_tests)
 itself : (text : List ℕ) → is_eq (text_cmp text text) ≡ true
 itself text = ap is_eq (tied_itself nat_list_cmp_total text)
 
+-- ---- keys, in order
+
+then_eq : (n m : Ordering) → is_eq (ordering_then n m) ≡ (is_eq n && is_eq m)
+then_eq Less m = refl
+then_eq Equal m = refl
+then_eq Greater m = refl
+
+either_way : (a b : List ℕ) → is_eq (text_cmp a b) ≡ is_eq (text_cmp b a)
+either_way a b = ap is_eq (nat_list_cmp_total.antisymm a b) ∙ by_order (text_cmp b a) where
+  by_order : (n : Ordering) → is_eq (ordering_reverse n) ≡ is_eq n
+  by_order Less = refl
+  by_order Equal = refl
+  by_order Greater = refl
+
+is_key : (live : LiveVolume) (k : PlanKey)
+    → is_eq (key_cmp (key_of live) k) ≡ is_volume_of k.operator k.id live
+is_key live k = then_eq (text_cmp live.operator k.operator) (text_cmp live.id k.id)
+    ∙ and_turned (is_eq (text_cmp live.operator k.operator)) (is_eq (text_cmp live.id k.id))
+    ∙ (λ i. either_way live.id k.id i && either_way live.operator k.operator i)
+
+pub listed_among : (ks : List PlanKey) (live : LiveVolume)
+    → list_any (λ k. is_eq (key_cmp (key_of live) k)) ks ≡ is_among ks live
+listed_among [] live = refl
+listed_among (k ∷ ks) live = λ i. is_key live k i || listed_among ks live i
+
+one_key : (k q : PlanKey) → key_cmp k q ≡ Equal → k ≡ q
+one_key k q e = λ i. record {
+  operator = exact_bytes k.operator q.operator (is_equal (text_cmp k.operator q.operator) parts.0) i;
+  id = exact_bytes k.id q.id (is_equal (text_cmp k.id q.id) parts.1) i;
+} where
+  parts : (is_eq (text_cmp k.operator q.operator) ≡ true) × (is_eq (text_cmp k.id q.id) ≡ true)
+  parts = and_parts (is_eq (text_cmp k.operator q.operator)) (is_eq (text_cmp k.id q.id))
+      (sym (then_eq (text_cmp k.operator q.operator) (text_cmp k.id q.id)) ∙ ap is_eq e)
+
+-- a key that is put in its place
+among_with : (k : PlanKey) (ks : List PlanKey) (live : LiveVolume)
+    → is_among (insert_key key_cmp ks k) live ≡ (is_among ks live || is_volume_of k.operator k.id live)
+among_with k [] live = or_false (is_volume_of k.operator k.id live)
+among_with k (x ∷ xs) live = go (key_cmp k x) refl (among_with k xs live) where
+  mine : Bool
+  mine = is_volume_of k.operator k.id live
+
+  other : Bool
+  other = is_volume_of x.operator x.id live
+
+  last : (a b c : Bool) → (a || (b || c)) ≡ ((b || c) || a)
+  last true true c = refl
+  last true false true = refl
+  last true false false = refl
+  last false true c = refl
+  last false false true = refl
+  last false false false = refl
+
+  twice : (b c : Bool) → (b || c) ≡ ((b || c) || b)
+  twice true c = refl
+  twice false true = refl
+  twice false false = refl
+
+  grouped : (a b c : Bool) → (a || (b || c)) ≡ ((a || b) || c)
+  grouped true b c = refl
+  grouped false b c = refl
+
+  go : (n : Ordering) → key_cmp k x ≡ n
+      → is_among (insert_key key_cmp xs k) live ≡ (is_among xs live || mine)
+      → is_among (match_ordering n (k ∷ x ∷ xs) (x ∷ xs) (x ∷ insert_key key_cmp xs k)) live
+      ≡ ((other || is_among xs live) || mine)
+  go Less e ih = last mine other (is_among xs live)
+  go Equal e ih = subst (λ q. (other || is_among xs live)
+      ≡ ((other || is_among xs live) || is_volume_of q.operator q.id live)) (sym (one_key k x e))
+      (twice other (is_among xs live))
+  go Greater e ih = ap (λ b. other || b) ih ∙ grouped other (is_among xs live) mine
+
+all_with : (P : PlanKey → Type 0) (k : PlanKey) (ks : List PlanKey) → P k → AllByRecursion P ks
+    → AllByRecursion P (insert_key key_cmp ks k)
+all_with P k [] h hs = (h, tt)
+all_with P k (x ∷ xs) h hs = go (key_cmp k x) (all_with P k xs h hs.1) where
+  go : (n : Ordering) → AllByRecursion P (insert_key key_cmp xs k)
+      → AllByRecursion P (match_ordering n (k ∷ x ∷ xs) (x ∷ xs) (x ∷ insert_key key_cmp xs k))
+  go Less r = (h, hs)
+  go Equal r = hs
+  go Greater r = (hs.0, r)
+
 -- ---- a volume's plan is taken
 
 pub takes_one : (live : LiveVolume) (old new : NearPlans) (k : PlanKey) → k ≡ key_of live
-    → new.keys.items ≡ old.keys.items ++ k ∷ [] → new.is_whole ≡ old.is_whole → TakesPlan live old new
-takes_one live old new k is pushed same = record {
-  more = k ∷ [];
-  is = pushed;
+    → new.keys.keys ≡ insert_key key_cmp old.keys.keys k → new.is_whole ≡ old.is_whole
+    → TakesPlan live old new
+takes_one live old new k mine is same = record {
+  kept = λ other h. among other ∙ ap (λ b. b || is_volume_of k.operator k.id other) h;
   still = λ e. sym same ∙ e;
-  listed = λ e.
-      ap (λ ks. is_among ks live) pushed
-      ∙ list_any-append (λ j. is_volume_of j.operator j.id live) old.keys.items (k ∷ [])
-      ∙ ap (λ b. is_among old.keys.items live || b) (ap (λ j. is_volume_of j.operator j.id live || false) is
-      ∙ ap (λ b. b || false) (and_from (is_eq (text_cmp live.id live.id))
-      (is_eq (text_cmp live.operator live.operator)) (itself live.id) (itself live.operator)))
-      ∙ last (is_among old.keys.items live);
-  mine = (is, tt);
+  listed = λ e. among live ∙ ap (λ b. is_among old.keys.keys live || b)
+      (ap (λ j. is_volume_of j.operator j.id live) mine
+      ∙ and_from (is_eq (text_cmp live.id live.id)) (is_eq (text_cmp live.operator live.operator))
+      (itself live.id) (itself live.operator)) ∙ last (is_among old.keys.keys live);
+  another = λ s h hs. subst (AllByRecursion (IsAnothers s)) (sym is)
+      (all_with (IsAnothers s) k old.keys.keys (subst (IsAnothers s) (sym mine) h) hs);
 } where
+  among : (other : LiveVolume) → is_among new.keys.keys other
+      ≡ (is_among old.keys.keys other || is_volume_of k.operator k.id other)
+  among other = ap (λ ks. is_among ks other) is ∙ among_with k old.keys.keys other
+
   last : (a : Bool) → (a || true) ≡ true
   last true = refl
   last false = refl
@@ -79,33 +165,36 @@ takes_one live old new k is pushed same = record {
 -- ---- plans are added, one volume after the other
 
 module _ (s : Wanted) where
-  pub adds_none : (inside : Point → Bool) (a : NearPlans) → AddsPlans s inside [] a a
-  adds_none inside a = record {
-    more = [];
-    is = sym (append-nil a.keys.items);
-    still = λ e. e;
-    whole = λ e x h. refl;
-    another = tt;
-  }
-
   -- nothing is added, and nothing was missed if all are listed
   pub adds_nothing : (inside : Point → Bool) (lives : List LiveVolume) (a : NearPlans)
       → (a.is_whole ≡ true → (x : Point) → inside x ≡ true
-      → list_any (is_missed_at s a.keys.items x) lives ≡ false) → AddsPlans s inside lives a a
+      → list_any (is_missed_at s a.keys.keys x) lives ≡ false) → AddsPlans s inside lives a a
   adds_nothing inside lives a none = record {
-    more = [];
-    is = sym (append-nil a.keys.items);
+    kept = λ live h. h;
     still = λ e. e;
     whole = none;
-    another = tt;
+    another = λ h. h;
+  }
+
+  pub adds_none : (inside : Point → Bool) (a : NearPlans) → AddsPlans s inside [] a a
+  adds_none inside a = adds_nothing inside [] a (λ e x h. refl)
+
+  -- a chunk was counted before
+  pub adds_looked : (inside : Point → Bool) (lives : List LiveVolume) (a b c : NearPlans) → LooksOn a b
+      → AddsPlans s inside lives b c → AddsPlans s inside lives a c
+  adds_looked inside lives a b c look more = record {
+    kept = λ live h. more.kept live (ap (λ ks. is_among ks live) look.same ∙ h);
+    still = λ e. look.still (more.still e);
+    whole = more.whole;
+    another = λ h. more.another (subst (AllByRecursion (IsAnothers s)) (sym look.same) h);
   }
 
   -- the volume isn't near
   pub adds_far : (extent : Slab) (live : LiveVolume) (a : NearPlans) → is_near_to s extent live ≡ false
       → AddsPlans s (slab_has extent) (live ∷ []) a a
   adds_far extent live a far = adds_nothing (slab_has extent) (live ∷ []) a (λ e x here.
-      or_false (is_missed_at s a.keys.items x live)
-      ∙ go (slab_has live.bounds x) (is_wanted_volume s live) (not (is_among a.keys.items live))
+      or_false (is_missed_at s a.keys.keys x live)
+      ∙ go (slab_has live.bounds x) (is_wanted_volume s live) (not (is_among a.keys.keys live))
       (λ has. ap (λ b. b && is_wanted_volume s live) (sym (overlapping live.bounds extent x has here))
       ∙ far)) where
         go : (b c d : Bool) → (b ≡ true → c ≡ false) → ((b && c) && d) ≡ false
@@ -114,9 +203,9 @@ module _ (s : Wanted) where
 
   -- its plan is listed
   pub adds_listed : (inside : Point → Bool) (live : LiveVolume) (a : NearPlans)
-      → is_among a.keys.items live ≡ true → AddsPlans s inside (live ∷ []) a a
+      → is_among a.keys.keys live ≡ true → AddsPlans s inside (live ∷ []) a a
   adds_listed inside live a there = adds_nothing inside (live ∷ []) a (λ e x here.
-      or_false (is_missed_at s a.keys.items x live)
+      or_false (is_missed_at s a.keys.keys x live)
       ∙ ap (λ b. (slab_has live.bounds x && is_wanted_volume s live) && not b) there
       ∙ none (slab_has live.bounds x && is_wanted_volume s live)) where
         none : (b : Bool) → (b && false) ≡ false
@@ -127,14 +216,13 @@ module _ (s : Wanted) where
   pub adds_taken : (inside : Point → Bool) (extent : Slab) (live : LiveVolume) (a b : NearPlans)
       → is_near_to s extent live ≡ true → TakesPlan live a b → AddsPlans s inside (live ∷ []) a b
   adds_taken inside extent live a b near t = record {
-    more = t.more;
-    is = t.is;
+    kept = t.kept;
     still = t.still;
     whole = λ e x here.
-        or_false (is_missed_at s b.keys.items x live)
+        or_false (is_missed_at s b.keys.keys x live)
         ∙ ap (λ c. (slab_has live.bounds x && is_wanted_volume s live) && not c) (t.listed e)
         ∙ none (slab_has live.bounds x && is_wanted_volume s live);
-    another = each t.more t.mine;
+    another = t.another s wanted;
   } where
     none : (c : Bool) → (c && false) ≡ false
     none true = refl
@@ -148,47 +236,31 @@ module _ (s : Wanted) where
     wanted = turned (is_own_volume s live) (and_parts (nat_le s.least live.priority) _
         (and_parts (overlap live.bounds extent) _ near).1).1
 
-    each : (ks : List PlanKey) → AllByRecursion (λ k. k ≡ key_of live) ks → AllByRecursion (IsAnothers s) ks
-    each [] h = tt
-    each (k ∷ ks) h = (subst (IsAnothers s) (sym h.0) wanted, each ks h.1)
-
   -- with more plans listed no more volumes are missed
-  fewer_missed : (ks more : List PlanKey) (x : Point) (lives : List LiveVolume)
-      → list_any (is_missed_at s ks x) lives ≡ false → list_any (is_missed_at s (ks ++ more) x) lives ≡ false
-  fewer_missed ks more x [] h = refl
-  fewer_missed ks more x (l ∷ lives) h =
+  later_missed : (ks ls : List PlanKey) (x : Point) (lives : List LiveVolume)
+      → ((live : LiveVolume) → is_among ks live ≡ true → is_among ls live ≡ true)
+      → list_any (is_missed_at s ks x) lives ≡ false → list_any (is_missed_at s ls x) lives ≡ false
+  later_missed ks ls x [] more h = refl
+  later_missed ks ls x (l ∷ lives) more h =
       let parts = either (is_missed_at s ks x l) (list_any (is_missed_at s ks x) lives) h in
-      λ i. (ap (λ b. (slab_has l.bounds x && is_wanted_volume s l) && not b)
-      (list_any-append (λ k. is_volume_of k.operator k.id l) ks more)
-      ∙ go (slab_has l.bounds x && is_wanted_volume s l) (is_among ks l) (is_among more l) parts.0) i
-      || fewer_missed ks more x lives parts.1 i where
-        go : (c a b : Bool) → (c && not a) ≡ false → (c && not (a || b)) ≡ false
-        go false a b k = refl
-        go true true b k = refl
-        go true false b k = absurd (true≢false k)
-
-  later_missed : (b c : NearPlans) (more : List PlanKey) (x : Point) (lives : List LiveVolume)
-      → c.keys.items ≡ b.keys.items ++ more → list_any (is_missed_at s b.keys.items x) lives ≡ false
-      → list_any (is_missed_at s c.keys.items x) lives ≡ false
-  later_missed b c more x lives is h = ap (λ ks. list_any (is_missed_at s ks x) lives) is
-      ∙ fewer_missed b.keys.items more x lives h
-
-  keys_both : (a b c : NearPlans) (one two : List PlanKey) → b.keys.items ≡ a.keys.items ++ one
-      → c.keys.items ≡ b.keys.items ++ two → c.keys.items ≡ a.keys.items ++ (one ++ two)
-  keys_both a b c one two h k = k ∙ ap (λ ks. ks ++ two) h ∙ append_assoc a.keys.items one two
+      λ i. go (slab_has l.bounds x && is_wanted_volume s l) (is_among ks l) (is_among ls l) (more l) parts.0 i
+      || later_missed ks ls x lives more parts.1 i where
+        go : (c a b : Bool) → (a ≡ true → b ≡ true) → (c && not a) ≡ false → (c && not b) ≡ false
+        go false a b f k = refl
+        go true true b f k = ap not (f refl)
+        go true false b f k = absurd (true≢false k)
 
   -- those of some volumes, and then those of more
   pub adds_both : (inside : Point → Bool) (some more : List LiveVolume) (a b c : NearPlans)
       → AddsPlans s inside some a b → AddsPlans s inside more b c → AddsPlans s inside (some ++ more) a c
   adds_both inside some more a b c one two = record {
-    more = one.more ++ two.more;
-    is = keys_both a b c one.more two.more one.is two.is;
+    kept = λ live h. two.kept live (one.kept live h);
     still = λ e. one.still (two.still e);
     whole = λ e x here.
-        list_any-append (is_missed_at s c.keys.items x) some more
-        ∙ (λ i. later_missed b c two.more x some two.is (one.whole (two.still e) x here) i
+        list_any-append (is_missed_at s c.keys.keys x) some more
+        ∙ (λ i. later_missed b.keys.keys c.keys.keys x some two.kept (one.whole (two.still e) x here) i
         || two.whole e x here i);
-    another = all_append (IsAnothers s) one.more two.more one.another two.another;
+    another = λ h. two.another (one.another h);
   }
 
   -- those near some extents, and then those near one more
@@ -197,17 +269,16 @@ module _ (s : Wanted) where
       → AddsPlans s (slabs_have (take i extents)) lives a b → AddsPlans s (slab_has extent) lives b c
       → AddsPlans s (slabs_have (take (i + 1) extents)) lives a c
   adds_extent extents i extent lives a b c below is one two = record {
-    more = one.more ++ two.more;
-    is = keys_both a b c one.more two.more one.is two.is;
+    kept = λ live h. two.kept live (one.kept live h);
     still = λ e. one.still (two.still e);
     whole = λ e x here. go x e (slabs_have (take i extents) x) refl
         (sym (list_any_more (λ t. slab_has t x) extents i extent below
         ∙ ap (λ t. slabs_have (take i extents) x || slab_has t x) (sym is)) ∙ here);
-    another = all_append (IsAnothers s) one.more two.more one.another two.another;
+    another = λ h. two.another (one.another h);
   } where
     go : (x : Point) → c.is_whole ≡ true → (h : Bool) → slabs_have (take i extents) x ≡ h
-        → (h || slab_has extent x) ≡ true → list_any (is_missed_at s c.keys.items x) lives ≡ false
-    go x e true k there = later_missed b c two.more x lives two.is (one.whole (two.still e) x k)
+        → (h || slab_has extent x) ≡ true → list_any (is_missed_at s c.keys.keys x) lives ≡ false
+    go x e true k there = later_missed b.keys.keys c.keys.keys x lives two.kept (one.whole (two.still e) x k)
     go x e false k there = two.whole e x there
 
   -- one volume more
@@ -244,10 +315,10 @@ module _ (s : Wanted) where
   adds_fenced extent fence lives a far h =
       adds_nothing (slab_has extent) lives a (λ e x here. all_apart x here lives h) where
         all_apart : (x : Point) → slab_has extent x ≡ true → (ls : List LiveVolume)
-            → AllByRecursion (IsFenced fence) ls → list_any (is_missed_at s a.keys.items x) ls ≡ false
+            → AllByRecursion (IsFenced fence) ls → list_any (is_missed_at s a.keys.keys x) ls ≡ false
         all_apart x here [] k = refl
         all_apart x here (l ∷ ls) k =
-            λ i. apart extent fence l a.keys.items x k.0 far here i || all_apart x here ls k.1 i
+            λ i. apart extent fence l a.keys.keys x k.0 far here i || all_apart x here ls k.1 i
 
 -- ---- what plans that are listed hold
 
@@ -388,39 +459,40 @@ are_wanted_plans o None least extents ks w lives live near = λ x here.
     (λ p ps. others_top-cons o p ps x) w lives live (near.whole x here)
     ∙ ap (at_least least) (held_by_others o w x)
 
--- ---- chunk after chunk
+-- ---- one thing with volumes after the other
 
-module _ (s : Wanted) where
-  at_place : (cs : List Chunk) (n : ℕ) (d : Chunk) → AreFenced cs → n < length cs
-      → AllByRecursion (IsFenced (get_or cs n d).fence) (get_or cs n d).volumes.items
-  at_place [] n d h k = absurd (omega (arith, k))
-  at_place (x ∷ cs) zero d h k = h.0
-  at_place (x ∷ cs) (suc n) d h k = at_place cs n d h.1 (omega (arith, k))
-
-  pub adds_chunk : (extent : Slab) (cs : List Chunk) (i : ℕ) (chunk : Chunk) (a b c : NearPlans)
-      → i < length cs → chunk ≡ get_or cs i chunk
-      → (AreFenced cs → AddsPlans s (slab_has extent) (volumes_in (take i cs)) a b)
-      → (AllByRecursion (IsFenced chunk.fence) chunk.volumes.items
-      → AddsPlans s (slab_has extent) chunk.volumes.items b c)
-      → AreFenced cs → AddsPlans s (slab_has extent) (volumes_in (take (i + 1) cs)) a c
-  adds_chunk extent cs i chunk a b c below is one two fenced =
-      subst (λ ls. AddsPlans s (slab_has extent) ls a c)
-      (gathered_more cs i chunk (volumes_in (take i cs)) (volumes_in (take i cs) ++ chunk.volumes.items)
-      below is refl refl)
-      (adds_both s (slab_has extent) (volumes_in (take i cs)) chunk.volumes.items a b c (one fenced)
-      (two (subst (λ k. AllByRecursion (IsFenced k.fence) k.volumes.items) (sym is)
-      (at_place cs i chunk fenced below))))
+pub adds_next : {C : Type 0} (vols : C → List LiveVolume) (P : C → Type 0) (s : Wanted) (extent : Slab)
+    (cs : List C) (i : ℕ) (one : C) (a b c : NearPlans)
+    → i < length cs → one ≡ get_or cs i one
+    → (AllByRecursion P cs → AddsPlans s (slab_has extent) (gather vols (take i cs)) a b)
+    → (P one → AddsPlans s (slab_has extent) (vols one) b c)
+    → AllByRecursion P cs → AddsPlans s (slab_has extent) (gather vols (take (i + 1) cs)) a c
+adds_next vols P s extent cs i one a b c below is first then whole =
+    subst (λ ls. AddsPlans s (slab_has extent) ls a c)
+    (gathered_more vols cs i one (gather vols (take i cs)) (gather vols (take i cs) ++ vols one)
+    below is refl refl)
+    (adds_both s (slab_has extent) (gather vols (take i cs)) (vols one) a b c (first whole)
+    (then (subst P (sym is) (all_at P cs i one whole below))))
 
 -- ---- all that were near
 
 -- what was added to none, if all are listed
 pub near_plans : (s : Wanted) (inside : Point → Bool) (lives : List LiveVolume) (start near : NearPlans)
-    (ks : List PlanKey) → start.keys.items ≡ [] → AddsPlans s inside lives start near
-    → ks ≡ near.keys.items → near.is_whole ≡ true → AreNearPlans s inside lives ks
+    (ks : List PlanKey) → start.keys.keys ≡ [] → AddsPlans s inside lives start near
+    → ks ≡ near.keys.keys → near.is_whole ≡ true → AreNearPlans s inside lives ks
 near_plans s inside lives start near ks none added same whole = record {
   whole = λ x here. ap (λ js. list_any (is_missed_at s js x) lives) same ∙ added.whole whole x here;
-  another = subst (AllByRecursion (IsAnothers s)) (sym (same ∙ added.is ∙ ap (λ js. js ++ added.more) none))
-      added.another;
+  another = subst (AllByRecursion (IsAnothers s)) (sym same)
+      (added.another (subst (AllByRecursion (IsAnothers s)) (sym none) tt));
+}
+
+-- those near a slab round some extents are near these
+pub near_whole : (s : Wanted) (extents : List Slab) (whole : Slab) (lives : List LiveVolume)
+    (ks : List PlanKey) → HasAll (slabs_have extents) whole
+    → AreNearPlans s (slabs_have (whole ∷ [])) lives ks → AreNearPlans s (slabs_have extents) lives ks
+near_whole s extents whole lives ks round h = record {
+  whole = λ x here. h.whole x (or_false (slab_has whole x) ∙ round x here);
+  another = h.another;
 }
 
 pub some_weaker : {V : Type 0} {P Q : V → Type 0} (r : Option V) → ((v : V) → P v → Q v) → IfSome r P

@@ -1,6 +1,6 @@
 -- Regions near which other operators' volumes lie.
 use Rattle.std.proofs.Common.{◌≡◌, ℕ, ◌+◌, ◌<◌, Bool, true, false, true≢false, MatchBool, ◌&&◌, ◌||◌, not, List, [], ◌∷◌, ◌++◌, cond, length, get_or, take, Option, None, refl, sym, ap, ◌∙◌, IsPermutation}
-use Rattle.std.specs.List.{AllZip, list_any}
+use Rattle.std.specs.List.{AllByRecursion, AllZip, filter, list_any}
 use Rattle.std.specs.Ordering.{is_eq}
 use Rattle.std.proofs.lemmas.List.{take_more}
 use Rattle.std.proofs.lemmas.List.Folds.{list_any-append, list_any_more}
@@ -11,16 +11,20 @@ use Rattle.volume4d.specs.Level.{greater, level_where}
 use Rattle.volume4d.specs.Point.{Point}
 use Rattle.volume4d.specs.Slab.{slab_has, slabs_have, top_held}
 use Rattle.volume4d.specs.declared.slab.Held.{Held}
-use Rattle.volume4d.specs.laws.Bounds.{clip_is, join_has, overlapping}
-use Rattle.volume4d.specs.laws.Level.{greater_assoc, greater_none, top_held-nil, top_held-push}
+use Rattle.volume4d.proofs.lemmas.Bounds.{clip_is, join_has, overlapping, overlaps_round}
+use Rattle.volume4d.proofs.lemmas.Level.{greater_assoc, greater_none, top_held-nil, top_held-push}
 use Rattle.volume4d.specs.Volume.{Block, block_has, area_has}
 use Rattle.desk_rules.specs.Plan.{is_live, row_holds}
 use Rattle.desk_store.specs.World.{Filed, World, held, is_by, text_cmp}
 use Rattle.desk_store.specs.OwnRows.{other_level, others_top}
-use Rattle.desk_store.specs.laws.Rival.{others_top-cons, others_top-nil, held_by_others}
+use Rattle.desk_store.proofs.lemmas.Rival.{others_top-cons, others_top-nil, held_by_others}
 use Rattle.desk_live.specs.declared.volume.LiveVolume.{LiveVolume}
-use Rattle.desk_live.specs.Live.{AreLive, AreVolumes, AreVolumesOf, IsLiveVolume}
-use Rattle.desk_live.specs.Regions.{AddTheirs, HaveEach, HaveShared, HoldNothingBeside, is_another, is_theirs, is_theirs_at}
+use Rattle.desk_live.specs.declared.fence.Fence.{Fence}
+use Rattle.desk_live.specs.declared.chunk.Chunk.{Chunk}
+use Rattle.desk_live.specs.declared.group.Group.{Group}
+use Rattle.desk_live.specs.declared.live.LiveVolumes.{LiveVolumes}
+use Rattle.desk_live.specs.Live.{AreHedged, AreKeptOnce, AreLive, AreVolumes, AreVolumesOf, IsFenced, IsHedged, IsLiveVolume, IsWhole, gather, volumes_in, volumes_of, volumes_under}
+use Rattle.desk_live.specs.Regions.{HaveEach, HoldNothingBeside, chunk_has_theirs, group_has_theirs, has_theirs, is_another, is_theirs, is_theirs_at}
 
 either : (a b : Bool) → (a || b) ≡ false → (a ≡ false) × (b ≡ false)
 either false false h = (refl, refl)
@@ -113,115 +117,74 @@ gathered_pushed first others regions new i s old below is before pushed x h =
 pub same_slabs : (some others : List Slab) → IsPermutation some others → HaveEach some others
 same_slabs some others same x h = sym (list_any-IsPermutation (λ s. slab_has s x) some others same) ∙ h
 
--- ---- extents that overlap
-
-overlaps_there : (extent : Slab) (slabs : List Slab) (x : Point) → slab_has extent x ≡ true
-    → slabs_have slabs x ≡ true → list_any (overlap extent) slabs ≡ true
-overlaps_there extent [] x h k = absurd (true≢false (sym k))
-overlaps_there extent (s ∷ ss) x h k = go (slab_has s x) refl k (overlaps_there extent ss x h) where
-  last : (a b : Bool) → b ≡ true → (a || b) ≡ true
-  last true b e = refl
-  last false b e = e
-
-  go : (b : Bool) → slab_has s x ≡ b → (b || slabs_have ss x) ≡ true
-      → (slabs_have ss x ≡ true → list_any (overlap extent) ss ≡ true)
-      → (overlap extent s || list_any (overlap extent) ss) ≡ true
-  go true e m ih = ap (λ b. b || list_any (overlap extent) ss) (overlapping extent s x h e)
-  go false e m ih = last (overlap extent s) (list_any (overlap extent) ss) (ih m)
-
-so_far_more : (extents : List Slab) (i : ℕ) (s : Slab) (x : Point) → i < length extents
-    → s ≡ get_or extents i s
-    → slabs_have (take (i + 1) extents) x ≡ (slabs_have (take i extents) x || slab_has s x)
-so_far_more extents i s x below is = list_any_more (λ t. slab_has t x) extents i s below
-    ∙ ap (λ t. slabs_have (take i extents) x || slab_has t x) (sym is)
-
--- one that overlaps is taken
-pub shared_taken : (extents slabs wanted new : List Slab) (i : ℕ) (s : Slab) → i < length extents
-    → s ≡ get_or extents i s → HaveShared (take i extents) slabs wanted → new ≡ wanted ++ s ∷ []
-    → HaveShared (take (i + 1) extents) slabs new
-shared_taken extents slabs wanted new i s below is before pushed x h k =
-    ap (λ ss. slabs_have ss x) pushed ∙ pushed_has wanted s x
-    ∙ kept (slabs_have (take i extents) x) (slabs_have wanted x) (slab_has s x) (λ e. before x e k)
-    (sym (so_far_more extents i s x below is) ∙ h) where
-      kept : (a b c : Bool) → (a ≡ true → b ≡ true) → (a || c) ≡ true → (b || c) ≡ true
-      kept true b c f m = ap (λ t. t || c) (f refl)
-      kept false true c f m = refl
-      kept false false c f m = m
-
--- one that overlaps none is passed over
-pub shared_passed : (extents slabs wanted : List Slab) (i : ℕ) (s : Slab) (meets : Bool) → i < length extents
-    → s ≡ get_or extents i s → HaveShared (take i extents) slabs wanted
-    → meets ≡ list_any (overlap s) slabs → meets ≡ false → HaveShared (take (i + 1) extents) slabs wanted
-shared_passed extents slabs wanted i s meets below is before tested none x h k =
-    go (slabs_have (take i extents) x) refl (sym (so_far_more extents i s x below is) ∙ h) where
-      go : (b : Bool) → slabs_have (take i extents) x ≡ b → (b || slab_has s x) ≡ true
-          → slabs_have wanted x ≡ true
-      go true e m = before x e k
-      go false e m = absurd (true≢false (sym (overlaps_there s slabs x m k) ∙ sym tested ∙ none))
-
 -- ---- volumes of other operators
 
--- one that meets the slab is added
-pub theirs_added : (o : List ℕ) (whole : Slab) (lives : List LiveVolume) (i : ℕ) (live : LiveVolume)
-    (old now new : List Slab) → i < length lives → live ≡ get_or lives i live
-    → AddTheirs o whole (take i lives) old now → new ≡ now ++ live.bounds ∷ []
-    → AddTheirs o whole (take (i + 1) lives) old new
-theirs_added o whole lives i live old now new below is before pushed x here h =
-    ap (λ ss. slabs_have ss x) pushed ∙ pushed_has now live.bounds x
-    ∙ kept (slabs_have old x || list_any (is_theirs_at o x) (take i lives)) (is_another o live)
-    (slab_has live.bounds x) (slabs_have now x) (before x here)
-    (regrouped (slabs_have old x) (list_any (is_theirs_at o x) (take i lives)) (is_theirs_at o x live)
-    (ap (λ t. slabs_have old x || t) (sym (list_any_more (is_theirs_at o x) lives i live below
-    ∙ ap (λ l. list_any (is_theirs_at o x) (take i lives) || is_theirs_at o x l) (sym is))) ∙ h)) where
-      regrouped : (a b c : Bool) → (a || (b || c)) ≡ true → ((a || b) || c) ≡ true
-      regrouped true b c e = refl
-      regrouped false b c e = e
+module _ (o : List ℕ) (extent : Slab) (x : Point) (here : slab_has extent x ≡ true) where
+  -- bounds that don't meet an extent have none of its points
+  beside : (live : LiveVolume) → is_theirs o extent live ≡ false → is_theirs_at o x live ≡ false
+  beside live far = go (is_another o live) (slab_has live.bounds x) refl far where
+    go : (n b : Bool) → slab_has live.bounds x ≡ b → (n && overlap live.bounds extent) ≡ false
+        → (n && b) ≡ false
+    go false b e k = refl
+    go true false e k = refl
+    go true true e k = absurd (true≢false (sym (overlapping live.bounds extent x e here) ∙ k))
 
-      kept : (a n b c : Bool) → (a ≡ true → c ≡ true) → (a || (n && b)) ≡ true → (c || b) ≡ true
-      kept true n b c f e = ap (λ t. t || b) (f refl)
-      kept false n b true f e = refl
-      kept false true b false f e = e
-      kept false false b false f e = absurd (true≢false (sym e))
+  none_beside : (lives : List LiveVolume) → list_any (is_theirs o extent) lives ≡ false
+      → list_any (is_theirs_at o x) lives ≡ false
+  none_beside [] far = refl
+  none_beside (l ∷ lives) far =
+      let parts = either (is_theirs o extent l) (list_any (is_theirs o extent) lives) far in
+      λ i. beside l parts.0 i || none_beside lives parts.1 i
 
--- one that is the operator's, or doesn't meet the slab, is passed over
-pub theirs_passed : (o : List ℕ) (whole : Slab) (lives : List LiveVolume) (i : ℕ) (live : LiveVolume)
-    (old now : List Slab) (meets : Bool) → i < length lives → live ≡ get_or lives i live
-    → AddTheirs o whole (take i lives) old now → meets ≡ is_theirs o whole live → meets ≡ false
-    → AddTheirs o whole (take (i + 1) lives) old now
-theirs_passed o whole lives i live old now meets below is before tested none x here h =
-    before x here (kept (slabs_have old x) (list_any (is_theirs_at o x) (take i lives))
-    (is_another o live) (slab_has live.bounds x) (λ e. overlapping live.bounds whole x e here)
-    (ap (λ t. slabs_have old x || t) (sym (list_any_more (is_theirs_at o x) lives i live below
-    ∙ ap (λ l. list_any (is_theirs_at o x) (take i lives) || is_theirs_at o x l) (sym is))) ∙ h)
-    (sym tested ∙ none)) where
-      kept : (a b n s : Bool) → (s ≡ true → overlap live.bounds whole ≡ true)
-          → (a || (b || (n && s))) ≡ true → (n && overlap live.bounds whole) ≡ false → (a || b) ≡ true
-      kept true b n s f e k = refl
-      kept false true n s f e k = refl
-      kept false false true true f e k = absurd (true≢false (sym (f refl) ∙ k))
-      kept false false true false f e k = absurd (true≢false (sym e))
-      kept false false false s f e k = absurd (true≢false (sym e))
+  -- volumes within a fence that doesn't meet it
+  none_within : (fence : Fence) (lives : List LiveVolume) → overlap fence.bounds extent ≡ false
+      → AllByRecursion (IsFenced fence) lives → list_any (is_theirs_at o x) lives ≡ false
+  none_within fence [] far h = refl
+  none_within fence (l ∷ lives) far h =
+      λ i. go (is_another o l) (slab_has l.bounds x) refl i || none_within fence lives far h.1 i where
+        go : (n b : Bool) → slab_has l.bounds x ≡ b → (n && b) ≡ false
+        go false b e = refl
+        go true false e = refl
+        go true true e = absurd (true≢false (sym (overlaps_round l.bounds fence.bounds extent h.0.within
+            (overlapping l.bounds extent x e here)) ∙ far))
 
-pub theirs_begin : (o : List ℕ) (whole : Slab) (old : List Slab) → AddTheirs o whole [] old old
-theirs_begin o whole old x here h = sym (or_false (slabs_have old x)) ∙ h
+  none_in : {C : Type 0} (vols : C → List LiveVolume) (P : C → Type 0) (has : C → Bool)
+      → ((one : C) → P one → has one ≡ false → list_any (is_theirs_at o x) (vols one) ≡ false)
+      → (cs : List C) → AllByRecursion P cs → list_any has cs ≡ false
+      → list_any (is_theirs_at o x) (gather vols cs) ≡ false
+  none_in vols P has each [] h far = refl
+  none_in vols P has each (c ∷ cs) h far =
+      let parts = either (has c) (list_any has cs) far in
+      list_any-append (is_theirs_at o x) (vols c) (gather vols cs)
+      ∙ (λ i. each c h.0 parts.0 i || none_in vols P has each cs h.1 parts.1 i)
 
--- volumes of one list after those of another
-pub theirs_both : (o : List ℕ) (whole : Slab) (some more : List LiveVolume) (old mid new : List Slab)
-    → AddTheirs o whole some old mid → AddTheirs o whole more mid new
-    → AddTheirs o whole (some ++ more) old new
-theirs_both o whole some more old mid new one two x here h =
-    two x here (kept (slabs_have old x || list_any (is_theirs_at o x) some)
-    (list_any (is_theirs_at o x) more) (slabs_have mid x) (one x here)
-    (regrouped (slabs_have old x) (list_any (is_theirs_at o x) some) (list_any (is_theirs_at o x) more)
-    (ap (λ t. slabs_have old x || t) (sym (list_any-append (is_theirs_at o x) some more)) ∙ h))) where
-      regrouped : (a b c : Bool) → (a || (b || c)) ≡ true → ((a || b) || c) ≡ true
-      regrouped true b c e = refl
-      regrouped false b c e = e
+  none_in_chunk : (c : Chunk) → IsWhole c → chunk_has_theirs o extent c ≡ false
+      → list_any (is_theirs_at o x) c.volumes.items ≡ false
+  none_in_chunk c whole far = go (overlap c.fence.bounds extent) refl far where
+    go : (b : Bool) → overlap c.fence.bounds extent ≡ b
+        → (b && list_any (is_theirs o extent) c.volumes.items) ≡ false
+        → list_any (is_theirs_at o x) c.volumes.items ≡ false
+    go true e k = none_beside c.volumes.items k
+    go false e k = none_within c.fence c.volumes.items e whole
 
-      kept : (a b c : Bool) → (a ≡ true → c ≡ true) → (a || b) ≡ true → (c || b) ≡ true
-      kept true b c f e = ap (λ t. t || b) (f refl)
-      kept false b true f e = refl
-      kept false b false f e = e
+  none_in_group : (g : Group) → IsHedged g → group_has_theirs o extent g ≡ false
+      → list_any (is_theirs_at o x) (volumes_in g.chunks.items) ≡ false
+  none_in_group g hedged far = go (overlap g.fence.bounds extent) refl far where
+    go : (b : Bool) → overlap g.fence.bounds extent ≡ b
+        → (b && list_any (chunk_has_theirs o extent) g.chunks.items) ≡ false
+        → list_any (is_theirs_at o x) (volumes_in g.chunks.items) ≡ false
+    go true e k = none_in (λ c. c.volumes.items) IsWhole (chunk_has_theirs o extent) none_in_chunk
+        g.chunks.items hedged.each k
+    go false e k = none_within g.fence (volumes_in g.chunks.items) e hedged.all
+
+  none_kept : (kept : LiveVolumes) → AreHedged kept.groups.items → has_theirs o kept extent ≡ false
+      → list_any (is_theirs_at o x) (volumes_of kept) ≡ false
+  none_kept kept hedged far =
+      let parts = either (list_any (group_has_theirs o extent) kept.groups.items)
+      (list_any (is_theirs o extent) kept.young.items) far in
+      list_any-append (is_theirs_at o x) (volumes_under kept.groups.items) kept.young.items
+      ∙ (λ i. none_in (λ g. volumes_in g.chunks.items) IsHedged (group_has_theirs o extent) none_in_group
+      kept.groups.items hedged parts.0 i || none_beside kept.young.items parts.1 i)
 
 -- ---- where no such volume lies others hold nothing
 
@@ -277,17 +240,38 @@ module _ (o : List ℕ) (x : Point) where
       sym (held_by_others o w x) ∙ plans_none w.plans h.listed h.volumes
       (list_any-IsPermutation (is_theirs_at o x) h.listed lives h.same ∙ far)
 
--- from the bounds of others' volumes to the regions
-pub nothing_beside : (o : List ℕ) (w : World) (lives : List LiveVolume)
-    (extents theirs wanted regions : List Slab) (whole : Slab) → AreLive w lives
-    → HasAll (slabs_have extents) whole
-    → AddTheirs o whole lives [] theirs → HaveShared extents theirs wanted → HaveEach wanted regions
-    → HoldNothingBeside w o extents regions
-nothing_beside o w lives extents theirs wanted regions whole live round added shared each x here beside =
-    go (list_any (is_theirs_at o x) lives) refl where
-      go : (b : Bool) → list_any (is_theirs_at o x) lives ≡ b → held w o x ≡ None
-      go false e = none_held o x w lives live e
-      go true e = absurd (true≢false (sym (each x (shared x here (added x (round x here) e))) ∙ beside))
+-- from the extents that others' volumes are near to the regions
+pub nothing_beside : (o : List ℕ) (w : World) (kept : LiveVolumes) (all extents near regions : List Slab)
+    → AreKeptOnce kept w → HaveEach all extents → near ≡ filter (has_theirs o kept) extents
+    → HaveEach near regions → HoldNothingBeside w o all regions
+nothing_beside o w kept all extents near regions h have is each x here beside =
+    none_held o x w (volumes_of kept) h.live
+    (in_all extents (have x here) (ap (λ ss. slabs_have ss x) (sym is) ∙ in_none (slabs_have near x) refl)) where
+      in_none : (b : Bool) → slabs_have near x ≡ b → slabs_have near x ≡ false
+      in_none false e = e
+      in_none true e = absurd (true≢false (sym (each x e) ∙ beside))
+
+      in_all : (es : List Slab) → slabs_have es x ≡ true
+          → slabs_have (filter (has_theirs o kept) es) x ≡ false
+          → list_any (is_theirs_at o x) (volumes_of kept) ≡ false
+      in_all [] m k = absurd (true≢false (sym m))
+      in_all (e ∷ es) m k = go (has_theirs o kept e) (slab_has e x) refl refl m k (in_all es) where
+        go : (b c : Bool) → has_theirs o kept e ≡ b → slab_has e x ≡ c → (c || slabs_have es x) ≡ true
+            → slabs_have (cond b (e ∷ filter (has_theirs o kept) es) (filter (has_theirs o kept) es)) x
+            ≡ false
+            → (slabs_have es x ≡ true → slabs_have (filter (has_theirs o kept) es) x ≡ false
+            → list_any (is_theirs_at o x) (volumes_of kept) ≡ false)
+            → list_any (is_theirs_at o x) (volumes_of kept) ≡ false
+        go false true f t m k ih = none_kept o e x t kept h.hedged f
+        go false false f t m k ih = ih m k
+        go true c f t m k ih =
+            let parts = either (slab_has e x) (slabs_have (filter (has_theirs o kept) es) x) k in
+            by_first c t m parts.0 parts.1 where
+              by_first : (c : Bool) → slab_has e x ≡ c → (c || slabs_have es x) ≡ true
+                  → slab_has e x ≡ false → slabs_have (filter (has_theirs o kept) es) x ≡ false
+                  → list_any (is_theirs_at o x) (volumes_of kept) ≡ false
+              by_first true t m none k = absurd (true≢false (sym t ∙ none))
+              by_first false t m none k = ih m k
 
 -- ---- slabs that are clipped
 

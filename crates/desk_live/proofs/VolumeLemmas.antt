@@ -10,7 +10,7 @@ use Rattle.volume4d.specs.Volume.{Block}
 use Rattle.desk_store.specs.World.{Filed}
 use Rattle.desk_live.specs.declared.volume.LiveVolume.{LiveVolume}
 use Rattle.desk_live.specs.Live.{IsLiveVolume, AddsLiveVolumes, AddsLivePlan, AreVolumes}
-use Rattle.desk_live.specs.laws.Live.{one_more}
+use Rattle.desk_live.proofs.lemmas.Live.{one_more}
 
 -- tests that agree at each point have the same bounds
 pub bounds_alike : (f g : Point → Bool) (slab : Slab) → ((x : Point) → f x ≡ g x) → IsBounds f slab

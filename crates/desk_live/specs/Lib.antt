@@ -1,6 +1,5 @@
--- Read first: Live, Roll. What stands in laws/ is checked and needn't be read.
+-- Read first: Live.
 pub mod Live
-pub mod Roll
+pub mod Places
 pub mod Regions
 pub mod Near
-pub mod laws

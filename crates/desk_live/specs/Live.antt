@@ -1,6 +1,6 @@
 -- The volumes of live plans, as they are kept in memory.
 use Rattle.std.specs.Prelude.{◌≡◌, ℕ, ◌+◌, ◌≤◌, Bool, true, not, ◌&&◌, nat_le, List, [], ◌∷◌, ◌++◌, MatchBool, length}
-use Rattle.std.specs.List.{AllByRecursion, AllZip, list_any}
+use Rattle.std.specs.List.{AllByRecursion, AllZip, filter, list_any}
 use Rattle.std.specs.List.Sorted.{IsPermutation, IsStrictlySortedBy}
 use Rattle.std.specs.Ordering.{is_eq}
 use Rattle.volume4d.specs.declared.slab.Slab.{Slab}
@@ -14,6 +14,9 @@ use Rattle.desk_store.specs.declared.change.Change.TheVariants.{Enrol, Put, Clos
 use Rattle.desk_live.specs.declared.volume.LiveVolume.{LiveVolume}
 use Rattle.desk_live.specs.declared.fence.Fence.{Fence}
 use Rattle.desk_live.specs.declared.chunk.Chunk.{Chunk}
+use Rattle.desk_live.specs.declared.group.Group.{Group}
+use Rattle.desk_live.specs.declared.places.Places.{Places}
+use Rattle.desk_live.specs.Places.{places_at}
 use Rattle.desk_live.specs.declared.live.Gathering.{Gathering}
 use Rattle.desk_live.specs.declared.live.LiveVolumes.{LiveVolumes}
 
@@ -49,6 +52,13 @@ AddsLiveVolumes p area old new =
 abbrev pub AddsLivePlan : Filed → List LiveVolume → List LiveVolume → Type 0
 AddsLivePlan p old new = (more : List LiveVolume) × (new ≡ old ++ more) × AreVolumesOf p more
 
+-- it is of the operator's plan of the id
+abbrev pub is_volume_of : List ℕ → List ℕ → LiveVolume → Bool
+is_volume_of operator id live = is_eq (text_cmp id live.id) && is_eq (text_cmp operator live.operator)
+
+abbrev pub is_beside : List ℕ → List ℕ → LiveVolume → Bool
+is_beside operator id live = not (is_volume_of operator id live)
+
 -- ---- what is kept
 
 -- it lies within a fence, and has no greater priority
@@ -57,21 +67,49 @@ pub record IsFenced (fence : Fence) (live : LiveVolume) : Type 0 where
   pub top : live.priority ≤ fence.top
 
 -- each volume of each chunk lies within its fence
-abbrev pub AreFenced : List Chunk → Type 0
-AreFenced chunks = AllByRecursion (λ c. AllByRecursion (IsFenced c.fence) c.volumes.items) chunks
+abbrev pub IsWhole : Chunk → Type 0
+IsWhole c = AllByRecursion (IsFenced c.fence) c.volumes.items
 
--- the volumes of chunks, and all that are kept
+abbrev pub AreFenced : List Chunk → Type 0
+AreFenced chunks = AllByRecursion IsWhole chunks
+
+-- the volumes of some things, one after the other
+abbrev pub gather : {C : Type 0} → (C → List LiveVolume) → List C → List LiveVolume
+gather vols [] = []
+gather vols (c ∷ cs) = vols c ++ gather vols cs
+
+-- the volumes of chunks, those of groups, and all that are kept
 abbrev pub volumes_in : List Chunk → List LiveVolume
-volumes_in [] = []
-volumes_in (c ∷ cs) = c.volumes.items ++ volumes_in cs
+volumes_in chunks = gather (λ c. c.volumes.items) chunks
+
+abbrev pub volumes_under : List Group → List LiveVolume
+volumes_under groups = gather (λ g. volumes_in g.chunks.items) groups
 
 abbrev pub volumes_of : LiveVolumes → List LiveVolume
-volumes_of kept = volumes_in kept.chunks.items ++ kept.young.items
+volumes_of kept = volumes_under kept.groups.items ++ kept.young.items
 
--- each live volume of a world is kept once, within the fence of its chunk if it is in one
+-- each volume of a group lies within the fence of its chunk, and within that of the group
+pub record IsHedged (group : Group) : Type 0 where
+  pub each : AreFenced group.chunks.items
+  pub all : AllByRecursion (IsFenced group.fence) (volumes_in group.chunks.items)
+
+abbrev pub AreHedged : List Group → Type 0
+AreHedged groups = AllByRecursion IsHedged groups
+
+-- how many volumes of the operator's plan of the id there are
+abbrev pub count_of : List ℕ → List ℕ → List LiveVolume → ℕ
+count_of operator id lives = length (filter (is_volume_of operator id) lives)
+
+-- of each plan so many places are known as it has volumes in groups
+abbrev pub ArePlaced : Places → List LiveVolume → Type 0
+ArePlaced places lives =
+    (operator id : List ℕ) → count_of operator id lives ≤ places_at operator id places
+
+-- each live volume of a world is kept once, within the fences of its chunk and its group if it is in one
 pub record AreKeptOnce (kept : LiveVolumes) (w : World) : Type 0 where
   pub live : AreLive w (volumes_of kept)
-  pub fenced : AreFenced kept.chunks.items
+  pub hedged : AreHedged kept.groups.items
+  pub placed : ArePlaced kept.places (volumes_under kept.groups.items)
 
 -- the volumes of plans that were gathered
 abbrev pub gathered_in : Gathering → List LiveVolume
@@ -83,18 +121,14 @@ HasRoomForVolumes kept count = length kept.young.items + count ≤ kept.young.ca
 
 -- ---- changes
 
--- it is of the operator's plan of the id
-abbrev pub is_volume_of : List ℕ → List ℕ → LiveVolume → Bool
-is_volume_of operator id live = is_eq (text_cmp id live.id) && is_eq (text_cmp operator live.operator)
-
 abbrev pub is_of_any : List ℕ → List (List ℕ) → LiveVolume → Bool
 is_of_any operator ids live = list_any (λ id. is_volume_of operator id live) ids
 
 -- a change takes out the volumes of the plans that it names
 abbrev pub stays_at : Change → LiveVolume → Bool
 stays_at (Enrol operator ceiling) live = true
-stays_at (Put operator row) live = not (is_volume_of operator row.id live)
-stays_at (Close operator id) live = not (is_volume_of operator id live)
+stays_at (Put operator row) live = is_beside operator row.id live
+stays_at (Close operator id) live = is_beside operator id live
 stays_at (Clear operator ids) live = not (is_of_any operator ids.items live)
 
 -- and a put brings those of its plan
@@ -103,6 +137,21 @@ AreBrought (Enrol operator ceiling) fresh = fresh ≡ []
 AreBrought (Put operator row) fresh = AreVolumesOf (filed_by operator row) fresh
 AreBrought (Close operator id) fresh = fresh ≡ []
 AreBrought (Clear operator ids) fresh = fresh ≡ []
+
+-- volumes of the operator's plan of the id were taken out, so many at least, and no others
+pub record IsLeft (operator id : List ℕ) (old new : List LiveVolume) (gone : ℕ) : Type 0 where
+  pub others : filter (is_beside operator id) new ≡ filter (is_beside operator id) old
+  pub fewer : count_of operator id new + gone ≤ count_of operator id old
+
+-- of all that are kept those stay that pass a test
+pub record HasLeft (stays : LiveVolume → Bool) (old new : LiveVolumes) : Type 0 where
+  pub same : ArePlaced old.places (volumes_under old.groups.items)
+      → volumes_of new ≡ filter stays (volumes_of old)
+  pub hedged : AreHedged old.groups.items → AreHedged new.groups.items
+  pub placed : ArePlaced old.places (volumes_under old.groups.items)
+      → ArePlaced new.places (volumes_under new.groups.items)
+  pub room : new.young.cap ≡ old.young.cap
+  pub less : length new.young.items ≤ length old.young.items
 
 -- ---- questions
 

@@ -1,5 +1,5 @@
 -- The plans that live volumes near extents belong to.
-use Rattle.std.specs.Prelude.{◌≡◌, ℕ, Bool, true, false, not, ◌&&◌, nat_le, List, [], ◌∷◌, ◌++◌, Option, Some, None}
+use Rattle.std.specs.Prelude.{◌≡◌, ℕ, Bool, true, false, not, ◌&&◌, nat_le, List, [], ◌∷◌, Option, Some, None}
 use Rattle.std.specs.List.{AllByRecursion, list_any}
 use Rattle.std.specs.Ordering.{is_eq}
 use Rattle.volume4d.specs.declared.slab.Slab.{Slab}
@@ -79,24 +79,29 @@ is_missed_at wanted keys x live =
 abbrev pub IsAnothers : Wanted → PlanKey → Type 0
 IsAnothers wanted k = (is_id wanted.id k.id && is_eq (text_cmp wanted.operator k.operator)) ≡ false
 
--- plans are added; if all are listed, no volume is missed at the points of an extent
+-- plans are added, and none is dropped; if all are listed, no volume is missed at the points of an extent
 pub record AddsPlans (wanted : Wanted) (inside : Point → Bool) (lives : List LiveVolume)
     (old new : NearPlans) : Type 0
   where
-    pub more : List PlanKey
-    pub is : new.keys.items ≡ old.keys.items ++ more
+    pub kept : (live : LiveVolume) → is_among old.keys.keys live ≡ true → is_among new.keys.keys live ≡ true
     pub still : new.is_whole ≡ true → old.is_whole ≡ true
     pub whole : new.is_whole ≡ true → (x : Point) → inside x ≡ true
-        → list_any (is_missed_at wanted new.keys.items x) lives ≡ false
-    pub another : AllByRecursion (IsAnothers wanted) more
+        → list_any (is_missed_at wanted new.keys.keys x) lives ≡ false
+    pub another : AllByRecursion (IsAnothers wanted) old.keys.keys
+        → AllByRecursion (IsAnothers wanted) new.keys.keys
+
+-- the same plans are listed, and all only if all were
+pub record LooksOn (old new : NearPlans) : Type 0 where
+  pub same : new.keys.keys ≡ old.keys.keys
+  pub still : new.is_whole ≡ true → old.is_whole ≡ true
 
 -- a volume's plan is added, or not all are listed
 pub record TakesPlan (live : LiveVolume) (old new : NearPlans) : Type 0 where
-  pub more : List PlanKey
-  pub is : new.keys.items ≡ old.keys.items ++ more
+  pub kept : (other : LiveVolume) → is_among old.keys.keys other ≡ true → is_among new.keys.keys other ≡ true
   pub still : new.is_whole ≡ true → old.is_whole ≡ true
-  pub listed : new.is_whole ≡ true → is_among new.keys.items live ≡ true
-  pub mine : AllByRecursion (λ k. k ≡ key_of live) more
+  pub listed : new.is_whole ≡ true → is_among new.keys.keys live ≡ true
+  pub another : (wanted : Wanted) → is_own_volume wanted live ≡ false
+      → AllByRecursion (IsAnothers wanted) old.keys.keys → AllByRecursion (IsAnothers wanted) new.keys.keys
 
 -- all volumes that are wanted and have a point inside are of plans that are listed, none of which is an own
 -- one

@@ -8,6 +8,9 @@ use Rattle.volume4d.specs.Point.{Point}
 use Rattle.volume4d.specs.Slab.{slab_has, slabs_have}
 use Rattle.desk_store.specs.World.{World, held, text_cmp}
 use Rattle.desk_live.specs.declared.volume.LiveVolume.{LiveVolume}
+use Rattle.desk_live.specs.declared.chunk.Chunk.{Chunk}
+use Rattle.desk_live.specs.declared.group.Group.{Group}
+use Rattle.desk_live.specs.declared.live.LiveVolumes.{LiveVolumes}
 
 -- at no point of some extents others hold anything, but where a region lies
 abbrev pub HoldNothingBeside : World → List ℕ → List Slab → List Slab → Type 0
@@ -26,15 +29,18 @@ is_theirs operator whole live = is_another operator live && overlap live.bounds 
 abbrev pub is_theirs_at : List ℕ → Point → LiveVolume → Bool
 is_theirs_at operator x live = is_another operator live && slab_has live.bounds x
 
--- slabs have each point of a slab that slabs before had, or that is in bounds of another operator's volume
-abbrev pub AddTheirs : List ℕ → Slab → List LiveVolume → List Slab → List Slab → Type 0
-AddTheirs operator whole lives old new = (x : Point) → slab_has whole x ≡ true
-    → (slabs_have old x || list_any (is_theirs_at operator x) lives) ≡ true → slabs_have new x ≡ true
+-- such a volume is in a chunk, in a group, or among all that are kept
+abbrev pub chunk_has_theirs : List ℕ → Slab → Chunk → Bool
+chunk_has_theirs operator whole c =
+    overlap c.fence.bounds whole && list_any (is_theirs operator whole) c.volumes.items
 
--- slabs have each point that slabs of both lists have
-abbrev pub HaveShared : List Slab → List Slab → List Slab → Type 0
-HaveShared some others slabs =
-    (x : Point) → slabs_have some x ≡ true → slabs_have others x ≡ true → slabs_have slabs x ≡ true
+abbrev pub group_has_theirs : List ℕ → Slab → Group → Bool
+group_has_theirs operator whole g =
+    overlap g.fence.bounds whole && list_any (chunk_has_theirs operator whole) g.chunks.items
+
+abbrev pub has_theirs : List ℕ → LiveVolumes → Slab → Bool
+has_theirs operator kept whole = list_any (group_has_theirs operator whole) kept.groups.items
+    || list_any (is_theirs operator whole) kept.young.items
 
 -- slabs have each point of others
 abbrev pub HaveEach : List Slab → List Slab → Type 0

@@ -3,7 +3,7 @@
 ghost use Rattle.std.specs.Prelude.{◌≡◌, ◌≤◌, ◌+◌, ◌++◌, length, IfOk, OnOk};
 ghost use Rattle.std.specs.List.{filter};
 ghost use Rattle.desk_store.specs.Changes.{filed_by};
-ghost use Rattle.desk_live.specs.Live.{AddsLivePlan, AreBrought, stays_at};
+ghost use Rattle.desk_live.specs.Live.{AddsLivePlan, AreBrought, is_beside};
 ghost use Rattle.desk_live.specs.Live as spec;
 
 use crate::volume::LiveVolume;
@@ -63,32 +63,13 @@ pub(crate) fn brought_by(alloc: Global, change: &Change) -> Result<Vec<LiveVolum
     Ok(fresh)
 }
 
-/// Takes out the volumes of the plans that a change names.
-pub(crate) fn leave(volumes: &mut Vec<LiveVolume>, change: &Change)
-    ensures items { volumes.new.items ≡ filter (stays_at change.now) volumes.old.items }
+/// Takes out the volumes of an operator's plan.
+pub(crate) fn leave(volumes: &mut Vec<LiveVolume>, operator: &Operator, id: &PlanId)
+    ensures items { volumes.new.items ≡ filter (is_beside operator.now id.now) volumes.old.items }
     ensures room { volumes.new.cap ≡ volumes.old.cap }
     ensures fewer { length volumes.new.items ≤ length volumes.old.items }
 {
-    volumes.retain(|live| stays(live, change));
-}
-
-// Whether a change leaves a volume.
-fn stays(live: &LiveVolume, change: &Change) -> bool
-    ensures { result ≡ stays_at change.now live.now }
-{
-    match change {
-        Change::Enrol { .. } => true,
-        Change::Put { operator, row } => !live.is_of(operator, &row.id),
-        Change::Close { operator, id } => !live.is_of(operator, id),
-        Change::Clear { operator, ids } => !is_of_any(live, operator, ids),
-    }
-}
-
-// Whether a volume is of one of the operator's plans of these ids.
-fn is_of_any(live: &LiveVolume, operator: &Operator, ids: &[PlanId]) -> bool
-    ensures { result ≡ spec.is_of_any operator.now ids.now live.now }
-{
-    ids.iter().any(|id| live.is_of(operator, id))
+    volumes.retain(|live| !live.is_of(operator, id));
 }
 
 /// Appends volumes for which there is room.

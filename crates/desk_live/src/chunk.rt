@@ -1,47 +1,118 @@
 //! Chunks of volumes, each within a fence of its own, so that most are passed over unread.
 
-ghost use Rattle.std.specs.Prelude.{◌≡◌, ◌∷◌, ◌++◌, IfOk, OnOk, IsPermutation};
+ghost use Rattle.std.specs.Prelude.{◌≡◌, ◌+◌, ◌≤◌, ◌∷◌, ◌++◌, ◌<◌, [], true, length, IfOk, OnOk, OnErr, IfSome, IsPermutation};
 ghost use Rattle.std.specs.List.{AllByRecursion, filter};
 ghost use Rattle.desk_live.specs.Live as spec;
-ghost use Rattle.desk_live.specs.Live.{AreFenced, IsFenced, stays_at, volumes_in};
-ghost use Rattle.desk_live.specs.Regions.{AddTheirs};
+ghost use Rattle.desk_live.specs.Live.{AreFenced, IsFenced, IsLeft, IsWhole, is_beside, volumes_in};
+ghost use Rattle.desk_live.specs.Regions.{chunk_has_theirs};
 ghost use Rattle.desk_live.specs.Near.{AddsPlans};
 ghost use Rattle.volume4d.specs.Slab.{slab_has};
 
-use crate::changing::leave;
+use crate::changing::{leave, push_all};
 use crate::fence::Fence;
 use crate::near::{NearPlans, Wanted, add_each};
 use crate::order::put_in_order;
 use crate::volume::LiveVolume;
 use desk_rules::operator::Operator;
-use desk_store::Change;
+use desk_rules::plan_id::PlanId;
 use std::alloc::{AllocError, Global};
+use std::slice;
 use volume4d::Slab;
 
-// The most volumes of a chunk, but for one.
-const MORE: usize = 63;
+/// The most volumes of a chunk, and the most chunks of a group.
+pub(crate) const FULL: usize = 64;
+
+/// How many of them each has that is made of many.
+pub(crate) const PART: usize = 48;
 
 /// Volumes within a fence.
 #[derive(Drop)]
 pub(crate) struct Chunk {
-    fence: Fence,
+    pub(crate) fence: Fence,
+    // where it begins in the order, of which no clause speaks
+    pub(crate) low: u128,
     volumes: Vec<LiveVolume>,
 }
 
 impl Chunk {
-    // Of a volume and some more.
-    fn try_new(alloc: Global, first: &LiveVolume, more: &[LiveVolume]) -> Result<Chunk, AllocError>
-        ensures same { IfOk result (λ chunk. chunk.volumes.items ≡ first.now ∷ more.now) }
-        ensures fenced { IfOk result (λ chunk.
-            AllByRecursion (IsFenced chunk.fence) chunk.volumes.items) }
+    // Of some volumes.
+    fn from_all(alloc: Global, lives: &[LiveVolume]) -> Result<Chunk, AllocError>
+        ensures same { IfOk result (λ chunk. chunk.volumes.items ≡ lives.now) }
+        ensures fenced { IfOk result IsWhole }
     {
         let mut volumes = Vec::new(alloc);
-        volumes.push(*first)?;
-        volumes.extend_from_slice(more)?;
+        volumes.reserve(FULL)?;
+        volumes.extend_from_slice(lives)?;
         Ok(Chunk {
-            fence: Fence::round(first, more),
+            fence: Fence::round_all(lives),
+            low: lives.first().map_or(0, |live| live.place),
             volumes,
         })
+    }
+
+    // Adds a volume.
+    fn push(&mut self, live: &LiveVolume) -> Result<(), AllocError>
+        ensures same { OnOk result (self.new.volumes.items ≡ self.old.volumes.items ++ live.now ∷ []) }
+        ensures fenced { OnOk result (IsWhole self.old → IsWhole self.new) }
+        ensures err { OnErr result (self.new.volumes.items ≡ self.old.volumes.items) }
+        ensures still { OnErr result (self.new.fence ≡ self.old.fence) }
+    {
+        self.volumes.push(*live)?;
+        self.fence = self.fence.widened(live);
+        self.low = self.low.min(live.place);
+        Ok(())
+    }
+
+    // Chunks of those of its volumes that come first in the order, and of the others.
+    fn halves(&self, alloc: Global) -> Result<(Chunk, Chunk), AllocError>
+        ensures same { IfOk result (λ halves. IsPermutation self.now.volumes.items
+            (halves.0.volumes.items ++ halves.1.volumes.items)) }
+        ensures fenced { IfOk result (λ halves. IsWhole halves.0 × IsWhole halves.1) }
+    {
+        let mut lives = Vec::from_slice(alloc, &self.volumes)?;
+        put_in_order(&mut lives);
+        let (front, back) = lives.split_at(lives.len() / 2);
+        Ok((
+            Chunk::from_all(alloc, front)?,
+            Chunk::from_all(alloc, back)?,
+        ))
+    }
+
+    // Takes out the volumes of an operator's plan; how many.
+    fn leave(&mut self, operator: &Operator, id: &PlanId) -> usize
+        ensures left { IsLeft operator.now id.now self.old.volumes.items self.new.volumes.items result }
+        ensures fenced { IsWhole self.new }
+    {
+        let before = self.volumes.len();
+        leave(&mut self.volumes, operator, id);
+        self.fence = Fence::round_all(&self.volumes);
+        before.saturating_sub(self.volumes.len())
+    }
+
+    // Whether it has room for the volumes of another, and would be at most half full.
+    fn has_room_for(&self, next: &Chunk) -> bool
+        ensures { result ≡ true → length self.now.volumes.items + length next.now.volumes.items
+            ≤ self.now.volumes.cap }
+    {
+        let sum = self.volumes.len().saturating_add(next.volumes.len());
+        sum <= FULL / 2 && sum <= self.volumes.capacity()
+    }
+
+    // Adds the volumes of another, for which there is room.
+    fn absorb(&mut self, next: &Chunk)
+        requires { length self.old.volumes.items + length next.now.volumes.items ≤ self.old.volumes.cap }
+        ensures same { self.new.volumes.items ≡ self.old.volumes.items ++ next.now.volumes.items }
+        ensures fenced { IsWhole self.old → IsWhole next.now → IsWhole self.new }
+    {
+        push_all(&mut self.volumes, &next.volumes);
+        self.fence = self.fence.join(&next.fence);
+    }
+
+    // Whether it has no volume.
+    fn is_empty(&self) -> bool
+        ensures { result ≡ true → self.now.volumes.items ≡ [] }
+    {
+        self.volumes.is_empty()
     }
 
     // Adds the plans of the volumes that are near, if the fence says that one may be.
@@ -51,13 +122,27 @@ impl Chunk {
         wanted: &Wanted,
         extent: &Slab,
     ) -> Result<(), AllocError>
-        ensures { OnOk result (AllByRecursion (IsFenced self.now.fence) self.now.volumes.items
+        ensures { OnOk result (IsWhole self.now
             → AddsPlans wanted.now (slab_has extent.now) self.now.volumes.items near.old near.new) }
     {
         if !self.fence.may_meet(wanted.least, extent) {
             return Ok(());
         }
+        near.look();
         add_each(near, &self.volumes, wanted, extent)
+    }
+
+    /// Whether a volume of another operator is near an extent. If the fence doesn't meet it, no volume is
+    /// looked at.
+    pub(crate) fn has_theirs(&self, operator: &Operator, extent: &Slab) -> bool
+        ensures { result ≡ chunk_has_theirs operator.now extent.now self.now }
+    {
+        if !self.fence.bounds.overlaps(extent) {
+            return false;
+        }
+        self.volumes
+            .iter()
+            .any(|live| live.is_theirs(operator, extent))
     }
 }
 
@@ -81,107 +166,180 @@ pub(crate) fn add_near_in(
     Ok(())
 }
 
-/// Appends the bounds of other operators' volumes that meet a slab.
+// ---- making and filling
+
+/// Volumes in chunks, those that follow each other together.
 ///
 /// # Errors
 ///
 /// `AllocError` if memory runs out.
-pub(crate) fn push_theirs(
-    slabs: &mut Vec<Slab>,
-    lives: &[LiveVolume],
-    operator: &Operator,
-    whole: &Slab,
-) -> Result<(), AllocError>
-    ensures { OnOk result (AddTheirs operator.now whole.now lives.now slabs.old.items
-        slabs.new.items) }
-{
-    for live in lives {
-        if live.is_theirs(operator, whole) {
-            slabs.push(live.bounds)?;
-        }
-    }
-    Ok(())
-}
-
-/// Appends those of the volumes of chunks.
-///
-/// # Errors
-///
-/// `AllocError` if memory runs out.
-pub(crate) fn push_theirs_in(
-    slabs: &mut Vec<Slab>,
-    chunks: &[Chunk],
-    operator: &Operator,
-    whole: &Slab,
-) -> Result<(), AllocError>
-    ensures { OnOk result (AddTheirs operator.now whole.now (volumes_in chunks.now) slabs.old.items
-        slabs.new.items) }
-{
-    for chunk in chunks {
-        push_theirs(slabs, &chunk.volumes, operator, whole)?;
-    }
-    Ok(())
-}
-
-// Volumes in chunks, those that follow each other together.
-fn chunked(alloc: Global, lives: &[LiveVolume]) -> Result<Vec<Chunk>, AllocError>
+pub(crate) fn chunked(alloc: Global, lives: &[LiveVolume]) -> Result<Vec<Chunk>, AllocError>
     ensures same { IfOk result (λ chunks. volumes_in chunks.items ≡ lives.now) }
     ensures fenced { IfOk result (λ chunks. AreFenced chunks.items) }
 {
     let mut chunks = Vec::new(alloc);
     let mut rest = lives;
-    while let Some((first, others)) = rest.split_first() {
-        let (more, later) = others.split_at(others.len().min(MORE));
-        chunks.push(Chunk::try_new(alloc, first, more)?)?;
+    while !rest.is_empty() {
+        let (part, later) = rest.split_at(rest.len().min(PART));
+        chunks.push(Chunk::from_all(alloc, part)?)?;
         rest = later;
     }
     Ok(chunks)
 }
 
-/// The volumes of chunks, and some more, in chunks anew.
+/// Adds a volume to the chunk where it stands in the order. One that is full is cut in two before.
 ///
 /// # Errors
 ///
 /// `AllocError` if memory runs out.
-pub(crate) fn rechunked(
+pub(crate) fn insert(
     alloc: Global,
-    chunks: &[Chunk],
-    more: &[LiveVolume],
-) -> Result<Vec<Chunk>, AllocError>
-    ensures same { IfOk result (λ anew.
-        IsPermutation (volumes_in chunks.now ++ more.now) (volumes_in anew.items)) }
-    ensures fenced { IfOk result (λ anew. AreFenced anew.items) }
+    chunks: &mut Vec<Chunk>,
+    live: &LiveVolume,
+) -> Result<(), AllocError>
+    ensures added { OnOk result (IsPermutation (live.now ∷ volumes_in chunks.old.items)
+        (volumes_in chunks.new.items)) }
+    ensures kept { OnErr result (IsPermutation (volumes_in chunks.old.items) (volumes_in chunks.new.items)) }
+    ensures fenced { AreFenced chunks.old.items → AreFenced chunks.new.items }
 {
-    let mut all = gathered(alloc, chunks, more)?;
-    put_in_order(&mut all);
-    chunked(alloc, &all)
+    make_room(alloc, chunks, live.place)?;
+    add(alloc, chunks, live)
 }
 
-// The volumes of chunks, and some more.
-fn gathered(
-    alloc: Global,
-    chunks: &[Chunk],
-    more: &[LiveVolume],
-) -> Result<Vec<LiveVolume>, AllocError>
-    ensures { IfOk result (λ all. all.items ≡ volumes_in chunks.now ++ more.now) }
+// Cuts the chunk where a place in the order is in two, if it is full.
+fn make_room(alloc: Global, chunks: &mut Vec<Chunk>, place: u128) -> Result<(), AllocError>
+    ensures same { IsPermutation (volumes_in chunks.old.items) (volumes_in chunks.new.items) }
+    ensures fenced { AreFenced chunks.old.items → AreFenced chunks.new.items }
 {
-    let mut all = Vec::new(alloc);
-    for chunk in chunks {
-        all.extend_from_slice(&chunk.volumes)?;
+    let at = last_upto(chunks, place);
+    if at < chunks.len() && chunks[at].volumes.len() >= FULL {
+        return cut(alloc, chunks, at);
     }
-    all.extend_from_slice(more)?;
-    Ok(all)
+    Ok(())
 }
 
-/// Takes the volumes of the plans that a change names out of chunks.
-pub(crate) fn leave_each(chunks: &mut Vec<Chunk>, change: &Change)
+// Adds a volume to the chunk where it stands in the order.
+fn add(alloc: Global, chunks: &mut Vec<Chunk>, live: &LiveVolume) -> Result<(), AllocError>
+    ensures added { OnOk result (IsPermutation (live.now ∷ volumes_in chunks.old.items)
+        (volumes_in chunks.new.items)) }
+    ensures kept { OnErr result (IsPermutation (volumes_in chunks.old.items) (volumes_in chunks.new.items)) }
+    ensures fenced { AreFenced chunks.old.items → AreFenced chunks.new.items }
+{
+    let at = last_upto(chunks, live.place);
+    if at < chunks.len() {
+        return chunks[at].push(live);
+    }
+    chunks.push(Chunk::from_all(alloc, slice::from_ref(live))?)?;
+    Ok(())
+}
+
+// Cuts a chunk in two.
+fn cut(alloc: Global, chunks: &mut Vec<Chunk>, at: usize) -> Result<(), AllocError>
+    requires { at < length chunks.old.items }
+    ensures same { IsPermutation (volumes_in chunks.old.items) (volumes_in chunks.new.items) }
+    ensures fenced { AreFenced chunks.old.items → AreFenced chunks.new.items }
+{
+    let (before, after) = chunks[at].halves(alloc)?;
+    chunks.insert(at + 1, after)?;
+    chunks[at] = before;
+    Ok(())
+}
+
+// The last chunk that begins at a place in the order or before it, or else the first one.
+fn last_upto(chunks: &[Chunk], place: u128) -> usize {
+    chunks
+        .partition_point(|chunk| chunk.low <= place)
+        .saturating_sub(1)
+}
+
+// ---- taking out
+
+/// Takes the volumes of an operator's plan out of a chunk that may have a place, if one has some; how many
+/// at least.
+pub(crate) fn leave_at(
+    chunks: &mut Vec<Chunk>,
+    operator: &Operator,
+    id: &PlanId,
+    place: u128,
+) -> usize
+    ensures left { IsLeft operator.now id.now (volumes_in chunks.old.items)
+        (volumes_in chunks.new.items) result }
+    ensures fenced { AreFenced chunks.old.items → AreFenced chunks.new.items }
+{
+    let at = chunk_with(chunks, operator, id, place);
+    if at < chunks.len() {
+        leave_chunk(chunks, operator, id, at)
+    } else {
+        0
+    }
+}
+
+/// The first chunk that may have a place and has a volume of an operator's plan, or the number of all.
+pub(crate) fn chunk_with(chunks: &[Chunk], operator: &Operator, id: &PlanId, place: u128) -> usize {
+    let mut at = chunks
+        .partition_point(|chunk| chunk.low < place)
+        .saturating_sub(1);
+    while at < chunks.len()
+        && !chunks[at]
+            .volumes
+            .iter()
+            .any(|live| live.is_of(operator, id))
+    {
+        if place < chunks[at].low {
+            return chunks.len();
+        }
+        at += 1;
+    }
+    at
+}
+
+// Takes those out of a chunk, and the chunk if nothing is left of it.
+fn leave_chunk(chunks: &mut Vec<Chunk>, operator: &Operator, id: &PlanId, at: usize) -> usize
+    requires { at < length chunks.old.items }
+    ensures left { IsLeft operator.now id.now (volumes_in chunks.old.items)
+        (volumes_in chunks.new.items) result }
+    ensures fenced { AreFenced chunks.old.items → AreFenced chunks.new.items }
+{
+    let gone = chunks[at].leave(operator, id);
+    drop_if_empty(chunks, at);
+    merge(chunks, at);
+    merge(chunks, at.saturating_sub(1));
+    gone
+}
+
+// Joins a chunk and the next one, if both together are at most half full.
+fn merge(chunks: &mut Vec<Chunk>, at: usize)
+    ensures same { volumes_in chunks.new.items ≡ volumes_in chunks.old.items }
+    ensures fenced { AreFenced chunks.old.items → AreFenced chunks.new.items }
+{
+    if at < chunks.len().saturating_sub(1) && chunks[at].has_room_for(&chunks[at + 1]) {
+        let next = chunks.remove(at + 1);
+        chunks[at].absorb(&next);
+        drop(next);
+    }
+}
+
+// Drops a chunk without volumes.
+fn drop_if_empty(chunks: &mut Vec<Chunk>, at: usize)
+    requires { at < length chunks.old.items }
+    ensures same { volumes_in chunks.new.items ≡ volumes_in chunks.old.items }
+    ensures fenced { AreFenced chunks.old.items → AreFenced chunks.new.items }
+{
+    if chunks[at].is_empty() {
+        let empty = chunks.remove(at);
+        drop(empty);
+    }
+}
+
+/// Takes the volumes of an operator's plan out of all chunks.
+pub(crate) fn leave_each(chunks: &mut Vec<Chunk>, operator: &Operator, id: &PlanId)
     ensures same { volumes_in chunks.new.items
-        ≡ filter (stays_at change.now) (volumes_in chunks.old.items) }
+        ≡ filter (is_beside operator.now id.now) (volumes_in chunks.old.items) }
     ensures fenced { AreFenced chunks.old.items → AreFenced chunks.new.items }
 {
     let mut at = 0;
     while at < chunks.len() {
-        leave(&mut chunks[at].volumes, change);
+        leave(&mut chunks[at].volumes, operator, id);
         at += 1;
     }
 }

@@ -17,8 +17,8 @@ pub(crate) struct Fence {
 }
 
 impl Fence {
-    /// Round a volume and some more.
-    pub(crate) fn round(first: &LiveVolume, more: &[LiveVolume]) -> Fence
+    // Round a volume and some more.
+    fn round(first: &LiveVolume, more: &[LiveVolume]) -> Fence
         ensures { AllByRecursion (IsFenced result) (first.now ∷ more.now) }
     {
         let mut fence = Fence::of(first);
@@ -26,6 +26,24 @@ impl Fence {
             fence = fence.widened(live);
         }
         fence
+    }
+
+    /// Round some volumes.
+    pub(crate) fn round_all(lives: &[LiveVolume]) -> Fence
+        ensures { AllByRecursion (IsFenced result) lives.now }
+    {
+        match lives.split_first() {
+            Some((first, more)) => Fence::round(first, more),
+            None => Fence::none(),
+        }
+    }
+
+    /// Round nothing.
+    pub(crate) fn none() -> Fence {
+        Fence {
+            bounds: Slab::empty(),
+            top: 0,
+        }
     }
 
     // Round a volume alone.
@@ -39,14 +57,22 @@ impl Fence {
         }
     }
 
-    // Round one more.
-    fn widened(&self, live: &LiveVolume) -> Fence
+    /// Round one more.
+    pub(crate) fn widened(&self, live: &LiveVolume) -> Fence
         ensures one { IsFenced result live.now }
         ensures kept { (other : Live) → IsFenced self.now other → IsFenced result other }
     {
+        self.join(&Fence::of(live))
+    }
+
+    /// Round all that it and another go round.
+    pub(crate) fn join(&self, other: &Fence) -> Fence
+        ensures left { (live : Live) → IsFenced self.now live → IsFenced result live }
+        ensures right { (live : Live) → IsFenced other.now live → IsFenced result live }
+    {
         Fence {
-            bounds: self.bounds.join(&live.bounds),
-            top: self.top.max(live.priority),
+            bounds: self.bounds.join(&other.bounds),
+            top: self.top.max(other.top),
         }
     }
 

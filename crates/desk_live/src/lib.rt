@@ -1,22 +1,19 @@
-//! What is kept of a desk in memory beside its tables: the volumes of live plans, whose each is, its priority
-//! and bounds round it; and the roll of operators, with their ceilings and the states of their plans.
+//! The volumes of live plans, kept in memory beside a store's tables: whose each is, its priority and bounds
+//! round it.
 #![tactic(auto)]
 
-mod account;
 mod changing;
 mod chunk;
 mod fence;
-mod listed;
+mod group;
 mod live;
 mod near;
 mod order;
+mod places;
 mod regions;
-mod roll;
 mod volume;
 
-pub use listed::ListedOperator;
 pub use live::{Gathering, LiveVolumes};
 pub use near::{PlanKey, Wanted};
 pub use regions::{push_clipped, whole_of};
-pub use roll::Roll;
 pub use volume::LiveVolume;

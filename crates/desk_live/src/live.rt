@@ -1,43 +1,54 @@
 //! The volumes of all live plans.
 
-ghost use Rattle.std.specs.Prelude.{◌≡◌, ◌++◌, ◌∷◌, [], List, length, IfOk, IfSome, OnOk};
+ghost use Rattle.std.specs.Prelude.{◌≡◌, ◌≤◌, ◌++◌, not, ◌∷◌, [], List, length, IfOk, IfSome, OnOk};
 ghost use Rattle.std.specs.List.{filter};
 ghost use Rattle.std.specs.List.Sorted.{IsStrictlySortedBy};
 ghost use Rattle.desk_store.specs.World.{Filed, World, filed_cmp};
 ghost use Rattle.desk_store.specs.Changes.{filed_by};
 ghost use Rattle.desk_store.specs.StoreChange.{changed_by};
-ghost use Rattle.desk_live.specs.Live.{AreBrought, AreFenced, AreKeptOnce, AreVolumes, HasRoomForVolumes};
-ghost use Rattle.desk_live.specs.Live.{gathered_in, stays_at, volumes_of};
-ghost use Rattle.desk_live.specs.Regions.{AddTheirs, HoldNothingBeside};
+ghost use Rattle.desk_live.specs.Live.{AreBrought, AreHedged, AreKeptOnce, ArePlaced, AreVolumes, HasLeft, HasRoomForVolumes};
+ghost use Rattle.desk_live.specs.Live.{gathered_in, is_beside, is_of_any, stays_at, volumes_of, volumes_under};
+ghost use Rattle.desk_live.specs.Regions.{HoldNothingBeside, has_theirs};
 ghost use Rattle.desk_live.specs.Near.{AddsPlans, AreNearPlans, AreWantedPlans};
 ghost use Rattle.volume4d.specs.Slab.{slab_has, slabs_have};
 
 use crate::changing::{brought_by, leave, push_all, push_plan};
-use crate::chunk::{Chunk, add_near_in, leave_each, push_theirs, push_theirs_in, rechunked};
+use crate::group::{Group, add_near_in, grouped, insert, leave_all};
 use crate::near::{NearPlans, PlanKey, Wanted, add_each};
-use crate::regions::{joined, overlapping, whole_of};
+use crate::order::put_in_order;
+use crate::places::{Places, places_of};
+use crate::regions::{at_most, joined, whole_of};
 use crate::volume::LiveVolume;
 use desk_rules::operator::Operator;
 use desk_rules::plan::PlanRow;
 use desk_rules::plan_id::PlanId;
 use desk_store::Change;
 use std::alloc::{AllocError, Global};
+use std::slice;
 use volume4d::Slab;
 
-// So many volumes may be in no chunk, and two more for each chunk.
-const YOUNG: usize = 64;
+// The plans near one extent are few if reading their rows costs at most so many rows. If they aren't, one
+// question that reads what lies there costs less.
+const FEW: usize = 160;
 
-// Plans are few if a reading of their rows costs at most so many rows, and for each extent so many more.
-const FEW: usize = 128;
+// Near several extents, each of which would be a question, plans are few up to so many rows. Reading these
+// takes half a second.
+const MOST: usize = 1 << 19;
 
-const MORE: usize = 32;
+// So many extents are regions of their own at most.
+const APART: usize = 1 << 10;
+
+// So many chunks are looked into for several extents one by one, which takes a tenth of a second.
+const LOOKS: usize = 1 << 13;
 
 /// The volumes of all live plans, most of them in chunks.
 #[derive(Drop)]
 pub struct LiveVolumes {
-    chunks: Vec<Chunk>,
-    // those that came last
+    groups: Vec<Group>,
+    // those that the last change brought
     young: Vec<LiveVolume>,
+    // where those in chunks stand
+    places: Places,
 }
 
 impl LiveVolumes {
@@ -46,8 +57,9 @@ impl LiveVolumes {
         ensures { AreKeptOnce result (record { operators = []; plans = [] }) }
     {
         LiveVolumes {
-            chunks: Vec::new(alloc),
+            groups: Vec::new(alloc),
             young: Vec::new(alloc),
+            places: Places::new(alloc),
         }
     }
 
@@ -66,31 +78,27 @@ impl LiveVolumes {
         ensures { IfOk result (λ regions. (w : World) → AreKeptOnce self.now w
             → HoldNothingBeside w operator.now extents.now regions.items) }
     {
-        let Some((first, others)) = extents.split_first() else {
-            return Ok(Vec::new(alloc));
-        };
-        let theirs = self.theirs_in(alloc, operator, &whole_of(first, others))?;
-        joined(alloc, overlapping(alloc, extents, &theirs)?)
+        let mut near = at_most(alloc, extents, APART)?;
+        near.retain(|extent| self.has_theirs(operator, extent));
+        joined(alloc, near)
     }
 
-    // The bounds of other operators' volumes that meet a slab.
-    fn theirs_in(
-        &self,
-        alloc: Global,
-        operator: &Operator,
-        whole: &Slab,
-    ) -> Result<Vec<Slab>, AllocError>
-        ensures { IfOk result (λ theirs.
-            AddTheirs operator.now whole.now (volumes_of self.now) [] theirs.items) }
+    // Whether a volume of another operator is near an extent.
+    fn has_theirs(&self, operator: &Operator, extent: &Slab) -> bool
+        ensures { result ≡ has_theirs operator.now self.now extent.now }
     {
-        let mut theirs = Vec::new(alloc);
-        push_theirs_in(&mut theirs, &self.chunks, operator, whole)?;
-        push_theirs(&mut theirs, &self.young, operator, whole)?;
-        Ok(theirs)
+        self.groups
+            .iter()
+            .any(|group| group.has_theirs(operator, extent))
+            || self
+                .young
+                .iter()
+                .any(|live| live.is_theirs(operator, extent))
     }
 
     /// The plans of which one may hold a point of some extents, of those that are wanted; or none if they
-    /// aren't few.
+    /// aren't few. Several extents are asked one by one, as long as few chunks are looked into, and then all
+    /// as one: so at most `LOOKS` chunks are looked into, and then each volume once.
     ///
     /// # Errors
     ///
@@ -104,25 +112,59 @@ impl LiveVolumes {
         ensures { IfOk result (λ found. IfSome found (λ keys. (w : World) → AreKeptOnce self.now w
             → AreWantedPlans w wanted.now extents.now keys.items)) }
     {
-        self.near_plans(alloc, wanted, extents)
+        let (room, looks) = if extents.len() < 2 {
+            (FEW, usize::MAX)
+        } else {
+            (MOST, LOOKS)
+        };
+        let apart = self.near_plans(alloc, wanted, extents, room, looks)?;
+        if apart.is_some() {
+            return Ok(apart);
+        }
+        self.near_whole(alloc, wanted, extents)
     }
 
-    // The plans whose volumes are wanted and near, if they are few.
-    fn near_plans(
+    // The plans whose volumes are wanted and near a slab round all of several extents, if they are few.
+    fn near_whole(
         &self,
         alloc: Global,
         wanted: &Wanted,
         extents: &[Slab],
     ) -> Result<Option<Vec<PlanKey>>, AllocError>
-        ensures { IfOk result (λ found. IfSome found (λ keys. AreFenced self.now.chunks.items
+        ensures { IfOk result (λ found. IfSome found (λ keys. AreHedged self.now.groups.items
             → AreNearPlans wanted.now (slabs_have extents.now) (volumes_of self.now) keys.items)) }
     {
-        let room = extents.len().saturating_mul(MORE).saturating_add(FEW);
-        let mut near = NearPlans::new(alloc, room);
+        let Some((first, others)) = extents.split_first() else {
+            return Ok(None);
+        };
+        if others.is_empty() {
+            return Ok(None);
+        }
+        let whole = whole_of(first, others);
+        self.near_plans(alloc, wanted, slice::from_ref(&whole), MOST, usize::MAX)
+    }
+
+    // The plans whose volumes are wanted and near, if they have at most so many rows, and if at most so many
+    // chunks are looked into.
+    fn near_plans(
+        &self,
+        alloc: Global,
+        wanted: &Wanted,
+        extents: &[Slab],
+        room: usize,
+        looks: usize,
+    ) -> Result<Option<Vec<PlanKey>>, AllocError>
+        ensures { IfOk result (λ found. IfSome found (λ keys. AreHedged self.now.groups.items
+            → AreNearPlans wanted.now (slabs_have extents.now) (volumes_of self.now) keys.items)) }
+    {
+        let mut near = NearPlans::new(alloc, room, looks);
         for extent in extents {
             self.add_near(&mut near, wanted, extent)?;
+            if !near.is_whole {
+                return Ok(None);
+            }
         }
-        Ok(near.if_whole())
+        near.if_whole(alloc)
     }
 
     // Adds the plans of the volumes that are near.
@@ -132,10 +174,10 @@ impl LiveVolumes {
         wanted: &Wanted,
         extent: &Slab,
     ) -> Result<(), AllocError>
-        ensures { OnOk result (AreFenced self.now.chunks.items
+        ensures { OnOk result (AreHedged self.now.groups.items
             → AddsPlans wanted.now (slab_has extent.now) (volumes_of self.now) near.old near.new) }
     {
-        add_near_in(near, &self.chunks, wanted, extent)?;
+        add_near_in(near, &self.groups, wanted, extent)?;
         self.add_young(near, wanted, extent)
     }
 
@@ -173,25 +215,69 @@ impl LiveVolumes {
     pub fn follow(&mut self, change: &Change, fresh: &[LiveVolume])
         requires room { HasRoomForVolumes self.old (length fresh.now) }
         requires brought { AreBrought change.now fresh.now }
-        ensures same { volumes_of self.new
+        ensures same { ArePlaced self.old.places (volumes_under self.old.groups.items) → volumes_of self.new
             ≡ filter (stays_at change.now) (volumes_of self.old) ++ fresh.now }
         ensures kept { (w : World) → AreKeptOnce self.old w → AreKeptOnce self.new (changed_by change.now w) }
     {
-        leave_each(&mut self.chunks, change);
-        leave(&mut self.young, change);
+        self.take_out(change);
         push_all(&mut self.young, fresh);
     }
 
-    // Puts all volumes into chunks anew, if many are in none.
+    // Takes out the volumes of the plans that a change names.
+    fn take_out(&mut self, change: &Change)
+        ensures { HasLeft (stays_at change.now) self.old self.new }
+    {
+        match change {
+            Change::Enrol { .. } => {}
+            Change::Put { operator, row } => self.leave(operator, &row.id),
+            Change::Close { operator, id } => self.leave(operator, id),
+            Change::Clear { operator, ids } => self.leave_each(operator, ids),
+        }
+    }
+
+    // Takes out the volumes of an operator's plans of these ids.
+    fn leave_each(&mut self, operator: &Operator, ids: &[PlanId])
+        ensures { HasLeft (λ live. not (is_of_any operator.now ids.now live)) self.old self.new }
+    {
+        for id in ids {
+            self.leave(operator, id);
+        }
+    }
+
+    // Takes out the volumes of an operator's plan.
+    fn leave(&mut self, operator: &Operator, id: &PlanId)
+        ensures { HasLeft (is_beside operator.now id.now) self.old self.new }
+    {
+        leave(&mut self.young, operator, id);
+        let key = PlanKey {
+            operator: *operator,
+            id: *id,
+        };
+        leave_all(&mut self.groups, operator, id, self.places.of(&key));
+        self.places.forget(&key);
+    }
+
+    // Puts those that the last change brought into chunks.
     fn settle(&mut self, alloc: Global) -> Result<(), AllocError>
         ensures { (w : World) → AreKeptOnce self.old w → AreKeptOnce self.new w }
     {
-        let few = self.chunks.len().saturating_mul(2).saturating_add(YOUNG);
-        if self.young.len() <= few {
-            return Ok(());
+        for _ in 0..self.young.len() {
+            self.settle_one(alloc)?;
         }
-        self.chunks = rechunked(alloc, &self.chunks, &self.young)?;
-        self.young.clear();
+        Ok(())
+    }
+
+    // Puts the last of them into a chunk.
+    fn settle_one(&mut self, alloc: Global) -> Result<(), AllocError>
+        ensures { (w : World) → AreKeptOnce self.old w → AreKeptOnce self.new w }
+    {
+        let Some((last, rest)) = self.young.split_last() else {
+            return Ok(());
+        };
+        let (live, left) = (*last, rest.len());
+        self.places.add(alloc, &live)?;
+        insert(alloc, &mut self.groups, &live)?;
+        self.young.truncate(left);
         Ok(())
     }
 }
@@ -233,8 +319,11 @@ impl Gathering {
         ensures { IfOk result (λ kept. (w : World) → IsStrictlySortedBy filed_cmp w.plans
             → AreVolumes w.plans (gathered_in self) → AreKeptOnce kept w) }
     {
+        let mut volumes = self.volumes;
+        put_in_order(&mut volumes);
         Ok(LiveVolumes {
-            chunks: rechunked(alloc, &[], &self.volumes)?,
+            groups: grouped(alloc, &volumes)?,
+            places: places_of(alloc, &volumes)?,
             young: Vec::new(alloc),
         })
     }

@@ -1,20 +1,21 @@
 //! The plans whose volumes are near extents, as long as they have few rows.
 
-ghost use Rattle.std.specs.Prelude.{◌≡◌, ◌∷◌, [], true, IfSome, OnOk};
+ghost use Rattle.std.specs.Prelude.{◌≡◌, ◌∷◌, [], true, IfOk, IfSome, OnOk};
 ghost use Rattle.volume4d.specs.Slab.{slab_has};
-ghost use Rattle.desk_live.specs.Near.{AddsPlans, TakesPlan, is_among};
+ghost use Rattle.desk_live.specs.Near.{AddsPlans, LooksOn, TakesPlan, is_among};
 
 use crate::volume::LiveVolume;
 use desk_rules::operator::Operator;
 use desk_rules::plan_id::PlanId;
 use std::alloc::{AllocError, Global};
+use std::collections::BTreeSet;
 use volume4d::Slab;
 
 // What one more question costs, as so many rows.
 const QUESTION: usize = 10;
 
 /// The key of a plan.
-#[derive(Clone, Copy, Debug)]
+#[derive(Clone, Copy, Debug, PartialEq, Eq, PartialOrd, Ord)]
 pub struct PlanKey {
     pub operator: Operator,
     pub id: PlanId,
@@ -29,26 +30,37 @@ pub struct Wanted {
     pub least: u32,
 }
 
-/// Plans that are near.
+/// Plans that are near, each once.
 #[derive(Drop)]
 pub(crate) struct NearPlans {
-    keys: Vec<PlanKey>,
+    keys: BTreeSet<PlanKey>,
     // how many rows more they may have
     room: usize,
-    // whether all that were near are listed
-    is_whole: bool,
+    // how many chunks more may be looked into
+    looks: usize,
+    // whether all that were near are listed; if not, nothing more is
+    pub(crate) is_whole: bool,
 }
 
 impl NearPlans {
-    /// None yet, with room for those of so many rows.
-    pub(crate) fn new(alloc: Global, room: usize) -> NearPlans
-        ensures keys { result.keys.items ≡ [] }
+    /// None yet, with room for those of so many rows. So many chunks are looked into at most.
+    pub(crate) fn new(alloc: Global, room: usize, looks: usize) -> NearPlans
+        ensures keys { result.keys.keys ≡ [] }
     {
         NearPlans {
-            keys: Vec::new(alloc),
+            keys: BTreeSet::new(alloc),
             room,
+            looks,
             is_whole: true,
         }
+    }
+
+    /// Counts a chunk that is looked into.
+    pub(crate) fn look(&mut self)
+        ensures { LooksOn self.old self.new }
+    {
+        self.is_whole = self.is_whole && self.looks > 0;
+        self.looks = self.looks.saturating_sub(1);
     }
 
     /// Adds the plan of a volume, if that is near.
@@ -79,11 +91,9 @@ impl NearPlans {
 
     // Whether the plan of a volume is listed.
     fn has(&self, live: &LiveVolume) -> bool
-        ensures { result ≡ is_among self.now.keys.items live.now }
+        ensures { result ≡ is_among self.now.keys.keys live.now }
     {
-        self.keys
-            .iter()
-            .any(|key| live.is_of(&key.operator, &key.id))
+        self.keys.contains(&live.key())
     }
 
     // Adds the plan of a volume, if there is room for it.
@@ -96,15 +106,27 @@ impl NearPlans {
             return Ok(());
         }
         self.room -= rows;
-        self.keys.push(live.key())?;
+        self.keys.insert(live.key())?;
         Ok(())
     }
 
     /// The plans, if all that were near are listed.
-    pub(crate) fn if_whole(self) -> Option<Vec<PlanKey>>
-        ensures { IfSome result (λ keys. (keys.items ≡ self.keys.items) × (self.is_whole ≡ true)) }
+    ///
+    /// # Errors
+    ///
+    /// `AllocError` if memory runs out.
+    pub(crate) fn if_whole(self, alloc: Global) -> Result<Option<Vec<PlanKey>>, AllocError>
+        ensures { IfOk result (λ found. IfSome found (λ keys.
+            (keys.items ≡ self.keys.keys) × (self.is_whole ≡ true))) }
     {
-        if self.is_whole { Some(self.keys) } else { None }
+        if !self.is_whole {
+            return Ok(None);
+        }
+        let mut keys = Vec::new(alloc);
+        for key in self.keys {
+            keys.push(key)?;
+        }
+        Ok(Some(keys))
     }
 }
 

@@ -1,13 +1,13 @@
 //! Regions: extents near which volumes of other operators lie, joined where they overlap.
 
 ghost use Rattle.std.specs.Prelude.{◌≡◌, ◌∷◌, None, cond, IfOk, OnOk};
-ghost use Rattle.std.specs.List.{list_any};
-ghost use Rattle.volume4d.specs.Bounds.{HasAll, overlap};
+ghost use Rattle.volume4d.specs.Bounds.{HasAll};
 ghost use Rattle.volume4d.specs.Slab.{slab_has, slabs_have, top_held};
 ghost use Rattle.desk_store.specs.Rivals.{AddsLevel};
-ghost use Rattle.desk_live.specs.Regions.{HaveEach, HaveShared};
+ghost use Rattle.desk_live.specs.Regions.{HaveEach};
 
 use std::alloc::{AllocError, Global};
+use std::slice;
 use volume4d::{Held, Slab};
 
 /// A slab round some extents.
@@ -21,32 +21,20 @@ pub fn whole_of(first: &Slab, others: &[Slab]) -> Slab
     whole
 }
 
-/// Those of some extents that overlap one of some slabs.
+/// Some extents, or one slab round all of them if there are more than so many.
 ///
 /// # Errors
 ///
 /// `AllocError` if memory runs out.
-pub(crate) fn overlapping(
-    alloc: Global,
-    extents: &[Slab],
-    slabs: &[Slab],
-) -> Result<Vec<Slab>, AllocError>
-    ensures { IfOk result (λ wanted. HaveShared extents.now slabs.now wanted.items) }
+pub(crate) fn at_most(alloc: Global, extents: &[Slab], most: usize) -> Result<Vec<Slab>, AllocError>
+    ensures { IfOk result (λ fewer. HaveEach extents.now fewer.items) }
 {
-    let mut wanted = Vec::new(alloc);
-    for extent in extents {
-        if overlaps_one(extent, slabs) {
-            wanted.push(*extent)?;
+    match extents.split_first() {
+        Some((first, others)) if most <= others.len() => {
+            Vec::from_slice(alloc, slice::from_ref(&whole_of(first, others)))
         }
+        _ => Vec::from_slice(alloc, extents),
     }
-    Ok(wanted)
-}
-
-// Whether an extent overlaps one of some slabs.
-fn overlaps_one(extent: &Slab, slabs: &[Slab]) -> bool
-    ensures { result ≡ list_any (overlap extent.now) slabs.now }
-{
-    slabs.iter().any(|slab| extent.overlaps(slab))
 }
 
 /// Extents, those that overlap along the curve joined.

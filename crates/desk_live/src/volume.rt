@@ -8,6 +8,7 @@ ghost use Rattle.desk_live.specs.Near as near;
 ghost use Rattle.desk_live.specs.Regions as regions;
 
 use crate::near::{PlanKey, Wanted};
+use crate::order::place_of;
 use desk_rules::operator::Operator;
 use desk_rules::plan::PlanRow;
 use desk_rules::plan_id::PlanId;
@@ -24,6 +25,8 @@ pub struct LiveVolume {
     pub(crate) bounds: Slab,
     // about how many rows of spans the plan has, of which no clause speaks
     pub(crate) rows: usize,
+    // where it stands in the order of chunks, of which no clause speaks
+    pub(crate) place: u128,
 }
 
 impl LiveVolume {
@@ -41,12 +44,14 @@ impl LiveVolume {
         ensures { IfOk result (IsLiveVolume (filed_by operator.now row.now) volume.now) }
     {
         let slabs = volume.slabs()?;
+        let bounds = bounds_of(&slabs);
         Ok(LiveVolume {
             operator: *operator,
             id: row.id,
             priority: row.priority,
-            bounds: bounds_of(&slabs),
+            bounds,
             rows: slabs.len().saturating_mul(row.area.volumes().len()),
+            place: place_of(&bounds),
         })
     }
 

@@ -1,9 +1,10 @@
 -- What a loop over slots comes to, from one slot on.
-use Rattle.std.proofs.Common.{◌≡◌, ◌<◌, ◌≤◌, ◌+◌, ◌-◌, ℕ, suc, Bool, true, false, List, ◌++◌, drop, length, take, length-append, IfSome, OnOk, Result, Ok, Err, Option, None, Some, option_and_then, if◌then◌else◌, ◌&&◌, ap, arith, sym, subst, ◌∙◌}
-use Rattle.std.proofs.lemmas.List.{drop_at, take_at}
+use Rattle.std.proofs.Common.{◌≡◌, ◌<◌, ◌≤◌, ◌+◌, ◌-◌, ℕ, suc, Bool, true, false, List, ◌++◌, drop, length, take, length-append, IfOk, IfSome, OnOk, Result, Ok, Err, Option, None, Some, is_some, option_and_then, if◌then◌else◌, ◌&&◌, ap, arith, refl, sym, subst, ◌∙◌}
+use Rattle.std.proofs.lemmas.List.{drop_at, get_or_append_left, take_at}
+use Rattle.sqlite_wal.specs.PageSize.{IsPageSize, size_in_file}
 use Rattle.std.specs.Fmt.{option_append}
 use Rattle.std.specs.Io.KnownBytes.{Appends, Consumes}
-use Rattle.desk_pages.specs.Orders.{mended, ordered_file, ordered_page, with_sums, are_moved, is_moved_by_name, is_slot_named, placed, placed_by_name, slot_from}
+use Rattle.desk_pages.specs.Orders.{has_other_order, mended, ordered, ordered_file, ordered_page, with_sums, are_moved, is_moved_by_name, is_slot_named, placed, placed_by_name, slot_from}
 
 less_one : (n k : ℕ) → k < n → n - k ≡ suc (n - (k + 1))
 less_one n k less = omega (arith, less)
@@ -115,3 +116,62 @@ mended_all (Ok u) None whole size len sums out now long is given = tt
 mended_all (Ok u) (Some bytes) whole size len sums out now long is given = λ same.
     subst (λ w. IfSome w (λ it. length it ≡ len
     → Appends out now (with_sums sums size it))) is given (long ∙ same)
+
+-- ---- a file of which the header is read, and then the first page
+
+first_of : (after : Option (List ℕ)) (front page bytes : List ℕ) (size : ℕ) → front ≡ bytes
+    → Consumes (Some front) after page → length page ≡ size → page ≡ take size bytes
+first_of None front page bytes size is read long = absurd read
+first_of (Some rest) front page bytes size is read long =
+    sym (ap (take size) (sym is ∙ read) ∙ take_at page rest size long)
+
+-- the header says what the file says
+pub header_says : (known left : Option (List ℕ)) (header : List ℕ) → length header ≡ 24
+    → Consumes known left header → IfSome known (λ bytes. size_in_file bytes ≡ size_in_file header)
+header_says None left header long took = tt
+header_says (Some bytes) None header long took = absurd took
+header_says (Some bytes) (Some rest) header long took =
+    let more = length-append header rest in
+    let first = get_or_append_left header rest 0 16 (omega (arith, long)) in
+    let second = get_or_append_left header rest 0 17 (omega (arith, long)) in
+    rw took (grind (arith, long, more, first, second))
+
+-- a page is read of the header and what is left of the file
+pub page_read : {U E : Type 0} (done : Result U E) (left whole after : Option (List ℕ)) (header page : List ℕ)
+    → whole ≡ option_append (Some header) left → OnOk done (Consumes whole after page)
+    → OnOk done (IfSome left (λ rest. page ≡ take (length page) (header ++ rest)))
+page_read (Err e) left whole after header page is read = tt
+page_read (Ok u) None whole after header page is read = tt
+page_read (Ok u) (Some rest) whole after header page is read =
+    first_of after (header ++ rest) page (header ++ rest) (length page) refl
+    (subst (λ w. Consumes w after page) is read) refl
+
+-- whether it lists a desk's tables so is told of it
+pub page_told : (left : Option (List ℕ)) (told : Bool) (header page : List ℕ) (size : ℕ)
+    → IfSome left (λ rest. page ≡ take (length page) (header ++ rest)) → length page ≡ size
+    → told ≡ is_some (ordered page)
+    → IfSome left (λ rest. told ≡ is_some (ordered (take size (header ++ rest))))
+page_told None told header page size is long says = tt
+page_told (Some rest) told header page size is long says =
+    says ∙ ap (λ p. is_some (ordered p)) (is ∙ ap (λ n. take n (header ++ rest)) long)
+
+-- and so of the file
+pub file_told : {E : Type 0} (done : Result Bool E) (known left : Option (List ℕ)) (header : List ℕ) (size : ℕ)
+    → Consumes known left header → IfSome known (λ bytes. size_in_file bytes ≡ size_in_file header)
+    → size ≡ size_in_file header
+    → IfOk done (λ told. IfSome left (λ rest. told ≡ is_some (ordered (take size (header ++ rest)))))
+    → IfOk done (λ told. IfSome known (λ bytes. IsPageSize (size_in_file bytes) → told ≡ has_other_order bytes))
+file_told (Err e) known left header size took says named told = tt
+file_told (Ok it) None left header size took says named told = tt
+file_told (Ok it) (Some bytes) None header size took says named told = absurd took
+file_told (Ok it) (Some bytes) (Some rest) header size took says named told = λ sized.
+    told ∙ ap (λ p. is_some (ordered p))
+    (ap (take size) (sym took) ∙ ap (λ n. take n bytes) (named ∙ sym says))
+
+-- a file that says no size of its pages
+pub is_sized : {E : Type 0} (done : Result Bool E) (known : Option (List ℕ)) (header : List ℕ)
+    → IfSome known (λ bytes. size_in_file bytes ≡ size_in_file header) → IsPageSize (size_in_file header)
+    → IfOk done (λ told. IfSome known (λ bytes. ¬ IsPageSize (size_in_file bytes) → told ≡ false))
+is_sized (Err e) known header says is = tt
+is_sized (Ok told) None header says is = tt
+is_sized (Ok told) (Some bytes) header says is = λ none. absurd (none (subst IsPageSize (sym says) is))

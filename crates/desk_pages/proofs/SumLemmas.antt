@@ -1,7 +1,7 @@
 -- What is left of pages that are copied, or counted, one after the other.
-use Rattle.std.proofs.Common.{◌≡◌, ◌<◌, ◌≤◌, ◌+◌, ◌-◌, ℕ, suc, List, [], ◌++◌, take, drop, Option, None, Some, IfSome, append-nil, append_assoc, ap, arith, refl, sym, subst, ◌∙◌}
-use Rattle.std.proofs.KnownBytes.{Appends-nil, Appends-trans}
-use Rattle.std.specs.Io.KnownBytes.{Appends, Consumes, IsAtEnd}
+use Rattle.std.proofs.Common.{◌≡◌, ◌<◌, ◌+◌, ◌-◌, ℕ, suc, List, ◌++◌, take, drop, Option, None, Some, IfSome, append-nil, append_assoc, ap, arith, refl, sym, subst, ◌∙◌}
+use Rattle.std.proofs.KnownBytes.{Appends-trans}
+use Rattle.std.specs.Io.KnownBytes.{Appends, Consumes}
 use Rattle.desk_pages.specs.Sums.{summed, summed_pages, unsummed_page, unsummed_pages}
 
 -- k of so many pages are copied

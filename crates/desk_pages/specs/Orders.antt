@@ -1,8 +1,9 @@
 -- Orders: the order in which a file lists its tables and indexes. They are rows of a table whose root is the
 -- file's first page, in the order of their rowids (the SQLite file format, sections 1.6, 2.1 and 2.6); the
 -- desk finds the rows of a table by the rowid under which it is listed.
-use Rattle.std.specs.Prelude.{ℕ, zero, suc, ◌+◌, ◌-◌, ◌*◌, ◌/◌, ◌==◌, ◌≤◌, nat_lt, nat_le, ◌&&◌, not, Bool, true, false, if◌then◌else◌, List, [], ◌∷◌, ◌++◌, take, drop, length, codes, slice_index_or, slice_set, Option, None, Some, option_map, option_and_then, unwrap_or}
+use Rattle.std.specs.Prelude.{ℕ, zero, suc, ◌+◌, ◌-◌, ◌*◌, ◌/◌, ◌==◌, ◌≤◌, nat_lt, nat_le, ◌&&◌, not, Bool, true, false, if◌then◌else◌, List, [], ◌∷◌, ◌++◌, take, drop, length, codes, slice_index_or, slice_set, Option, None, Some, is_some, option_map, option_and_then, unwrap_or}
 use Rattle.std.specs.Str.{bytes_eq}
+use Rattle.sqlite_wal.specs.PageSize.{size_in_file}
 use Rattle.desk_pages.specs.Header.{byte}
 use Rattle.desk_pages.specs.Sums.{summed_file}
 
@@ -146,6 +147,10 @@ ordered page = if is_other page
     then option_and_then (λ new. if are_moved false page new 0 (count page) then Some new else None)
     (placed page 0 (count page) page)
     else None
+
+-- so of a file's first page
+abbrev pub has_other_order : List ℕ → Bool
+has_other_order bytes = is_some (ordered (take (size_in_file bytes) bytes))
 
 -- so, or else as it is
 abbrev pub ordered_page : List ℕ → List ℕ

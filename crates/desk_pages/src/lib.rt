@@ -7,6 +7,6 @@ mod header;
 mod orders;
 mod sums;
 
-pub use committing::{Unordered, order_first, put_in_order};
+pub use committing::{Ordered, Unordered, is_in_order, order_first, put_in_order};
 pub use orders::{copy_in_order, copy_mended, has_other_order, order_page, order_text};
 pub use sums::{copy_bytes, copy_summed, count_unsummed, give_sum, has_sums, pages_without_sums};

@@ -1,14 +1,14 @@
 //! The order in which a file lists its tables and indexes, by its first page.
 
-ghost use Rattle.std.specs.Prelude.{◌≡◌, ◌≤◌, ◌<◌, length, is_some, IfSome, None, OnOk, Some, false, true};
+ghost use Rattle.std.specs.Prelude.{◌≡◌, ◌≤◌, ◌<◌, ◌++◌, length, take, is_some, IfOk, IfSome, None, OnOk, Some, false, true};
 ghost use Rattle.std.specs.Fmt.{option_append};
 ghost use Rattle.std.specs.Io.KnownBytes.{Appends};
-ghost use Rattle.sqlite_wal.specs.PageSize.{bytes_of};
+ghost use Rattle.sqlite_wal.specs.PageSize.{IsPageSize, bytes_of, size_in_file};
 ghost use Rattle.desk_pages.specs.Orders as spec;
 ghost use Rattle.desk_pages.specs.Orders.{IsFirstPage};
 
 use crate::header::{HEADER, MAX_PAGE, byte, keeps_sums, page_size_in};
-use crate::sums::{copy_bytes, copy_summed, read_header};
+use crate::sums::{copy_bytes, copy_summed, open_regular};
 use sqlite_wal::PageSize;
 use std::fs::File;
 use std::io::{self, ErrorKind, Read, Seek, Write};
@@ -360,19 +360,53 @@ fn read_in_order<R: Read>(file: &mut R, page: &mut [u8]) -> io::Result<()>
 /// order than the desk takes; not if it can't be read. One with a log is not told by it: its first page may
 /// stand in the log anew.
 pub fn has_other_order(rt: &HostRuntime, path: &str) -> bool {
-    matches!(reads_disordered(rt, path), Ok(true))
+    match open_regular(rt, path) {
+        Ok(mut file) => matches!(reads_disordered(&mut file), Ok(true)),
+        Err(_) => false,
+    }
 }
 
-fn reads_disordered(rt: &HostRuntime, path: &str) -> io::Result<bool> {
+// Whether a file lists, on its first page, the tables and indexes of a desk, or the first few of them, in
+// another order than the desk takes. One that says no size of its pages does not.
+fn reads_disordered<R: Read>(file: &mut R) -> io::Result<bool>
+    ensures said { IfOk result (λ is. IfSome (R.remaining file.old) (λ bytes.
+        IsPageSize (size_in_file bytes) → is ≡ spec.has_other_order bytes)) }
+    ensures none { IfOk result (λ is. IfSome (R.remaining file.old) (λ bytes.
+        ¬ IsPageSize (size_in_file bytes) → is ≡ false)) }
+{
     let mut header = [0u8; HEADER];
-    read_header(rt, path, &mut header)?;
-    let Some(size) = page_size_in(&header) else {
-        return Ok(false);
-    };
+    file.read_exact(&mut header)?;
+    match page_size_in(&header) {
+        Some(size) => reads_page(file, &header, size),
+        None => Ok(false),
+    }
+}
+
+// The same of a file whose header was read, by its first page, which has this size.
+fn reads_page<R: Read>(file: &mut R, header: &[u8; HEADER], size: PageSize) -> io::Result<bool>
+    ensures { IfOk result (λ is. IfSome (R.remaining file.old) (λ rest.
+        is ≡ is_some (spec.ordered (take (bytes_of size) (header.now ++ rest))))) }
+{
     let mut room = [0u8; MAX_PAGE];
     let page = &mut room[..size.bytes()];
-    read_header(rt, path, page)?;
+    read_page(file, header, size, page)?;
     Ok(is_disordered(page))
+}
+
+// Reads the first page of a file whose header was read; it has this size.
+fn read_page<R: Read>(
+    file: &mut R,
+    header: &[u8; HEADER],
+    size: PageSize,
+    page: &mut [u8],
+) -> io::Result<()>
+    requires { length page.old ≡ bytes_of size }
+    ensures length { length page.new ≡ bytes_of size }
+    ensures page { OnOk result (IfSome (R.remaining file.old) (λ rest.
+        page.new ≡ take (length page.new) (header.now ++ rest))) }
+{
+    let mut whole = (&header[..]).chain(file);
+    whole.read_exact(page)
 }
 
 /// Copies the file of a database, mended: the rows of its first page in a desk's own order, if they are those

@@ -29,7 +29,7 @@ pub fn pages_without_sums(rt: &HostRuntime, path: &str) -> Option<u64> {
 // The size of a page of the database at a path, if its pages have sums.
 fn summed_size(rt: &HostRuntime, path: &str) -> Option<PageSize> {
     let mut header = [0u8; HEADER];
-    read_header(rt, path, &mut header).ok()?;
+    open_regular(rt, path).ok()?.read_exact(&mut header).ok()?;
     summed_size_in(&header)
 }
 
@@ -46,16 +46,16 @@ fn summed_size_in(header: &[u8; HEADER]) -> Option<PageSize>
     page_size_in(header)
 }
 
-/// Reads the first bytes of a file. What is no regular file is not opened: a pipe would wait for a writer.
+/// Opens a file to be read. What is no regular file is not opened: a pipe would wait for a writer.
 ///
 /// # Errors
 ///
-/// What the reading failed with; `Unsupported` if it is no regular file.
-pub fn read_header(rt: &HostRuntime, path: &str, header: &mut [u8]) -> io::Result<()> {
+/// What the opening failed with; `Unsupported` if it is no regular file.
+pub fn open_regular(rt: &HostRuntime, path: &str) -> io::Result<File> {
     if !fs::metadata(rt, path)?.is_file() {
         return Err(io::Error::from(ErrorKind::Unsupported));
     }
-    File::open(rt, path)?.read_exact(header)
+    File::open(rt, path)
 }
 
 /// Copies a file of so many bytes page by page, each with its sum in the place of its last bytes.

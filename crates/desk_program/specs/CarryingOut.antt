@@ -1,5 +1,5 @@
 -- CarryingOut: what comes of a line that is carried out at a desk.
-use Rattle.std.specs.Prelude.{◌≡◌, Option, None}
+use Rattle.std.specs.Prelude.{◌≡◌, ℕ, Bool, List, Option, None}
 use Rattle.desk_store.specs.declared.store.PlanStore.{Ghosts}
 use Rattle.desk_store.specs.StoreFaults.{IsHonest}
 use Rattle.desk_store.specs.StoreFrames.{Remembers}
@@ -9,9 +9,11 @@ use Rattle.desk_line.specs.declared.failure.Failure.{Failure}
 use Rattle.desk_line.specs.declared.line.Line.{Line}
 use Rattle.desk_line.specs.declared.line.Line.TheVariants as line
 use Rattle.desk_line.specs.Exits.{FailsWith}
+use Rattle.desk_line.specs.Lines.{IsEnrol, IsPlay}
+use Rattle.desk_wire.specs.Passage.{Course, Passage}
 use Rattle.desk_program.specs.EndCauses.{HasCause}
 use Rattle.desk_program.specs.Keeping.{IsLineKept}
-use Rattle.desk_program.specs.Outside.{Outside}
+use Rattle.desk_program.specs.Outside.{Outside, streamed}
 use Rattle.desk_program.specs.PlayLines.{IsEnrolled, IsPlayDone}
 use Rattle.desk_program.specs.Serving.{IsLineServed}
 
@@ -35,6 +37,24 @@ pub record CarriesOut {S : Type 0} (g : Ghosts S) (line : Line) (o : Outside) (o
         (world_of g.content old) (world_of g.content new))
     pub cause : HasCause g old new o.end
     pub remembered : Remembers g.doubt g.faults g.is_shielded old.store new.store
+
+-- a line that takes no connection, and its numbers are in their ranges
+abbrev pub IsPortless : Line → Type 0
+IsPortless (line.Play play) = IsPlay play
+IsPortless (line.Serve serve) = ⊥
+IsPortless (line.Enrol enrol) = IsEnrol enrol
+
+-- a line that takes no connection is carried out at a desk, and ends with this status: whether the line of
+-- its failure was broken off isn't told
+pub record EndsWithStatus {S : Type 0} (g : Ghosts S) (line : Line) (status : ℕ) (bytes : Passage)
+    (errors : Course (Option (List ℕ))) (old new : Parts S) : Type 0 where
+  pub cut : Bool
+  pub carried : CarriesOut g line (streamed bytes (record {
+    status = status;
+    cut = cut;
+    before = errors.before;
+    now = errors.after;
+  })) old new
 
 -- no desk was opened: the line ends with that failure, no connection is taken, nothing is read, and nothing
 -- is written

@@ -6,7 +6,7 @@ use Rattle.desk_wire.specs.Passage.{Course, Passage, course, passage}
 use Rattle.desk_line.specs.declared.failure.Exit.{Exit}
 use Rattle.desk_line.specs.Exits.{Ending, ending}
 use Rattle.desk_program.specs.declared.running.Streams.{Streams}
-use Rattle.desk_program.specs.Serving.{Traffic}
+use Rattle.desk_program.specs.Serving.{Traffic, untold}
 
 -- the bytes of the streams; what the port told before and tells after; the end
 pub record Outside : Type 0 where
@@ -31,3 +31,7 @@ outside r w e old new port exit = record {
   port = port;
   end = ended e exit old.errors new.errors;
 }
+
+-- streams, and how the line ended, where no port is asked
+abbrev pub streamed : Passage → Ending → Outside
+streamed bytes end = record { bytes = bytes; port = course untold untold; end = end }

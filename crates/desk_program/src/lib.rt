@@ -16,6 +16,6 @@ pub use looking::{CheckedFile, print_checked, print_copied};
 pub use moving::print_migrated;
 pub use port::{Connection, Outcome, Port, Register};
 pub use program::{enrol, play, set_up};
-pub use running::{Streams, run_opened};
+pub use running::{Streams, run_opened, with_desk};
 pub use server::{play_port, serve};
 pub use timed::{PATIENCE, Timed};

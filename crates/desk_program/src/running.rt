@@ -3,9 +3,9 @@
 ghost use Rattle.std.specs.Prelude.{IfErr, IfOk};
 ghost use Rattle.std.specs.Option.{IsSomeAnd};
 ghost use Rattle.desk_line.specs.Lines.{IsLine};
-ghost use Rattle.desk_wire.specs.Passage.{course};
-ghost use Rattle.desk_program.specs.Outside.{outside};
-ghost use Rattle.desk_program.specs.CarryingOut.{CarriesOut, IsUnopened};
+ghost use Rattle.desk_wire.specs.Passage.{course, passage};
+ghost use Rattle.desk_program.specs.Outside.{bytes_written, ended, outside, streamed};
+ghost use Rattle.desk_program.specs.CarryingOut.{CarriesOut, EndsWithStatus, IsPortless, IsUnopened};
 
 use crate::port::Port;
 use crate::program::{enrol, play};
@@ -70,5 +70,42 @@ fn carry_out<S: PlanStore, P: Port, R: Read + Drop, W: Write + Drop, E: Write + 
         Line::Play(words) => play(alloc, words, desk, &mut streams.input, output, errors),
         Line::Serve(words) => serve(alloc, port, words, desk, output, errors),
         Line::Enrol(words) => enrol(alloc, &words.enrolment, desk, output, errors),
+    }
+}
+
+/// Does what a line of `play` or `enrol` says at a desk, and answers the exit status. The word of a failure
+/// goes to `errors`; a fault there is passed over.
+pub fn with_desk<S: PlanStore, R: Read, W: Write, E: Write>(
+    alloc: Global,
+    line: &Line,
+    desk: &mut Desk<S>,
+    input: &mut R,
+    output: &mut W,
+    errors: &mut E,
+) -> u8
+    requires { IsPortless line.now }
+    ensures { EndsWithStatus S.PlanStore line.now result (passage R.Read W.Write input.old input.new output.old
+        output.new) (bytes_written E.Write errors.old errors.new) desk.old desk.new }
+{
+    carry_out_portless(alloc, line, desk, input, output, errors).status
+}
+
+// Does what a line of `play` or `enrol` says at a desk, and answers how it ended.
+fn carry_out_portless<S: PlanStore, R: Read, W: Write, E: Write>(
+    alloc: Global,
+    line: &Line,
+    desk: &mut Desk<S>,
+    input: &mut R,
+    output: &mut W,
+    errors: &mut E,
+) -> Exit<E>
+    requires { IsPortless line.now }
+    ensures { CarriesOut S.PlanStore line.now (streamed (passage R.Read W.Write input.old input.new output.old
+        output.new) (ended E.Write result errors.old errors.new)) desk.old desk.new }
+{
+    match line {
+        Line::Play(given) => play(alloc, given, desk, input, output, errors),
+        Line::Enrol(given) => enrol(alloc, &given.enrolment, desk, output, errors),
+        Line::Serve(_) => unreachable!(),
     }
 }

@@ -11,7 +11,7 @@ use Rattle.desk_rules.specs.declared.call.Asked.{Asked}
 use Rattle.desk_store.specs.World.{World}
 use Rattle.desk_run.specs.DeskWorld.{DeskWorld, enrolled, with_content}
 use Rattle.desk_run.specs.Verdicts.{step}
-use Rattle.desk_run.specs.laws.Repeat.{step_again}
+use Rattle.desk_run.proofs.lemmas.Repeat.{step_again}
 use Rattle.desk_wire.specs.Bytes.{world_after}
 use Rattle.desk_wire.specs.RequestsKept.{IsCertain}
 use Rattle.desk_wire.specs.Passage.{Course, passed}

@@ -8,7 +8,7 @@ use Rattle.std.specs.Ordering.{ordering_then, ordering_reverse, nat_cmp, int_cmp
 use Rattle.std.specs.Cmp.{IsTotalOrder}
 use Rattle.std.proofs.lemmas.Cmp.{nat_cmp_total, int_cmp_total, on_total, then_total}
 use Rattle.s2_hilbert.specs.Curve.{position_of}
-use Rattle.s2_hilbert.specs.laws.Curve.{same_leaf}
+use Rattle.s2_hilbert.proofs.lemmas.Curve.{same_leaf}
 use Rattle.s2_cellid.specs.Family.{leaf_id}
 use Rattle.volume4d.specs.Point.{Point, is_leaf, point_cmp}
 use Rattle.volume4d.specs.Volume.{Block, area_has}
@@ -22,8 +22,8 @@ use Rattle.volume4d.specs.Meeting.{Spot, IsFirst, IsFirstPoint, IsFirstSpot}
 use Rattle.desk_rules.specs.Bridge.{AreSlabsOf, HoldLevels, HoldLevelsAmong, is_blocked_among}
 use Rattle.desk_rules.specs.Search.{first_pair}
 use Rattle.desk_rules.specs.Conflict.{is_blocked, IsConflict, first_point, point_of, conflict, at_least}
-use Rattle.volume4d.specs.laws.Point.{leaf_test}
-use Rattle.volume4d.specs.laws.Volume.{area_leaf}
+use Rattle.volume4d.proofs.lemmas.Point.{leaf_test}
+use Rattle.volume4d.proofs.lemmas.Volume.{area_leaf}
 use Rattle.desk_rules.proofs.PointTests.{point_by_position}
 use Rattle.std.proofs.lemmas.Bool.{and_parts, false_from_ne_true}
 use Rattle.std.proofs.lemmas.Bool.Decides.{nat_tests}

@@ -1,3 +1,4 @@
+pub mod lemmas
 pub mod Options
 pub mod NameTexts
 pub mod PointTests

@@ -1,9 +1,9 @@
 -- Points by the positions of their leaves along the curve.
 use Rattle.std.proofs.Common.{◌≡◌, true}
 use Rattle.s2_hilbert.specs.Curve.{position_of}
-use Rattle.s2_hilbert.specs.laws.Curve.{leaf_undone}
+use Rattle.s2_hilbert.proofs.lemmas.Curve.{leaf_undone}
 use Rattle.volume4d.specs.Point.{Point, is_leaf}
-use Rattle.volume4d.specs.laws.Point.{leaf_test}
+use Rattle.volume4d.proofs.lemmas.Point.{leaf_test}
 use Rattle.desk_rules.specs.Conflict.{point_of}
 
 -- a point with a leaf, by the leaf's position

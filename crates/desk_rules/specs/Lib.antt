@@ -12,4 +12,3 @@ pub mod Conflict
 pub mod Bridge
 pub mod Replies
 pub mod Sharing
-pub mod laws

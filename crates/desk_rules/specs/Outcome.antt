@@ -152,14 +152,9 @@ unfoldable pub outcome_under : PutCall → ℤ → Option States → Standing �
 outcome_under call moment stored standing conflict =
     verdict_from call stored conflict (note_from call moment stored standing (is_some conflict))
 
--- the same at a desk where an operator's live plans may have any number of spans, by the number of the
--- operator's plans and its ceiling
-unfoldable pub outcome_from : PutCall → ℤ → Option States → ℕ → ℕ → Option Spot → Verdict
-outcome_from call moment stored own_rows ceiling conflict =
-    outcome_under call moment stored
-    (record { own_rows = own_rows; ceiling = ceiling; is_over = false }) conflict
-
--- the same given the plan itself
+-- the same given the plan itself, at a desk where an operator's live plans may have any number of spans,
+-- by the number of the operator's plans and its ceiling
 unfoldable pub outcome : PutCall → ℤ → Option PlanRow → ℕ → ℕ → Option Spot → Verdict
 outcome call moment stored own_rows ceiling conflict =
-    outcome_from call moment (states_of stored) own_rows ceiling conflict
+    outcome_under call moment (states_of stored)
+    (record { own_rows = own_rows; ceiling = ceiling; is_over = false }) conflict

@@ -4,7 +4,7 @@ ghost use Rattle.std.specs.Prelude.{◌≡◌, ◌∷◌, [], ◌&&◌, None, po
 ghost use Rattle.std.specs.Option.{option_copied};
 ghost use Rattle.desk_rules.specs.declared.words.Note.TheVariants as notes;
 ghost use Rattle.desk_rules.specs.declared.words.PlanResult.TheVariants as results;
-ghost use Rattle.desk_rules.specs.Outcome.{outcome, outcome_from, outcome_under, has_ended, is_beyond_horizon, step_status, step_effect, styled_effect, note_from, first_note, note_where, refused_result, shown_conflict};
+ghost use Rattle.desk_rules.specs.Outcome.{outcome, outcome_under, has_ended, is_beyond_horizon, step_status, step_effect, styled_effect, note_from, first_note, note_where, refused_result, shown_conflict};
 ghost use Rattle.desk_rules.specs.Limits.{max_plans, max_ahead};
 ghost use Rattle.desk_rules.specs.States as spec;
 ghost use Rattle.desk_rules.specs.States.{status_in_use, is_offered};
@@ -81,31 +81,17 @@ pub fn decide(
     ensures { result ≡
         outcome call.now moment (option_copied stored.entry) own_rows ceiling meeting }
 {
-    decide_from(call, moment, states_of(stored), own_rows, ceiling, meeting)
-}
-
-/// The verdict on a request, as `decide` gives it, by the states of the operator's plan with its id.
-#[tactic(auto, unfolding(crate::specs::Outcome::outcome_from))]
-pub fn decide_from(
-    call: &PutCall,
-    moment: i64,
-    stored: Option<States>,
-    own_rows: u32,
-    ceiling: u32,
-    meeting: Option<Meeting>,
-) -> Verdict
-    ensures { result ≡ outcome_from call.now moment stored own_rows ceiling meeting }
-{
     let standing = Standing {
         own_rows,
         ceiling,
         is_over: false,
     };
-    decide_under(call, moment, stored, &standing, meeting)
+    decide_under(call, moment, states_of(stored), &standing, meeting)
 }
 
-/// The verdict on a request, as `decide_from` gives it, of an operator of this standing: it is refused too
-/// where the operator's live plans would have more spans than they may have.
+/// The verdict on a request, as `decide` gives it, by the states of the operator's plan with its id, of an
+/// operator of this standing: it is refused too where the operator's live plans would have more spans than
+/// they may have.
 #[tactic(auto, unfolding(crate::specs::Outcome::outcome_under))]
 pub fn decide_under(
     call: &PutCall,

@@ -27,8 +27,8 @@ use Rattle.desk_store.specs.ChangeParts.{parts_in, clear}
 use Rattle.desk_store.specs.StoreChange.{changed_by, IsFitting}
 use Rattle.desk_store.specs.World.{World, AreInOrder, text_cmp, row_cmp, has_id, ceiling_of, plans_of, stored_of}
 use Rattle.desk_store.specs.Changes.{is_named, clear_rows, with_plans, AreStored, AreDistinct}
-use Rattle.desk_store.specs.laws.Order.{all_weaker, all_filter, all_map, sorted_map}
-use Rattle.desk_store.specs.laws.World.{fewer}
+use Rattle.desk_store.proofs.lemmas.Order.{all_weaker, all_filter, all_map, sorted_map}
+use Rattle.desk_store.proofs.lemmas.World.{fewer}
 use Rattle.desk_run.specs.Verdicts.{replied, is_in, clear_ruling}
 use Rattle.desk_run.specs.declared.pending.Pending.{Pending}
 use Rattle.desk_run.specs.Calls.{ids_in, IsClearing, IsPendingAs}

@@ -1,3 +1,4 @@
+pub mod lemmas
 pub mod FaultLemmas
 pub mod DeskLemmas
 pub mod OutcomeLemmas

@@ -12,22 +12,22 @@ use Rattle.s2_hilbert.specs.Curve.{position_of}
 use Rattle.volume4d.specs.declared.slab.Slab.{Slab}
 use Rattle.volume4d.specs.declared.slab.Held.{Held}
 use Rattle.volume4d.specs.Point.{Point, is_leaf}
-use Rattle.volume4d.specs.Volume.{area_has}
+use Rattle.volume4d.specs.Volume.{Block, area_has, block_has}
 use Rattle.volume4d.specs.Slab.{slab_has, slab_has_leaf, slabs_have, top_held}
 use Rattle.volume4d.specs.Level.{greater, level_where}
-use Rattle.volume4d.specs.laws.Level.{greater_none, greater_assoc, top_held-push, top_held-nil}
+use Rattle.volume4d.proofs.lemmas.Level.{greater_none, greater_assoc, top_held-push, top_held-nil}
 use Rattle.volume4d.specs.Bounds.{AreFilled, IsBounds, IsFilled, overlap}
-use Rattle.volume4d.specs.laws.Bounds.{overlapping}
+use Rattle.volume4d.proofs.lemmas.Bounds.{overlapping}
 use Rattle.volume4d.specs.Clusters.{IsCluster}
 use Rattle.volume4d.specs.Sweep.{Ascend}
 use Rattle.desk_rules.specs.declared.plan.PlanRow.{PlanRow}
 use Rattle.desk_rules.specs.Conflict.{at_least}
 use Rattle.desk_rules.specs.Plan.{is_live, row_holds, top_priority}
-use Rattle.desk_rules.specs.laws.Plan.{top_priority-cons, top_priority-nil}
+use Rattle.desk_rules.proofs.lemmas.Plan.{top_priority-cons, top_priority-nil}
 use Rattle.desk_rules.specs.declared.reply.Shown.{Shown}
 use Rattle.desk_store.specs.World.{World, has_id, held, held_at, plans_of}
-use Rattle.desk_store.specs.laws.Rival.{at_least_greater}
-use Rattle.desk_run.specs.HeldAmong.{AreSlabsHeld, AreLeft, AreAfter, HaveLevelAt, own_level, own_top, some_hold}
+use Rattle.desk_store.proofs.lemmas.Rival.{at_least_greater}
+use Rattle.desk_run.specs.HeldAmong.{AreSlabsHeld, AreLeft, AreAfter, HaveAll, HaveLevelAt, own_level, own_top, some_hold}
 use Rattle.desk_run.specs.Verdicts.{shown_in, shown_plan}
 
 -- ---- the slabs that a plan holds
@@ -37,24 +37,28 @@ pub live_points : (row : PlanRow) (x : Point) → is_live row.usage ≡ true
 unfolding row_holds
 live_points row x e = ap (λ b. b && area_has row.area x) e
 
-pub closed_held : (row : PlanRow) (slabs : List Slab) (bounds : Slab) → is_live row.usage ≡ false
-    → slabs ≡ [] → AreSlabsHeld row slabs bounds
+pub closed_held : (row : PlanRow) (slabs : List Slab) (bounds : Slab) (parts : List Slab)
+    → is_live row.usage ≡ false → slabs ≡ [] → AreSlabsHeld row slabs bounds parts
 unfolding row_holds
-closed_held row slabs bounds e none = subst (λ ss. AreSlabsHeld row ss bounds) (sym none) (record {
+closed_held row slabs bounds parts e is = subst (λ ss. AreSlabsHeld row ss bounds parts) (sym is) (record {
   points = λ x. sym (ap (λ b. b && area_has row.area x) e);
   filled = All-nil IsFilled;
   order = IsNonDecreasingBy-short (λ s. s.first) [] (omega arith);
   bounds = λ x h. absurd (true≢false (sym h));
+  parts_have = λ x h. absurd (true≢false (sym h));
 })
 
-pub live_held : (row : PlanRow) (slabs : List Slab) (bounds : Slab) → is_live row.usage ≡ true
+pub live_held : (row : PlanRow) (slabs : List Slab) (bounds : Slab) (parts : List Slab)
+    → is_live row.usage ≡ true
     → ((x : Point) → slabs_have slabs x ≡ area_has row.area x) → AreFilled slabs → Ascend (λ s. s) slabs
-    → IsBounds (slabs_have slabs) bounds → AreSlabsHeld row slabs bounds
-live_held row slabs bounds e points filled order round = record {
+    → IsBounds (slabs_have slabs) bounds → HaveAll (area_has row.area) parts
+    → AreSlabsHeld row slabs bounds parts
+live_held row slabs bounds parts e points filled order round have = record {
   points = λ x. points x ∙ sym (live_points row x e);
   filled = filled.each;
   order = order;
   bounds = round.has;
+  parts_have = λ x has. have x (sym (points x) ∙ has);
 }
 
 -- ---- extents
@@ -172,6 +176,38 @@ apart_bounds slab bounds x apart has = go (slab_has slab x) refl where
   go : (b : Bool) → slab_has slab x ≡ b → b ≡ false
   go true e = absurd (true≢false (sym (overlapping slab bounds x e has) ∙ apart))
   go false e = refl
+
+-- nor one that overlaps none of some others a point of these
+pub apart_more : (slab part : Slab) (parts : List Slab) (i : ℕ) → i < length parts
+    → part ≡ get_or parts i part → overlap slab part ≡ false
+    → ((x : Point) → slabs_have (take i parts) x ≡ true → slab_has slab x ≡ false) → (x : Point)
+    → slabs_have (take (i + 1) parts) x ≡ true → slab_has slab x ≡ false
+apart_more slab part parts i below is apart so_far x has =
+    go (slabs_have (take i parts) x) refl (sym (list_any_more (λ s. slab_has s x) parts i part below
+    ∙ ap (λ s. slabs_have (take i parts) x || slab_has s x) (sym is)) ∙ has) where
+      go : (b : Bool) → slabs_have (take i parts) x ≡ b → (b || slab_has part x) ≡ true
+          → slab_has slab x ≡ false
+      go true e h = so_far x e
+      go false e h = apart_bounds slab part x apart h
+
+or_true : (b : Bool) → (b || true) ≡ true
+or_true true = refl
+or_true false = refl
+
+-- bounds round each volume so far have the points of these
+pub parts_more : (area : List Block) (v : Block) (slabs parts new : List Slab) (i : ℕ) (bounds : Slab)
+    → i < length area → v ≡ get_or area i v → HaveAll (area_has (take i area)) parts
+    → ((x : Point) → slabs_have slabs x ≡ block_has v x) → IsBounds (slabs_have slabs) bounds
+    → new ≡ parts ++ bounds ∷ [] → HaveAll (area_has (take (i + 1) area)) new
+parts_more area v slabs parts new i bounds below is so_far points round pushed x has =
+    ap (λ ss. slabs_have ss x) pushed ∙ extents_more parts bounds x
+    ∙ go (area_has (take i area) x) refl (sym (list_any_more (λ w. block_has w x) area i v below
+    ∙ ap (λ w. area_has (take i area) x || block_has w x) (sym is)) ∙ has) where
+      go : (b : Bool) → area_has (take i area) x ≡ b → (b || block_has v x) ≡ true
+          → (slabs_have parts x || slab_has bounds x) ≡ true
+      go true e h = kept_by (slabs_have parts x) (slab_has bounds x) (so_far x e)
+      go false e h =
+          ap (λ b. slabs_have parts x || b) (round.has x (points x ∙ h)) ∙ or_true (slabs_have parts x)
 
 -- a slab adds nothing where some slabs are, if those of them that are left at its first leaf say so
 pub at_mine : {A : Type 0} (a b : A) (mine left : List Slab) (slab : Slab) (x : Point)
@@ -327,10 +363,10 @@ unheld n id r x level e = sym (ap (greater level) (go (not (has_id id r)) (row_h
       go false t h = refl
 
 -- one whose bounds don't overlap those of another holds none of its points
-pub apart_plans : (row mine : PlanRow) (slabs others : List Slab) (b c : Slab) (x : Point)
-    → AreSlabsHeld row slabs b → AreSlabsHeld mine others c → overlap b c ≡ false
+pub apart_plans : (row mine : PlanRow) (slabs others : List Slab) (b c : Slab) (parts more : List Slab)
+    (x : Point) → AreSlabsHeld row slabs b parts → AreSlabsHeld mine others c more → overlap b c ≡ false
     → row_holds mine x ≡ true → row_holds row x ≡ false
-apart_plans row mine slabs others b c x held round apart has = go (row_holds row x) refl where
+apart_plans row mine slabs others b c parts more x held round apart has = go (row_holds row x) refl where
   go : (t : Bool) → row_holds row x ≡ t → t ≡ false
   go true e = absurd (true≢false (sym (overlapping b c x (held.bounds x (held.points x ∙ e))
       (round.bounds x (round.points x ∙ has))) ∙ apart))

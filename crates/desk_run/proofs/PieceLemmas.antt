@@ -15,7 +15,7 @@ use Rattle.volume4d.specs.declared.slab.Held.{Held}
 use Rattle.volume4d.specs.Point.{Point, is_leaf, point_cmp}
 use Rattle.volume4d.specs.Slab.{slab_has, slab_has_leaf, slabs_have, slab_window, top_held}
 use Rattle.volume4d.specs.Level.{greater, level_where}
-use Rattle.volume4d.specs.laws.Level.{top_held-nil, top_held-push}
+use Rattle.volume4d.proofs.lemmas.Level.{top_held-nil, top_held-push}
 use Rattle.volume4d.specs.Bounds.{HasAll}
 use Rattle.volume4d.specs.Meeting.{Spot, IsFirst}
 use Rattle.desk_rules.specs.Permission.{blocks}

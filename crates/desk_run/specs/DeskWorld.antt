@@ -1,7 +1,8 @@
 -- Desks: what a desk's store keeps, and the terms on which the desk plans.
-use Rattle.std.specs.Prelude.{◌≡◌, ◌⊎◌, ℕ, List, Option, refl}
+use Rattle.std.specs.Prelude.{◌≡◌, ◌⊎◌, ℕ, List, [], Option, refl}
 use Rattle.std.specs.Coded.{Coded, code_by, coded×, coded_list, coded_option, coded_ℕ}
 use Rattle.desk_rules.specs.declared.terms.Terms.{Terms}
+use Rattle.desk_rules.specs.Terms.{no_terms}
 use Rattle.volume4d.specs.Point.{Point}
 use Rattle.desk_store.specs.World.{World, Own, own, held}
 use Rattle.desk_store.specs.Changes.{with_operator}
@@ -26,6 +27,10 @@ parts_code {S} store =
 pub record DeskWorld : Type 0 where
   pub content : World
   pub terms : Terms
+
+-- that of a new desk: no operators, no plans, and no terms
+abbrev pub new_world : DeskWorld
+new_world = record { content = record { operators = []; plans = [] }; terms = no_terms }
 
 abbrev pub with_content : Terms → World → DeskWorld
 with_content terms content = record { content = content; terms = terms }

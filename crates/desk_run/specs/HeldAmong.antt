@@ -13,12 +13,18 @@ use Rattle.desk_rules.specs.declared.plan.PlanRow.{PlanRow}
 use Rattle.desk_rules.specs.Plan.{row_holds, top_priority}
 use Rattle.desk_store.specs.World.{has_id}
 
--- slabs that have the points that a plan holds, in ascending order, each with a point, and a slab round them
-pub record AreSlabsHeld (row : PlanRow) (slabs : List Slab) (round : Slab) : Type 0 where
+-- slabs have each point that passes a test
+abbrev pub HaveAll : (Point → Bool) → List Slab → Type 0
+HaveAll passes slabs = (x : Point) → passes x ≡ true → slabs_have slabs x ≡ true
+
+-- slabs that have the points that a plan holds, in ascending order, each with a point, a slab round them, and
+-- slabs in one of which each of the points is
+pub record AreSlabsHeld (row : PlanRow) (slabs : List Slab) (round : Slab) (parts : List Slab) : Type 0 where
   pub points : (x : Point) → slabs_have slabs x ≡ row_holds row x
   pub filled : All IsFilled slabs
   pub order : Ascend (λ s. s) slabs
   pub bounds : HasAll (slabs_have slabs) round
+  pub parts_have : HaveAll (slabs_have slabs) parts
 
 -- one of the plans holds a point
 abbrev pub some_hold : List PlanRow → Point → Bool
@@ -35,10 +41,6 @@ AddLevelAt passes before helds level = HaveLevelAt passes helds (λ x. greater (
 -- some slabs have each point that others had
 abbrev pub Keep : List Slab → List Slab → Type 0
 Keep old new = (x : Point) → slabs_have old x ≡ true → slabs_have new x ≡ true
-
--- they have each point that passes a test
-abbrev pub HaveAll : (Point → Bool) → List Slab → Type 0
-HaveAll passes slabs = (x : Point) → passes x ≡ true → slabs_have slabs x ≡ true
 
 -- slabs that are left have each point that others have at the position or after it
 abbrev pub AreLeft : ℕ → List Slab → List Slab → Type 0

@@ -1,4 +1,4 @@
--- Read first: Verdicts, Sides, TwoRuns. What stands in laws/ is checked and needn't be read.
+-- Read first: Verdicts, Sides, TwoRuns.
 pub mod CallFaults
 pub mod DeskWorld
 pub mod DeskFrames
@@ -10,4 +10,3 @@ pub mod Pieces
 pub mod Runs
 pub mod Sides
 pub mod CallRuns
-pub mod laws

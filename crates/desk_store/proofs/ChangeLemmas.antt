@@ -12,7 +12,7 @@ use Rattle.desk_store.specs.declared.list.Enrolment.{Enrolment}
 use Rattle.desk_store.specs.World.{Filed, World, text_cmp, filed_cmp, rows_by, plans_of}
 use Rattle.desk_store.specs.Changes.{replaced, with_plans, closed, close_row, clear_rows}
 use Rattle.desk_store.specs.OwnRows.{is_own}
-use Rattle.desk_store.specs.laws.Change.{stays, close_filed, cleared_plans, closed_plans}
+use Rattle.desk_store.proofs.lemmas.Change.{stays, close_filed, cleared_plans, closed_plans}
 use Rattle.desk_store.specs.Parts.{PlanParts, row_of, closed_parts}
 use Rattle.desk_store.specs.Listing.{listed_of, filed_of, filed_all, world_in_lists, is_one_of, without}
 use Rattle.desk_store.proofs.EntryLemmas.{Key, key_cmp, filed_sorted}

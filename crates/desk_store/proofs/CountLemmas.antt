@@ -13,8 +13,8 @@ use Rattle.desk_store.specs.declared.list.Enrolment.{Enrolment}
 use Rattle.desk_store.specs.World.{Filed, text_cmp, rows_by, ceiling_of}
 use Rattle.desk_store.specs.Parts.{PlanParts}
 use Rattle.desk_store.specs.Listing.{listed_of, filed_all, world_in_lists, AreCounted, IsStore, with_count}
-use Rattle.desk_store.specs.laws.Order.{is_equal, all_weaker}
-use Rattle.desk_store.specs.laws.World.{unlisted_none}
+use Rattle.desk_store.proofs.lemmas.Order.{is_equal, all_weaker}
+use Rattle.desk_store.proofs.lemmas.World.{unlisted_none}
 use Rattle.desk_store.proofs.EntryLemmas.{Key}
 use Rattle.desk_store.proofs.StoreLemmas.{ceiling_found}
 

@@ -9,7 +9,7 @@ use Rattle.std.specs.Map.{keys_of}
 use Rattle.std.proofs.lemmas.Map.Lookups.{exact_bytes}
 use Rattle.desk_store.specs.World.{text_cmp, rows_by, filed_cmp}
 use Rattle.desk_store.specs.Changes.{put_row, put_filed, filed_by, replaced}
-use Rattle.desk_store.specs.laws.Order.{inserted}
+use Rattle.desk_store.proofs.lemmas.Order.{inserted}
 use Rattle.desk_store.specs.Parts.{PlanParts, row_of}
 use Rattle.desk_store.specs.Listing.{filed_of, filed_all}
 

@@ -21,9 +21,9 @@ use Rattle.desk_store.specs.Changes.{put_row, closed, close_row, is_named, clear
 use Rattle.desk_store.specs.StoreChange.{changed_by, IsFitting}
 use Rattle.desk_store.specs.Parts.{PlanParts, parts_of, row_of}
 use Rattle.desk_store.specs.Listing.{filed_all, world_in_lists, AreCounted, IsStore, with_count, without}
-use Rattle.desk_store.specs.laws.Order.{is_equal, rows_sorted}
-use Rattle.desk_store.specs.laws.World.{own_replaced, others_kept, fewer, length-put_stored}
-use Rattle.desk_store.specs.laws.Content.{put_content, close_content, clear_content}
+use Rattle.desk_store.proofs.lemmas.Order.{is_equal, rows_sorted}
+use Rattle.desk_store.proofs.lemmas.World.{own_replaced, others_kept, fewer, length-put_stored}
+use Rattle.desk_store.proofs.lemmas.Content.{put_content, close_content, clear_content}
 use Rattle.desk_store.proofs.EntryLemmas.{Key, key_cmp}
 use Rattle.desk_store.proofs.StoreLemmas.{plan_found, stored}
 use Rattle.desk_store.proofs.ChangeLemmas.{cleared}

@@ -1,3 +1,4 @@
+pub mod lemmas
 pub mod EntryLemmas
 pub mod StoreLemmas
 pub mod ChangeLemmas

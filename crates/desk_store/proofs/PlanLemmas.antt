@@ -5,7 +5,7 @@ use Rattle.volume4d.specs.Point.{Point}
 use Rattle.volume4d.specs.Volume.{Block, area_has}
 use Rattle.volume4d.specs.Slab.{slab_has}
 use Rattle.volume4d.specs.Bounds.{overlap}
-use Rattle.volume4d.specs.laws.Bounds.{overlapping}
+use Rattle.volume4d.proofs.lemmas.Bounds.{overlapping}
 use Rattle.desk_store.specs.Parts.{AreSlabs, HasNoPoint}
 
 -- an area has no point of an extent that its bounds don't overlap

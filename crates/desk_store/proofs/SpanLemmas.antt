@@ -14,7 +14,7 @@ use Rattle.desk_rules.specs.Limits.{max_plans}
 use Rattle.desk_rules.specs.Plan.{is_live, row_spans}
 use Rattle.desk_store.specs.Content.{IsBlock, IsPlan, IsContent}
 use Rattle.desk_store.specs.World.{Filed, World, has_id, is_by, plans_of, rows_by, spans_beside, spans_unless}
-use Rattle.desk_store.specs.laws.Content.{own_plans}
+use Rattle.desk_store.proofs.lemmas.Content.{own_plans}
 
 pub spans_none : (id : List ℕ) → spans_beside id [] ≡ 0
 unfolding spans_beside

@@ -1,4 +1,4 @@
--- Read first: World, Content, Changes, Rivals. What stands in laws/ is checked and needn't be read.
+-- Read first: World, Content, Changes, Rivals.
 pub mod World
 pub mod Content
 pub mod Changes
@@ -11,4 +11,3 @@ pub mod Crashes
 pub mod StoreFrames
 pub mod Parts
 pub mod Listing
-pub mod laws

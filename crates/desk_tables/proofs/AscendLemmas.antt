@@ -5,7 +5,7 @@ use Rattle.std.specs.List.Sorted.{IsStrictlySortedBy}
 use Rattle.std.specs.declared.cmp.Ordering.{Ordering}
 use Rattle.std.specs.Ordering.{is_lt}
 use Rattle.std.specs.Cmp.{IsTotalOrder}
-use Rattle.desk_store.specs.laws.Order.{all_weaker}
+use Rattle.desk_store.proofs.lemmas.Order.{all_weaker}
 use Rattle.desk_tables.specs.Opening.{is_below_first}
 
 is_below : (n : Ordering) → is_lt n ≡ true → n ≡ Less

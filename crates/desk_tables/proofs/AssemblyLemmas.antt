@@ -11,7 +11,7 @@ use Rattle.desk_rules.specs.Name.{is_operator_name}
 use Rattle.sqlite_value.specs.Order.{Row}
 use Rattle.desk_sql.specs.Rows.{Tables}
 use Rattle.desk_store.specs.World.{Filed, Listed, World, text_cmp, listed_cmp, filed_cmp, IsListed}
-use Rattle.desk_store.specs.laws.Order.{is_equal, all_weaker}
+use Rattle.desk_store.proofs.lemmas.Order.{is_equal, all_weaker}
 use Rattle.desk_tables.specs.Tables.{AreSpanRows}
 use Rattle.desk_store.specs.Content.{IsPlan, IsContent}
 use Rattle.desk_tables.specs.Records.{IsOperator, IsFiled}

@@ -20,9 +20,9 @@ use Rattle.desk_sql.specs.Rows.{Tables, is_not_of}
 use Rattle.desk_store.specs.World.{Filed, Listed, World, text_cmp, listed_cmp, filed_cmp, plans_of, is_by}
 use Rattle.desk_store.specs.Changes.{put_filed, filed_by, put_row, list_operator, with_plans, with_operator, replaced, closed, close_row, clear_rows}
 use Rattle.desk_store.specs.OwnRows.{is_own}
-use Rattle.desk_store.specs.laws.Order.{inserted, all_weaker}
-use Rattle.desk_store.specs.laws.Content.{enrol_content, put_content, close_content, clear_content}
-use Rattle.desk_store.specs.laws.Change.{stays, cleared_plans, close_filed, closed_plans}
+use Rattle.desk_store.proofs.lemmas.Order.{inserted, all_weaker}
+use Rattle.desk_store.proofs.lemmas.Content.{enrol_content, put_content, close_content, clear_content}
+use Rattle.desk_store.proofs.lemmas.Change.{stays, cleared_plans, close_filed, closed_plans}
 use Rattle.desk_store.specs.StoreChange.{changed_by, IsFitting}
 use Rattle.desk_store.specs.declared.change.Change.{Change}
 use Rattle.desk_store.specs.declared.change.Change.TheVariants.{Enrol, Put, Close, Clear}

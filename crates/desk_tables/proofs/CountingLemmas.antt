@@ -11,7 +11,7 @@ use Rattle.sqlite_keyed.proofs.ListLemmas.{filter_none}
 use Rattle.desk_rules.specs.Limits.{max_plans}
 use Rattle.desk_rules.specs.Plan.{row_spans}
 use Rattle.desk_store.specs.World.{Filed, text_cmp, filed_cmp, is_by, rows_by}
-use Rattle.desk_store.specs.laws.Order.{is_equal, all_weaker}
+use Rattle.desk_store.proofs.lemmas.Order.{is_equal, all_weaker}
 use Rattle.desk_tables.specs.Counting.{IsMostSpans, operator_spans}
 use Rattle.desk_tables.proofs.ShareLemmas.{Above, above_on, count_is, dropped, not_by, others_left, rest_of, rest_sorted}
 

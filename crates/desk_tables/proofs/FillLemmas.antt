@@ -17,7 +17,7 @@ use Rattle.desk_sql.specs.Finding.{Holds}
 use Rattle.desk_sql.specs.Putting.{HasRoomFor, HaveOwnKeys, TakesOperators, TakesRoom}
 use Rattle.desk_sql.specs.Rows.{AddsOperator, AddsPlan, Tables, by_cells, tables_of}
 use Rattle.desk_store.specs.World.{Filed, IsListed, Listed, World, filed_cmp, listed_cmp}
-use Rattle.desk_store.specs.laws.Order.{all_weaker}
+use Rattle.desk_store.proofs.lemmas.Order.{all_weaker}
 use Rattle.desk_tables.specs.declared.opening.open.OpenFault.{OpenFault}
 use Rattle.desk_tables.specs.Opening.{BlamesDatabase, BlamesReading}
 use Rattle.desk_tables.specs.Copying.{AddsHeadRows, AddsOperatorRows, BlamesNew}

@@ -17,7 +17,7 @@ use Rattle.desk_rules.specs.Plan.{is_live}
 use Rattle.desk_sql.specs.Rows.{is_of, is_not_of}
 use Rattle.desk_store.specs.World.{Filed, text_cmp}
 use Rattle.desk_store.specs.OwnRows.{is_own}
-use Rattle.desk_store.specs.laws.Change.{stays}
+use Rattle.desk_store.proofs.lemmas.Change.{stays}
 use Rattle.desk_tables.specs.Tables.{id_text, row_of_plan, plan_rows, row_of_volume, rows_from, volume_rows, row_of_cover, cover_rows, row_of_span, AreSpanRowsFrom, ArePlanSpanRows, AreSpanRows}
 use Rattle.desk_store.specs.Content.{IsId, IsPlan}
 use Rattle.desk_tables.specs.TableChanges.{is_left}

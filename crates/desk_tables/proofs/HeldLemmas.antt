@@ -16,15 +16,15 @@ use Rattle.sqlite_value.specs.Order.{Row, column}
 use Rattle.sqlite_value.proofs.OrderLemmas.{value_cmp-Int, value_cmp-Text}
 use Rattle.sqlite_keyed.proofs.ListLemmas.{along_permutation}
 use Rattle.s2_hilbert.specs.Curve.{position_of}
-use Rattle.s2_hilbert.specs.laws.Curve.{leaf_undone}
+use Rattle.s2_hilbert.proofs.lemmas.Curve.{leaf_undone}
 use Rattle.s2_cover.specs.declared.spans.Span.{Span}
 use Rattle.s2_cover.specs.Ranges.{IsRanges, span_has, spans_have}
 use Rattle.volume4d.specs.declared.slab.Slab.{Slab}
 use Rattle.volume4d.specs.declared.slab.Held.{Held}
 use Rattle.volume4d.specs.Level.{greater, level_where, top_by}
-use Rattle.volume4d.specs.laws.Level.{greater_none, greater_assoc, greater_comm, top_by-cons, top_by-append}
+use Rattle.volume4d.proofs.lemmas.Level.{greater_none, greater_assoc, greater_comm, top_by-cons, top_by-append}
 use Rattle.volume4d.specs.Point.{Point, is_leaf}
-use Rattle.volume4d.specs.laws.Point.{leaf_test}
+use Rattle.volume4d.proofs.lemmas.Point.{leaf_test}
 use Rattle.volume4d.specs.Shape.{shape_has, shape_positions}
 use Rattle.volume4d.specs.Slab.{slab_has, slab_has_leaf, top_held}
 use Rattle.volume4d.specs.Volume.{Block, window_has, block_has, area_has}
@@ -35,7 +35,7 @@ use Rattle.desk_sql.specs.Rows.{Tables, is_at_most, is_at_least, is_below, is_ab
 use Rattle.desk_store.specs.World.{Filed, World, held, is_by}
 use Rattle.desk_store.specs.OwnRows.{is_own, other_level, others_top, rival_level, rivals_top}
 use Rattle.desk_store.specs.Rivals.{AreRivals, HaveLevel}
-use Rattle.desk_store.specs.laws.Rival.{others_top-cons, others_top-nil, held_by_others, rivals_top-cons, rivals_top-nil, held_by_rivals}
+use Rattle.desk_store.proofs.lemmas.Rival.{others_top-cons, others_top-nil, held_by_others, rivals_top-cons, rivals_top-nil, held_by_rivals}
 use Rattle.desk_tables.specs.Tables.{id_text, row_of_span, AreSpanRowsFrom, ArePlanSpanRows, AreSpanRows, AreTables}
 use Rattle.desk_store.specs.Content.{IsId, IsPlan, IsContent}
 use Rattle.desk_tables.specs.declared.span_bounds.SpanBounds.{SpanBounds}

@@ -17,7 +17,7 @@ use Rattle.volume4d.specs.Volume.{Block}
 use Rattle.desk_sql.specs.Rows as sql
 use Rattle.desk_sql.specs.Rows.{Tables, Lists, by_cells, joined, has_volume, with_volumes}
 use Rattle.desk_store.specs.World.{Filed, World, text_cmp, filed_cmp, is_by}
-use Rattle.desk_store.specs.laws.Order.{all_filter, all_append, all_kept, by_ids, name_of}
+use Rattle.desk_store.proofs.lemmas.Order.{all_filter, all_append, all_kept, by_ids, name_of}
 use Rattle.desk_store.specs.OwnRows.{is_own}
 use Rattle.desk_tables.specs.Tables.{id_text, row_of_plan, plan_rows, row_of_volume, area_rows, volume_rows, AreTables}
 use Rattle.desk_store.specs.Content.{IsPlan, IsContent}

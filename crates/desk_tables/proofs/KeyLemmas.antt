@@ -11,7 +11,7 @@ use Rattle.sqlite.specs.Held.{state}
 use Rattle.volume4d.specs.declared.slab.Slab.{Slab}
 use Rattle.volume4d.specs.declared.slab.Held.{Held as One}
 use Rattle.volume4d.specs.Level.{top_by}
-use Rattle.volume4d.specs.laws.Level.{top_held-nil}
+use Rattle.volume4d.proofs.lemmas.Level.{top_held-nil}
 use Rattle.volume4d.specs.Point.{Point}
 use Rattle.volume4d.specs.Slab.{slab_has, top_held}
 use Rattle.desk_rules.specs.Conflict.{at_least}
@@ -21,7 +21,7 @@ use Rattle.desk_sql.specs.Rows.{Tables, held_columns, tables_of}
 use Rattle.desk_store.specs.World.{Filed, World}
 use Rattle.desk_store.specs.Content.{IsContent, IsId, IsPlan}
 use Rattle.desk_store.specs.Rivals.{HaveLevel}
-use Rattle.desk_store.specs.laws.Order.{all_append}
+use Rattle.desk_store.proofs.lemmas.Order.{all_append}
 use Rattle.desk_live.specs.declared.near.PlanKey.{PlanKey}
 use Rattle.desk_live.specs.Near.{is_listed, listed_level, listed_top}
 use Rattle.desk_tables.specs.RivalRows.{HasTakenHelds, HaveTaken, HaveTakenAll, is_asked_of_plan, reach_of}

@@ -18,7 +18,7 @@ use Rattle.volume4d.specs.Volume.{Block}
 use Rattle.desk_rules.specs.Plan.{is_live}
 use Rattle.desk_sql.specs.Rows.{Tables, Lists, by_cells}
 use Rattle.desk_store.specs.World.{Filed, Listed, World, text_cmp, listed_cmp, filed_cmp}
-use Rattle.desk_store.specs.laws.Order.{all_weaker, all_append}
+use Rattle.desk_store.proofs.lemmas.Order.{all_weaker, all_append}
 use Rattle.desk_tables.specs.Tables.{id_text, row_of_operator, operator_rows, row_of_plan, plan_rows, row_of_volume, rows_from, volume_rows_from, volume_rows, row_of_cover, cover_rows, row_of_span, AreSpanRowsFrom, ArePlanSpanRows, AreSpanRows, HasNoOldRows, AreTables}
 use Rattle.desk_store.specs.Content.{IsPlan, IsContent}
 use Rattle.desk_tables.specs.Opening.{AreRows, AreAllRows, AreSortedByKey, AreSortedHeads}

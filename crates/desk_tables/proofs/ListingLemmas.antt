@@ -22,7 +22,7 @@ use Rattle.volume4d.specs.Volume.{Block}
 use Rattle.desk_rules.specs.declared.plan.PlanRow.{PlanRow}
 use Rattle.desk_sql.specs.Rows.{Tables, Lists, by_cells, is_of}
 use Rattle.desk_store.specs.World.{Filed, World, text_cmp, filed_cmp, is_by, has_id, rows_by, plans_of, stored_of}
-use Rattle.desk_store.specs.laws.Order.{is_equal, all_weaker}
+use Rattle.desk_store.proofs.lemmas.Order.{is_equal, all_weaker}
 use Rattle.desk_store.specs.OwnRows.{is_own}
 use Rattle.desk_tables.specs.Tables.{id_text, row_of_plan, plan_rows, row_of_volume, volume_rows_from, area_rows, volume_rows, AreTables}
 use Rattle.desk_store.specs.Content.{IsId, IsBlock, IsContent}

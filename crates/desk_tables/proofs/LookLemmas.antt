@@ -20,7 +20,10 @@ use Rattle.desk_tables.specs.Files.{Finds}
 use Rattle.desk_tables.specs.Store.{Shown}
 use Rattle.desk_tables.specs.Opening.{HasRowsOld, ShowsNoDesk}
 use Rattle.desk_tables.specs.OpeningSteps.{IsAdopted}
-use Rattle.desk_tables.specs.Copying.{AreHoldingsOf, AreNoContentIn, HoldsNone, IsMadeIn, LooksIn, ShowsNone}
+use Rattle.desk_tables.specs.Copying.{AreHoldingsOf, AreNoContentIn, AreNotCopied, HoldsNone, IsMadeIn, IsUnmadeOf}
+use Rattle.desk_tables.specs.Copying.{LooksIn, ShowsNone}
+use Rattle.desk_tables.specs.declared.opening.files.CopyFault.{CopyFault}
+use Rattle.desk_tables.specs.declared.opening.files.CopyFault.TheVariants as copy
 use Rattle.desk_tables.specs.declared.opening.looking.Holdings.{Holdings}
 use Rattle.desk_store.specs.World.{World}
 
@@ -86,4 +89,19 @@ copied_looks {g = g} image (Ok x) left w old same world counted schema looks = (
   subst (λ h. LooksIn {g = g} image h x.1.1.is_old x.1.0.world) (sym same)
       (subst (λ b. LooksIn {g = g} image left b x.1.0.world) (sym schema)
       (subst (LooksIn {g = g} image left old) (sym world) looks)),
+)
+
+-- what was read is left as it was read if no copy is made
+pub unmade_left : {D E R : Type 0} {g : disk.Ghosts D} {k : disk.Ghosts E} (image other : Image)
+    (r : Result R (CopyFault D E g k)) (left : Held (FileStore D g)) (w : World) (old : Bool)
+    → IfErr r (IsUnmadeOf other left) → LooksIn image left old w → IfErr r (AreNotCopied image other)
+unmade_left image other (Ok x) left w old unmade looks = tt
+unmade_left image other (Err (copy.Unread it)) left w old unmade looks = absurd unmade
+unmade_left {g = g} image other (Err (copy.Unmade it source)) left w old unmade looks = (
+  unmade.0,
+  record {
+    schema = old;
+    content = w;
+    looks = subst (λ h. LooksIn {g = g} image h old w) (sym unmade.1) looks;
+  },
 )

@@ -3,7 +3,7 @@ use Rattle.std.proofs.Common.{◌≡◌, List, [], ◌∷◌, ◌++◌, map, ref
 use Rattle.std.specs.List.{AllByRecursion}
 use Rattle.sqlite_value.specs.Order.{Row}
 use Rattle.desk_store.specs.World.{Listed}
-use Rattle.desk_store.specs.laws.Order.{all_append}
+use Rattle.desk_store.proofs.lemmas.Order.{all_append}
 use Rattle.desk_tables.specs.Tables.{row_of_operator}
 use Rattle.desk_tables.specs.Records.{IsOperator}
 use Rattle.desk_tables.specs.Opening.{AreOperatorRows}

@@ -8,7 +8,7 @@ use Rattle.volume4d.specs.declared.slab.Slab.{Slab}
 use Rattle.volume4d.specs.declared.slab.Held.{Held as One}
 use Rattle.volume4d.specs.Point.{Point}
 use Rattle.volume4d.specs.Level.{greater}
-use Rattle.volume4d.specs.laws.Level.{greater_none, top_held-nil}
+use Rattle.volume4d.proofs.lemmas.Level.{greater_none, top_held-nil}
 use Rattle.volume4d.specs.Slab.{slab_has, slabs_have, top_held}
 use Rattle.desk_sql.specs.Frames.{OnlyReads}
 use Rattle.desk_rules.specs.Conflict.{at_least}

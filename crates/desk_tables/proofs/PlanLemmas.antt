@@ -9,7 +9,7 @@ use Rattle.sqlite_value.specs.declared.value.Value.TheVariants.{Text}
 use Rattle.sqlite_value.specs.Order.{Row}
 use Rattle.volume4d.specs.Volume.{Block}
 use Rattle.desk_store.specs.World.{Filed, text_cmp, filed_cmp}
-use Rattle.desk_store.specs.laws.Order.{all_weaker, all_append}
+use Rattle.desk_store.proofs.lemmas.Order.{all_weaker, all_append}
 use Rattle.desk_tables.specs.Tables.{id_text, row_of_plan, plan_rows, row_of_volume, rows_from, volume_rows_from, area_rows, volume_rows}
 use Rattle.desk_store.specs.Content.{IsPlan}
 use Rattle.desk_tables.specs.Records.{IsFiled, AreRowsOf}

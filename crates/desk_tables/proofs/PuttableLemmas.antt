@@ -32,7 +32,7 @@ use Rattle.desk_store.specs.Changes.{filed_by}
 use Rattle.desk_store.specs.StoreChange.{IsFitting}
 use Rattle.desk_store.specs.declared.change.Change.TheVariants.{Put}
 use Rattle.desk_store.specs.World.{Filed, Listed, World, ceiling_of, text_cmp}
-use Rattle.desk_store.specs.laws.Order.{all_weaker, all_append}
+use Rattle.desk_store.proofs.lemmas.Order.{all_weaker, all_append}
 use Rattle.desk_tables.specs.Tables.{id_text, row_of_operator, area_rows, area_covers, rows_from, volume_rows_from, row_of_cover, row_of_span, AreSpanRowsFrom, ArePlanSpanRows, AreTables}
 use Rattle.desk_store.specs.Content.{IsBlock, IsPlan}
 use Rattle.desk_tables.specs.Causes.{HasRoomForPlan}

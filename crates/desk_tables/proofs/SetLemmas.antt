@@ -11,7 +11,7 @@ use Rattle.sqlite_keyed.proofs.ListLemmas.{IsPermutation-filter, IsPermutation-s
 use Rattle.desk_sql.specs.Rows as sql
 use Rattle.desk_sql.specs.Rows.{Tables, with_row, PutsOperator, ClosesPlan}
 use Rattle.desk_store.specs.World.{Listed, World, text_cmp, listed_cmp}
-use Rattle.desk_store.specs.laws.Order.{is_equal, all_weaker}
+use Rattle.desk_store.proofs.lemmas.Order.{is_equal, all_weaker}
 use Rattle.desk_tables.specs.Tables.{row_of_operator, operator_rows, AreTables}
 use Rattle.desk_store.specs.Content.{IsContent}
 use Rattle.desk_tables.specs.TableChanges.{EnrolsRows}

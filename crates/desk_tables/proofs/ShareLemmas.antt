@@ -12,7 +12,7 @@ use Rattle.std.proofs.lemmas.List.{length-map}
 use Rattle.sqlite_keyed.proofs.ListLemmas.{filter_none}
 use Rattle.desk_rules.specs.Limits.{max_plans}
 use Rattle.desk_store.specs.World.{Filed, Listed, text_cmp, listed_cmp, filed_cmp, is_by, rows_by, ceiling_of, IsListed}
-use Rattle.desk_store.specs.laws.Order.{is_equal, all_weaker}
+use Rattle.desk_store.proofs.lemmas.Order.{is_equal, all_weaker}
 use Rattle.desk_tables.specs.Opening.{AreShared}
 use Rattle.desk_tables.proofs.FilterLemmas.{turned}
 

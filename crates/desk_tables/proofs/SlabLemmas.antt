@@ -12,7 +12,7 @@ use Rattle.desk_rules.specs.Limits.{max_priority}
 use Rattle.desk_rules.specs.Plan.{is_live}
 use Rattle.desk_sql.specs.Rows.{Tables, held_columns}
 use Rattle.desk_store.specs.World.{Filed, World}
-use Rattle.desk_store.specs.laws.Order.{all_append, all_filter}
+use Rattle.desk_store.proofs.lemmas.Order.{all_append, all_filter}
 use Rattle.desk_store.specs.Content.{IsBlock, IsContent}
 use Rattle.desk_tables.specs.RivalRows.{FitsColumns, IsHeldIn, IsNoHeld}
 use Rattle.desk_tables.specs.Tables.{row_of_span, AreSpanRowsFrom, ArePlanSpanRows, AreSpanRows, AreTables}

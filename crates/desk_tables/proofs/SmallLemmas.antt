@@ -22,7 +22,7 @@ use Rattle.desk_sql.specs.Refusals.{IsRefusal}
 use Rattle.desk_sql.specs.Changing.{IsShort}
 use Rattle.desk_sql.specs.Making.{AreSmall, HasSmallSpans, IsSmall}
 use Rattle.desk_store.specs.World.{Filed, World}
-use Rattle.desk_store.specs.laws.Order.{all_append}
+use Rattle.desk_store.proofs.lemmas.Order.{all_append}
 use Rattle.desk_tables.specs.Tables.{id_text, row_of_span, AreSpanRowsFrom, ArePlanSpanRows, AreSpanRows}
 use Rattle.desk_tables.specs.Opening.{BlamesReading, IsContentOf, open_fault_of}
 use Rattle.desk_tables.specs.Moving.{IsOldContentOf}

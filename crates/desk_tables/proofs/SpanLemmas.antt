@@ -6,7 +6,7 @@ use Rattle.s2_cover.specs.declared.spans.Span.{Span}
 use Rattle.volume4d.specs.Volume.{Block}
 use Rattle.desk_rules.specs.Plan.{is_live}
 use Rattle.desk_store.specs.World.{Filed}
-use Rattle.desk_store.specs.laws.Order.{all_append}
+use Rattle.desk_store.proofs.lemmas.Order.{all_append}
 use Rattle.desk_tables.specs.Tables.{row_of_span, AreSpanRowsFrom, ArePlanSpanRows}
 use Rattle.desk_tables.proofs.RowLemmas.{after_key}
 use Rattle.desk_tables.proofs.PlanLemmas.{HasKey}

@@ -27,7 +27,7 @@ use Rattle.desk_sql.specs.Changing.{HasKey, LacksKey, has_same_key}
 use Rattle.desk_sql.specs.Putting.{AreNewRows, AreNewSpans, AreNewVolumes, AreShort, HasRoomFor, IsShortValue, TakesRoom}
 use Rattle.desk_sql.specs.Rows.{Tables, tables_of}
 use Rattle.desk_store.specs.World.{Filed}
-use Rattle.desk_store.specs.laws.Order.{all_append, all_weaker}
+use Rattle.desk_store.proofs.lemmas.Order.{all_append, all_weaker}
 use Rattle.desk_tables.specs.Records.{IsFiled}
 use Rattle.desk_tables.specs.Tables.{area_covers, area_rows, cover_rows, id_text, row_of_plan, plan_rows, row_of_span, volume_rows, AreSpanRowsFrom, ArePlanSpanRows, AreSpanRows}
 use Rattle.desk_tables.specs.Writable.{AreAwaited, AreWritable}

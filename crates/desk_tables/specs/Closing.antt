@@ -11,5 +11,5 @@ use Rattle.desk_tables.specs.declared.closing.Unclosed.{Unclosed}
 -- written, memory ran out, the disk failed meanwhile, or the connection was shut before
 pub record IsLeftUnclosed {D : Type 0} {g : disk.Ghosts D} (h : Held (FileStore D g)) (it : Unclosed D g)
     : Type 0 where
-  pub closed : IsClosed h it.left.value
-  pub cause : IsClean (view it.left.value) → FailsToClose h it.left.value it.error
+  pub closed : IsClosed h it.left
+  pub cause : IsClean (view it.left) → FailsToClose h it.left it.error

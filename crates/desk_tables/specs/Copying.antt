@@ -145,19 +145,28 @@ module _ {D : Type 0} {g : disk.Ghosts D} (image : Image) (e : OpenFault) where
   AreNotMade (Ok left) = IsUnmadeIn left
   AreNotMade (Err it) = IsOfUnreached image e it
 
--- no store was made in new files that held this
+-- no store was made in new files that held this, and the connection to what was to be copied is this one
 abbrev pub IsUnmadeOf :
-    {D E : Type 0} {g : disk.Ghosts D} {k : disk.Ghosts E} → Image
+    {D E : Type 0} {g : disk.Ghosts D} {k : disk.Ghosts E} → Image → Held (FileStore D g)
     → CopyFault D E g k → Type 0
-IsUnmadeOf other (copy.Unread it) = ⊥
-IsUnmadeOf other (copy.Unmade it) = AreNotMade other it.fault it.connection
+IsUnmadeOf other source (copy.Unread it) = ⊥
+IsUnmadeOf other source (copy.Unmade it left) =
+    AreNotMade other it.fault it.connection × (left.connection ≡ source)
+
+-- the connection that is left had found the database of the files and read its content, and changed nothing
+pub record IsLeftRead {D : Type 0} {g : disk.Ghosts D} (image : Image) (left : Held (FileStore D g)) :
+    Type 0 where
+  pub schema : Bool
+  pub content : World
+  pub looks : LooksIn image left schema content
 
 -- nothing was copied from files that held this: they were not read, or nothing was made in the new ones
 abbrev pub AreNotCopied :
     {D E : Type 0} {g : disk.Ghosts D} {k : disk.Ghosts E} → Image → Image
     → CopyFault D E g k → Type 0
 AreNotCopied image other (copy.Unread it) = AreNotRead image it.fault it.connection
-AreNotCopied image other (copy.Unmade it) = AreNotMade other it.fault it.connection
+AreNotCopied image other (copy.Unmade it left) =
+    AreNotMade other it.fault it.connection × IsLeftRead image left.connection
 
 -- ---- a content that is written
 

@@ -19,6 +19,10 @@ use Rattle.desk_tables.specs.Leftovers.{IsLeftOf}
 use Rattle.desk_tables.specs.Opening.{BeginsWith, ShowsNoDesk, ShowsOldRows, BlamesDisk}
 use Rattle.desk_tables.specs.Moving.{BeginsMoved, KeepsRows, ShowsNoContent}
 
+-- how many frames the write-ahead log holds before it is copied into the database file
+abbrev pub log_frames : ℕ
+log_frames = 320
+
 -- the files that there are where nothing was
 abbrev pub no_files : Image
 no_files = record { log = []; db = [] }

@@ -1,7 +1,7 @@
 -- What is known of a store's plans without a look into its tables.
 use Rattle.desk_store.specs.World.{World}
 use Rattle.desk_live.specs.Live.{AreKeptOnce}
-use Rattle.desk_live.specs.Roll.{IsRollOf}
+use Rattle.operator_index.specs.Roll.{IsRollOf}
 use Rattle.desk_tables.specs.declared.known.Known.{Known}
 use Rattle.desk_tables.specs.SpanBounds.{Bounds}
 

@@ -13,6 +13,7 @@ pub mod SpansHeld
 pub mod Known
 pub mod Records
 pub mod Opening
+pub mod OpenWords
 pub mod Moving
 pub mod Writable
 pub mod Counting
@@ -20,6 +21,7 @@ pub mod Copying
 pub mod Causes
 pub mod Leftovers
 pub mod Files
+pub mod Naming
 pub mod Leaving
 pub mod CutShort
 pub mod OpeningSteps

@@ -8,13 +8,13 @@ ghost use Rattle.desk_tables.specs.Closing.{IsLeftUnclosed};
 use crate::store::SqliteStore;
 use sqlite::{Error, FileStore, Files};
 use sqlite_disk::Disk;
-use std::snapshot::Snapshot;
 
-/// A log that could not be copied. Only `close` makes one, so what has one has tried.
+/// Files whose checkpoint failed. Only `close` makes one, after it tried a checkpoint. All that can be done
+/// with them is to drop them, which closes them as they are.
 #[derive(Drop)]
 pub struct Unclosed<D: Disk> {
     error: Error,
-    left: Snapshot<FileStore<D>>,
+    left: FileStore<D>,
 }
 
 impl<D: Disk + Drop> SqliteStore<FileStore<D>> {
@@ -33,14 +33,7 @@ impl<D: Disk + Drop> SqliteStore<FileStore<D>> {
     {
         match self.release().close_files() {
             Ok(files) => Ok(files),
-            Err((error, left)) => {
-                let unclosed = Unclosed {
-                    error,
-                    left: Snapshot::of(&left),
-                };
-                drop(left.close());
-                Err(unclosed)
-            }
+            Err((error, left)) => Err(Unclosed { error, left }),
         }
     }
 }

@@ -5,14 +5,15 @@ ghost use Rattle.std.specs.List.Sorted.{IsStrictlySortedBy};
 ghost use Rattle.desk_store.specs.World.{World, filed_cmp};
 ghost use Rattle.desk_store.specs.StoreChange.{changed_by};
 ghost use Rattle.desk_live.specs.Live.{AreBrought, AreKeptOnce, HasRoomForVolumes};
-ghost use Rattle.desk_live.specs.Roll.{AreAccountsOf, IsReadyFor, accounts_of};
+ghost use Rattle.operator_index.specs.Roll.{AreAccountsOf, IsReadyFor, accounts_of};
 ghost use Rattle.desk_tables.specs.Known.{Knows};
 ghost use Rattle.desk_tables.specs.SpanBounds.{BringsKnown, Keeps};
 
 use crate::opening::exact::FiledPlan;
 use crate::span_bounds::SpanBounds;
-use desk_live::{Gathering, ListedOperator, LiveVolume, LiveVolumes, Roll};
+use desk_live::{Gathering, LiveVolume, LiveVolumes};
 use desk_store::Change;
+use operator_index::{ListedOperator, Roll};
 use std::alloc::{AllocError, Global};
 
 /// How long the spans of live plans are, bounds round each of their volumes, and the roll of operators.

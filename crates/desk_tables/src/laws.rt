@@ -197,7 +197,7 @@ pub fn a_look_leaves_the_database<D: Disk>()
 pub fn a_close_leaves_the_content<D: Disk, E: Disk>()
     ensures unclosed { (last : Held (FileStore D D.Disk)) (it : Unclosed D D.Disk) (w : World)
         → LeavesOnly w (MayLeave over_files last) → IsLeftUnclosed last it
-        → LeavesOnly w (MayLeave over_files (record last { store = it.left.value })) }
+        → LeavesOnly w (MayLeave over_files (record last { store = it.left })) }
     ensures closed { (last : Held (FileStore D D.Disk)) (files : Files D) (image : Image)
         (found : Held (FileStore E E.Disk)) (w other : World)
         → LeavesOnly w (MayLeave over_files last) → IsCopied last files

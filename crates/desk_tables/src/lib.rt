@@ -14,10 +14,11 @@ mod store;
 mod tables;
 
 pub use closing::Unclosed;
-pub use desk_live::ListedOperator;
-pub use opening::files::{Copied, CopyFault, FilesFault, copy_from, look_at};
+pub use opening::files::{Copied, CopyFault, FilesFault, Source, copy_from, look_at};
 pub use opening::looking::{Holdings, look_into};
-pub use opening::naming::{PartFault, first_fault, part_at};
+pub use opening::naming::{Named, PartFault, first_fault, part_at};
 pub use opening::open::{AdoptFault, OpenFault};
 pub use opening::path::Unreached;
+pub use opening::word::open_word;
+pub use operator_index::ListedOperator;
 pub use store::SqliteStore;

@@ -15,3 +15,4 @@ pub(crate) mod open;
 pub(crate) mod ordering;
 pub(crate) mod path;
 pub(crate) mod spans;
+pub(crate) mod word;

@@ -1,6 +1,6 @@
 //! A store of plans over tables in SQLite.
 
-ghost use Rattle.std.specs.Prelude.{◌≡◌, ◌≤◌, Ok, Err, IsErr, IfErr, IfOk, MatchResult};
+ghost use Rattle.std.specs.Prelude.{◌≡◌, ◌≤◌, IfErr, IfOk};
 ghost use Rattle.sqlite.specs.Held.{state};
 ghost use Rattle.sqlite.specs.State.{HasCleanDisk};
 ghost use Rattle.desk_store.specs.StoreFaults.{HasRisen};
@@ -13,12 +13,13 @@ use crate::kept::GhostWorld;
 use crate::known::Known;
 use crate::laws::one_content;
 use crate::tables::DeskTables;
-use desk_live::{ListedOperator, Wanted};
+use desk_live::Wanted;
 use desk_rules::operator::Operator;
 use desk_rules::plan::{PlanRow, States};
 use desk_rules::plan_id::PlanId;
 use desk_store::laws::spans_are_few;
 use desk_store::{Change, PlanStore, StoreFault};
+use operator_index::ListedOperator;
 use sqlite::Connection;
 use sqlite_trees::store::Alter;
 use std::alloc::{AllocError, Global};
@@ -37,8 +38,6 @@ pub struct SqliteStore<S: Alter> {
     known: Known,
     // how many faults of its own it has met, up to the type's last value
     faults: u64,
-    // what a fault of its own is told as: a disk in memory fails only where it gets no memory
-    told: StoreFault,
     // whether an operator was listed when it was opened
     is_enrolled: bool,
 }
@@ -65,9 +64,9 @@ impl<S: Alter> Model for SqliteStore<S> {
 }
 
 impl<S: Alter> SqliteStore<S> {
-    /// A store over a connection, with the world that its rows are, and what is known of its plans. What
-    /// SQLite fails at for another cause than memory is told as `told`; whether it begins with an operator,
-    /// of which no clause speaks, as `is_enrolled`.
+    /// A store over a connection, with the world that its rows are, and what is known of its plans. An error
+    /// of input and output is told as `told`; whether it begins with an operator, of which no clause speaks,
+    /// as `is_enrolled`.
     pub(crate) fn with(
         alloc: Global,
         connection: Connection<S>,
@@ -86,13 +85,13 @@ impl<S: Alter> SqliteStore<S> {
             connection,
             kept,
             alloc,
+            told,
         };
         tables.settled();
         SqliteStore {
             tables,
             known,
             faults: 0,
-            told,
             is_enrolled,
         }
     }
@@ -145,7 +144,7 @@ impl<S: Alter> PlanStore for SqliteStore<S> {
 
     fn plan(&mut self, operator: &Operator, id: &PlanId) -> Result<Option<PlanRow>, StoreFault> {
         let answer = self.tables.plan(operator, id);
-        counted(&mut self.faults, self.told, answer)
+        counted(&mut self.faults, answer)
     }
 
     fn states(&mut self, operator: &Operator, id: &PlanId) -> Result<Option<States>, StoreFault> {
@@ -163,7 +162,7 @@ impl<S: Alter> PlanStore for SqliteStore<S> {
 
     fn own_plans(&mut self, operator: &Operator) -> Result<Vec<PlanRow>, StoreFault> {
         let answer = self.tables.own_plans(operator);
-        counted(&mut self.faults, self.told, answer)
+        counted(&mut self.faults, answer)
     }
 
     fn rivals(
@@ -179,7 +178,7 @@ impl<S: Alter> PlanStore for SqliteStore<S> {
             least,
         };
         let answer = self.tables.rivals(&wanted, extent, &self.known);
-        counted(&mut self.faults, self.told, answer)
+        counted(&mut self.faults, answer)
     }
 
     fn held_by_others(
@@ -188,7 +187,7 @@ impl<S: Alter> PlanStore for SqliteStore<S> {
         extents: &[Slab],
     ) -> Result<Vec<Held>, StoreFault> {
         let answer = self.tables.held_by_others(operator, extents, &self.known);
-        counted(&mut self.faults, self.told, answer)
+        counted(&mut self.faults, answer)
     }
 
     fn apply(&mut self, change: &Change) -> Result<(), StoreFault> {
@@ -200,29 +199,19 @@ impl<S: Alter> PlanStore for SqliteStore<S> {
                 self.known.follow(change, span_bounds, &fresh);
                 Ok(())
             }
-            Err(e) => counted(&mut self.faults, self.told, Err(e)),
+            Err(e) => counted(&mut self.faults, Err(e)),
         }
     }
 }
 
-// The answer, with a fault of the store's own counted, and told as this.
-fn counted<T>(
-    faults: &mut u64,
-    told: StoreFault,
-    answer: Result<T, StoreFault>,
-) -> Result<T, StoreFault>
-    ensures same { MatchResult answer (λ value. result ≡ Ok value) (λ _. IsErr result) }
-    ensures told { answer ≡ Err StoreFault.Store → result ≡ Err told }
-    ensures memory { answer ≡ Err StoreFault.OutOfMemory → result ≡ Err StoreFault.OutOfMemory }
+// The answer, with a fault of the store's own counted.
+fn counted<T>(faults: &mut u64, answer: Result<T, StoreFault>) -> Result<T, StoreFault>
+    ensures same { result ≡ answer }
     ensures counted { faults.old ≤ faults.new }
     ensures cause { IfErr result (λ e. e ≡ StoreFault.Store → HasRisen faults.old faults.new) }
 {
-    match answer {
-        Err(StoreFault::Store) => {
-            *faults = faults.saturating_add(1);
-            Err(told)
-        }
-        Err(StoreFault::OutOfMemory) => Err(StoreFault::OutOfMemory),
-        Ok(value) => Ok(value),
+    if let Err(StoreFault::Store) = &answer {
+        *faults = faults.saturating_add(1);
     }
+    answer
 }

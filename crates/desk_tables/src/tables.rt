@@ -7,6 +7,7 @@ ghost use Rattle.desk_tables.specs.Leaving.{IsSettledAt};
 use crate::kept::GhostWorld;
 use crate::laws::one_content;
 use desk_sql::laws::settled_and_sound;
+use desk_store::StoreFault;
 use sqlite::Connection;
 use sqlite_trees::store::Alter;
 use std::alloc::Global;
@@ -20,6 +21,8 @@ pub(crate) struct DeskTables<S: Alter> {
     pub connection: Connection<S>,
     pub kept: GhostWorld,
     pub alloc: Global,
+    /// What an error of input and output is told as: a disk in memory has one only if it gets no memory.
+    pub told: StoreFault,
 }
 
 impl<S: Alter> Model for DeskTables<S> {

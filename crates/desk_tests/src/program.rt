@@ -1,13 +1,11 @@
 //! Lines carried out over streams in memory: the exit status, and what is printed.
 
 ghost use Rattle.std.specs.Prelude.{IfOk};
-ghost use Rattle.std.specs.Prelude.{◌≤◌};
-ghost use Rattle.desk_rules.specs.Limits.{max_priority};
-ghost use Rattle.desk_line.specs.Lines.{IsPlay};
+ghost use Rattle.desk_program.specs.CarryingOut.{IsPortless};
 
 use desk_ends::Moment;
-use desk_line::{Database, Enrolment, Play};
-use desk_program::{enrol, play};
+use desk_line::{Database, Enrol, Enrolment, Line, Play};
+use desk_program::with_desk;
 use desk_rules::operator::Operator;
 use desk_rules::terms::Terms;
 use desk_run::Desk;
@@ -26,8 +24,8 @@ struct Done {
 }
 
 // The line of `play` at second 0 for `alfa` and `bravo`.
-fn play_line(alloc: Global) -> Result<Play, Fail>
-    ensures { IfOk result IsPlay }
+fn play_line(alloc: Global) -> Result<Line, Fail>
+    ensures { IfOk result IsPortless }
 {
     let alfa = Enrolment {
         operator: Operator::try_new(b"alfa").ok_or("a name")?,
@@ -37,13 +35,13 @@ fn play_line(alloc: Global) -> Result<Play, Fail>
         operator: Operator::try_new(b"bravo").ok_or("a name")?,
         ceiling: 7,
     };
-    Ok(Play {
+    Ok(Line::Play(Play {
         database: Database::InMemory,
         moment: Moment { second: 0 },
         terms: Terms::none(),
         enrolments: vec![in alloc; alfa, bravo]?,
         folder: None,
-    })
+    }))
 }
 
 // What that line comes to on these bytes.
@@ -53,7 +51,7 @@ fn played(alloc: Global, bytes: &[u8]) -> Result<Done, Fail> {
     let mut input = bytes;
     let mut output = Vec::new(alloc);
     let mut errors = Vec::new(alloc);
-    let exit = play(
+    let status = with_desk(
         alloc,
         &line,
         &mut desk,
@@ -62,7 +60,7 @@ fn played(alloc: Global, bytes: &[u8]) -> Result<Done, Fail> {
         &mut errors,
     );
     Ok(Done {
-        status: exit.status,
+        status,
         output,
         errors,
         desk,
@@ -111,14 +109,19 @@ fn enrols_every_name(rt: HostRuntime) -> Result<(), Fail> {
     Ok(())
 }
 
-// The enrolment of `alfa`.
-fn enrolment() -> Result<Enrolment, Fail>
-    ensures { IfOk result (λ enrolment. enrolment.ceiling ≤ max_priority) }
+// The line of `enrol` for `alfa`.
+fn enrol_line() -> Result<Line, Fail>
+    ensures { IfOk result IsPortless }
 {
-    Ok(Enrolment {
+    let alfa = Enrolment {
         operator: Operator::try_new(b"alfa").ok_or("a name")?,
         ceiling: 100,
-    })
+    };
+    Ok(Line::Enrol(Enrol {
+        database: Database::InMemory,
+        enrolment: alfa,
+        folder: None,
+    }))
 }
 
 // Enrols `alfa` with a writer that takes so many bytes, and compares the exit status and what is printed to
@@ -135,8 +138,16 @@ fn check_enrolment(
     let mut bytes = [0; 20];
     let mut output = bytes.get_mut(..room).ok_or("too much room")?;
     let mut errors = Vec::new(alloc);
-    let exit = enrol(alloc, &enrolment()?, &mut desk, &mut output, &mut errors);
-    assert_eq!(rt; exit.status, wanted);
+    let mut input = b"".as_slice();
+    let status = with_desk(
+        alloc,
+        &enrol_line()?,
+        &mut desk,
+        &mut input,
+        &mut output,
+        &mut errors,
+    );
+    assert_eq!(rt; status, wanted);
     let left = output.len();
     assert_eq!(rt; room.checked_sub(left), Some(text.len()));
     assert!(rt; bytes.starts_with(text.as_bytes()));

@@ -1,22 +1,18 @@
 //! Trials of the desk over a list and over tables: the one program that drives a store over tables, so that
-//! all of SQLite is proved and built once for all of them. `Part` has the forms of the words; without a word
-//! all parts are played one after the other, in the order of their stored run.
+//! all of SQLite is proved and built once for all of them. The word is the name of a part; without a word all
+//! parts are played one after the other, in the order of their stored run.
 #![tactic(auto)]
 
-mod bench;
 mod cases;
 mod desks;
 mod disk;
-mod draws;
 mod empty_store;
-mod histories;
 mod named;
 mod opening;
 mod part;
 mod refusals;
 mod script;
 mod stops;
-mod stores;
 mod texts;
 
 use anyhow::Context;
@@ -28,7 +24,7 @@ use std::env;
 fn main(rt: HostRuntime) -> anyhow::Result<()> {
     let mut words = env::args(&rt)?;
     match words.nth(1) {
-        Some(name) => play::<Fuse<Memory>>(&rt, &Part::read(rt.alloc(), &name, &mut words)?),
+        Some(name) => play::<Fuse<Memory>>(&rt, Part::of_name(&name)?),
         None => play_all::<Fuse<Memory>>(&rt),
     }
 }
@@ -36,14 +32,14 @@ fn main(rt: HostRuntime) -> anyhow::Result<()> {
 // Plays all parts.
 fn play_all<D: Fused>(rt: &HostRuntime) -> anyhow::Result<()> {
     let lines = lines_read(rt)?;
-    for part in &Part::all(rt.alloc())? {
+    for part in Part::ALL {
         play_with::<D>(rt, part, &lines)?;
     }
     Ok(())
 }
 
 // Plays a part, which reads the standard input only if it has a script.
-fn play<D: Fused>(rt: &HostRuntime, part: &Part) -> anyhow::Result<()> {
+fn play<D: Fused>(rt: &HostRuntime, part: Part) -> anyhow::Result<()> {
     let lines = if part.has_script() {
         lines_read(rt)?
     } else {
@@ -62,17 +58,12 @@ fn lines_read(rt: &HostRuntime) -> anyhow::Result<Vec<String>> {
 }
 
 // Plays a part, with the lines of the standard input.
-fn play_with<D: Fused>(rt: &HostRuntime, part: &Part, lines: &[String]) -> anyhow::Result<()> {
+fn play_with<D: Fused>(rt: &HostRuntime, part: Part, lines: &[String]) -> anyhow::Result<()> {
     let mut output = rt.stdout();
     match part {
         Part::Cases => cases::play::<D, _>(rt.alloc(), script_of(lines, "cases")?, &mut output),
-        Part::Histories { seed, count } => {
-            histories::play::<D, _>(rt.alloc(), *seed, *count, &mut output)
-        }
         Part::Stops => stops::play::<D, _>(rt.alloc(), script_of(lines, "stops")?, &mut output),
         Part::Refusals => refusals::play(rt, &mut output),
-        Part::Bench { keeping, sizes } => bench::play(rt, keeping, *sizes),
-        Part::Stores { path, names } => stores::play::<D, _>(rt, path, names, &mut output),
     }
 }
 

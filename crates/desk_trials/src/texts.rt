@@ -48,8 +48,8 @@ pub fn request_bytes(
     request.bytes(alloc)
 }
 
-/// The header field that names an operator.
-pub fn operator_field(alloc: Global, operator: &str) -> Result<String, AllocError> {
+// The header field that names an operator.
+fn operator_field(alloc: Global, operator: &str) -> Result<String, AllocError> {
     format!(in alloc; "x-operator: {operator}\r\n")
 }
 

@@ -18,7 +18,7 @@ use Rattle.desk_rules.specs.Plan.{top_priority}
 use Rattle.desk_rules.specs.Replies.{ReplyParts}
 use Rattle.desk_rules.specs.States.{states_of}
 use Rattle.desk_store.specs.World.{has_id, held_at, own, stored_of}
-use Rattle.desk_store.specs.laws.Rival.{at_least_greater}
+use Rattle.desk_store.proofs.lemmas.Rival.{at_least_greater}
 use Rattle.desk_run.specs.DeskWorld.{DeskWorld, Side, held_in, side}
 use Rattle.desk_run.specs.Sides.{OwnAlike}
 use Rattle.desk_run.specs.Verdicts.{Told, enrolled_ruling, put_outcome, put_ruling, replied, ruling_under}

@@ -37,8 +37,8 @@ use Rattle.desk_run.specs.DeskWorld.{DeskWorld, held_in, side}
 use Rattle.desk_run.specs.Sides.{HoldAlike, OwnAlike}
 use Rattle.desk_run.specs.Verdicts.{Told, enrolled_ruling, plans_left, put_outcome, replied, row_asked, ruling_under}
 use Rattle.desk_run.specs.Verdicts.{shown_plan, side_left, step, told_to, verdict, world_with_plans}
-use Rattle.desk_run.specs.laws.Side.{everywhere}
-use Rattle.desk_run.specs.laws.Step.{own_stays}
+use Rattle.desk_run.proofs.lemmas.Side.{everywhere}
+use Rattle.desk_run.proofs.lemmas.Step.{own_stays}
 use Rattle.desk_uses.specs.Desks.{IsPlanListed, IsPlanned, rows_in}
 
 -- what is said in what is told, if something is

@@ -1,2 +1,3 @@
 mod BlockLemmas
 mod DeskLemmas
+mod LineLemmas

@@ -11,14 +11,9 @@ use Rattle.desk_rules.specs.declared.words.PlanResult.TheVariants as result
 use Rattle.desk_rules.specs.declared.words.PlanStatus.TheVariants as status
 use Rattle.desk_rules.specs.Replies as said
 use Rattle.desk_rules.specs.Replies.{ReplyParts}
-use Rattle.desk_rules.specs.Terms.{no_terms}
 use Rattle.desk_store.specs.World.{stored_of}
 use Rattle.desk_run.specs.DeskWorld.{DeskWorld, held_in}
 use Rattle.desk_run.specs.Verdicts.{row_asked}
-
--- a desk of no operators and no plans, at which no priority is permitted
-abbrev pub new_world : DeskWorld
-new_world = record { content = record { operators = []; plans = [] }; terms = no_terms }
 
 -- the reply to a request to plan
 abbrev pub given_in : ReplyParts → Option PutReply

@@ -3,9 +3,9 @@
 ghost use Rattle.std.specs.Prelude.{◌≡◌, ◌≢◌, IfOk};
 ghost use Rattle.desk_rules.specs.Replies.{said_in};
 ghost use Rattle.desk_store.specs.StoreFaults.{IsHonest};
-ghost use Rattle.desk_run.specs.DeskWorld.{enrolled, world_of};
+ghost use Rattle.desk_run.specs.DeskWorld.{enrolled, new_world, world_of};
 ghost use Rattle.desk_run.specs.Sides.{HoldAlike, OwnAlike};
-ghost use Rattle.desk_uses.specs.Desks.{BlockAlike, IsPlanListed, IsPlanned, new_world};
+ghost use Rattle.desk_uses.specs.Desks.{BlockAlike, IsPlanListed, IsPlanned};
 
 use desk_rules::laws::{conflict_is_found, one_conflict};
 use desk_rules::operator::Operator;

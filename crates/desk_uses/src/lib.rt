@@ -13,5 +13,6 @@
 pub mod desks;
 pub mod files;
 pub mod ground;
+pub mod lines;
 pub mod requests;
 pub mod stores;

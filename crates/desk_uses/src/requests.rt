@@ -3,9 +3,8 @@
 ghost use Rattle.std.specs.Prelude.{◌≡◌, IfOk, Ok};
 ghost use Rattle.desk_reading.specs.Readings.{GivesIfRoom, or_met};
 ghost use Rattle.desk_reading.specs.Requests.{asked};
-ghost use Rattle.desk_run.specs.DeskWorld.{enrolled};
+ghost use Rattle.desk_run.specs.DeskWorld.{enrolled, new_world};
 ghost use Rattle.desk_wire.specs.AllAnswers.{answers_to, sent_in, texts_in};
-ghost use Rattle.desk_uses.specs.Desks.{new_world};
 
 use crate::desks::desk_for;
 use desk_reading::{ReadError, read_request};

@@ -5,7 +5,7 @@ use Rattle.std.proofs.KnownBytes.{Appends-nil, Appends-trans}
 use Rattle.std.specs.Io.KnownBytes.{Appends}
 use Rattle.desk_store.specs.StoreFaults.{HasRisen}
 use Rattle.desk_run.specs.DeskWorld.{DeskWorld}
-use Rattle.desk_run.specs.laws.Crash.{risen_since}
+use Rattle.desk_run.proofs.lemmas.Crash.{risen_since}
 use Rattle.desk_ends.specs.declared.serving.Served.{Served}
 use Rattle.desk_ends.specs.declared.serving.Served.TheVariants.{Answered}
 use Rattle.desk_wire.specs.declared.response.ServerError.{ServerError}

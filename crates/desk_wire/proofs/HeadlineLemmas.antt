@@ -9,10 +9,10 @@ use Rattle.desk_run.specs.DeskWorld.{DeskWorld, Side, side, held_in}
 use Rattle.desk_reading.specs.Readings.{Reading}
 use Rattle.desk_reading.specs.Requests.{asked}
 use Rattle.desk_run.specs.Sides.{OwnAlike, HoldAlike, is_from, beside, along}
-use Rattle.desk_run.specs.laws.Side.{Levels, IsSeenBy, IsKeptBy, after_all, everywhere}
-use Rattle.desk_run.specs.laws.Side.{same_found, same_last, quiet_is}
-use Rattle.desk_run.specs.laws.Step.{own_stays, others_stay}
-use Rattle.desk_run.specs.laws.TwoRun.{tell, keep, seen, kept, same_name, told_alike}
+use Rattle.desk_run.proofs.lemmas.Side.{Levels, IsSeenBy, IsKeptBy, after_all, everywhere}
+use Rattle.desk_run.proofs.lemmas.Side.{same_found, same_last, quiet_is}
+use Rattle.desk_run.proofs.lemmas.Step.{own_stays, others_stay}
+use Rattle.desk_run.proofs.lemmas.TwoRun.{tell, keep, seen, kept, same_name, told_alike}
 use Rattle.desk_run.specs.Verdicts.{side_left, step}
 use Rattle.desk_wire.specs.declared.refusal.Refusal.TheVariants.{Fault}
 use Rattle.desk_wire.specs.Bytes.{text, text_for, world_after}

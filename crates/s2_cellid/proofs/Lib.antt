@@ -1,3 +1,4 @@
+pub mod lemmas
 pub mod Spellings
 pub mod HexValues
 pub mod LowestBits

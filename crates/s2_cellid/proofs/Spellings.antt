@@ -17,7 +17,7 @@ use Rattle.std.proofs.lemmas.Str.{digit_value-digit_char}
 use Rattle.std.proofs.Math.Nat.{mul_assoc, pow-succ', pow-le-pow_right, mul-le-mul_right}
 use Rattle.std.proofs.Math.Seq.{take-append_seam}
 use Rattle.s2_cellid.specs.Cell.{lowest_place, lowest_bit, IsCellId}
-use Rattle.s2_cellid.specs.laws.Block.{id_between, block_of, number_of}
+use Rattle.s2_cellid.proofs.lemmas.Block.{id_between, block_of, number_of}
 use Rattle.s2_cellid.specs.Digits.{is_hex, filled, HoldsToken, refilled}
 use Rattle.s2_cellid.specs.Token.{filled_value, IsSpelling, IsInPrintedForm, hex_digits, is_zero, without_end_zeros, token_text}
 

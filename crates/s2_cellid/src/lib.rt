@@ -142,7 +142,7 @@ impl CellId {
         1 << self.id.trailing_zeros()
     }
 
-    #[tactic(auto, using(crate::specs::laws::Block::ends_of))]
+    #[tactic(auto, using(crate::proofs::lemmas::Block::ends_of))]
     fn first_leaf_id(&self) -> u64
         ensures value { result ≡ first_leaf_id self.now }
         ensures valid { IsCellId self.now }
@@ -150,7 +150,7 @@ impl CellId {
         self.id - (self.lowest_bit() - 1)
     }
 
-    #[tactic(auto, using(crate::specs::laws::Block::ends_of))]
+    #[tactic(auto, using(crate::proofs::lemmas::Block::ends_of))]
     fn last_leaf_id(&self) -> u64
         ensures value { result ≡ last_leaf_id self.now }
         ensures valid { IsCellId self.now }

@@ -10,9 +10,9 @@ use Rattle.std.proofs.lemmas.Nat.{pow_pos, pow-add, shl-shr, div-add-mod', mod-m
 use Rattle.std.proofs.lemmas.Bool.{cases_lt}
 use Rattle.s2_cellid.specs.Cell.{lowest_place, first_leaf}
 use Rattle.s2_hilbert.specs.Curve.{leaf_count}
-use Rattle.s2_hilbert.specs.laws.Place.{power_of_four}
-use Rattle.s2_cellid.specs.laws.Block.{zero_low, power_double, number_of}
-use Rattle.s2_cellid.specs.laws.Family.{IsCellOf, cell_of}
+use Rattle.s2_hilbert.proofs.lemmas.Place.{power_of_four}
+use Rattle.s2_cellid.proofs.lemmas.Block.{zero_low, power_double, number_of}
+use Rattle.s2_cellid.proofs.lemmas.Family.{IsCellOf, cell_of}
 use Rattle.s2_cover.specs.Laying.{IsLargestFrom, EndsWithin, IsLargestFitting}
 use Rattle.s2_cover.proofs.Nesting.{has_leaves, place_of}
 

@@ -7,7 +7,7 @@ use Rattle.std.proofs.lemmas.Bool.{cases_lt, both_ways}
 use Rattle.std.proofs.lemmas.Bool.Decides.{nat_tests}
 use Rattle.s2_hilbert.specs.Grid.{GridLeaf, grid_leaf, IsLeaf, GridSquare, IsSquare, grid_square}
 use Rattle.s2_hilbert.specs.Curve.{position_of, grid_leaf_at, first_position, last_position, place}
-use Rattle.s2_hilbert.specs.laws.Curve.{leaf_undone}
+use Rattle.s2_hilbert.proofs.lemmas.Curve.{leaf_undone}
 use Rattle.s2_cellid.specs.Family.{square_id}
 use Rattle.s2_cover.specs.Leaves.{leaves_of}
 use Rattle.s2_cover.specs.Canonical.{IsCanonical}

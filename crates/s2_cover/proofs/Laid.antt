@@ -11,7 +11,7 @@ use Rattle.std.specs.List.Sorted.{IsNonDecreasingBy}
 use Rattle.std.proofs.lemmas.List.Sorted.{IsNonDecreasingBy-from_default}
 use Rattle.std.proofs.lemmas.List.Kept.{AllPairs-from_increasing}
 use Rattle.s2_cellid.specs.Cell.{lowest_place, IsCellId, first_leaf, last_leaf, cell_has}
-use Rattle.s2_cellid.specs.laws.Block.{leaves_between, first_belongs}
+use Rattle.s2_cellid.proofs.lemmas.Block.{leaves_between, first_belongs}
 use Rattle.s2_cover.specs.Leaves.{leaves_of}
 use Rattle.s2_cover.specs.Canonical.{parent_of, IsLargest, IsCanonical}
 use Rattle.s2_cover.specs.Laying.{IsLongestRun, IsLaid, IsLargestFrom}

@@ -9,7 +9,7 @@ use Rattle.std.proofs.lemmas.List.FromFn.{length-range_with_len, get_or-range_wi
 use Rattle.std.proofs.lemmas.List.Kept.{IsStrictlyIncreasing-filter}
 use Rattle.std.proofs.lemmas.List.Sums.{AllPass-from_list_all, list_all-from_AllPass}
 use Rattle.s2_cellid.specs.Cell.{lowest_place, level_of, is_cell_id, IsCellId, first_leaf, last_leaf, cell_has}
-use Rattle.s2_cellid.specs.laws.Block.{id_between, ends_below}
+use Rattle.s2_cellid.proofs.lemmas.Block.{id_between, ends_below}
 use Rattle.s2_cover.specs.Canonical.{parent_of, IsLargest, IsCanonical}
 use Rattle.s2_cover.specs.CanonicalList.{has_cell, is_largest, canonical_list, IsLonger}
 use Rattle.s2_cover.specs.Walking.{IsRefused}

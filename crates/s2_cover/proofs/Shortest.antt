@@ -5,7 +5,7 @@ use Rattle.std.proofs.lemmas.Bool.{cases_lt}
 use Rattle.std.proofs.lemmas.List.Folds.{Any-from_list_any, list_any_at}
 use Rattle.std.proofs.lemmas.List.Kept.{AllPairs-from_increasing}
 use Rattle.s2_cellid.specs.Cell.{lowest_place, IsCellId, first_leaf, cell_has}
-use Rattle.s2_cellid.specs.laws.Block.{first_belongs}
+use Rattle.s2_cellid.proofs.lemmas.Block.{first_belongs}
 use Rattle.s2_cover.specs.Leaves.{leaves_of}
 use Rattle.s2_cover.specs.Canonical.{IsLargest, IsCanonical}
 use Rattle.s2_cover.proofs.Laid.{has_position, none_larger, largest_apart}

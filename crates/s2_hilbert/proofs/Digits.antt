@@ -2,7 +2,7 @@
 use Rattle.std.proofs.Common.{◌≡◌, ℕ, zero, suc, ◌+◌, ◌*◌, ◌/◌, ◌%◌, ◌^◌, ◌<◌, [], ◌∷◌, slice_index, bit_and, refl, ◌∙◌, ap, arith}
 use Rattle.std.proofs.lemmas.Nat.{and_shr, and_mod, and_mask, shr-shr}
 use Rattle.std.proofs.Math.Pow.{mod-mod-pow}
-use Rattle.s2_hilbert.specs.laws.Quadrant.{below_four}
+use Rattle.s2_hilbert.proofs.lemmas.Quadrant.{below_four}
 
 -- the mask of the hex digits at even places
 abbrev pub even_mask : ℕ

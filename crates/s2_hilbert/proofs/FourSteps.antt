@@ -3,9 +3,9 @@ use Rattle.std.proofs.Common.{◌≡◌, ℕ, ◌+◌, ◌-◌, ◌*◌, ◌/◌
 use Rattle.std.proofs.lemmas.Nat.{pow-add, shr-shr, and_mask}
 use Rattle.std.proofs.Math.Nat.{pow-le-pow_right}
 use Rattle.s2_hilbert.specs.Curve.{quadrant_at, place_of, turned, quadrant_of, place, turn_at}
-use Rattle.s2_hilbert.specs.laws.Place.{split_at, place_below, turn_below}
+use Rattle.s2_hilbert.proofs.lemmas.Place.{split_at, place_below, turn_below}
 use Rattle.s2_hilbert.proofs.Steps.{HasWalked, walk_begins, walk_goes_on, HasFound, search_begins, search_goes_on}
-use Rattle.s2_hilbert.specs.laws.Place.{power_of_four}
+use Rattle.s2_hilbert.proofs.lemmas.Place.{power_of_four}
 
 -- four more levels of a walk to a place
 walk_four : (turn i j step at along bit : ℕ) → step + 4 + bit ≡ 30 → HasWalked 30 turn i j step at along

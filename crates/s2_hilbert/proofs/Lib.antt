@@ -1,3 +1,4 @@
+pub mod lemmas
 pub mod FourTables
 pub mod Steps
 pub mod Digits

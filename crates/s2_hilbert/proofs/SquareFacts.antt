@@ -5,10 +5,10 @@ use Rattle.std.proofs.lemmas.Nat.{pow_pos, pow-add, mul-le, div-mul-add}
 use Rattle.std.proofs.Math.Nat.{mul-div_cancel}
 use Rattle.s2_hilbert.specs.Grid.{GridLeaf, IsLeaf, side_of, GridSquare, IsSquare, LiesInSquare, grid_square}
 use Rattle.s2_hilbert.specs.Curve.{quadrant_at, turned, place, turn_at, position_of, leaf_count, turn_of, first_position}
-use Rattle.s2_hilbert.specs.laws.Quadrant.{is_place}
-use Rattle.s2_hilbert.specs.laws.Place.{turn_below, four_pow_pos, place_below, split_at}
-use Rattle.s2_hilbert.specs.laws.Curve.{square_leaves}
-use Rattle.s2_hilbert.specs.laws.Square.{quarter_count, quotient_range}
+use Rattle.s2_hilbert.proofs.lemmas.Quadrant.{is_place}
+use Rattle.s2_hilbert.proofs.lemmas.Place.{turn_below, four_pow_pos, place_below, split_at}
+use Rattle.s2_hilbert.proofs.lemmas.Curve.{square_leaves}
+use Rattle.s2_hilbert.proofs.lemmas.Square.{quarter_count, quotient_range}
 use Rattle.s2_hilbert.proofs.Steps.{has_last, last_quadrant}
 
 pub turn_of_below : (square : GridSquare) → turn_of square < 4

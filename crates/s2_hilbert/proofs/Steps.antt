@@ -2,8 +2,8 @@
 use Rattle.std.proofs.Common.{◌≡◌, ℕ, ◌+◌, ◌-◌, ◌*◌, ◌/◌, ◌%◌, ◌^◌, ◌<◌, bit_and, refl, sym, ◌∙◌, arith}
 use Rattle.std.proofs.lemmas.Nat.{pow-add, shr-shr, and_mask}
 use Rattle.s2_hilbert.specs.Curve.{quadrant_at, place_of, turned, quadrant_of, place, turn_at}
-use Rattle.s2_hilbert.specs.laws.Quadrant.{is_place, is_quadrant}
-use Rattle.s2_hilbert.specs.laws.Place.{split_at, quadrant_below, power_of_four}
+use Rattle.s2_hilbert.proofs.lemmas.Quadrant.{is_place, is_quadrant}
+use Rattle.s2_hilbert.proofs.lemmas.Place.{split_at, quadrant_below, power_of_four}
 
 -- the quadrant that the lowest bits name
 abbrev pub last_quadrant : ℕ → ℕ → ℕ

@@ -1,4 +1,3 @@
--- Read first: Grid, Curve. What stands in laws/ is checked and needn't be read.
+-- Read first: Grid, Curve.
 pub mod Grid
 pub mod Curve
-pub mod laws

@@ -116,7 +116,7 @@ abbrev pub FailsBy :
     → Uncopied (FilesFault D g) (FilesFault E k) U → Type 0
 FailsBy (copy.Unread files) it =
     (it.failure ≡ open_failure files.fault) × IsSomeAnd it.unread (λ s. s.value ≡ files)
-FailsBy (copy.Unmade files) it =
+FailsBy (copy.Unmade files source) it =
     (it.failure ≡ open_failure files.fault) × IsSomeAnd it.unmade (λ s. s.value ≡ files)
 
 module _ {D E : Type 0} {g : disk.Ghosts D} {k : disk.Ghosts E} (image other : Image) where

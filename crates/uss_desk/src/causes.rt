@@ -1,7 +1,7 @@
 //! Why a file can't be opened, as far as that can be told afterwards: a line for the keeper. Clauses say that
 //! something is told, and not what.
 
-ghost use Rattle.std.specs.Prelude.{◌≡◌, [], ◌∷◌, IfSome, None};
+ghost use Rattle.std.specs.Prelude.{◌≡◌, [], ◌∷◌, IfErr, IfOk, IfSome, None};
 ghost use Rattle.desk_program.specs.Outside.{bytes_written};
 ghost use Rattle.uss_desk.specs.FilesTold.{AreFilesRefused, Tells};
 ghost use Rattle.uss_desk.specs.KeeperOutside.{steps_of};
@@ -14,8 +14,9 @@ use crate::ways::{Way, way_to};
 use desk_ends::write_whole;
 use desk_line::{Database, Failure, malformed_word};
 use desk_pages::{order_text, pages_without_sums};
-use desk_tables::{PartFault, part_at};
+use desk_tables::{Named, PartFault, Unreached, part_at};
 use sqlite::{Start, Unknown};
+use sqlite_disk::Disk;
 use sqlite_std_file::OpenError;
 use std::alloc::{AllocError, Global};
 use std::fs::{self, File, OpenOptions};
@@ -195,9 +196,20 @@ fn desk_cause(rt: &HostRuntime, path: &str) -> &'static str {
     if way_to(rt, path, false) == Way::Disordered {
         return order_text();
     }
-    match part_at(rt, path) {
+    match part_of(part_at(rt, path, Unknown)) {
         Some(part) => part_cause(part),
         None => "no table, other tables than a desk's, or rows of no content",
+    }
+}
+
+// The part that was named of files, on whatever disk they are. They are closed.
+fn part_of<D: Disk + Drop>(named: Result<Named<D>, Unreached<D>>) -> Option<PartFault>
+    ensures named { IfOk named (λ it. result ≡ it.part) }
+    ensures none { IfErr named (λ _. result ≡ None) }
+{
+    match named {
+        Ok(named) => named.part(),
+        Err(_) => None,
     }
 }
 

@@ -93,7 +93,7 @@ fn refused_copy<D: Disk + Drop, N: Disk + Drop>(refused: &CopyFault<D, N>) -> Co
             unmade: None,
             unclosed: None,
         },
-        CopyFault::Unmade(files) => Uncopied {
+        CopyFault::Unmade(files, _) => Uncopied {
             failure: open_failure(&files.fault),
             unread: None,
             unmade: Some(Snapshot::of(files)),

@@ -7,7 +7,7 @@ ghost use Rattle.uss_desk.specs.Naming.{Removed, Renamed, Step, Synced, Takes, T
 ghost use Rattle.uss_desk.specs.Naming.{named_steps};
 
 use crate::pairs::{TwinFault, write_twin};
-use desk_pages::put_in_order;
+use desk_pages::{is_in_order, put_in_order};
 use sqlite::Unknown;
 use sqlite_std_file::OpenError;
 use std::alloc::{AllocError, Global};
@@ -129,7 +129,7 @@ impl<'s> Folder for LocalFolder<'s> {
     }
 
     fn order(&mut self, path: &str) -> bool {
-        put_in_order(self.rt, path).is_ok()
+        is_in_order(put_in_order(self.rt, path, Unknown))
     }
 }
 

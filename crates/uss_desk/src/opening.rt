@@ -5,6 +5,7 @@ ghost use Rattle.std.specs.Option.{IsSomeAnd};
 ghost use Rattle.sqlite_wal.specs.Files.{image_at};
 ghost use Rattle.desk_line.specs.Exits.{failure_word};
 ghost use Rattle.desk_line.specs.Lines.{database_of};
+ghost use Rattle.desk_tables.specs.OpenWords.{open_word};
 ghost use Rattle.uss_desk.specs.OpenedFor as spec;
 ghost use Rattle.uss_desk.specs.OpenedFor.{IsBlank, IsMemory, IsMovedAt, IsMovedIn, IsOpenedAt, IsOpenedIn};
 ghost use Rattle.uss_desk.specs.OpenedFor.{IsUnreadFor};
@@ -240,9 +241,10 @@ fn open_old_file<F: Start, N: Paths + Drop>(
     }
 }
 
-/// The failure with which the program ends if a database can't be opened.
+/// The failure with which the program ends if a database can't be opened: its word is that of `open_word`.
 pub fn open_failure(fault: &OpenFault) -> Failure
-    ensures { result ≡ spec.open_failure fault.now }
+    ensures failure { result ≡ spec.open_failure fault.now }
+    ensures word { failure_word result ≡ open_word fault.now }
 {
     match fault {
         OpenFault::OutOfMemory => Failure::Memory,
@@ -250,11 +252,4 @@ pub fn open_failure(fault: &OpenFault) -> Failure
         OpenFault::NotADesk => Failure::NotADesk,
         OpenFault::OldSchema => Failure::OldSchema,
     }
-}
-
-/// The word that the program prints if a database can't be opened.
-pub fn open_word(fault: &OpenFault) -> &'static str
-    ensures { result.now ≡ failure_word (spec.open_failure fault.now) }
-{
-    open_failure(fault).word()
 }

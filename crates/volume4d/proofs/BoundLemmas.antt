@@ -8,14 +8,14 @@ use Rattle.std.proofs.lemmas.List.{take_all}
 use Rattle.std.proofs.lemmas.List.Elements.{All-get_or, All-from_get_or, All-more, All-weaker, All-contains}
 use Rattle.std.proofs.lemmas.List.Folds.{Any-from_list_any, list_any_at}
 use Rattle.s2_hilbert.specs.Curve.{position_of, grid_leaf_at}
-use Rattle.s2_hilbert.specs.laws.Curve.{position_undone}
+use Rattle.s2_hilbert.proofs.lemmas.Curve.{position_undone}
 use Rattle.volume4d.specs.declared.slab.Slab.{Slab}
 use Rattle.volume4d.specs.Point.{Point}
 use Rattle.volume4d.specs.Slab.{slab_has, slabs_have}
 use Rattle.volume4d.specs.Bounds.{IsFilled, IsWithin, IsJoin, IsBounds}
 use Rattle.volume4d.proofs.LeafTests.{leaf_at_passes}
-use Rattle.volume4d.specs.laws.Slab.{IsIn-from_has, has-from_IsIn}
-use Rattle.volume4d.specs.laws.Bounds.{left_in, right_in, within_has, within_through}
+use Rattle.volume4d.proofs.lemmas.Slab.{IsIn-from_has, has-from_IsIn}
+use Rattle.volume4d.proofs.lemmas.Bounds.{left_in, right_in, within_has, within_through}
 
 -- the least and the greatest point of a slab that has one
 abbrev least_of : Slab → Point

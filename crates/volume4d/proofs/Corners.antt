@@ -8,7 +8,7 @@ use Rattle.std.proofs.lemmas.Int.{ints}
 use Rattle.std.proofs.lemmas.Bool.{and_parts, and_from, false_from_ne_true}
 use Rattle.std.proofs.lemmas.Bool.Decides.{nat_tests}
 use Rattle.s2_hilbert.specs.Curve.{position_of, grid_leaf_at}
-use Rattle.s2_hilbert.specs.laws.Curve.{position_undone}
+use Rattle.s2_hilbert.proofs.lemmas.Curve.{position_undone}
 use Rattle.s2_cellid.specs.Cell.{leaf_id_at}
 use Rattle.s2_cellid.specs.Family.{leaf_id}
 use Rattle.volume4d.specs.declared.slab.Slab.{Slab}
@@ -16,7 +16,7 @@ use Rattle.volume4d.specs.Point.{Point, is_leaf, point_cmp}
 use Rattle.volume4d.specs.Slab.{slab_has_leaf, slab_has}
 use Rattle.volume4d.specs.Shared.{corner_of}
 use Rattle.volume4d.proofs.LeafTests.{leaf_at_passes}
-use Rattle.volume4d.specs.laws.Slab.{IsIn, IsIn-from_has, has-from_IsIn}
+use Rattle.volume4d.proofs.lemmas.Slab.{IsIn, IsIn-from_has, has-from_IsIn}
 
 int_max_le : (a b m x : ℤ) → m ≡ int_max a b → int_le a x ≡ true → int_le b x ≡ true → int_le m x ≡ true
 int_max_le a b m x e p q = grind (arith, ints)
@@ -43,15 +43,15 @@ nat_below : (m x u : ℕ) → leb m x ≡ true → leb x u ≡ true → leb m u 
 nat_below m x u p q = grind (arith, nat_tests)
 
 -- a point not above another in any coordinate, leaves by their positions
-record IsUpTo (m x : Point) : Type 0 where
-  leaf : leb (position_of m.leaf) (position_of x.leaf) ≡ true
-  altitude : int_le m.altitude x.altitude ≡ true
-  second : int_le m.second x.second ≡ true
+pub record IsUpTo (m x : Point) : Type 0 where
+  pub leaf : leb (position_of m.leaf) (position_of x.leaf) ≡ true
+  pub altitude : int_le m.altitude x.altitude ≡ true
+  pub second : int_le m.second x.second ≡ true
 
 abbrev pub corner_position : Slab → Slab → ℕ
 corner_position a b = position_of (corner_of a b).leaf
 
-corner_position_is : (a b : Slab) → corner_position a b ≡ max a.first b.first
+pub corner_position_is : (a b : Slab) → corner_position a b ≡ max a.first b.first
 corner_position_is a b = position_undone (max a.first b.first)
 
 corner_is_leaf : (a b : Slab) → is_leaf (corner_of a b).leaf ≡ true
@@ -59,7 +59,7 @@ corner_is_leaf a b = leaf_at_passes (max a.first b.first)
     (omega (arith, a.first_is_leaf, b.first_is_leaf))
 
 -- the corner of two slabs that have a point is not above it, and both have it
-corner_up_to : (a b : Slab) (x : Point) → IsIn a x → IsIn b x → IsUpTo (corner_of a b) x
+pub corner_up_to : (a b : Slab) (x : Point) → IsIn a x → IsIn b x → IsUpTo (corner_of a b) x
 corner_up_to a b x p q = record {
   leaf = nat_max_le a.first b.first (corner_position a b) (position_of x.leaf) (corner_position_is a b)
       p.first q.first;
@@ -67,7 +67,7 @@ corner_up_to a b x p q = record {
   second = int_max_le a.start b.start _ x.second refl p.start q.start;
 }
 
-corner_left : (a b : Slab) (x : Point) → IsIn a x → IsIn b x → IsIn a (corner_of a b)
+pub corner_left : (a b : Slab) (x : Point) → IsIn a x → IsIn b x → IsIn a (corner_of a b)
 corner_left a b x p q = let u = corner_up_to a b x p q in record {
   is = corner_is_leaf a b;
   first = nat_le_max_left a.first b.first (corner_position a b) (corner_position_is a b);
@@ -78,7 +78,7 @@ corner_left a b x p q = let u = corner_up_to a b x p q in record {
   end = int_below _ x.second _ u.second p.end;
 }
 
-corner_right : (a b : Slab) (x : Point) → IsIn a x → IsIn b x → IsIn b (corner_of a b)
+pub corner_right : (a b : Slab) (x : Point) → IsIn a x → IsIn b x → IsIn b (corner_of a b)
 corner_right a b x p q = let u = corner_up_to a b x p q in record {
   is = corner_is_leaf a b;
   first = nat_le_max_right a.first b.first (corner_position a b) (corner_position_is a b);
@@ -101,7 +101,7 @@ then_less Equal p e h = e
 then_less Greater p e h = cc
 
 -- what is not below in any coordinate does not come before
-not_before : (m x : Point) → IsUpTo m x → point_cmp x m ≡ Less → ⊥
+pub not_before : (m x : Point) → IsUpTo m x → point_cmp x m ≡ Less → ⊥
 not_before m x u e =
     not_less_int m.second x.second u.second (then_less _ _
     (then_less _ _ e (not_less_leaf (position_of m.leaf) (position_of x.leaf) u.leaf))

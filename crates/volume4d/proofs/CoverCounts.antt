@@ -6,7 +6,7 @@ use Rattle.std.proofs.lemmas.Bool.Decides.{nat_tests}
 use Rattle.std.proofs.lemmas.List.Elements.{All-head, All-tail, All-contains}
 use Rattle.s2_hilbert.specs.Curve.{grid_leaf_at}
 use Rattle.s2_cellid.specs.Cell.{IsCellId, cell_has}
-use Rattle.s2_cellid.specs.laws.Family.{position_in}
+use Rattle.s2_cellid.proofs.lemmas.Family.{position_in}
 use Rattle.s2_cover.specs.Canonical.{IsCanonical}
 use Rattle.s2_cover.specs.CanonicalList.{canonical_list}
 use Rattle.s2_cover.specs.Leaves.{leaves_of}

@@ -5,7 +5,7 @@ use Rattle.std.proofs.lemmas.Bool.{cases_lt, and_left, and_right, lt-leb, or_fro
 use Rattle.std.proofs.lemmas.List.Elements.{All-head, All-tail}
 use Rattle.s2_hilbert.specs.Grid.{GridLeaf}
 use Rattle.s2_hilbert.specs.Curve.{position_of, grid_leaf_at}
-use Rattle.s2_hilbert.specs.laws.Curve.{position_undone}
+use Rattle.s2_hilbert.proofs.lemmas.Curve.{position_undone}
 use Rattle.s2_cover.specs.declared.spans.Span.{Span}
 use Rattle.s2_cover.specs.Leaves.{leaves_of}
 use Rattle.s2_cover.specs.Rectangles.{RectParts, widened, wide_has, wide_set, rect_leaves}

@@ -2,9 +2,9 @@
 use Rattle.std.proofs.Common.{◌≡◌, ℕ, ◌*◌, ◌/◌, ◌^◌, ◌<◌, ◌≤◌, true, false, refl, arith}
 use Rattle.std.proofs.lemmas.Bool.{false_from_ne_true}
 use Rattle.s2_hilbert.specs.Curve.{grid_leaf_at}
-use Rattle.s2_hilbert.specs.laws.Curve.{leaf_is}
+use Rattle.s2_hilbert.proofs.lemmas.Curve.{leaf_is}
 use Rattle.volume4d.specs.Point.{is_leaf}
-use Rattle.volume4d.specs.laws.Point.{leaf_test}
+use Rattle.volume4d.proofs.lemmas.Point.{leaf_test}
 
 -- the leaf at a position passes
 pub leaf_at_passes : (position : ℕ) → position < 6 * 2 ^ 60 → is_leaf (grid_leaf_at position) ≡ true

@@ -6,7 +6,7 @@ use Rattle.volume4d.specs.declared.slab.Held.{Held}
 use Rattle.volume4d.specs.Point.{Point}
 use Rattle.volume4d.specs.Slab.{slab_has, helds_have, top_held}
 use Rattle.volume4d.specs.Level.{greater, level_where, top_by}
-use Rattle.volume4d.specs.laws.Level.{greater_none, top_by-cons, top_by-append, is_some_top}
+use Rattle.volume4d.proofs.lemmas.Level.{greater_none, top_by-cons, top_by-append, is_some_top}
 
 -- the top of one more
 pub top_held_more : (hs : List Held) (i : ℕ) (h : Held) (x : Point) → i < length hs → h ≡ get_or hs i h

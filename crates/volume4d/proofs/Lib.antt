@@ -1,3 +1,4 @@
+pub mod lemmas
 pub mod IdBytes
 pub mod Readings
 pub mod RectReadings
@@ -13,4 +14,5 @@ pub mod Corners
 pub mod LevelLemmas
 pub mod FirstPoints
 pub mod Sweeping
+pub mod LaneLemmas
 pub mod ClusterLemmas

@@ -7,13 +7,13 @@ use Rattle.std.proofs.lemmas.List.Elements.{All-head, All-tail}
 use Rattle.std.proofs.lemmas.List.Folds.{list_any-append}
 use Rattle.std.proofs.lemmas.List.Sorted.{list_any-IsPermutation}
 use Rattle.s2_hilbert.specs.Curve.{position_of}
-use Rattle.s2_hilbert.specs.laws.Curve.{leaf_undone}
+use Rattle.s2_hilbert.proofs.lemmas.Curve.{leaf_undone}
 use Rattle.s2_cover.specs.declared.spans.Span.{Span}
 use Rattle.s2_cover.specs.Ranges.{IsRanges, span_has, spans_have}
 use Rattle.volume4d.specs.declared.slab.Slab.{Slab}
 use Rattle.volume4d.specs.Point.{Point, is_leaf}
 use Rattle.volume4d.specs.Windows.{WindowParts}
-use Rattle.volume4d.specs.laws.Point.{leaf_test}
+use Rattle.volume4d.proofs.lemmas.Point.{leaf_test}
 use Rattle.volume4d.specs.Shape.{shape_has, shape_positions}
 use Rattle.volume4d.specs.Volume.{Block, window_has, block_has, area_has}
 use Rattle.volume4d.specs.Slab.{slab_has, slabs_have, span_of, slab_window}

@@ -1,4 +1,4 @@
--- Read first: Limits, Point, Shape, Volume, Meeting. What stands in laws/ is checked and needn't be read.
+-- Read first: Limits, Point, Shape, Volume, Meeting.
 pub mod VolumeLimits
 pub mod Windows
 pub mod Point
@@ -15,6 +15,6 @@ pub mod SpanCounts
 pub mod Meeting
 pub mod Shared
 pub mod Sweep
+pub mod Lanes
 pub mod Clusters
 pub mod VolumeFaults
-pub mod laws

@@ -6,7 +6,8 @@ use Rattle.std.specs.declared.cmp.Ordering.TheVariants.{Less}
 use Rattle.s2_hilbert.specs.Curve.{position_of}
 use Rattle.volume4d.specs.declared.slab.Slab.{Slab}
 use Rattle.volume4d.specs.Point.{Point, point_cmp}
-use Rattle.volume4d.specs.Slab.{slab_has, slabs_have}
+use Rattle.volume4d.specs.Slab.{slab_has}
+use Rattle.volume4d.specs.Meeting.{IsFirstPoint}
 
 -- one of those that stand where slabs stand has the point
 abbrev pub placed_have : {A : Type 0} → (A → Slab) → List A → Point → Bool
@@ -20,11 +21,6 @@ Ascend slab_of list = IsNonDecreasingBy (λ a. (slab_of a).first) list
 abbrev pub IsPassed : ℕ → Slab → Type 0
 IsPassed position s = (x : Point) → position ≤ position_of x.leaf → slab_has s x ≡ false
 
--- from the position on, the new slabs have the points of the old ones and those that pass the test
-abbrev pub Adds : ℕ → List Slab → (Point → Bool) → List Slab → Type 0
-Adds position old passes new =
-    (x : Point) → position ≤ position_of x.leaf → slabs_have new x ≡ (slabs_have old x || passes x)
-
 -- a point was found, and this one does not come before it
 abbrev pub IsLate : Option Point → Point → Type 0
 IsLate None x = ⊥
@@ -33,3 +29,8 @@ IsLate (Some found) x = point_cmp x found ≡ Less → ⊥
 -- no point with a leaf at the position or after it comes before the one found
 abbrev pub AreLate : ℕ → Option Point → Type 0
 AreLate position found = (x : Point) → position ≤ position_of x.leaf → IsLate found x
+
+-- the new point is the first of the old one and of those that pass the test
+abbrev pub AddsFirst : (Point → Bool) → Option Point → Option Point → Type 0
+AddsFirst passes old new =
+    (before : Point → Bool) → IsFirstPoint before old → IsFirstPoint (λ x. before x || passes x) new

@@ -21,7 +21,7 @@ pub(crate) struct Corner {
 impl Model for Corner {
     ghost use Rattle.std.specs.Prelude.{◌<◌, ◌*◌, ◌^◌};
     ghost use Rattle.s2_hilbert.specs.Curve.{position_of, grid_leaf_at};
-    ghost use Rattle.s2_hilbert.specs.laws.Curve.{position_undone};
+    ghost use Rattle.s2_hilbert.proofs.lemmas.Curve.{position_undone};
     ghost use Rattle.volume4d.specs.Point.{Point};
 
     ghost Value = { Point };

@@ -70,15 +70,15 @@ impl Slab {
     }
 }
 
-// Whether two slabs have a second in common.
-fn meet_in_time(one: &Slab, other: &Slab) -> bool
+/// Whether two slabs have a second in common.
+pub(crate) fn meet_in_time(one: &Slab, other: &Slab) -> bool
     ensures { result ≡ (int_lt one.now.start other.now.end && int_lt other.now.start one.now.end) }
 {
     one.start < other.end && other.start < one.end
 }
 
-// Whether two slabs have an altitude in common.
-fn meet_in_height(one: &Slab, other: &Slab) -> bool
+/// Whether two slabs have an altitude in common.
+pub(crate) fn meet_in_height(one: &Slab, other: &Slab) -> bool
     ensures { result ≡ (int_lt one.now.lower other.now.upper && int_lt other.now.lower one.now.upper) }
 {
     one.lower < other.upper && other.lower < one.upper

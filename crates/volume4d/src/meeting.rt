@@ -19,7 +19,7 @@ use std::marker::Model;
 
 /// A point that two plans share, and the greatest priority that is held there.
 #[derive(Clone, Copy, Debug, PartialEq, Eq)]
-#[tactic(auto, using(s2_hilbert::specs::laws::Curve::position_undone))]
+#[tactic(auto, using(s2_hilbert::proofs::lemmas::Curve::position_undone))]
 pub struct Meeting {
     /// The leaf's position among all leaves along the S2 curve, below `6 * 2^60`.
     pub pos: u64,
@@ -34,7 +34,7 @@ pub struct Meeting {
 impl Model for Meeting {
     ghost use Rattle.std.specs.Prelude.{◌<◌, ◌*◌, ◌^◌};
     ghost use Rattle.s2_hilbert.specs.Curve.{position_of, grid_leaf_at};
-    ghost use Rattle.s2_hilbert.specs.laws.Curve.{position_undone};
+    ghost use Rattle.s2_hilbert.proofs.lemmas.Curve.{position_undone};
     ghost use Rattle.volume4d.specs.Meeting.{Spot};
 
     ghost Value = { Spot };

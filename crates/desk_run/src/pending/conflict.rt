@@ -15,7 +15,7 @@ use desk_rules::operator::Operator;
 use desk_rules::permission::Permitted;
 use desk_rules::plan_id::PlanId;
 use desk_store::{PlanStore, StoreFault};
-use volume4d::{Area, Meeting, Slab, split_cluster};
+use volume4d::{Area, MAX_VOLUMES, Meeting, Slab, split_cluster};
 
 // A gap between two slabs is wide if it is more than this part of the way from the first to the last. So a
 // plan that lies close together has at most this many clusters and one.
@@ -24,6 +24,10 @@ const GAPS: u64 = 64;
 // It is wide too if it is more than the leaves of a cell of level 6: a question over tables reads from about
 // so far before its extent, so that two questions read no more than one that holds the gap.
 const WIDEST: u64 = 1 << 48;
+
+// So many clusters are asked for apart: a place for each volume. After each later one that isn't blocked the
+// gap has to be twice as wide, so that there are few questions, however many places a plan has.
+const PLACES: u32 = MAX_VOLUMES as u32;
 
 // The conflict of an area with a priority, of the operator's plan of the id.
 pub fn conflict_of<S: PlanStore>(
@@ -62,7 +66,8 @@ fn first_among<S: PlanStore>(
     ensures reads { OnlyReads S.content S.doubt S.faults S.may_leave S.is_shielded store.old store.new }
     ensures cause { IfErr result (IsCounted S.faults store.old store.new) }
 {
-    let gap = wide_gap(slabs);
+    let mut gap = wide_gap(slabs);
+    let mut asked: u32 = 0;
     let mut rest = slabs;
     while !rest.is_empty() {
         let (cluster, later) = split_cluster(rest, gap);
@@ -71,8 +76,19 @@ fn first_among<S: PlanStore>(
             return Ok(meeting);
         }
         rest = later;
+        asked = asked.saturating_add(1);
+        gap = gap_after(gap, asked);
     }
     Ok(None)
+}
+
+// How wide the next gap has to be, where so many clusters were asked for.
+fn gap_after(gap: u64, asked: u32) -> u64 {
+    if asked < PLACES {
+        gap
+    } else {
+        gap.saturating_mul(2)
+    }
 }
 
 // How wide a gap between slabs has to be that they are asked for apart.

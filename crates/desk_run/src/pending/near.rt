@@ -7,22 +7,24 @@ ghost use Rattle.volume4d.specs.Point.{Point};
 ghost use Rattle.volume4d.specs.Slab.{slab_has, slabs_have, top_held};
 ghost use Rattle.volume4d.specs.Sweep.{Ascend};
 ghost use Rattle.desk_rules.specs.Conflict.{at_least};
-ghost use Rattle.desk_run.specs.HeldAmong.{AddLevelAt, AreAfter, AreLeft};
+ghost use Rattle.desk_run.specs.HeldAmong.{AddLevelAt, AreAfter, AreLeft, HaveAll};
 
 use std::alloc::AllocError;
 use volume4d::{Held, Slab};
 
 // Appends those of some slabs, at a priority, that may share a point with one of `mine`, which ascend within
-// bounds.
+// bounds, and within parts of these.
 pub fn push_slabs(
     theirs: &mut Vec<Held>,
     mine: &[Slab],
     bounds: &Slab,
+    parts: &[Slab],
     slabs: &[Slab],
     priority: u32,
 ) -> Result<(), AllocError>
     requires order { Ascend (λ s. s) mine.now }
     requires bounds { HasAll (slabs_have mine.now) bounds.now }
+    requires parts { HaveAll (slabs_have mine.now) parts.now }
     ensures { OnOk result (AddLevelAt (slabs_have mine.now) theirs.old.items theirs.new.items
         (λ x. level_where (slabs_have slabs.now x) priority)) }
 {
@@ -31,7 +33,7 @@ pub fn push_slabs(
     for slab in slabs {
         left = left_at(mine, left, position, slab.first);
         position = slab.first;
-        if may_share(left, bounds, slab) {
+        if may_share(left, bounds, parts, slab) {
             theirs.push(Held {
                 slab: *slab,
                 priority,
@@ -42,16 +44,18 @@ pub fn push_slabs(
 }
 
 // Appends those of some held slabs, of a priority at least, that may share a point with one of `mine`, which
-// ascend within bounds.
+// ascend within bounds, and within parts of these.
 pub fn push_helds(
     theirs: &mut Vec<Held>,
     mine: &[Slab],
     bounds: &Slab,
+    parts: &[Slab],
     helds: &[Held],
     least: u32,
 ) -> Result<(), AllocError>
     requires order { Ascend (λ s. s) mine.now }
     requires bounds { HasAll (slabs_have mine.now) bounds.now }
+    requires parts { HaveAll (slabs_have mine.now) parts.now }
     ensures { OnOk result (AddLevelAt (slabs_have mine.now) theirs.old.items theirs.new.items
         (λ x. at_least least (top_held helds.now x))) }
 {
@@ -60,7 +64,7 @@ pub fn push_helds(
     for held in helds {
         left = left_at(mine, left, position, held.slab.first);
         position = held.slab.first;
-        if is_wanted(held, least, left, bounds) {
+        if is_wanted(held, least, left, bounds, parts) {
             theirs.push(*held)?;
         }
     }
@@ -68,17 +72,17 @@ pub fn push_helds(
 }
 
 // Whether a held slab has a priority at least, and may share a point with one of those that are left.
-fn is_wanted(held: &Held, least: u32, left: &[Slab], bounds: &Slab) -> bool
+fn is_wanted(held: &Held, least: u32, left: &[Slab], bounds: &Slab, parts: &[Slab]) -> bool
     requires { Ascend (λ s. s) left.now }
     ensures high { result ≡ true → nat_le least held.now.priority ≡ true }
     ensures none { result ≡ false → (x : Point) → slab_has bounds.now x ≡ true
-        → slabs_have left.now x ≡ true
+        → slabs_have parts.now x ≡ true → slabs_have left.now x ≡ true
         → at_least least (level_where (slab_has held.now.slab x) held.now.priority) ≡ None }
 {
     if held.priority < least {
         return false;
     }
-    may_share(left, bounds, &held.slab)
+    may_share(left, bounds, parts, &held.slab)
 }
 
 // The slabs of `mine` but for some that are over at a position: of those that were left at another.
@@ -113,16 +117,31 @@ fn after(slabs: &[Slab], position: u64) -> &[Slab]
 }
 
 // Whether a slab may share a point with one of those that are left at its first leaf, which ascend, within
-// bounds.
-fn may_share(left: &[Slab], bounds: &Slab, slab: &Slab) -> bool
+// bounds and within one of their parts.
+fn may_share(left: &[Slab], bounds: &Slab, parts: &[Slab], slab: &Slab) -> bool
     requires { Ascend (λ s. s) left.now }
-    ensures { result ≡ false → (x : Point) → slab_has bounds.now x ≡ true → slabs_have left.now x ≡ true
-        → slab_has slab.now x ≡ false }
+    ensures { result ≡ false → (x : Point) → slab_has bounds.now x ≡ true → slabs_have parts.now x ≡ true
+        → slabs_have left.now x ≡ true → slab_has slab.now x ≡ false }
 {
     if !begins_by(left, slab.last) {
         return false;
     }
-    slab.overlaps(bounds)
+    if !slab.overlaps(bounds) {
+        return false;
+    }
+    overlaps_one(slab, parts)
+}
+
+// Whether a slab overlaps one of some others.
+fn overlaps_one(slab: &Slab, parts: &[Slab]) -> bool
+    ensures { result ≡ false → (x : Point) → slabs_have parts.now x ≡ true → slab_has slab.now x ≡ false }
+{
+    for part in parts {
+        if slab.overlaps(part) {
+            return true;
+        }
+    }
+    false
 }
 
 // Whether the first of slabs that ascend begins at a position or before it.

@@ -5,6 +5,7 @@ ghost use Rattle.volume4d.specs.Bounds.{IsFilled};
 ghost use Rattle.volume4d.specs.Point.{Point};
 ghost use Rattle.volume4d.specs.Slab.{slabs_have, top_held};
 ghost use Rattle.volume4d.specs.Sweep.{Ascend};
+ghost use Rattle.volume4d.specs.Volume.{area_has};
 ghost use Rattle.desk_rules.specs.Conflict.{at_least, conflict};
 ghost use Rattle.desk_rules.specs.Permission.{least_blocking};
 ghost use Rattle.desk_rules.specs.Plan.{is_live, row_holds};
@@ -18,14 +19,16 @@ use desk_rules::plan::PlanRow;
 use desk_rules::plan_id::PlanId;
 use std::alloc::{AllocError, Global};
 use std::marker::Model;
-use volume4d::{Held, Meeting, Slab, bounds_of, split_cluster};
+use volume4d::{Area, Held, Meeting, Slab, bounds_of, split_cluster};
 
-// A plan of an operator, with the slabs that it holds and bounds round them, which are made once.
+// A plan of an operator, with the slabs that it holds, bounds round all of them and round those of each
+// volume, which are made once.
 #[derive(Drop)]
 pub struct OwnPlan {
     row: PlanRow,
     slabs: Vec<Slab>,
     bounds: Slab,
+    parts: Vec<Slab>,
 }
 
 impl Model for OwnPlan {
@@ -36,7 +39,7 @@ impl Model for OwnPlan {
 
     ghost view = { λ p. p.row };
 
-    ghost invariant = { λ p. AreSlabsHeld p.row p.slabs.items p.bounds };
+    ghost invariant = { λ p. AreSlabsHeld p.row p.slabs.items p.bounds p.parts.items };
 }
 
 impl OwnPlan {
@@ -49,11 +52,18 @@ impl OwnPlan {
                 row,
                 slabs: Vec::new(alloc),
                 bounds: Slab::empty(),
+                parts: Vec::new(alloc),
             });
         }
         let slabs = row.area.slabs()?;
         let bounds = bounds_of(&slabs);
-        Ok(OwnPlan { row, slabs, bounds })
+        let parts = parts_of(alloc, &row.area)?;
+        Ok(OwnPlan {
+            row,
+            slabs,
+            bounds,
+            parts,
+        })
     }
 
     // Its row.
@@ -81,7 +91,14 @@ impl OwnPlan {
         ensures { OnOk result (AddLevelAt (row_holds self.now) theirs.old.items theirs.new.items
             (λ x. at_least least (top_held others.now x))) }
     {
-        push_helds(theirs, &self.slabs, &self.bounds, others, least)
+        push_helds(
+            theirs,
+            &self.slabs,
+            &self.bounds,
+            &self.parts,
+            others,
+            least,
+        )
     }
 
     // Appends those of its slabs that may share a point with another plan of the operator, unless it is that
@@ -105,6 +122,7 @@ impl OwnPlan {
             theirs,
             &mine.slabs,
             &mine.bounds,
+            &mine.parts,
             &self.slabs,
             self.row.priority,
         )
@@ -119,6 +137,17 @@ impl OwnPlan {
     {
         first_conflict(&self.slabs, theirs)
     }
+}
+
+// Bounds round the points of each volume of an area.
+fn parts_of(alloc: Global, area: &Area) -> Result<Vec<Slab>, AllocError>
+    ensures { IfOk result (λ parts. HaveAll (area_has area.now) parts.items) }
+{
+    let mut parts = Vec::new(alloc);
+    for volume in area.volumes() {
+        parts.push(bounds_of(&volume.slabs()?))?;
+    }
+    Ok(parts)
 }
 
 // Whether a plan has another id, and a priority at least.

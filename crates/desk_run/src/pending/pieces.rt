@@ -94,8 +94,17 @@ fn first_at<S: PlanStore>(
     ensures cause { IfErr result (IsCounted S.faults store.old store.new) }
 {
     let mut theirs = store.rivals(operator, id, least_of(permitted, priority), piece)?;
-    cut_all(&mut theirs, piece);
+    cut_in_order(&mut theirs, piece);
     Ok(first_conflict(cluster, &theirs))
+}
+
+// Cuts held slabs to a piece, and puts them in the order of their first leaves, so that they are met in one
+// pass: those of few plans come one plan after the other.
+fn cut_in_order(helds: &mut [Held], piece: &Slab)
+    ensures { AreCut piece.now helds.old helds.new }
+{
+    cut_all(helds, piece);
+    helds.sort_unstable_by_key(|held| held.slab.first);
 }
 
 // Cuts held slabs to a piece.

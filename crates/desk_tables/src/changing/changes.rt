@@ -20,7 +20,7 @@ use crate::changing::records::{
     aircraft_number, asked_of, lengths_with, span_rows, texts_of, usage_number, volume_rows,
 };
 use crate::kept::GhostWorld;
-use crate::reading::values::{count_at, fault_of};
+use crate::reading::values::{count_at, fault_told};
 use crate::span_bounds::SpanBounds;
 use crate::tables::DeskTables;
 use desk_rules::operator::Operator;
@@ -81,7 +81,7 @@ impl<S: Alter> DeskTables<S> {
             → IfErr result (BlamesStore S.Store self.old.held self.new.held) }
     {
         let committed = put_operator(&mut self.connection, operator.as_str(), ceiling);
-        follow(&mut self.kept, committed, next, ())
+        follow(&mut self.kept, committed, next, (), self.told)
     }
 
     // Stores a plan's row for its id, with its volumes and, while it is live, their spans. The answer is how
@@ -116,7 +116,7 @@ impl<S: Alter> DeskTables<S> {
         covers_are_few();
         let committed = put_plan(&mut self.connection, head, &volumes, &spans);
         let after = lengths_with(span_bounds, &spans);
-        follow(&mut self.kept, committed, next, after)
+        follow(&mut self.kept, committed, next, after, self.told)
     }
 
     // Closes the operator's plan of the id: its spans go, and all else of it but the usage stays.
@@ -145,7 +145,7 @@ impl<S: Alter> DeskTables<S> {
             priority,
             aircraft,
         );
-        follow(&mut self.kept, committed, next, ())
+        follow(&mut self.kept, committed, next, (), self.told)
     }
 
     // Takes the operator's plans of the ids out.
@@ -161,7 +161,7 @@ impl<S: Alter> DeskTables<S> {
     {
         let texts = texts_of(self.alloc, ids)?;
         let committed = clear_plans(&mut self.connection, operator.as_str(), &texts);
-        follow(&mut self.kept, committed, next, ())
+        follow(&mut self.kept, committed, next, (), self.told)
     }
 }
 
@@ -177,12 +177,14 @@ fn numbers_in(head: &Row) -> Result<(u32, u32), StoreFault>
     Ok((priority, aircraft))
 }
 
-// What comes of a change that was asked for: where it was committed, the world after it follows.
+// What comes of a change that was asked for: where it was committed, the world after it follows. An error of
+// input and output is told as this.
 fn follow<T: Copy>(
     kept: &mut GhostWorld,
     committed: Result<(), Error>,
     next: GhostWorld,
     answer: T,
+    told: StoreFault,
 ) -> Result<T, StoreFault>
     ensures { HasFollowed committed answer result kept.old.world kept.new.world next.world }
 {
@@ -191,6 +193,6 @@ fn follow<T: Copy>(
             *kept = next;
             Ok(answer)
         }
-        Err(e) => Err(fault_of(e)),
+        Err(e) => Err(fault_told(e, told)),
     }
 }

@@ -13,9 +13,9 @@ ghost use Rattle.desk_tables.specs.Opening.{AreOperatorRows, ArePlanRows, AreSha
 ghost use Rattle.desk_tables.specs.Opening.{is_below_first};
 
 use crate::opening::exact::{FiledPlan, RowFault, filed_in, listed_in};
-use desk_live::ListedOperator;
 use desk_rules::decide::MAX_PLANS;
 use desk_rules::operator::Operator;
+use operator_index::ListedOperator;
 use sqlite::Row;
 use sqlite_value::value::ValueRef;
 use std::alloc::{AllocError, AllocFailed, Global};

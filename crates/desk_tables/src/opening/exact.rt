@@ -16,11 +16,11 @@ ghost use Rattle.desk_tables.specs.Records.{IsOperator, IsFiled, AreRowsOf, AreN
 ghost use Rattle.desk_tables.specs.Records.{IsWindowAt, slab_row};
 
 use crate::reading::values::{area_in, count_at, plan_in};
-use desk_live::ListedOperator;
 use desk_rules::decide::MAX_PRIORITY;
 use desk_rules::operator::Operator;
 use desk_rules::plan::PlanRow;
 use desk_store::StoreFault;
+use operator_index::ListedOperator;
 use sqlite::Row;
 use sqlite_value::value::ValueRef;
 use std::alloc::Global;

@@ -48,13 +48,19 @@ pub struct FilesFault<D: Disk> {
     pub connection: Result<Connection<FileStore<D>>, Unreached<D>>,
 }
 
+/// The connection to what was to be copied. Nothing can be done with it but to drop it.
+#[derive(Drop)]
+pub struct Source<D: Disk> {
+    connection: Connection<FileStore<D>>,
+}
+
 /// Why nothing was copied.
 #[derive(Drop)]
 pub enum CopyFault<D: Disk, E: Disk> {
     /// What was to be copied was not read.
     Unread(FilesFault<D>),
-    /// In the new files no store was made.
-    Unmade(FilesFault<E>),
+    /// In the new files no store was made. What was to be copied is as it was when it was read.
+    Unmade(FilesFault<E>, Source<D>),
 }
 
 impl<S: Start> SqliteStore<FileStore<FileFrom<S>>> {
@@ -225,12 +231,12 @@ fn copy_read<D: Disk + Drop, N: Start>(
     ensures schema { IfOk result (λ copied. copied.1.1.is_old ≡ found.3) }
     ensures made { IfOk result (λ copied. IsMadeIn (image_at N.Start) copied.1.0.held) }
     ensures left { IfOk result (λ copied. IsSettledAt over_files copied.1.0.held copied.1.0.world) }
-    ensures unmade { IfErr result (IsUnmadeOf (image_at N.Start)) }
+    ensures unmade { IfErr result (IsUnmadeOf (image_at N.Start) found.0) }
 {
     let (connection, content, known, old) = found;
     match store_at(rt, to, other, &content, known) {
         Ok(store) => Ok((connection, (store, holdings_of(&content, old)))),
-        Err(refused) => Err(CopyFault::Unmade(refused)),
+        Err(refused) => Err(CopyFault::Unmade(refused, Source { connection })),
     }
 }
 

@@ -36,10 +36,10 @@ use crate::opening::open::OpenFault;
 use crate::opening::ordering::ordered_in;
 use crate::opening::spans::{SpanCheck, take_spans};
 use crate::span_bounds::SpanBounds;
-use desk_live::ListedOperator;
 use desk_sql::{
     TablesPresent, Whole, all_rows, complete_tables, find_tables, has_old_rows, volume_rows,
 };
+use operator_index::ListedOperator;
 use s2_cover::laws::one_list_of_ranges;
 use sqlite::{Connection, Row};
 use sqlite_trees::store::Alter;

@@ -40,12 +40,12 @@ use crate::opening::finding::{content_with, tables_found, uncovered_parts, world
 use crate::opening::open::OpenFault;
 use crate::opening::ordering::unpack;
 use crate::opening::spans::{SpanCheck, take_spans};
-use desk_live::ListedOperator;
 use desk_sql::laws::settled_and_sound;
 use desk_sql::{
     TablesPresent, Whole, all_rows, complete_tables, empty_old_spans, empty_old_volumes,
     insert_spans, insert_volumes,
 };
+use operator_index::ListedOperator;
 use s2_cover::laws::{canonical_list_is, one_canonical_list, one_list_of_ranges};
 use sqlite::{Connection, Error, Transaction};
 use sqlite_trees::store::Alter;

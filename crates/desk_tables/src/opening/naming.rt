@@ -2,9 +2,13 @@
 //! found afterwards, by the tests that refuse a database, in their order. Nothing is changed, and no clause
 //! says which part is named.
 
-ghost use Rattle.std.specs.Prelude.{◌≡◌, ◌≢◌, true, false};
+ghost use Rattle.std.specs.Prelude.{◌≡◌, ◌≢◌, true, false, IfErr, IfOk};
+ghost use Rattle.sqlite_wal.specs.Files.{image_at};
+ghost use Rattle.sqlite.specs.Files.{over_files};
 ghost use Rattle.sqlite.specs.Held.{IsNew};
 ghost use Rattle.desk_sql.specs.Frames.{OnlyReads};
+ghost use Rattle.desk_tables.specs.Files.{IsUnreached};
+ghost use Rattle.desk_tables.specs.Naming.{OnlyReadsIn};
 ghost use Rattle.desk_tables.specs.OpeningSteps.{ShowsOperators, ShowsPart};
 
 use crate::opening::content::{
@@ -15,12 +19,12 @@ use crate::opening::exact::{FiledPlan, PLAN_WIDTH, RowFault, is_keyed, operator_
 use crate::opening::finding::{heads_in, tables_found};
 use crate::opening::moving::{are_new_empty, are_old, old_heads_in};
 use crate::opening::open::OpenFault;
-use crate::opening::path::connect_there;
+use crate::opening::path::{Unreached, connect_there};
 use crate::opening::spans::{SpanCheck, take_spans};
 use crate::reading::values::{count_at, head_in, id_in};
 use desk_rules::decide::MAX_PRIORITY;
 use desk_sql::{TablesPresent, Whole};
-use sqlite::{Connection, FileStore, Row, Unknown};
+use sqlite::{Connection, FileFrom, FileStore, Row, Start};
 use sqlite_disk::Disk;
 use sqlite_trees::store::Alter;
 use std::alloc::Global;
@@ -54,23 +58,48 @@ pub enum PartFault {
     OldPlan,
 }
 
-/// The first part of the files at a path that is that of no desk. None if there is none, or if the files
-/// can't be read.
-pub fn part_at(rt: &HostRuntime, path: &str) -> Option<PartFault> {
-    match connect_there(rt, path, Unknown) {
-        Ok(connection) => part_in(rt.alloc(), connection),
-        Err(_) => None,
+/// What was named of files, and the connection that read them. Nothing can be done with that but to drop it.
+#[derive(Drop)]
+pub struct Named<D: Disk> {
+    part: Option<PartFault>,
+    connection: Connection<FileStore<D>>,
+}
+
+impl<D: Disk> Named<D> {
+    /// The first part that is that of no desk. None if there is none, or if the database can't be read.
+    pub fn part(&self) -> Option<PartFault>
+        ensures { result ≡ self.now.part }
+    {
+        self.part
     }
 }
 
-// The first part of the files of a connection, on whatever disk they are.
-fn part_in<D: Disk + Drop>(
-    alloc: Global,
-    mut connection: Connection<FileStore<D>>,
-) -> Option<PartFault>
-    requires { IsNew connection }
+/// What is named of the files at a path, which are only read; `start` stands for what they held.
+///
+/// # Errors
+///
+/// That the files were not opened.
+pub fn part_at<S: Start>(
+    rt: &HostRuntime,
+    path: &str,
+    start: S,
+) -> Result<Named<FileFrom<S>>, Unreached<FileFrom<S>>>
+    ensures reads { IfOk result (λ named. OnlyReadsIn (image_at S.Start) named.connection) }
+    ensures unread { IfErr result (IsUnreached (image_at S.Start)) }
 {
-    first_fault(alloc, &mut connection)
+    match connect_there(rt, path, start) {
+        Ok(connection) => Ok(part_in(rt.alloc(), connection)),
+        Err(unreached) => Err(unreached),
+    }
+}
+
+// What is named of the files of a connection, on whatever disk they are.
+fn part_in<D: Disk + Drop>(alloc: Global, mut connection: Connection<FileStore<D>>) -> Named<D>
+    requires { IsNew connection }
+    ensures { OnlyReads over_files connection result.connection }
+{
+    let part = first_fault(alloc, &mut connection);
+    Named { part, connection }
 }
 
 /// The first part of a database that is that of no desk. None if there is none, or if the database can't be

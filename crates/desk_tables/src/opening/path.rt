@@ -6,7 +6,7 @@ ghost use Rattle.sqlite_wal.specs.Files.{image_at};
 ghost use Rattle.sqlite_std_file.specs.File.{file_is_usable, IsFresh};
 ghost use Rattle.sqlite.specs.Files.{image_of, IsCleanLeft, LeavesFiles};
 ghost use Rattle.sqlite.specs.Held.{IsNew};
-ghost use Rattle.desk_tables.specs.Files.{Finds, IsUnread, IsUnreached};
+ghost use Rattle.desk_tables.specs.Files.{Finds, IsUnread, IsUnreached, log_frames};
 
 use crate::opening::open::OpenFault;
 use sqlite::{Connection, FileFrom, FileStore, Files, Leftover, Options, Start};
@@ -151,6 +151,7 @@ fn open_pair<S: Start>(
 
 // The options of a desk's files: the seed of the log's salts is drawn by the operating system.
 fn options<D: Disk>(rt: &HostRuntime) -> Result<Options, Unreached<D>>
+    ensures frames { IfOk result (λ options. options.checkpoint_frames ≡ log_frames) }
     ensures fault { IfErr result (λ it. IsUnread it.fault) }
     ensures left { IfErr result (λ it. it.left ≡ None) }
 {

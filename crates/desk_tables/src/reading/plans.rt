@@ -93,6 +93,6 @@ impl<S: Alter> DeskTables<S> {
             reach,
             &mut rivals,
         );
-        held_by(handed, rivals)
+        held_by(handed, rivals, self.told)
     }
 }

@@ -17,7 +17,7 @@ ghost use Rattle.desk_tables.specs.ReadsMade.{ReadsPlans, ReadsSpans};
 use crate::known::Known;
 use crate::reading::listing::PlanCollector;
 use crate::reading::rivals::Rivals;
-use crate::reading::values::{area_in, fault_of, or_fault, plan_in};
+use crate::reading::values::{area_in, fault_told, or_fault, plan_in};
 use crate::tables::DeskTables;
 use desk_live::Wanted;
 use desk_rules::operator::Operator;
@@ -47,7 +47,7 @@ impl<S: Alter> DeskTables<S> {
         let mut buffer = [0u8; 36];
         let text = id.encode(&mut buffer);
         let answer = plan_of(&mut self.connection, operator.as_str(), text);
-        or_fault(answer)
+        or_fault(answer, self.told)
     }
 
     // The rows of `volume2` of the operator's plan of the id, by place.
@@ -58,7 +58,7 @@ impl<S: Alter> DeskTables<S> {
         let mut buffer = [0u8; 36];
         let text = id.encode(&mut buffer);
         let answer = volumes_of(&mut self.connection, operator.as_str(), text);
-        or_fault(answer)
+        or_fault(answer, self.told)
     }
 
     /// The operator's plan of the id, or none if it is not stored.
@@ -96,7 +96,7 @@ impl<S: Alter> DeskTables<S> {
     {
         let mut collector = PlanCollector::new(self.alloc);
         let taken = own_listing(&mut self.connection, operator.as_str(), &mut collector);
-        collected(taken, collector)
+        collected(taken, collector, self.told)
     }
 
     /// The slabs that live plans hold, of those that are wanted, where they meet an extent. No row is read if
@@ -140,8 +140,12 @@ fn plan_of_rows(alloc: Global, head: &Row, rows: &[Row]) -> Result<PlanRow, Stor
     plan_in(head, area)
 }
 
-// The plans of a listing, if it was taken to its end.
-fn collected(taken: Result<(), Error>, collector: PlanCollector) -> Result<Vec<PlanRow>, StoreFault>
+// The plans of a listing, if it was taken to its end; an error of input and output is told as this.
+fn collected(
+    taken: Result<(), Error>,
+    collector: PlanCollector,
+    told: StoreFault,
+) -> Result<Vec<PlanRow>, StoreFault>
     ensures whole { OnOk result (IsOk taken) }
     ensures value { IfOk result (λ plans. (ps : List Filed)
         → AllByRecursion (λ p. IsPlan p.row) ps
@@ -153,12 +157,16 @@ fn collected(taken: Result<(), Error>, collector: PlanCollector) -> Result<Vec<P
 {
     match taken {
         Ok(()) => collector.finish(),
-        Err(e) => Err(fault_of(e)),
+        Err(e) => Err(fault_told(e, told)),
     }
 }
 
-// The slabs of spans that were handed over, if all were.
-pub(crate) fn held_by(handed: Result<(), Error>, rivals: Rivals) -> Result<Vec<Held>, StoreFault>
+// The slabs of spans that were handed over, if all were; an error of input and output is told as this.
+pub(crate) fn held_by(
+    handed: Result<(), Error>,
+    rivals: Rivals,
+    told: StoreFault,
+) -> Result<Vec<Held>, StoreFault>
     ensures whole { OnOk result (IsOk handed) }
     ensures value { IfOk result (λ helds. helds.items ≡ rivals.helds.items) }
     ensures none { IfErr result (λ e. e ≡ StoreFault.Store →
@@ -166,6 +174,6 @@ pub(crate) fn held_by(handed: Result<(), Error>, rivals: Rivals) -> Result<Vec<H
 {
     match handed {
         Ok(()) => Ok(rivals.finish()),
-        Err(e) => Err(fault_of(e)),
+        Err(e) => Err(fault_told(e, told)),
     }
 }

@@ -31,23 +31,32 @@ use volume4d::{Area, Footprint, Volume, VolumeFault, Window};
 pub(crate) fn fault_of(error: Error) -> StoreFault
     ensures { result ≡ StoreFault.Store → error ≢ Error.SqliteFailure ErrorCode.OutOfMemory }
 {
+    fault_told(error, StoreFault::Store)
+}
+
+/// The fault of a store that an error of SQLite is, if one of input and output is told as this.
+pub(crate) fn fault_told(error: Error, told: StoreFault) -> StoreFault
+    ensures store { result ≡ StoreFault.Store → error ≢ Error.SqliteFailure ErrorCode.OutOfMemory }
+    ensures shut { error ≡ Error.SqliteFailure ErrorCode.Closed → result ≡ StoreFault.Store }
+{
     match error {
         Error::SqliteFailure(ErrorCode::OutOfMemory) => StoreFault::OutOfMemory,
+        Error::SqliteFailure(ErrorCode::SystemIoFailure) => told,
         _ => StoreFault::Store,
     }
 }
 
-/// What SQLite answered, or its error as a fault of the store.
+/// What SQLite answered, or its error as a fault of the store, if one of input and output is told as this.
 ///
 /// # Errors
 ///
-/// `OutOfMemory` if memory ran out, else `Store`.
-pub(crate) fn or_fault<T>(answer: Result<T, Error>) -> Result<T, StoreFault>
+/// That of `fault_told`.
+pub(crate) fn or_fault<T>(answer: Result<T, Error>, told: StoreFault) -> Result<T, StoreFault>
     ensures { IsToldAs answer result }
 {
     match answer {
         Ok(value) => Ok(value),
-        Err(e) => Err(fault_of(e)),
+        Err(e) => Err(fault_told(e, told)),
     }
 }
 

@@ -10,7 +10,7 @@ use crate::stops::round::{Came, Stop, when};
 use crate::stops::tables::{rows_of, run_all, texts_of};
 use anyhow::bail;
 use desk_run::Desk;
-use desk_tables::{OpenFault, SqliteStore};
+use desk_tables::{OpenFault, SqliteStore, open_word};
 use desk_wire::answer;
 use sqlite::{Connection, FileStore};
 use std::alloc::Global;
@@ -41,7 +41,7 @@ impl Display for Told {
         match self {
             Told::Adopted => f.write_str("a desk's tables"),
             Told::Moved(count) => write!(f, "{count} moved"),
-            Told::Refused(fault) => write!(f, "{fault}"),
+            Told::Refused(fault) => f.write_str(open_word(fault)),
         }
     }
 }

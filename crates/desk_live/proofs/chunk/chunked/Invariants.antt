@@ -1,9 +1,10 @@
 use Rattle.std.proofs.Common.{length}
+use Rattle.desk_live.specs.Live.{IsWhole}
 use Rattle.desk_live.proofs.ChunkLemmas.{AreCut}
 use Rattle.desk_live.proofs.chunk.chunked.Given as goal
 
-abbrev pub invariant-loop-first : goal.invariant-loop-first
-invariant-loop-first l = AreCut l.lives l.chunks.items l.rest
+abbrev pub invariant-loop-rest : goal.invariant-loop-rest
+invariant-loop-rest l = AreCut (λ c. c.volumes.items) IsWhole l.lives l.chunks.items l.rest
 
-abbrev pub decreases-loop-first : goal.decreases-loop-first
-decreases-loop-first l = length l.rest
+abbrev pub decreases-loop-rest : goal.decreases-loop-rest
+decreases-loop-rest l = length l.rest

@@ -1,10 +1,11 @@
 use Rattle.std.proofs.Common.{length, ◌-◌}
-use Rattle.desk_live.specs.Live.{stays_at}
-use Rattle.desk_live.proofs.ChunkLemmas.{AreLeft}
+use Rattle.desk_live.specs.Live.{IsWhole, is_beside}
+use Rattle.desk_live.proofs.GatherLemmas.{AreLeft}
 use Rattle.desk_live.proofs.chunk.leave_each.Given as goal
 
 abbrev pub invariant-loop-at : goal.invariant-loop-at
-invariant-loop-at l = AreLeft (stays_at l.change) l.fn.chunks.items l.at l.chunks.items
+invariant-loop-at l =
+    AreLeft (λ c. c.volumes.items) IsWhole (is_beside l.operator l.id) l.fn.chunks.items l.at l.chunks.items
 
 abbrev pub decreases-loop-at : goal.decreases-loop-at
 decreases-loop-at l = length l.fn.chunks.items - l.at

@@ -1,4 +1,4 @@
-use Rattle.std.proofs.Common.{◌≡◌, ◌<◌, ◌∙◌, arith, drop, length, take, IfSome, Some, rules, subst}
+use Rattle.std.proofs.Common.{◌≡◌, ◌<◌, ◌∙◌, drop, take, IfSome, Some, rules, subst}
 use Rattle.std.specs.Io.KnownBytes.{Appends}
 use Rattle.sqlite_wal.specs.PageSize.{bytes_of}
 use Rattle.desk_pages.proofs.SumLemmas.{copies_more, copies_to_end}

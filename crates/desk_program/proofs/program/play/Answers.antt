@@ -1,6 +1,6 @@
 use Rattle.std.proofs.Common.{ap, ◌∙◌, inl, inr, subst}
 use Rattle.desk_store.specs.StoreFaults.{IsHonest}
-use Rattle.desk_store.specs.laws.Fault.{was_honest}
+use Rattle.desk_store.proofs.lemmas.Fault.{was_honest}
 use Rattle.desk_run.specs.DeskWorld.{world_of}
 use Rattle.desk_wire.specs.Passage.{passage}
 use Rattle.desk_wire.specs.Playing.{HasPlayed}

@@ -1,4 +1,4 @@
-use Rattle.desk_run.specs.laws.Step.{closing_closed}
+use Rattle.desk_run.proofs.lemmas.Step.{closing_closed}
 use Rattle.desk_run.proofs.laws.closing_a_closed_plan_changes_nothing.Goals as goal
 
 pub returns : goal.returns

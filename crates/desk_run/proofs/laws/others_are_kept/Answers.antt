@@ -1,4 +1,4 @@
-use Rattle.desk_run.specs.laws.Step.{others_stay}
+use Rattle.desk_run.proofs.lemmas.Step.{others_stay}
 use Rattle.desk_run.proofs.laws.others_are_kept.Goals as goal
 
 pub returns : goal.returns

@@ -1,4 +1,4 @@
-use Rattle.desk_run.specs.laws.Step.{own_stays}
+use Rattle.desk_run.proofs.lemmas.Step.{own_stays}
 use Rattle.desk_run.proofs.laws.own_is_decided.Goals as goal
 
 pub returns : goal.returns

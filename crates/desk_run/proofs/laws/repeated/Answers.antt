@@ -1,4 +1,4 @@
-use Rattle.desk_run.specs.laws.Repeat.{enrolled_again, step_again}
+use Rattle.desk_run.proofs.lemmas.Repeat.{enrolled_again, step_again}
 use Rattle.desk_run.proofs.laws.repeated.Goals as goal
 
 pub returns : goal.returns

@@ -1,4 +1,4 @@
-use Rattle.desk_run.specs.laws.Step.{unchanged}
+use Rattle.desk_run.proofs.lemmas.Step.{unchanged}
 use Rattle.desk_run.proofs.laws.without_a_change_all_stays.Goals as goal
 
 pub returns : goal.returns

@@ -1,4 +1,4 @@
-use Rattle.desk_store.specs.laws.Parse.{parsed_id}
+use Rattle.desk_store.proofs.lemmas.Parse.{parsed_id}
 use Rattle.desk_store.proofs.limits.id_within.Goals as goal
 
 pub returns : goal.returns

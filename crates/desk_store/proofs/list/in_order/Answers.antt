@@ -1,6 +1,6 @@
 use Rattle.std.proofs.Common.{rules}
 use Rattle.std.proofs.lemmas.List.Sorted.{IsNonDecreasingBy-from_sort_by_key}
-use Rattle.desk_store.specs.laws.Held.{top_held-permutation}
+use Rattle.desk_store.proofs.lemmas.Held.{top_held-permutation}
 use Rattle.desk_store.proofs.list.in_order.Goals as goal
 
 pub returns-clause-same : goal.returns-clause-same

@@ -1,6 +1,6 @@
 use Rattle.std.proofs.Common.{◌∙◌}
 use Rattle.volume4d.specs.Slab.{top_held}
-use Rattle.volume4d.specs.laws.Bounds.{overlapping}
+use Rattle.volume4d.proofs.lemmas.Bounds.{overlapping}
 use Rattle.desk_store.proofs.RivalLemmas.{slab_adds, slab_outside}
 use Rattle.desk_store.proofs.plan.push_helds.Goals as goal
 use Rattle.desk_store.proofs.plan.push_helds.Goals.{then-overlaps+in_ok-push, else-overlaps}

@@ -1,7 +1,7 @@
 use Rattle.std.proofs.Common.{◌++◌, ◌∷◌, [], ap, sym, subst, take, ◌∙◌}
 use Rattle.std.proofs.lemmas.List.{take_more}
 use Rattle.desk_store.specs.World.{Filed}
-use Rattle.desk_live.specs.Roll.{AreAccountsOf, accounts_of}
+use Rattle.operator_index.specs.Roll.{AreAccountsOf, accounts_of}
 use Rattle.desk_tables.proofs.known.roll_of.Goals as goal
 
 pub loop-plan-preserved : goal.loop-plan-preserved

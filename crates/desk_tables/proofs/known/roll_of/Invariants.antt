@@ -1,5 +1,5 @@
 use Rattle.std.proofs.Common.{take}
-use Rattle.desk_live.specs.Roll.{AreAccountsOf, accounts_of}
+use Rattle.operator_index.specs.Roll.{AreAccountsOf, accounts_of}
 use Rattle.desk_tables.proofs.known.roll_of.Given as goal
 
 -- the operators, and the plans so far

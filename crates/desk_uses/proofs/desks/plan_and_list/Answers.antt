@@ -1,5 +1,5 @@
 use Rattle.desk_store.specs.StoreFaults.{IsHonest}
-use Rattle.desk_store.specs.laws.Fault.{was_honest}
+use Rattle.desk_store.proofs.lemmas.Fault.{was_honest}
 use Rattle.desk_uses.proofs.DeskLemmas.{listed_after}
 use Rattle.desk_uses.proofs.desks.plan_and_list.Goals as goal
 

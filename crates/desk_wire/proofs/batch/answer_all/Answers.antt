@@ -1,14 +1,14 @@
 use Rattle.std.proofs.Common.{◌≡◌, ◌≤◌, ◌+◌, ◌-◌, ◌∙◌, [], ◌∷◌, map, option_map, sym, ap, subst, length, arith}
 use Rattle.std.proofs.lemmas.List.{length-append, length-map}
 use Rattle.desk_reading.specs.Messages.{message_read}
-use Rattle.desk_store.specs.laws.Fault.{was_honest}
+use Rattle.desk_store.proofs.lemmas.Fault.{was_honest}
 use Rattle.desk_run.specs.DeskWorld.{world_of}
 use Rattle.desk_wire.specs.AllAnswers.{AreBroken}
 use Rattle.desk_wire.specs.declared.batch.AnswersEnd.TheVariants.{All, Broken, NoMemory}
 use Rattle.desk_wire.proofs.GivenLemmas.{given_quiet}
 use Rattle.desk_wire.specs.RequestsKept.{IsFoundInRequests}
 use Rattle.desk_wire.specs.FailureCauses.{IsLastAnswer}
-use Rattle.desk_run.specs.laws.Crash.{risen_since}
+use Rattle.desk_run.proofs.lemmas.Crash.{risen_since}
 use Rattle.desk_wire.specs.Failing.{desk_fault}
 use Rattle.desk_wire.proofs.CauseLemmas.{failed_there, last_said, not_none}
 use Rattle.desk_wire.proofs.AllLemmas.{HaveAnswers, one_answered, cut_answered, all_answered, done_so, failed_so}

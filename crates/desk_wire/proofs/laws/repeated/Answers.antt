@@ -3,7 +3,7 @@ use Rattle.desk_rules.specs.declared.call.Asked.{Asked}
 use Rattle.desk_reading.specs.Readings.{Reading}
 use Rattle.desk_reading.specs.Requests.{asked}
 use Rattle.desk_run.specs.DeskWorld.{DeskWorld}
-use Rattle.desk_run.specs.laws.Repeat.{step_again}
+use Rattle.desk_run.proofs.lemmas.Repeat.{step_again}
 use Rattle.desk_wire.specs.Bytes.{world_after}
 use Rattle.desk_wire.proofs.laws.repeated.Goals as goal
 

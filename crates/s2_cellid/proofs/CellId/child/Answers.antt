@@ -1,8 +1,8 @@
 use Rattle.std.proofs.Common.{◌+◌, ◌<◌, arith}
 use Rattle.s2_hilbert.specs.Curve.{position_of}
 use Rattle.s2_cellid.specs.Cell.{level_of}
-use Rattle.s2_cellid.specs.laws.Block.{ends_of}
-use Rattle.s2_cellid.specs.laws.Family.{child_cell, child_cell_has, count_room}
+use Rattle.s2_cellid.proofs.lemmas.Block.{ends_of}
+use Rattle.s2_cellid.proofs.lemmas.Family.{child_cell, child_cell_has, count_room}
 use Rattle.s2_cellid.proofs.CellId.child.Goals as goal
 
 pub overflow_sub-result : goal.overflow_sub-result

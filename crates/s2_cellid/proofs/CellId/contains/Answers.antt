@@ -1,5 +1,5 @@
-use Rattle.s2_cellid.specs.laws.Block.{range_by_leaves}
-use Rattle.s2_cellid.specs.laws.Family.{all_leaves}
+use Rattle.s2_cellid.proofs.lemmas.Block.{range_by_leaves}
+use Rattle.s2_cellid.proofs.lemmas.Family.{all_leaves}
 use Rattle.s2_cellid.proofs.CellId.contains.Goals as goal
 
 pub returns-clause-positions : goal.returns-clause-positions

@@ -1,4 +1,4 @@
-use Rattle.s2_cellid.specs.laws.Family.{face_square}
+use Rattle.s2_cellid.proofs.lemmas.Family.{face_square}
 use Rattle.s2_cellid.proofs.CellId.face.Goals as goal
 
 pub returns-clause-leaves : goal.returns-clause-leaves

@@ -1,4 +1,4 @@
-use Rattle.s2_cellid.specs.laws.Block.{first_is_leaf, leaves_between}
+use Rattle.s2_cellid.proofs.lemmas.Block.{first_is_leaf, leaves_between}
 use Rattle.s2_cellid.proofs.CellId.first.Goals as goal
 
 pub returns-clause-leaf : goal.returns-clause-leaf

@@ -1,7 +1,7 @@
 use Rattle.std.proofs.Common.{arith}
 use Rattle.std.proofs.lemmas.Bool.Decides.{nat_tests}
-use Rattle.s2_cellid.specs.laws.Block.{shared_leaf, ranges_meet}
-use Rattle.s2_cellid.specs.laws.Family.{some_leaf}
+use Rattle.s2_cellid.proofs.lemmas.Block.{shared_leaf, ranges_meet}
+use Rattle.s2_cellid.proofs.lemmas.Family.{some_leaf}
 use Rattle.s2_cellid.proofs.CellId.intersects.Goals as goal
 
 pub returns-then-first_leaf_id-last_leaf_id-clause-positions :

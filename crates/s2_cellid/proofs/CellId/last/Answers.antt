@@ -1,4 +1,4 @@
-use Rattle.s2_cellid.specs.laws.Block.{last_is_leaf, leaves_between, ends_below}
+use Rattle.s2_cellid.proofs.lemmas.Block.{last_is_leaf, leaves_between, ends_below}
 use Rattle.s2_cellid.proofs.CellId.last.Goals as goal
 
 pub returns-clause-leaf : goal.returns-clause-leaf

@@ -1,4 +1,4 @@
-use Rattle.s2_cellid.specs.laws.Family.{level_square}
+use Rattle.s2_cellid.proofs.lemmas.Family.{level_square}
 use Rattle.s2_cellid.proofs.CellId.level.Goals as goal
 
 pub returns-clause-leaves : goal.returns-clause-leaves

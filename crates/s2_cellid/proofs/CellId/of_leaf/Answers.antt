@@ -1,4 +1,4 @@
-use Rattle.s2_cellid.specs.laws.Family.{leaf_cell, leaf_cell_has}
+use Rattle.s2_cellid.proofs.lemmas.Family.{leaf_cell, leaf_cell_has}
 use Rattle.s2_cellid.proofs.CellId.of_leaf.Goals as goal
 
 pub invariant_of-result : goal.invariant_of-result

@@ -1,7 +1,7 @@
 use Rattle.std.proofs.Common.{◌≡◌, ◌∙◌, ap, arith}
 use Rattle.s2_hilbert.specs.Grid.{GridSquare}
 use Rattle.s2_hilbert.specs.Curve.{leaf_count}
-use Rattle.s2_cellid.specs.laws.Family.{square_cell, square_cell_has, count_room}
+use Rattle.s2_cellid.proofs.lemmas.Family.{square_cell, square_cell_has, count_room}
 use Rattle.s2_cellid.proofs.CellId.of_square.Goals as goal
 
 lowest_is : (c : goal.After-lowest_bit_for) → c.lowest_bit_for.result ≡ leaf_count c.args.square.now.level

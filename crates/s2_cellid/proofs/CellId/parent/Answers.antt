@@ -1,6 +1,6 @@
 use Rattle.std.proofs.Common.{◌≤◌, arith}
 use Rattle.s2_cellid.specs.Cell.{level_of}
-use Rattle.s2_cellid.specs.laws.Family.{parent_cell, parent_cell_has, count_room, kept_above}
+use Rattle.s2_cellid.proofs.lemmas.Family.{parent_cell, parent_cell_has, count_room, kept_above}
 use Rattle.s2_cellid.proofs.CellId.parent.Goals as goal
 
 pub overflow_mul-above : goal.overflow_mul-above

@@ -1,4 +1,4 @@
-use Rattle.s2_hilbert.specs.laws.Curve.{leaf_is, position_undone, position_below, leaf_undone}
+use Rattle.s2_hilbert.proofs.lemmas.Curve.{leaf_is, position_undone, position_below, leaf_undone}
 use Rattle.s2_hilbert.proofs.laws.positions_are_leaves.Goals as goal
 
 pub returns-clause-leaf : goal.returns-clause-leaf

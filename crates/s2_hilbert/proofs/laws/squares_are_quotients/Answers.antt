@@ -1,4 +1,4 @@
-use Rattle.s2_hilbert.specs.laws.Square.{same_square}
+use Rattle.s2_hilbert.proofs.lemmas.Square.{same_square}
 use Rattle.s2_hilbert.proofs.laws.squares_are_quotients.Goals as goal
 
 pub returns : goal.returns

@@ -1,5 +1,5 @@
-use Rattle.s2_hilbert.specs.laws.Curve.{square_leaves}
-use Rattle.s2_hilbert.specs.laws.Square.{share_square}
+use Rattle.s2_hilbert.proofs.lemmas.Curve.{square_leaves}
+use Rattle.s2_hilbert.proofs.lemmas.Square.{share_square}
 use Rattle.s2_hilbert.proofs.laws.squares_are_ranges.Goals as goal
 
 pub returns-clause-range : goal.returns-clause-range

@@ -1,4 +1,4 @@
-use Rattle.s2_hilbert.specs.laws.Curve.{found_at}
+use Rattle.s2_hilbert.proofs.lemmas.Curve.{found_at}
 use Rattle.s2_hilbert.proofs.leaves.leaf_at.Goals as goal
 
 pub returns-clause-value : goal.returns-clause-value

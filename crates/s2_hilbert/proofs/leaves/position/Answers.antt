@@ -1,6 +1,6 @@
 use Rattle.std.proofs.Common.{sym}
 use Rattle.s2_hilbert.specs.Grid.{grid_leaf}
-use Rattle.s2_hilbert.specs.laws.Curve.{position_is}
+use Rattle.s2_hilbert.proofs.lemmas.Curve.{position_is}
 use Rattle.s2_hilbert.proofs.leaves.position.Goals as goal
 
 pub returns-clause-value : goal.returns-clause-value

@@ -1,6 +1,6 @@
 use Rattle.std.proofs.Common.{◌-◌, ◌*◌, ◌∙◌, sym, arith}
 use Rattle.std.proofs.lemmas.Nat.{one_shl}
-use Rattle.s2_hilbert.specs.laws.Place.{power_of_four}
+use Rattle.s2_hilbert.proofs.lemmas.Place.{power_of_four}
 use Rattle.s2_hilbert.proofs.squares.leaf_count.Goals as goal
 
 pub returns : goal.returns

@@ -1,6 +1,6 @@
 use Rattle.std.proofs.Common.{◌≡◌, ◌-◌, ◌/◌, arith}
 use Rattle.s2_hilbert.specs.Curve.{place}
-use Rattle.s2_hilbert.specs.laws.Place.{four_pow_pos, place_below}
+use Rattle.s2_hilbert.proofs.lemmas.Place.{four_pow_pos, place_below}
 use Rattle.s2_hilbert.proofs.SquareFacts.{side_room, square_place_is}
 use Rattle.s2_hilbert.proofs.squares.place_of_square.Goals as goal
 

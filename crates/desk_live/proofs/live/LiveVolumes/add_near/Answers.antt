@@ -1,7 +1,7 @@
 use Rattle.std.proofs.Common.{subst}
 use Rattle.std.proofs.lemmas.Result.{on_ok_weaker}
 use Rattle.volume4d.specs.Slab.{slab_has}
-use Rattle.desk_live.specs.Live.{AreFenced, volumes_in}
+use Rattle.desk_live.specs.Live.{AreHedged, volumes_under}
 use Rattle.desk_live.specs.Near.{AddsPlans}
 use Rattle.desk_live.proofs.NearLemmas.{adds_both}
 use Rattle.desk_live.proofs.live.LiveVolumes.add_near.Goals as goal
@@ -12,7 +12,8 @@ returns c =
     let inside = slab_has c.args.extent.now in
     let kept = c.args.self.now in
     let mid = c.add_near_in.new.near in
-    on_ok_weaker c.add_young.result (λ added fenced.
-    adds_both s inside (volumes_in kept.chunks.items) kept.young.items c.args.near.now mid
-    c.add_young.new.near (subst (λ cs. AreFenced cs → AddsPlans s inside (volumes_in cs) c.args.near.now mid)
-    c.deref.ensures.value c.in_ok-add_near_in.ensures fenced) added) c.add_young.ensures
+    on_ok_weaker c.add_young.result (λ added hedged.
+    adds_both s inside (volumes_under kept.groups.items) kept.young.items c.args.near.now mid
+    c.add_young.new.near
+    (subst (λ gs. AreHedged gs → AddsPlans s inside (volumes_under gs) c.args.near.now mid)
+    c.deref.ensures.value c.in_ok-add_near_in.ensures hedged) added) c.add_young.ensures

@@ -3,7 +3,7 @@ use Rattle.std.proofs.lemmas.List.{take_all}
 use Rattle.volume4d.specs.Slab.{slabs_have}
 use Rattle.desk_live.specs.Live.{volumes_of}
 use Rattle.desk_live.specs.Near.{AreNearPlans}
-use Rattle.desk_live.proofs.NearLemmas.{adds_extent, adds_nothing, some_weaker, near_plans}
+use Rattle.desk_live.proofs.NearLemmas.{adds_extent, adds_nothing, found_weaker, near_plans}
 use Rattle.desk_live.proofs.live.LiveVolumes.near_plans.Goals as goal
 
 pub loop-extent-init : goal.loop-extent-init
@@ -29,7 +29,7 @@ returns c =
     let (start, none, added) = c.loop-extent.invariant in
     let all : take c.loop-extent.extent-index c.args.extents.now ≡ c.args.extents.now =
     take_all c.loop-extent.extent-index c.args.extents.now (omega (arith, c.loop-extent-test.false)) in
-    some_weaker c.if_whole.result (λ keys is fenced.
+    found_weaker c.if_whole.result (λ keys is fenced.
     subst (λ es. AreNearPlans c.args.wanted.now (slabs_have es) (volumes_of c.args.self.now) keys.items) all
     (near_plans c.args.wanted.now (slabs_have (take c.loop-extent.extent-index c.args.extents.now))
     (volumes_of c.args.self.now) start c.loop-extent.near keys.items none (added fenced) is.0 is.1))

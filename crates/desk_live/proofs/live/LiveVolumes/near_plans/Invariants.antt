@@ -1,10 +1,10 @@
 use Rattle.std.proofs.Common.{◌≡◌, [], take}
 use Rattle.volume4d.specs.Slab.{slabs_have}
 use Rattle.desk_live.specs.declared.near.NearPlans.{NearPlans}
-use Rattle.desk_live.specs.Live.{AreFenced, volumes_of}
+use Rattle.desk_live.specs.Live.{AreHedged, volumes_of}
 use Rattle.desk_live.specs.Near.{AddsPlans}
 use Rattle.desk_live.proofs.live.LiveVolumes.near_plans.Given as goal
 
 abbrev pub invariant-loop-extent : goal.invariant-loop-extent
-invariant-loop-extent l = (start : NearPlans) × (start.keys.items ≡ []) × (AreFenced l.self.chunks.items
+invariant-loop-extent l = (start : NearPlans) × (start.keys.keys ≡ []) × (AreHedged l.self.groups.items
     → AddsPlans l.wanted (slabs_have (take l.extent-index l.extents)) (volumes_of l.self) start l.near)

@@ -1,11 +1,13 @@
-use Rattle.std.proofs.Common.{[], ◌++◌, sym, subst}
-use Rattle.desk_live.specs.Live.{AreFenced, AreLive, volumes_in}
-use Rattle.desk_live.specs.laws.Live.{none_live}
+use Rattle.std.proofs.Common.{[], ◌++◌, arith, sym, subst}
+use Rattle.desk_live.specs.Live.{AreHedged, AreLive, ArePlaced, volumes_under}
+use Rattle.desk_live.proofs.lemmas.Live.{none_live}
 use Rattle.desk_live.proofs.live.LiveVolumes.new.Goals as goal
 
 pub returns : goal.returns
 returns c = record {
   live = subst (AreLive (record { operators = []; plans = [] }))
-      (λ i. volumes_in (sym c.new.ensures.items i) ++ sym c.new-2.ensures.items i) none_live;
-  fenced = subst AreFenced (sym c.new.ensures.items) tt;
+      (λ i. volumes_under (sym c.new.ensures.items i) ++ sym c.new-2.ensures.items i) none_live;
+  hedged = subst AreHedged (sym c.new.ensures.items) tt;
+  placed = subst (λ gs. ArePlaced c.new-3.result (volumes_under gs)) (sym c.new.ensures.items)
+      (λ o id. omega arith);
 }

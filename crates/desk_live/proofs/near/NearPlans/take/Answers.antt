@@ -4,4 +4,4 @@ use Rattle.desk_live.proofs.near.NearPlans.take.Goals as goal
 
 pub returns : goal.returns
 returns c =
-    takes_one c.args.live.now c.args.self.now _ c.key.result c.key.ensures c.in_ok-push.ensures.items refl
+    takes_one c.args.live.now c.args.self.now _ c.key.result c.key.ensures c.in_ok-insert.ensures.keys refl

@@ -1,5 +1,5 @@
 use Rattle.std.proofs.Common.{◌≡◌, ◌∙◌, ◌++◌, ap, nat_abs, subst, sym, true}
-use Rattle.desk_ends.specs.laws.Moment.{same_moment}
+use Rattle.desk_ends.proofs.lemmas.Moment.{same_moment}
 use Rattle.desk_record.specs.Record.{entry}
 use Rattle.desk_program.specs.Recorded.{request_entry, with_request}
 use Rattle.desk_recording.specs.RecordWrites.{AppendsKnown}

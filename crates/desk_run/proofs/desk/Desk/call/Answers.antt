@@ -1,9 +1,9 @@
 use Rattle.std.proofs.Common.{◌∙◌, ap, subst, w64}
 use Rattle.std.proofs.lemmas.Int.{to_z-of_z}
 use Rattle.std.proofs.lemmas.Result.{on_ok_weaker}
-use Rattle.desk_store.specs.laws.Fault.{was_honest}
+use Rattle.desk_store.proofs.lemmas.Fault.{was_honest}
 use Rattle.desk_run.specs.Calls.{IsPending, world_committed}
-use Rattle.desk_run.specs.laws.Crash.{leaves_after}
+use Rattle.desk_run.proofs.lemmas.Crash.{leaves_after}
 use Rattle.desk_run.specs.DeskWorld.{world_of}
 use Rattle.desk_run.proofs.desk.Desk.call.Goals as goal
 

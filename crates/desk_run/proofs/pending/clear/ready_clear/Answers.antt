@@ -1,6 +1,6 @@
 use Rattle.std.proofs.Common.{◌∙◌, subst}
-use Rattle.desk_store.specs.laws.Fault.{was_honest}
-use Rattle.desk_store.specs.laws.Order.{rows_sorted}
+use Rattle.desk_store.proofs.lemmas.Fault.{was_honest}
+use Rattle.desk_store.proofs.lemmas.Order.{rows_sorted}
 use Rattle.desk_run.specs.Calls.{IsClearing, ids_in}
 use Rattle.desk_run.proofs.ClearLemmas.{slabs_alone, clearing_ready}
 use Rattle.desk_run.proofs.pending.clear.ready_clear.Goals as goal

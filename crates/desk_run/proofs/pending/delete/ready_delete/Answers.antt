@@ -1,4 +1,4 @@
-use Rattle.desk_store.specs.laws.Fault.{was_honest}
+use Rattle.desk_store.proofs.lemmas.Fault.{was_honest}
 use Rattle.desk_run.proofs.CallLemmas.{delete_ready}
 use Rattle.desk_run.proofs.pending.delete.ready_delete.Goals as goal
 

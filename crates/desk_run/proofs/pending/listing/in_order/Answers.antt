@@ -1,4 +1,4 @@
-use Rattle.desk_store.specs.laws.Held.{top_held-permutation}
+use Rattle.desk_store.proofs.lemmas.Held.{top_held-permutation}
 use Rattle.desk_run.proofs.pending.listing.in_order.Goals as goal
 
 pub returns : goal.returns

@@ -1,6 +1,6 @@
 use Rattle.std.proofs.Common.{◌∙◌, ap}
 use Rattle.volume4d.specs.Slab.{top_held}
-use Rattle.volume4d.specs.laws.Level.{top_held-nil}
+use Rattle.volume4d.proofs.lemmas.Level.{top_held-nil}
 use Rattle.desk_run.proofs.ListingLemmas.{in_the_way_at}
 use Rattle.desk_run.proofs.pending.listing.in_the_way.Goals as goal
 

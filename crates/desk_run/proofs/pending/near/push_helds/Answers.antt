@@ -35,7 +35,8 @@ loop-held-preserved c =
                 c.held-item.is
                 (at_mine (at_least n (level_where (slab_has held.slab x) held.priority)) None
                 c.args.mine.now c.left_at-left.result.now held.slab x c.left_at-left.ensures.left has
-                (c.is_wanted.ensures.none w.if-is_wanted.false x (c.requires.bounds x has))
+                (c.is_wanted.ensures.none w.if-is_wanted.false x (c.requires.bounds x has)
+                (c.requires.parts x has))
                 (none_without n held.priority (slab_has held.slab x)))
                 (so_far.levels x has)
           ]);

@@ -24,7 +24,8 @@ loop-slab-preserved c =
                 c.loop-slab-test.true c.slab-item.is
                 (at_mine (slab_has slab x) false c.args.mine.now c.left_at-left.result.now slab x
                 c.left_at-left.ensures.left has
-                (c.may_share.ensures w.if-may_share.false x (c.requires.bounds x has)) (λ e. e))
+                (c.may_share.ensures w.if-may_share.false x (c.requires.bounds x has)
+                (c.requires.parts x has)) (λ e. e))
                 (so_far.levels x has)
           ]);
     }

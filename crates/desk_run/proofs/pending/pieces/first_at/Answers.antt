@@ -17,7 +17,7 @@ returns-clause-value g c = λ honest.
     let rivals = c.in_ok-theirs.ensures.value honest in
     c.first_conflict.ensures.among permitted (at_piece piece levels) c.args.priority
     (λ x has. ap (λ helds. top_held helds x) (c.deref.ensures.value
-    ∙ written c.in_ok-theirs.theirs.len c.cut_all.new.helds _ (omega (arith, c.cut_all.auto.helds)))
-    ∙ c.cut_all.ensures x ∙ ap (λ helds. at_piece piece (top_held helds) x) c.deref_mut.ensures.value
+    ∙ written c.in_ok-theirs.theirs.len c.cut_in_order.new.helds _ (omega (arith, c.cut_in_order.auto.helds)))
+    ∙ c.cut_in_order.ensures x ∙ ap (λ helds. at_piece piece (top_held helds) x) c.deref_mut.ensures.value
     ∙ held_at_piece (least_blocking permitted c.args.priority) piece c.in_ok-theirs.theirs.items levels x
     (λ at. rivals x (c.requires x has at) ∙ ap (λ least. at_least least (levels x)) c.least_of.ensures))

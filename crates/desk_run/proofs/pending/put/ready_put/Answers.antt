@@ -1,6 +1,6 @@
 use Rattle.std.proofs.Common.{w64}
 use Rattle.std.proofs.lemmas.Int.{to_z-of_z}
-use Rattle.desk_store.specs.laws.Fault.{was_honest}
+use Rattle.desk_store.proofs.lemmas.Fault.{was_honest}
 use Rattle.desk_run.proofs.CallLemmas.{put_ready}
 use Rattle.desk_run.proofs.pending.put.ready_put.Goals as goal
 

@@ -4,7 +4,7 @@ use Rattle.volume4d.specs.SpanCounts.{area_spans}
 use Rattle.desk_rules.specs.declared.decide.Standing.{Standing}
 use Rattle.desk_rules.specs.Terms.{exceeds}
 use Rattle.desk_store.specs.World.{plans_of, spans_beside}
-use Rattle.desk_store.specs.laws.Fault.{was_honest}
+use Rattle.desk_store.proofs.lemmas.Fault.{was_honest}
 use Rattle.desk_run.specs.Verdicts.{conflict_in}
 use Rattle.desk_run.proofs.OutcomeLemmas.{outcome_if_needed}
 use Rattle.desk_run.proofs.CallLemmas.{verdict_is}

@@ -1,4 +1,4 @@
-use Rattle.desk_store.specs.laws.Fault.{was_honest}
+use Rattle.desk_store.proofs.lemmas.Fault.{was_honest}
 use Rattle.desk_run.proofs.ListingLemmas.{listed_shown}
 use Rattle.desk_run.proofs.pending.show.own_shown.Goals as goal
 

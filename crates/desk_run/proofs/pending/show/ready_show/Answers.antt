@@ -1,4 +1,4 @@
-use Rattle.desk_store.specs.laws.Fault.{was_honest}
+use Rattle.desk_store.proofs.lemmas.Fault.{was_honest}
 use Rattle.desk_run.proofs.CallLemmas.{show_ready}
 use Rattle.desk_run.proofs.pending.show.ready_show.Goals as goal
 

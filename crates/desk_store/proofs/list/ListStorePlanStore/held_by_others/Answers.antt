@@ -1,7 +1,7 @@
 use Rattle.std.proofs.Common.{◌∙◌, ap}
 use Rattle.desk_store.specs.World.{held}
 use Rattle.desk_store.specs.Listing.{world_in_lists}
-use Rattle.desk_store.specs.laws.Rival.{held_by_others}
+use Rattle.desk_store.proofs.lemmas.Rival.{held_by_others}
 use Rattle.desk_store.proofs.list.ListStorePlanStore.held_by_others.Goals as goal
 
 pub returns-clause-value : goal.returns-clause-value

@@ -1,4 +1,4 @@
-use Rattle.desk_store.specs.laws.Parse.{parsed_id}
+use Rattle.desk_store.proofs.lemmas.Parse.{parsed_id}
 use Rattle.desk_tables.proofs.changing.records.text_of.Goals as goal
 
 pub returns-clause-valid : goal.returns-clause-valid

@@ -1,4 +1,4 @@
-use Rattle.std.proofs.Common.{sym, subst}
+use Rattle.std.proofs.Common.{subst}
 use Rattle.sqlite_trees.specs.View.{IsClean}
 use Rattle.sqlite_store.specs.FileStore.{view}
 use Rattle.sqlite.specs.Files.{FailsToClose, IsClosed}
@@ -9,7 +9,4 @@ returns-in-Err-clause-unclosed g c =
     let left = c.in-Err.left in
     let error = c.in-Err.error in
     let both = subst (λ h. IsClosed h left × (IsClean (view left) → FailsToClose h left error))
-    c.release.ensures.value c.in-Err.ensures.err in record {
-      closed = subst (λ s. IsClosed c.args.self.held s) (sym c.of.ensures) both.0;
-      cause = subst (λ s. IsClean (view s) → FailsToClose c.args.self.held s error) (sym c.of.ensures) both.1;
-    }
+    c.release.ensures.value c.in-Err.ensures.err in record { closed = both.0; cause = both.1 }

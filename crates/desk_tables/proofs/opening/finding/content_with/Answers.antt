@@ -1,6 +1,6 @@
 use Rattle.std.proofs.Common.{subst, sym}
 use Rattle.std.specs.List.Sorted.{IsStrictlySortedBy}
-use Rattle.desk_live.specs.Roll.{AreAccountsOf, accounts_of}
+use Rattle.operator_index.specs.Roll.{AreAccountsOf, accounts_of}
 use Rattle.desk_store.specs.World.{World, filed_cmp}
 use Rattle.desk_tables.specs.SpanBounds.{Bounds}
 use Rattle.desk_tables.specs.Tables.{AreSpanRows}

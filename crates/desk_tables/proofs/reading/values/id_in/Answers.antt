@@ -3,7 +3,7 @@ use Rattle.sqlite_value.specs.Order.{column}
 use Rattle.sqlite_value.specs.declared.value.Value.TheVariants.{Text}
 use Rattle.desk_tables.specs.Tables.{id_text}
 use Rattle.desk_tables.proofs.ReadingLemmas.{id_is}
-use Rattle.desk_store.specs.laws.Parse.{parsed_id}
+use Rattle.desk_store.proofs.lemmas.Parse.{parsed_id}
 use Rattle.desk_tables.proofs.UnreadLemmas.{on_err, id_is_text, no_id}
 use Rattle.desk_tables.proofs.reading.values.id_in.Goals as goal
 

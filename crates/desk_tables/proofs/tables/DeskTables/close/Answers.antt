@@ -1,7 +1,7 @@
 use Rattle.std.proofs.Common.{◌≡◌, sym, ap, subst, ◌∙◌, arith}
 use Rattle.desk_sql.specs.Rows.{ClosesPlan}
 use Rattle.desk_store.specs.declared.change.Change.TheVariants.{Close}
-use Rattle.desk_store.specs.laws.Parse.{parsed_id}
+use Rattle.desk_store.proofs.lemmas.Parse.{parsed_id}
 use Rattle.sqlite.specs.Held.{state}
 use Rattle.sqlite.specs.State.{HasCleanDisk}
 use Rattle.desk_sql.specs.Changing.{AreLow, IsShort}

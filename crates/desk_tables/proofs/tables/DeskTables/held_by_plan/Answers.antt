@@ -2,7 +2,7 @@ use Rattle.std.proofs.Common.{refl, subst, sym, arith, filter, map, IsPermutatio
 use Rattle.sqlite.specs.Held.{state}
 use Rattle.desk_sql.specs.Rows.{tables_of, held_columns}
 use Rattle.desk_sql.specs.Others.{is_plans}
-use Rattle.desk_store.specs.laws.Parse.{parsed_id}
+use Rattle.desk_store.proofs.lemmas.Parse.{parsed_id}
 use Rattle.desk_tables.specs.Causes.{BlamesSpans}
 use Rattle.desk_tables.specs.RivalRows.{HasTakenHelds, reach_of}
 use Rattle.desk_tables.proofs.StoreLemmas.{still_stands, weaker, on_whole}

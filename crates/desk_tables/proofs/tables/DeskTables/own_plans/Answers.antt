@@ -9,7 +9,7 @@ use Rattle.desk_tables.specs.Gathering.{HasCollected}
 use Rattle.desk_tables.proofs.StoreLemmas.{weaker, on_whole}
 use Rattle.desk_tables.proofs.JoinedLemmas.{own_listing, own_plans_are}
 use Rattle.std.proofs.lemmas.List.{length-map}
-use Rattle.desk_store.specs.laws.Order.{all_filter}
+use Rattle.desk_store.proofs.lemmas.Order.{all_filter}
 use Rattle.desk_tables.specs.Causes.{BlamesStore}
 use Rattle.desk_tables.proofs.CauseLemmas.{err_weaker, listing_blamed, within_bits}
 use Rattle.desk_tables.proofs.tables.DeskTables.own_plans.Goals as goal

@@ -10,7 +10,7 @@ use Rattle.desk_tables.specs.ChangesMade.{IsNext}
 use Rattle.desk_tables.specs.Tables.{usage_number, aircraft_number, area_rows, area_covers, ArePlanSpanRows}
 use Rattle.desk_store.specs.Content.{IsBlock}
 use Rattle.desk_tables.specs.SpanBounds.{IsKnownRow}
-use Rattle.desk_store.specs.laws.Parse.{parsed_id}
+use Rattle.desk_store.proofs.lemmas.Parse.{parsed_id}
 use Rattle.desk_tables.proofs.ParseLemmas.{parsed_short}
 use Rattle.desk_tables.proofs.SpanBoundLemmas.{plan_near}
 use Rattle.desk_tables.proofs.CauseLemmas.{on_refused}

@@ -1,7 +1,7 @@
 use Rattle.std.proofs.Common.{sym, arith}
 use Rattle.s2_hilbert.specs.Grid.{grid_square}
-use Rattle.s2_hilbert.specs.laws.Curve.{square_leaves}
-use Rattle.s2_hilbert.specs.laws.Square.{first_position_is, has_positions}
+use Rattle.s2_hilbert.proofs.lemmas.Curve.{square_leaves}
+use Rattle.s2_hilbert.proofs.lemmas.Square.{first_position_is, has_positions}
 use Rattle.s2_hilbert.proofs.squares.Square.first.Goals as goal
 
 pub overflow_mul-result-2 : goal.overflow_mul-result-2

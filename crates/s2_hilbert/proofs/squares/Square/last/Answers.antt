@@ -1,6 +1,6 @@
 use Rattle.std.proofs.Common.{arith}
 use Rattle.s2_hilbert.specs.Grid.{grid_square}
-use Rattle.s2_hilbert.specs.laws.Square.{has_positions}
+use Rattle.s2_hilbert.proofs.lemmas.Square.{has_positions}
 use Rattle.s2_hilbert.proofs.squares.Square.last.Goals as goal
 
 pub overflow_sub-result : goal.overflow_sub-result

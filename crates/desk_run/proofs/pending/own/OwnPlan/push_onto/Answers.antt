@@ -15,7 +15,8 @@ returns-then-not-overlaps c =
     rw (← c.self.view_is, ← c.mine.view_is) (λ x has.
     unheld c.args.least c.mine.inside.row.id c.self.inside.row x _
     (apart_plans c.self.inside.row c.mine.inside.row c.self.inside.slabs.items c.mine.inside.slabs.items
-    c.self.inside.bounds c.mine.inside.bounds x c.self.invariant c.mine.invariant
+    c.self.inside.bounds c.mine.inside.bounds c.self.inside.parts.items
+    c.mine.inside.parts.items x c.self.invariant c.mine.invariant
     (sym c.overlaps.ensures ∙ c.if-not-overlaps.true) has))
 
 pub returns : goal.returns
@@ -25,6 +26,6 @@ returns c =
     d x (ap (λ ss. slabs_have ss x) c.deref.ensures.value ∙ c.mine.invariant.points x ∙ has)
     ∙ ap (greater (top_held c.args.theirs.now.items x))
     (ap (λ b. level_where b row.priority)
-    (ap (λ ss. slabs_have ss x) c.deref-2.ensures.value ∙ c.self.invariant.points x)
+    (ap (λ ss. slabs_have ss x) c.deref-3.ensures.value ∙ c.self.invariant.points x)
     ∙ counted c.args.least c.mine.inside.row.id row x (sym c.if-not-counts.ensures)))
     c.push_slabs.ensures)

@@ -1,0 +1,2 @@
+-- Laws of the definitions, which crates above may cite.
+pub mod Moment

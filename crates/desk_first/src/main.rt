@@ -1,0 +1,100 @@
+//! The planning desk over a list: what the program `uss_desk` does that keeps nothing, without tables. It
+//! compiles in a fifth of the time, and answers the same bytes: both stores meet one contract.
+#![tactic(auto)]
+
+ghost use Rattle.std.specs.Prelude.{◌≡◌, ◌||◌};
+ghost use Rattle.std.specs.Option.{is_some};
+ghost use Rattle.desk_line.specs.Lines.{IsPlay, file_of};
+
+use desk_line::{
+    Failure, Line, Play, Task, WordsFault, conclude, print_line, read_words, report,
+    report_malformed,
+};
+use desk_program::play;
+use desk_run::Desk;
+use desk_store::ListStore;
+use std::alloc::Global;
+use std::env;
+use std::io::BufReader;
+use std::process::ExitCode;
+
+fn main(rt: HostRuntime) -> ExitCode {
+    let status = match given_words(&rt) {
+        Some(words) => run_words(&rt, rt.alloc(), words),
+        None => fail(&rt, Failure::Memory),
+    };
+    ExitCode::from(status)
+}
+
+// The words that the program was given. None if memory runs out.
+fn given_words(rt: &HostRuntime) -> Option<Vec<String>> {
+    env::args(rt).ok()?.collect::<Vec<String>>(rt.alloc()).ok()
+}
+
+// Does what the words say, and answers the exit status. What keeps plans or serves is refused as `store`.
+fn run_words(rt: &HostRuntime, alloc: Global, words: Vec<String>) -> u8 {
+    match read_words(alloc, words) {
+        Ok(Task::Run(Line::Play(line))) => play_here(rt, alloc, &line),
+        Ok(Task::Print(line)) => {
+            print_line(alloc, &line, &mut rt.stdout(), &mut rt.stderr()).status
+        }
+        Ok(_) => fail(rt, Failure::Store),
+        Err(WordsFault::Words(error)) => match error.print(rt) {
+            Ok(()) => error.exit_code() as u8,
+            Err(_) => fail(rt, Failure::Write),
+        },
+        Err(WordsFault::Value) => fail_for_a_word(rt),
+        Err(WordsFault::OutOfMemory) => fail(rt, Failure::Memory),
+    }
+}
+
+// Plays the requests of the standard input at an empty desk.
+fn play_here(rt: &HostRuntime, alloc: Global, line: &Play) -> u8
+    requires { IsPlay line.now }
+{
+    if keeps(line) {
+        return fail(rt, Failure::Store);
+    }
+    let mut errors = rt.stderr();
+    if line.enrolments.is_empty() {
+        report(
+            alloc,
+            "in memory",
+            "no operator is enrolled, so each request is answered 403",
+            &mut errors,
+        );
+    }
+    let Ok(mut input) = BufReader::new(alloc, rt.stdin()) else {
+        return fail(rt, Failure::Memory);
+    };
+    let mut desk = Desk::new(ListStore::new(alloc));
+    play(
+        alloc,
+        line,
+        &mut desk,
+        &mut input,
+        &mut rt.stdout(),
+        &mut errors,
+    )
+    .status
+}
+
+// Whether a line keeps plans in a file, or its requests in a folder.
+fn keeps(line: &Play) -> bool
+    ensures { result ≡ (is_some (file_of line.now.database) || is_some line.now.folder) }
+{
+    line.database.path().is_some() || line.folder.is_some()
+}
+
+// Reports which of the words is malformed, prints the error code, and answers its exit status.
+fn fail_for_a_word(rt: &HostRuntime) -> u8 {
+    if let Some(words) = given_words(rt) {
+        report_malformed(rt.alloc(), &words, &mut rt.stderr());
+    }
+    fail(rt, Failure::Value)
+}
+
+// Prints the error code of a failure, and answers its exit status.
+fn fail(rt: &HostRuntime, failure: Failure) -> u8 {
+    conclude(&mut rt.stderr(), Err(failure)).status
+}

@@ -1,0 +1,5 @@
+use Rattle.std.proofs.Common.{length, ◌-◌}
+use Rattle.desk_live.proofs.chunk.chunk_with.Given as goal
+
+abbrev pub decreases-loop-at : goal.decreases-loop-at
+decreases-loop-at l = length l.chunks - l.at

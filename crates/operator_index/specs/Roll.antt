@@ -1,0 +1,132 @@
+-- The roll of a store's operators: the ceiling of each, and the states and the spans of its plans.
+use Rattle.std.specs.Prelude.{◌≡◌, ◌≢◌, ⊤, ℕ, ◌+◌, ◌≤◌, Bool, false, not, cond, List, [], ◌∷◌, Option, Some, None, map, length}
+use Rattle.std.specs.List.{filter, find, list_any, sum_by}
+use Rattle.std.specs.Option.{option_and_then, option_map}
+use Rattle.std.specs.declared.cmp.Ordering.TheVariants.{Greater}
+use Rattle.std.specs.Ordering.{is_eq, match_ordering}
+use Rattle.std.specs.BTreeMap.{is_at}
+use Rattle.std.specs.Map.{lookup}
+use Rattle.desk_rules.specs.declared.plan.PlanRow.{PlanRow}
+use Rattle.desk_rules.specs.declared.plan.States.{States}
+use Rattle.desk_rules.specs.declared.words.Usage.TheVariants as usage
+use Rattle.desk_rules.specs.Plan.{row_spans}
+use Rattle.desk_rules.specs.States.{states_in}
+use Rattle.desk_store.specs.World.{Filed, Listed, World, text_cmp, rows_by}
+use Rattle.desk_store.specs.declared.change.Change.{Change}
+use Rattle.desk_store.specs.declared.change.Change.TheVariants.{Enrol, Put, Close, Clear}
+use Rattle.operator_index.specs.declared.account.PlanState.{PlanState}
+use Rattle.operator_index.specs.declared.account.Account.{Account}
+use Rattle.operator_index.specs.declared.roll.Roll.{Roll}
+
+abbrev pub Accounts : Type 0
+Accounts = List (List ℕ × Account)
+
+-- what is kept of a plan
+abbrev pub state_of : PlanRow → PlanState
+state_of row = record { id = row.id; states = states_in row; spans = row_spans row }
+
+abbrev pub state_has_id : List ℕ → PlanState → Bool
+state_has_id id s = is_eq (text_cmp id s.id)
+
+-- the spans of a plan, if it isn't the one with the id, and those of all such plans
+abbrev pub kept_spans_unless : List ℕ → PlanState → ℕ
+kept_spans_unless id s = cond (state_has_id id s) 0 s.spans
+
+abbrev pub kept_spans_beside : List ℕ → List PlanState → ℕ
+kept_spans_beside id plans = sum_by (kept_spans_unless id) plans
+
+-- the account of an operator, its ceiling, and what is kept of its plans
+abbrev pub account_in : List ℕ → Accounts → Option Account
+account_in name accounts = lookup (is_at (text_cmp name)) accounts
+
+abbrev pub ceiling_in : List ℕ → Accounts → Option ℕ
+ceiling_in name accounts = option_and_then (λ a. a.ceiling) (account_in name accounts)
+
+abbrev pub plans_or_none : Option Account → List PlanState
+plans_or_none None = []
+plans_or_none (Some a) = a.plans.items
+
+abbrev pub plans_in : List ℕ → Accounts → List PlanState
+plans_in name accounts = plans_or_none (account_in name accounts)
+
+-- the operators that have a ceiling, in the order of the accounts
+abbrev pub with_ceiling : List ℕ → Option ℕ → List Listed → List Listed
+with_ceiling name None more = more
+with_ceiling name (Some n) more = record { name = name; ceiling = n } ∷ more
+
+unfoldable pub listed_in : Accounts → List Listed
+listed_in [] = []
+listed_in (a ∷ accounts) = with_ceiling a.0 a.1.ceiling (listed_in accounts)
+
+-- they are those of these operators and plans
+pub record AreAccountsOf (operators : List Listed) (plans : List Filed) (accounts : Accounts) : Type 0 where
+  pub ceilings : (name : List ℕ) → ceiling_in name accounts
+      ≡ option_map (λ l. l.ceiling) (find (λ l. is_eq (text_cmp name l.name)) operators)
+  pub states : (name : List ℕ) → plans_in name accounts ≡ map state_of (rows_by name plans)
+
+abbrev pub accounts_of : Roll → Accounts
+accounts_of roll = roll.accounts.entries
+
+-- a roll has what a world has
+abbrev pub IsRollOf : World → Roll → Type 0
+IsRollOf w roll = AreAccountsOf w.operators w.plans (accounts_of roll)
+
+-- a ceiling, or this if there is none
+abbrev pub or_else : Option ℕ → ℕ → Option ℕ
+or_else None ceiling = Some ceiling
+or_else (Some n) ceiling = Some n
+
+-- ---- changes
+
+abbrev pub named_by : Change → List ℕ
+named_by (Enrol operator ceiling) = operator
+named_by (Put operator row) = operator
+named_by (Close operator id) = operator
+named_by (Clear operator ids) = operator
+
+-- there is room for one plan more
+abbrev pub HasRoomForOne : Account → Type 0
+HasRoomForOne a = length a.plans.items + 1 ≤ a.plans.cap
+
+-- the operator that a change names has an account, with room
+abbrev pub HasRoomIn : Option Account → Type 0
+HasRoomIn None = ⊥
+HasRoomIn (Some a) = HasRoomForOne a
+
+abbrev pub IsReadyFor : Change → Roll → Type 0
+IsReadyFor change roll = HasRoomIn (account_in (named_by change) (accounts_of roll))
+
+-- what is kept of a plan in place of that of its id, or at its place
+abbrev pub put_state : PlanState → List PlanState → List PlanState
+put_state s [] = s ∷ []
+put_state s (p ∷ ps) = match_ordering (text_cmp s.id p.id) (s ∷ p ∷ ps) (s ∷ ps) (p ∷ put_state s ps)
+
+abbrev pub closed_states : States → States
+closed_states states = record states { usage = usage.Closed }
+
+abbrev pub close_if : List ℕ → PlanState → PlanState
+close_if id s = cond (state_has_id id s) (record { id = s.id; states = closed_states s.states; spans = 0 }) s
+
+abbrev pub is_state_named : List (List ℕ) → PlanState → Bool
+is_state_named ids s = list_any (λ id. state_has_id id s) ids
+
+abbrev pub ceiling_after : Change → Option ℕ → Option ℕ
+ceiling_after (Enrol operator ceiling) old = Some ceiling
+ceiling_after (Put operator row) old = old
+ceiling_after (Close operator id) old = old
+ceiling_after (Clear operator ids) old = old
+
+abbrev pub plans_after : Change → List PlanState → List PlanState
+plans_after (Enrol operator ceiling) plans = plans
+plans_after (Put operator row) plans = put_state (state_of row) plans
+plans_after (Close operator id) plans = map (close_if id) plans
+plans_after (Clear operator ids) plans = filter (λ s. not (is_state_named ids.items s)) plans
+
+-- the first of some plans, if there is one, has the id, or a later one
+abbrev pub begins_with : PlanState → List PlanState → Bool
+begins_with s [] = false
+begins_with s (p ∷ ps) = state_has_id s.id p
+
+abbrev pub IsBeforeFirst : PlanState → List PlanState → Type 0
+IsBeforeFirst s [] = ⊤
+IsBeforeFirst s (p ∷ ps) = text_cmp s.id p.id ≢ Greater

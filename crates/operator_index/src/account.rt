@@ -1,0 +1,221 @@
+//! What is kept of an operator: its ceiling, and the states and the spans of its plans.
+
+ghost use Rattle.std.specs.Prelude.{◌≡◌, ◌<◌, ◌≤◌, ◌+◌, ◌^◌, ◌++◌, ◌∷◌, [], not, map, take, drop, length, IfOk, OnOk};
+ghost use Rattle.std.specs.List.{filter, find};
+ghost use Rattle.std.specs.Option.{option_map};
+ghost use Rattle.operator_index.specs.Roll as spec;
+ghost use Rattle.operator_index.specs.Roll.{HasRoomForOne, ceiling_after, close_if, is_state_named, kept_spans_beside, or_else, plans_after, put_state, state_has_id, state_of};
+
+use desk_rules::plan::{PlanRow, States};
+use desk_rules::plan_id::PlanId;
+use desk_rules::words::Usage;
+use desk_store::Change;
+use std::alloc::AllocError;
+use std::cmp::Ordering;
+
+/// The states of a plan, and how many spans it takes, with its id.
+#[derive(Clone, Copy, Debug)]
+pub(crate) struct PlanState {
+    id: PlanId,
+    states: States,
+    spans: u32,
+}
+
+impl PlanState {
+    /// Those of a plan.
+    pub(crate) fn of(row: &PlanRow) -> PlanState
+        ensures { result ≡ state_of row.now }
+    {
+        PlanState {
+            id: row.id,
+            states: row.states(),
+            spans: row.span_count(),
+        }
+    }
+
+    // Whether the plan has this id.
+    fn has_id(&self, id: &PlanId) -> bool
+        ensures { result ≡ spec.state_has_id id.now self.now }
+    {
+        id.cmp(&self.id).is_eq()
+    }
+
+    // Whether the plan has one of these ids.
+    fn is_named(&self, ids: &[PlanId]) -> bool
+        ensures { result ≡ spec.is_state_named ids.now self.now }
+    {
+        ids.iter().any(|id| self.has_id(id))
+    }
+
+    // The same, with the usage `Closed` and no spans if the plan has this id.
+    fn close_if(&self, id: &PlanId) -> PlanState
+        ensures { result ≡ spec.close_if id.now self.now }
+    {
+        if !self.has_id(id) {
+            return *self;
+        }
+        PlanState {
+            id: self.id,
+            states: States {
+                usage: Usage::Closed,
+                aircraft: self.states.aircraft,
+            },
+            spans: 0,
+        }
+    }
+
+    // How many spans it takes, if it hasn't this id.
+    fn spans_unless(&self, id: &PlanId) -> u32
+        ensures { result ≡ spec.kept_spans_unless id.now self.now }
+    {
+        if self.has_id(id) {
+            return 0;
+        }
+        self.spans
+    }
+}
+
+/// What is kept of an operator.
+#[derive(Drop)]
+pub(crate) struct Account {
+    pub(crate) ceiling: Option<u32>,
+    // ascending by id
+    pub(crate) plans: Vec<PlanState>,
+}
+
+impl Account {
+    /// The states of the plan of the id.
+    pub(crate) fn states(&self, id: &PlanId) -> Option<States>
+        ensures { result ≡ option_map (λ s. s.states) (find (state_has_id id.now) self.now.plans.items) }
+    {
+        let found = self.plans.iter().find(|plan| plan.has_id(id))?;
+        Some(found.states)
+    }
+
+    /// How many spans its plans take but for that of the id, where 32 bits can say it.
+    pub(crate) fn spans_beside(&self, id: &PlanId) -> u32
+        ensures { kept_spans_beside id.now self.now.plans.items < 2 ^ 32
+            → result ≡ kept_spans_beside id.now self.now.plans.items }
+    {
+        spans_of(&self.plans, id)
+    }
+
+    /// Takes a ceiling, if it has none.
+    pub(crate) fn list(&mut self, ceiling: u32)
+        ensures ceiling { self.new.ceiling ≡ or_else self.old.ceiling ceiling }
+        ensures plans { self.new.plans.items ≡ self.old.plans.items }
+    {
+        if self.ceiling.is_none() {
+            self.ceiling = Some(ceiling);
+        }
+    }
+
+    /// Takes one more plan.
+    ///
+    /// # Errors
+    ///
+    /// `AllocError` if memory runs out.
+    pub(crate) fn file(&mut self, row: &PlanRow) -> Result<(), AllocError>
+        ensures ceiling { self.new.ceiling ≡ self.old.ceiling }
+        ensures plans { OnOk result
+            (self.new.plans.items ≡ self.old.plans.items ++ state_of row.now ∷ []) }
+    {
+        self.plans.push(PlanState::of(row))?;
+        Ok(())
+    }
+
+    /// Makes room for one more plan.
+    ///
+    /// # Errors
+    ///
+    /// `AllocError` if memory runs out.
+    pub(crate) fn make_room(&mut self) -> Result<(), AllocError>
+        ensures ceiling { self.new.ceiling ≡ self.old.ceiling }
+        ensures plans { self.new.plans.items ≡ self.old.plans.items }
+        ensures room { OnOk result (HasRoomForOne self.new) }
+    {
+        self.plans.reserve(1)
+    }
+
+    /// Follows a change of the operator's plans or ceiling, for which there is room.
+    pub(crate) fn follow(&mut self, change: &Change)
+        requires { HasRoomForOne self.old }
+        ensures ceiling { self.new.ceiling ≡ ceiling_after change.now self.old.ceiling }
+        ensures plans { self.new.plans.items ≡ plans_after change.now self.old.plans.items }
+    {
+        match change {
+            Change::Enrol { ceiling, .. } => self.ceiling = Some(*ceiling),
+            Change::Put { row, .. } => put(&mut self.plans, PlanState::of(row)),
+            Change::Close { id, .. } => close(&mut self.plans, id),
+            Change::Clear { ids, .. } => clear(&mut self.plans, ids),
+        }
+    }
+}
+
+// How many spans plans take but for that of the id, where 32 bits can say it.
+fn spans_of(plans: &[PlanState], id: &PlanId) -> u32
+    ensures { kept_spans_beside id.now plans.now < 2 ^ 32 → result ≡ kept_spans_beside id.now plans.now }
+{
+    let mut spans: u32 = 0;
+    for plan in plans {
+        spans = spans.saturating_add(plan.spans_unless(id));
+    }
+    spans
+}
+
+// Puts a plan's states in place of those of its id, or at their place, for which there is room.
+fn put(plans: &mut Vec<PlanState>, state: PlanState)
+    requires { length plans.old.items + 1 ≤ plans.old.cap }
+    ensures { plans.new.items ≡ put_state state plans.old.items }
+{
+    let at = place_of(plans, &state);
+    if is_at(plans, at, &state) {
+        plans[at] = state;
+        return;
+    }
+    if let Err(refused) = plans.insert(at, state) {
+        drop(refused);
+    }
+}
+
+// How many plans come before that of the states.
+fn place_of(plans: &[PlanState], state: &PlanState) -> usize
+    ensures within { result ≤ length plans.now }
+    ensures place { put_state state.now plans.now
+        ≡ take result plans.now ++ put_state state.now (drop result plans.now) }
+    ensures next { spec.IsBeforeFirst state.now (drop result plans.now) }
+{
+    let mut at = 0;
+    while at < plans.len() && state.id.cmp(&plans[at].id) == Ordering::Greater {
+        at += 1;
+    }
+    at
+}
+
+// Whether the plan at a place is that of the states.
+fn is_at(plans: &[PlanState], at: usize, state: &PlanState) -> bool
+    ensures { result ≡ spec.begins_with state.now (drop at plans.now) }
+{
+    match plans.get(at) {
+        Some(plan) => plan.has_id(&state.id),
+        None => false,
+    }
+}
+
+// Gives the plans of this id the usage `Closed`.
+fn close(plans: &mut Vec<PlanState>, id: &PlanId)
+    ensures { plans.new.items ≡ map (close_if id.now) plans.old.items }
+{
+    let mut at = 0;
+    while at < plans.len() {
+        plans[at] = plans[at].close_if(id);
+        at += 1;
+    }
+}
+
+// Takes the plans of these ids out.
+fn clear(plans: &mut Vec<PlanState>, ids: &[PlanId])
+    ensures { plans.new.items ≡ filter (λ s. not (is_state_named ids.now s)) plans.old.items }
+{
+    plans.retain(|plan| !plan.is_named(ids));
+}

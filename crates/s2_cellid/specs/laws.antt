@@ -1,3 +1,0 @@
--- Laws of the definitions, with their proofs: checked, and not to be read.
-pub mod Block
-pub mod Family

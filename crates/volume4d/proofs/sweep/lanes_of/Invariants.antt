@@ -1,0 +1,12 @@
+use Rattle.std.proofs.Common.{◌≤◌, length, take}
+use Rattle.std.specs.Prelude.{All}
+use Rattle.volume4d.specs.Lanes.{AreOf, IsCovered}
+use Rattle.volume4d.proofs.sweep.lanes_of.Given as goal
+
+-- each slab so far has a lane
+abbrev pub invariant-loop-slab : goal.invariant-loop-slab
+invariant-loop-slab l = record {
+  within : l.count ≤ length l.lanes;
+  covered : All (IsCovered (take l.count l.lanes)) (take l.slab-index l.mine);
+  of : AreOf l.mine l.lanes;
+}
