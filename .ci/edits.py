@@ -12,7 +12,7 @@ import pathlib
 import re
 from dataclasses import dataclass
 
-from items import CLAUSE, TOP, Index, Item, end_of_block, without_texts
+from items import TOP, Index, Item, end_of_block, without_texts
 
 FOLDERS = ("must-fail", "more-edits")
 SAID = re.compile(r"# clause: (\S+) \(([^()]+)\)$", re.MULTILINE)
@@ -65,6 +65,13 @@ class Edit:
             made[pair.path] = text.replace(pair.old, pair.new)
         return made
 
+    def fits(self) -> bool:
+        """Whether it can be put in."""
+        try:
+            return bool(self.texts(TOP / "crates" / self.crate))
+        except (OSError, ValueError):
+            return False
+
 
 def read_edit(path: pathlib.Path) -> Edit:
     """The edit of a file."""
@@ -91,14 +98,7 @@ def edits_of(crate: str) -> list[Edit]:
 
 def labels_of(item: Item) -> set[str]:
     """The labels of a function's clauses, `ensures` for one that has none."""
-    found, at = set(), 0
-    face = item.bare[: item.split]
-    while clause := CLAUSE.search(face, at):
-        brace = face.find("{", clause.end())
-        label = face[clause.end() : brace].strip(" *\n")
-        found.add(label or clause[0])
-        at = end_of_block(face, brace)
-    return found
+    return {clause.label or clause.kind for clause in item.contract}
 
 
 def touched(edit: Edit, index: Index) -> list[Item]:

@@ -12,12 +12,14 @@ from __future__ import annotations
 
 import pathlib
 import re
+import subprocess
 from collections import defaultdict
-from collections.abc import Iterator
+from collections.abc import Iterable, Iterator
 from dataclasses import dataclass, field
-from functools import cached_property
+from functools import cache, cached_property
 
 TOP = pathlib.Path(__file__).resolve().parent.parent
+PARTS = ("src", "specs")
 
 COMMENT_OR_TEXT = re.compile(
     r"//[^\n]*|/\*.*?\*/|b?r(#*)\".*?\"\1|b?\"(?:\\.|[^\"\\])*\"|b?'(?:\\[^']*|[^\\'\n])'", re.DOTALL
@@ -34,6 +36,21 @@ IMPORT = re.compile(r"\buse\s+([^;{]*?)(?:::|\.)?(?:\{([^}]*)\}|(\*)|)(?:\s+as\s
 UNFOLLOWED = re.compile(r"\buse\s[^;{}]*\{[^;}]*\{|^ *open ", re.MULTILINE)
 ANTT_NAME = re.compile(r"(?:(?:abbrev|unfoldable|pub|record|data|infix[lr]?\s+\d+)\s+)*([^\s:({]+)")
 BEFORE_TYPES = ("struct", "enum", "type", "trait", "const", "static", "union")
+
+
+@cache
+def stands() -> dict[str, list[str]]:
+    """Each crate of crates.txt, and the crates of this repository that it stands on."""
+    lines = (TOP / "crates.txt").read_text().splitlines()
+    found = {line[1]: line[2].split() for line in (re.match(r"(\w+)[^:#]*:(.*)", line) for line in lines) if line}
+    return {name: [low for low in lows if low in found] for name, lows in found.items()}
+
+
+def tracked(*patterns: str) -> list[pathlib.Path]:
+    """The files that git tracks or would track."""
+    words = ["git", "ls-files", "-z", "--cached", "--others", "--exclude-standard", "--", *patterns]
+    listed = subprocess.run(words, cwd=TOP, capture_output=True, text=True, check=True).stdout.split("\0")
+    return [TOP / name for name in sorted(set(listed)) if name and (TOP / name).is_file()]
 
 
 def blank(found: re.Match[str]) -> str:
@@ -75,6 +92,15 @@ def body_start(bare: str) -> int:
         if clause is None:
             return brace
         at = end_of_block(bare, brace)
+
+
+@dataclass
+class Clause:
+    """A clause of a contract: `requires` or `ensures`, its label, and its text."""
+
+    kind: str
+    label: str
+    text: str
 
 
 @dataclass
@@ -144,6 +170,17 @@ class Item:
     def shows_body(self) -> bool:
         """Whether a caller sees the body too."""
         return self.kind == "fn" and not self.trait and not re.search(r"\bensures\b", self.bare[: self.split])
+
+    @cached_property
+    def contract(self) -> list[Clause]:
+        """The clauses of a function."""
+        face, at = self.bare[: self.split], 0
+        found: list[Clause] = []
+        while clause := CLAUSE.search(face, at):
+            brace = face.index("{", clause.end())
+            at = end_of_block(face, brace)
+            found.append(Clause(clause[0], face[clause.end() : brace].strip(), self.text[clause.start() : at]))
+        return found
 
     def seen(self, whole: bool) -> tuple[str, str]:
         """What is seen of the item, as it stands and without comments and literals: all of it, or its face."""
@@ -285,24 +322,22 @@ def inner_names(item: Item) -> set[str]:
 class Index:
     """All items of the crates, by their names."""
 
-    def __init__(self, files: dict[str, list[str]], stands: dict[str, list[str]]) -> None:
-        self.stands = stands
+    def __init__(self, paths: Iterable[pathlib.Path]) -> None:
         self.items: list[Item] = []
         self.by_name: defaultdict[str, list[Item]] = defaultdict(list)
         self.by_file: defaultdict[str, list[Item]] = defaultdict(list)
         self.impls: defaultdict[str, list[Item]] = defaultdict(list)
         self.traits: defaultdict[tuple[str, str], list[Item]] = defaultdict(list)
         self.sources: dict[str, Source] = {}
-        for crate, paths in files.items():
-            for path in paths:
-                self.read(crate, path)
+        for path in paths:
+            self.read(path)
 
-    def read(self, crate: str, path: str) -> None:
+    def read(self, path: pathlib.Path) -> None:
         """Reads a file of src/ or specs/."""
-        text = (TOP / path).read_text()
-        is_rust = path.endswith(".rt")
+        text, place = path.read_text(), path.relative_to(TOP)
+        is_rust = path.suffix == ".rt"
         bare = without_texts(text) if is_rust else ANTT_COMMENT.sub(blank, text)
-        source = self.sources[path] = Source(crate, path, text, bare)
+        source = self.sources[str(place)] = Source(place.parts[1], str(place), text, bare)
         add_imports(source)
         for item in rust_items(source) if is_rust else antt_items(source):
             self.add(item)
@@ -332,10 +367,16 @@ class Index:
             one = left.pop()
             if one not in found:
                 found.add(one)
-                left += self.stands.get(one, [])
+                left += stands().get(one, [])
         return frozenset(found)
 
     def at(self, path: str, place: int) -> Item | None:
         """The item of a file that stands at this place."""
         found = [item for item in self.by_file[path] if item.start <= place < item.end]
         return min(found, key=Item.width) if found else None
+
+
+@cache
+def index() -> Index:
+    """The items of src/ and specs/ of all crates."""
+    return Index(path for path in tracked("crates/*.rt", "crates/*.antt") if path.relative_to(TOP).parts[2] in PARTS)

@@ -12,7 +12,7 @@ import hashlib
 import re
 from collections.abc import Iterable, Iterator
 
-from items import TOP, WORD, Index, Item, Source, without_layout
+from items import TOP, WORD, Index, Item, Source, stands, without_layout
 
 TYPES = ("struct", "enum", "type", "union")
 
@@ -28,7 +28,7 @@ class Rests:
     def __init__(self, index: Index) -> None:
         self.index = index
         self.kept: dict[tuple[int, bool], tuple[set[Item], str]] = {}
-        self.below = {crate: index.below(crate) for crate in index.stands}
+        self.below = {crate: index.below(crate) for crate in stands()}
         self.types = {item.name for item in index.items if item.kind in TYPES}
 
     def find(self, name: str, crates: frozenset[str]) -> list[Item]:

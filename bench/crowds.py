@@ -13,7 +13,7 @@ import sys
 import uuid
 from collections.abc import Callable, Iterator
 
-sys.path.insert(0, str(pathlib.Path(__file__).resolve().parent.parent / "examples"))
+sys.path.insert(0, str(pathlib.Path(__file__).resolve().parent.parent / "tests"))
 
 from harness.requests import Json, list_plans, over, put, volume  # noqa: E402  (the path is set above)
 
@@ -84,6 +84,29 @@ def city(count: int, asked: int = 0) -> Iterator[bytes]:
         style = "IfAllowed" if number < count else "Hypothetical"
         identity = uuid.UUID(int=chance.getrandbits(128))
         yield put(f"op{number // 200}", identity, [flight(chance, hubs)], style=style)
+
+
+def nation_plans(count: int) -> Iterator[tuple[str, uuid.UUID, list[Json], int]]:
+    """Flights over a quarter of a face: 2 to 12 cells of level 16 in a line, for twenty minutes of 25 days, in one of
+    four bands of altitude, at three priorities, 200 an operator. Nearly none is refused."""
+    chance, side = random.Random(11), 1 << 14
+    for number in range(count):
+        i, j = chance.randrange(side), chance.randrange(side)
+        step_i, step_j = chance.choice([(1, 0), (0, 1), (1, 1)])
+        squares = {position(16, i + step_i * at, j + step_j * at) for at in range(chance.randrange(2, 13))}
+        start = FIRST + datetime.timedelta(minutes=chance.randrange(25 * 24 * 60))
+        written = [at.strftime("%Y-%m-%dT%H:%M:%SZ") for at in (start, start + datetime.timedelta(minutes=20))]
+        band = chance.randrange(4) * 300
+        cells = [token_of(cell_at(16, square)) for square in sorted(squares)]
+        area = volume({"cells": cells}, band, band + 300, *written)
+        identity = uuid.UUID(int=chance.getrandbits(128))
+        yield f"op{number // 200}", identity, [area], chance.randrange(3) * 10
+
+
+def nation(count: int) -> Iterator[bytes]:
+    """So many PUTs of these flights."""
+    for operator, identity, area, priority in nation_plans(count):
+        yield put(operator, identity, area, priority=priority)
 
 
 def strips(count: int, operator: str = "op0", volumes: int = VOLUMES, first: int = 0) -> Iterator[bytes]:

@@ -1,7 +1,7 @@
 """A desk's file of many plans, written by Python's SQLite, without sums on its pages: rows as docs/TABLES.md has them.
 
-A plan is live and Planned, with priority 10. A footprint is a list of cells of which no two touch, or the strip of
-crowds.py.
+A plan is Planned or closed, with priority 10. A footprint is a list of cells, of which no four are a larger one, or the
+strip of crowds.py.
 """
 
 import sqlite3
@@ -10,9 +10,10 @@ from collections.abc import Iterable, Iterator, Sequence
 
 import crowds
 
-Seconds = tuple[int, int]
-Volume = tuple[tuple[int, int], bytes, bytes, list[tuple[int, int]]]
-"""Its altitudes, its footprint as asked, its canonical cover, and its spans."""
+Bounds = tuple[int, int, int, int]
+"""Altitudes, and seconds."""
+Volume = tuple[Bounds, bytes, bytes, list[tuple[int, int]]]
+"""Its bounds, its footprint as asked, its canonical cover, and its spans."""
 Plan = tuple[str, uuid.UUID, Iterable[Volume]]
 """Its operator, its id and its volumes."""
 
@@ -46,14 +47,17 @@ def ids(cells: Iterable[int]) -> bytes:
     return b"".join(cell.to_bytes(8, "big") for cell in cells)
 
 
-def listed(altitudes: tuple[int, int], cells: Sequence[int]) -> Volume:
-    """A volume of cells, of which no two touch: as asked a list behind the byte 01, and each a range of its own."""
-    ordered = sorted(cells)
-    spans = [(cell - (cell & -cell) >> 1, cell + (cell & -cell) - 1 >> 1) for cell in ordered]
-    return altitudes, b"\1" + ids(cells), ids(ordered), spans
+def listed(bounds: Bounds, cells: Sequence[int]) -> Volume:
+    """A volume of cells: as asked a list behind the byte 01."""
+    ordered, spans = sorted(cells), list[tuple[int, int]]()
+    for cell in ordered:
+        first, last = cell - (cell & -cell) >> 1, cell + (cell & -cell) - 1 >> 1
+        begin = spans.pop()[0] if spans and spans[-1][1] + 1 == first else first
+        spans.append((begin, last))
+    return bounds, b"\1" + ids(cells), ids(ordered), spans
 
 
-def strips(lowers: Iterable[int]) -> Iterator[Volume]:
+def strips(lowers: Iterable[int], start: int, stop: int) -> Iterator[Volume]:
     """Volumes of crowds.py's strip, 1 m high: a rectangle behind the byte 02, whose cover has 768 ranges."""
     column, first, last = crowds.COLUMN, crowds.FIRST_ROW, crowds.FIRST_ROW + crowds.ROWS - 1
     asked = b"\2\0" + b"".join(at.to_bytes(4, "big") for at in (column, column, first, last)) + b"\x18"
@@ -64,21 +68,21 @@ def strips(lowers: Iterable[int]) -> Iterator[Volume]:
     ends = [place for place in places if place + 1 not in held]
     spans = [(4096 * begin, 4096 * end + 4095) for begin, end in zip(begins, ends)]
     for lower in lowers:
-        yield (lower, lower + 10), asked, canon, spans
+        yield (lower, lower + 10, start, stop), asked, canon, spans
 
 
-def write(path: str, operators: Iterable[str], plans: Iterable[Plan], seconds: Seconds) -> None:
-    """A new file with these operators and plans, all volumes of which have the same seconds."""
+def write(path: str, operators: Iterable[str], plans: Iterable[Plan], closed: bool = False) -> None:
+    """A new file with these operators and plans; closed ones have no spans."""
     with sqlite3.connect(path) as connection:
         connection.executescript(SCHEMA)
         connection.executemany("INSERT INTO operator VALUES (?, 100)", [(name,) for name in operators])
         for operator, identity, volumes in plans:
             key = (operator, str(identity))
-            connection.execute("INSERT INTO plan VALUES (?, ?, 10, 0, 0)", key)
-            for place, (altitudes, asked, canon, spans) in enumerate(volumes):
-                row = (*key, place, *altitudes, *seconds, asked, canon)
+            connection.execute("INSERT INTO plan VALUES (?, ?, 10, ?, 0)", (*key, 2 * closed))
+            for place, (bounds, asked, canon, spans) in enumerate(volumes):
+                row = (*key, place, *bounds, asked, canon)
                 connection.execute("INSERT INTO volume2 VALUES (?, ?, ?, ?, ?, ?, ?, ?, ?)", row)
-                rows = [(*key, place, *span, *altitudes, *seconds) for span in spans]
+                rows = [(*key, place, *span, *bounds) for span in spans if not closed]
                 connection.executemany("INSERT INTO span2 VALUES (?, ?, ?, ?, ?, ?, ?, ?, ?, 10)", rows)
         connection.execute(LAST_INDEX)
     connection.close()

@@ -1,4 +1,4 @@
-"""What bash and zsh offer behind uss_desk: the lines of RULES' table, and the options of each."""
+"""What bash and zsh offer behind uss_desk: the commands of the API's table, and the options of each."""
 import pathlib
 import re
 from typing import Optional
@@ -34,7 +34,7 @@ def for_bash(top: pathlib.Path) -> str:
         f"    {line}) offered='{' '.join([*(name for name, _ in options_of(words)), '--help'])}' ;;\n"
         for line, words, _ in lines
     )
-    return f"""# What bash offers behind uss_desk. Made of the table of docs/RULES.md.
+    return f"""# What bash offers behind uss_desk. Made of the table of docs/api.md.
 _uss_desk() {{
     local word=${{COMP_WORDS[COMP_CWORD]}} offered=
     if [ "$COMP_CWORD" -eq 1 ]; then
@@ -71,7 +71,7 @@ def for_zsh(top: pathlib.Path) -> str:
         for line, words, _ in lines
     )
     return f"""#compdef uss_desk
-# What zsh offers behind uss_desk. Made of the table of docs/RULES.md.
+# What zsh offers behind uss_desk. Made of the table of docs/api.md.
 _uss_desk() {{
     if (( CURRENT == 2 )); then
         compadd -- {' '.join(line for line, _, _ in lines)} --help --version

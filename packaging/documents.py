@@ -30,22 +30,22 @@ def plain(text: str) -> str:
 
 
 def lines_of_the_program(top: pathlib.Path) -> list[tuple[str, list[str], str]]:
-    """The lines that the program takes, of RULES' table: each with its words, and what they are.
+    """The lines that the program takes, of the API's table: each with its words, and what they are.
 
     A word is a text as `--at SECOND`, `[--svg]` or `NAME`, in brackets if it may be left out.
     """
-    rows = rows_of(top / "docs" / "RULES.md", ["line", "its words", "what they are"])
+    rows = rows_of(top / "docs" / "api.md", ["command", "arguments", "meaning"])
     return [(codes_in(line)[0], codes_in(words), plain(what)) for line, words, what in rows]
 
 
 def failures(top: pathlib.Path) -> list[tuple[str, int, str, str]]:
-    """The rows of KEEPING's table of words: the words of a row, its status, what happened, what to do."""
-    rows = rows_of(top / "docs" / "KEEPING.md", ["word", "status", "what happened", "what to do"])
+    """The rows of the table of error codes: the codes of a row, its status, what happened, what to do."""
+    rows = rows_of(top / "docs" / "troubleshooting.md", ["error code", "status", "what happened", "what to do"])
     return [(word, int(status), happened, to_do) for word, status, happened, to_do in rows]
 
 
 def words_and_statuses(top: pathlib.Path) -> set[tuple[str, int]]:
-    """Each word of KEEPING's table with its status; the texts of clap have no word."""
+    """Each error code of that table with its status; the texts of clap have no code."""
     return {
         (word, status)
         for cell, status, _, _ in failures(top)

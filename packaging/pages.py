@@ -1,4 +1,4 @@
-"""Manual pages: the desk's, of the tables of RULES and KEEPING; and those of commands that tell their own help."""
+"""Manual pages: the desk's, made of tables of the documents; and those of commands that print their own help."""
 import pathlib
 import re
 from typing import Optional
@@ -8,19 +8,19 @@ from documents import codes_in, failures, lines_of_the_program, plain, rows_of
 NAME = "the planning desk of one UAS service supplier"
 DESCRIPTION = """
 The desk answers drone operators over HTTP: they plan, activate, change, show and close flights, and a flight that would
-lie where another of a higher priority is planned, or of the same one unless that is permitted, is refused. Each
-invocation is one line, of which the first word says what is done. /usr/share/doc/uss-desk/docs has the rules
-(RULES.md), and all for whoever keeps a desk (KEEPING.md).
+lie where another of a higher priority is planned, or of the same one unless that is permitted, is refused. The first
+argument is the command. /usr/share/doc/uss-desk/docs has the API (api.md), and the pages for the administrator of a
+desk (install.md, operate.md, backup-restore.md, ..).
 """
 STATUSES = """
-0 if all was done. A failure is one line "uss_desk: WORD" on standard error, and 2 if the words of the line are wrong, 3
-for the input of play or replay, the file of --operators, or what token or cover was given, 4 for what the machine
-denied.
+0 if all was done. After a failure the last line on standard error is "uss_desk: CODE". The command exits with 2 if an
+argument or option is wrong; with 3 if the input is wrong: that of play or replay, the file of --operators, or what
+token or cover was given; and with 4 if the machine refused memory, the disk, a port or the clock.
 """
 FILES = (
     ("/var/lib/uss_desk/desk.db", "operators and plans of the desk that uss_desk.service runs, with desk.db-wal"),
     ("/var/lib/uss_desk/PORT/desk.db", "those of uss_desk@PORT.service"),
-    ("/etc/default/uss_desk, /etc/default/uss_desk-PORT", "further options of their lines"),
+    ("/etc/default/uss_desk, /etc/default/uss_desk-PORT", "further options of these desks"),
     ("/etc/uss_desk/nginx.conf", "the proxy before the desk, which uss_desk_proxy.service runs"),
     ("/etc/uss_desk/operators.htpasswd", "operators' names and passwords"),
     ("/var/log/uss_desk_proxy/access.log", "a line for each request"),
@@ -49,7 +49,7 @@ def tagged(tag: str, text: str) -> str:
 
 
 def desk_page(top: pathlib.Path, version: str) -> str:
-    """uss_desk(1): its lines, its words and its statuses are those of the documents."""
+    """uss_desk(1): its commands, their options and its error codes are those of the documents."""
     parts = [
         f'.TH USS_DESK 1 "" "uss_desk {version}" "The planning desk"\n',
         f".SH NAME\nuss_desk \\- {NAME}\n",
@@ -57,10 +57,10 @@ def desk_page(top: pathlib.Path, version: str) -> str:
     ]
     lines = lines_of_the_program(top)
     parts += [f"{bold('uss_desk ' + line)} {escaped(' '.join(words))}\n.br\n" for line, words, _ in lines]
-    parts.append(f".SH DESCRIPTION\n{escaped(DESCRIPTION.strip())}\n.SH LINES\n")
-    for what, does in rows_of(top / "docs" / "KEEPING.md", ["words", "what it does"]):
+    parts.append(f".SH DESCRIPTION\n{escaped(DESCRIPTION.strip())}\n.SH COMMANDS\n")
+    for what, does in rows_of(top / "docs" / "operate.md", ["command", "what it does"]):
         parts.append(tagged(", ".join(bold(words) for words in codes_in(what)), marked(does)))
-    parts.append(".SH WORDS\n")
+    parts.append(".SH OPTIONS\n")
     parts += [tagged(f"{bold(line)} {escaped(' '.join(words))}", marked(what)) for line, words, what in lines]
     parts.append(f".SH EXIT STATUS\n{escaped(STATUSES.strip())}\n.SH DIAGNOSTICS\n")
     for word, status, happened, to_do in failures(top):
@@ -73,7 +73,7 @@ def desk_page(top: pathlib.Path, version: str) -> str:
 
 
 def page_of_help(name: str, told: str, purpose: Optional[str] = None) -> str:
-    """A page of what a command tells as its help; its purpose is the help's first sentence unless it is given."""
+    """A page of what a command prints as its help; its purpose is the help's first sentence unless it is given."""
     usage, _, rest = told.partition("\n\n")
     purpose = purpose or re.split(r"[.:]\s", rest.strip(), maxsplit=1)[0].replace("\n", " ")
     synopsis = re.sub(r"\s+", " ", usage.partition("usage: ")[2])

@@ -1,1 +1,0 @@
-"""What README and KEEPING show a keeper."""

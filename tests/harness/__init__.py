@@ -1,0 +1,1 @@
+"""What the checks of tests/ share; conftest.py, beside this folder, tells how they are written and run."""
