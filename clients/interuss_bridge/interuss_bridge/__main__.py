@@ -1,9 +1,13 @@
 """python3 -m interuss_bridge: the bridge at a port of this machine.
 
-It asks for no token, so it listens at 127.0.0.1 unless it is told another address: put something before it that does.
+It prints the address at which it listens, as http://127.0.0.1:8090/TOKEN. Whoever has the token plans as the
+operator. It listens at 127.0.0.1 unless it is given another address, and checks no tokens of InterUSS's own: put
+something before it that does.
 """
 import argparse
 import os
+import re
+import secrets
 import sys
 
 try:
@@ -11,12 +15,9 @@ try:
 
     from interuss_bridge.server import Bridge
     from uss_desk_client import Desk
-    from uss_desk_client.library import found
-
-    found()
 except ImportError as missing:
-    needed = "apt-get install -y python3-pywraps2 python3-aiohttp, and run it by Debian's own /usr/bin/python3"
-    sys.exit(f"interuss_bridge: {missing.name or 'pywraps2'} isn't there for {sys.executable}: {needed}")
+    needed = "apt-get install -y python3-aiohttp, and run it by Debian's own /usr/bin/python3"
+    sys.exit(f"interuss_bridge: {missing.name} isn't there for {sys.executable}: {needed}")
 
 
 def main() -> None:
@@ -35,11 +36,16 @@ def main() -> None:
     words.add_argument("--host", default="127.0.0.1", help="the address to listen at (127.0.0.1)")
     words.add_argument("--port", type=int, default=8090)
     words.add_argument(
+        "--token",
+        default=os.environ.get("USS_DESK_BRIDGE_TOKEN") or secrets.token_urlsafe(32),
+        help="with which paths begin, of A-Z, a-z, 0-9, - and _ (or USS_DESK_BRIDGE_TOKEN; a new one if absent)",
+    )
+    words.add_argument(
         "--patience",
         type=float,
         default=30.0,
         metavar="SECONDS",
-        help="how long the desk is asked again that doesn't answer (30)",
+        help="how long to retry a request that the desk doesn't answer (30)",
     )
     words.add_argument(
         "--has-conflict", action="store_true", help="answer with the member has_conflict, for editions that have it"
@@ -47,6 +53,8 @@ def main() -> None:
     asked = words.parse_args()
     if not asked.desk:
         words.error("no desk is named: use --desk or USS_DESK_URL")
+    if not re.fullmatch("[A-Za-z0-9_-]+", asked.token):
+        words.error("the token has other characters than A-Z, a-z, 0-9, - and _")
     try:
         if asked.operator:
             desk = Desk(asked.desk, operator=asked.operator, patience=asked.patience)
@@ -56,8 +64,8 @@ def main() -> None:
             )
     except ValueError as wrong:
         words.error(str(wrong))
-    bridge = Bridge(desk, asked.has_conflict)
-    print(f"listening {asked.host}:{asked.port}", flush=True)
+    bridge = Bridge(desk, asked.token, asked.has_conflict, asked.host)
+    print(f"listening http://{asked.host}:{asked.port}/{asked.token}", flush=True)
     web.run_app(bridge.application(), host=asked.host, port=asked.port, print=lambda *_: None)
 
 

@@ -2,6 +2,7 @@
 from __future__ import annotations
 
 import asyncio
+import hmac
 import json
 from datetime import datetime, timezone
 from typing import Any, Awaitable, Callable, Dict, Optional, TypeVar
@@ -17,27 +18,49 @@ Handler = Callable[[web.Request], Awaitable[web.StreamResponse]]
 API_NAME = "Flight Planning Automated Testing Interface"
 STATUS_PATIENCE = 2.0
 """Seconds after which a desk that doesn't answer is told as starting."""
+LOOPBACK = ("127.0.0.1", "localhost", "[::1]")
+JSON = "application/json"
 
 
 class Bridge:
-    """Takes messages for one operator. `tells_conflict` puts the member `has_conflict` into responses, for editions
-    that have it."""
+    """Takes messages for one operator, under paths that begin with a token, at the loopback names and at `host`.
+    `tells_conflict` puts the member `has_conflict` into responses, for editions that have it."""
 
-    def __init__(self, desk: Desk, tells_conflict: bool = False) -> None:
-        self._desk, self._tells_conflict = desk, tells_conflict
+    def __init__(self, desk: Desk, token: str, tells_conflict: bool = False, host: str = LOOPBACK[0]) -> None:
+        self._desk, self._token, self._tells_conflict = desk, token, tells_conflict
+        self._names = (*LOOPBACK, host.lower())
         self._turn: Optional[asyncio.Lock] = None
 
     def application(self) -> web.Application:
-        application = web.Application(middlewares=[worded])
+        application = web.Application(middlewares=[self._guarded, worded])
         application.add_routes(
             [
-                web.get("/status", self.status),
-                web.put("/flight_plans/{flight_plan_id}", self.upsert),
-                web.delete("/flight_plans/{flight_plan_id}", self.delete),
-                web.post("/clear_area_requests", self.clear),
+                web.get("/{token}/status", self.status),
+                web.put("/{token}/flight_plans/{flight_plan_id}", self.upsert),
+                web.delete("/{token}/flight_plans/{flight_plan_id}", self.delete),
+                web.post("/{token}/clear_area_requests", self.clear),
             ]
         )
         return application
+
+    @web.middleware
+    async def _guarded(self, request: web.Request, handler: Handler) -> web.StreamResponse:
+        """Answers whoever has the token, and no web page: a browser says of a request that a page sent it, and a page
+        can't send JSON as such to another site."""
+        name = request.headers.get("host", "").lower()
+        name = name[: name.rindex("]") + 1] if name.startswith("[") and "]" in name else name.partition(":")[0]
+        if name not in self._names:
+            return refusal(421, "host", "the bridge is asked under another name than its own")
+        if "origin" in request.headers or request.headers.get("sec-fetch-site", "none") != "none":
+            return refusal(403, "from_a_page", "a web page asks")
+        token = request.path[1:].partition("/")[0]
+        if not hmac.compare_digest(token.encode("utf-8", "replace"), self._token.encode()):
+            return refusal(
+                403, "token", "the path begins with another token than the address that the bridge printed"
+            )
+        if request.can_read_body and request.content_type != JSON:
+            return refusal(415, "content_type", f"the body's type isn't {JSON}")
+        return await handler(request)
 
     async def _ask(self, call: Callable[..., Result], *words: Any) -> Result:
         """A call of the client, which waits, in a thread of its own; one at a time, in the order of the messages."""
@@ -125,6 +148,4 @@ async def worded(request: web.Request, handler: Handler) -> web.StreamResponse:
 
 
 def refusal(status: int, name: str, message: str) -> web.Response:
-    return web.Response(
-        status=status, content_type="application/json", text=json.dumps({"error": name, "message": message})
-    )
+    return web.Response(status=status, content_type=JSON, text=json.dumps({"error": name, "message": message}))

@@ -5,6 +5,7 @@ from typing import Optional
 
 import pytest
 
+from uss_desk_client import Ground
 from uss_desk_map.command import main, reader, setting_of, way_in
 from uss_desk_map.door import Asked, Door, origin_of, policy
 
@@ -107,7 +108,7 @@ def test_the_page_is_told_no_password(tmp_path: pathlib.Path) -> None:
         "--password-file",
         str(tmp_path / "word"),
     ]
-    told = setting_of(reader().parse_args(words))
+    told = setting_of(reader().parse_args(words), Ground())
     assert told["desk"] == "https://desk.example/a" and told["operator"] == "alfa" and "secret" not in repr(told)
 
 

@@ -16,8 +16,10 @@ DRAFT: dict[str, Any] = {
     "places": PLACES,
     "cells": [],
     "metres": 200,
+    "above": "ellipsoid",
     "lower": 60,
     "upper": 120.05,
+    "ground": None,
     "start": 1_780_315_200,
     "end": 1_780_318_800,
     "priority": 10,
@@ -32,7 +34,6 @@ def test_a_draft_is_an_area() -> None:
     (volume,) = draft.area()
     assert (volume.lower, volume.upper, volume.start, volume.end) == (600, 1201, DRAFT["start"], DRAFT["end"])
     assert 60 <= len(volume.cells) <= 64 and set(map(id_of, volume.cells)).isdisjoint({None})
-    assert [one.start for one in draft.later(900).area()] == [DRAFT["start"] + 900]
 
 
 def test_the_other_kinds() -> None:
@@ -49,6 +50,7 @@ def test_the_other_kinds() -> None:
         ("kind", "square"), ("kind", None), ("places", {}), ("places", [[8]]), ("places", [[8, 47, 1]]),
         ("places", [["8", 47]]), ("places", [[True, 47]]), ("places", [[10**400, 0]]), ("places", [[float("nan"), 0]]),
         ("cells", ["x"]), ("cells", [4]), ("metres", None), ("metres", True), ("lower", "60"), ("upper", 10**400),
+        ("above", "roof"), ("above", None), ("ground", "408"), ("ground", True), ("ground", 1e12),
         ("lower", float("inf")), ("start", 1.5), ("start", -1), ("end", 10**12), ("priority", 1_001),
         ("priority", True), ("at_most", 5), ("at_most", 2_049), ("plan_id", 5), ("plan_id", "x" * 101),
     ],
@@ -70,6 +72,10 @@ def test_what_is_no_draft(member: str, value: Any) -> None:
         ({"kind": "cells"}, AreaError),
         ({"end": DRAFT["start"]}, AreaError),
         ({"upper": 60}, AreaError),
+        ({"upper": None}, AreaError),
+        ({"lower": None}, AreaError),
+        ({"above": "ground"}, AreaError),
+        ({"above": "sea"}, AreaError),
         ({"end": DRAFT["start"] + 40 * 86_400}, AreaError),
         ({"upper": 2e9}, Wrong),
     ],
@@ -77,6 +83,15 @@ def test_what_is_no_draft(member: str, value: Any) -> None:
 def test_drafts_that_are_no_areas(members: dict[str, Any], wrong: type[Exception]) -> None:
     with pytest.raises(wrong):
         draft_of({**DRAFT, **members}).area()
+
+
+def test_a_ring_that_crosses_itself_is_named_by_its_corners() -> None:
+    crossed = [[8.54, 47.37], [8.55, 47.38], [8.55, 47.37], [8.54, 47.38]]
+    with pytest.raises(ShapeError) as wrong:
+        draft_of({**DRAFT, "places": crossed}).area()
+    for edge in ("from corner 1 to corner 2", "from corner 3 to corner 4"):
+        assert edge in str(wrong.value)
+    assert "47.3" not in str(wrong.value)
 
 
 ODD: list[Any] = [

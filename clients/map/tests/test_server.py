@@ -207,6 +207,23 @@ def test_a_cover_is_told_with_what_it_takes_beyond() -> None:
     assert told["rings"] and "isn't before the end" in told["fault"]
 
 
+def test_a_cover_is_told_before_the_altitudes_are_filled_in() -> None:
+    _, told = asked(FakeDesk(), "cover", {"draft": {**DRAFT, "lower": None}})
+    assert told["rings"] and told["altitudes"]["lower"] is None and "fill in both altitudes" in told["fault"]
+    _, told = asked(FakeDesk(), "cover", {"draft": {**DRAFT, "above": "ground", "ground": 408}})
+    assert (told["altitudes"]["lower"], told["altitudes"]["upper"], told["fault"]) == (468, 528.05, "")
+
+
+@pytest.mark.parametrize("metres, is_large", [(5_000, False), (6_000, True)])
+def test_a_drawing_of_more_than_a_hundred_square_kilometres_is_large(metres: int, is_large: bool) -> None:
+    _, told = asked(FakeDesk(), "cover", {"draft": {**DRAFT, "kind": "circle", "metres": metres}})
+    assert told["is_large"] is is_large
+
+
+def test_there_is_no_draft() -> None:
+    assert asked(FakeDesk(), "cover", {})[0] == 400
+
+
 def test_plans_that_a_clear_removes() -> None:
     beside = (Volume((), 600, 700, AREA[0].start, AREA[0].end, Rectangle(2, 0, 2**30 - 1, 0, 2**30 - 1, 8)),)
     later = (Volume(("479aa0a5c",), 600, 1200, AREA[0].end, AREA[0].end + 1),)
@@ -257,13 +274,19 @@ def test_steps_end_when_the_page_goes() -> None:
         async with served.session.post(f"{served.door.address}api/why", data=words) as answer:
             await answer.content.readline()
             answer.close()
-        await asyncio.sleep(0.2)
-        before = len(desk.asked)
-        await asyncio.sleep(0.3)
-        return before, len(desk.asked)
+        await at_rest(desk)
 
-    before, after = over(desk, run)
-    assert before == after < 20
+    asked(whole := ListedDesk(), "why", {"draft": DRAFT, "usage": "Planned"})
+    over(desk, run)
+    assert 1 <= len(desk.asked) < len(whole.asked)
+
+
+async def at_rest(desk: FakeDesk) -> None:
+    """Waits until nothing has been asked for a while, on a slow machine too."""
+    before = -1
+    while before != len(desk.asked):
+        before = len(desk.asked)
+        await asyncio.sleep(0.5)
 
 
 def test_trouble_ends_steps() -> None:
@@ -275,16 +298,52 @@ def test_trouble_ends_steps() -> None:
     assert json.loads(told)["refused"]["note"] == "priority"
 
 
-def test_the_first_free_time_ends_the_trying() -> None:
-    desk = FakeDesk(try_plan=lambda area, *_: DONE if area[0].start >= DRAFT["start"] + 1800 else BLOCKED)
-    words = {"draft": DRAFT, "usage": "InUse", "step": 900, "tries": 96}
-    steps = [json.loads(line) for line in asked(desk, "free_time", words)[1].splitlines()]
-    assert [(one["start"] - DRAFT["start"], one["is_free"]) for one in steps] == [
-        (0, False),
-        (900, False),
-        (1800, True),
-    ]
-    assert {one[4] for one in desk.asked} == {"InUse"} and {one[3] for one in desk.asked} == {ID}
+HOUR = 3600
+MORNING = (int(time.time()) // HOUR + 2) * HOUR
+"""A full hour that is still to come."""
+LATER: "dict[str, Any]" = {**DRAFT, "start": MORNING, "end": MORNING + HOUR}
+
+
+def held_from(start: int, end: int) -> Callable[..., Answer]:
+    """What a desk answers that is blocked everywhere between two moments."""
+
+    def try_plan(area: Any, *_: object) -> Answer:
+        first = max(area[0].start, start)
+        if first >= min(area[0].end, end):
+            return DONE
+        return Answer("Rejected", "NotPlanned", "conflict", Conflict("0" * 15 + "1", 600, first, 30))
+
+    return try_plan
+
+
+def test_free_times_are_told_with_own_flights() -> None:
+    held = (MORNING + 2 * HOUR, MORNING + 3 * HOUR)
+    own = Plan("b", "Planned", "Planned", "Nominal", 1, (Volume(AREA[0].cells, 600, 700, *held),), None)
+    desk = FakeDesk(try_plan=held_from(*held), plans=[own])
+    draft = {**LATER, "kind": "cells", "cells": list(AREA[0].cells)}
+    words = {"draft": draft, "usage": "InUse", "from": MORNING, "to": MORNING + 12 * HOUR}
+    _, told = asked(desk, "free_times", words)
+    steps = [json.loads(line) for line in told.splitlines()]
+    assert [one["is_done"] for one in steps] == [False] * (len(steps) - 1) + [True]
+    assert steps[-1]["free"] == [[MORNING, held[0]], [held[1], MORNING + 12 * HOUR]] and steps[-1]["is_whole"]
+    assert steps[-1]["own"] == [{"id": "b", "start": held[0], "end": held[1]}]
+    tries = [one for one in desk.asked if one[0] == "try_plan"]
+    assert steps[-1]["requests"] == len(tries) < 40
+    assert {one[4] for one in tries} == {"InUse"} and {one[3] for one in tries} == {ID}
+
+
+def test_a_time_that_is_free_is_one_request() -> None:
+    desk = FakeDesk(try_plan=DONE, plans=[])
+    words = {"draft": LATER, "usage": "Planned", "from": MORNING, "to": MORNING + 24 * HOUR}
+    last = json.loads(asked(desk, "free_times", words)[1].splitlines()[-1])
+    assert last["requests"] == 1 and last["free"] == [[MORNING, MORNING + 24 * HOUR]]
+
+
+def test_free_times_of_a_flight_that_is_refused_anyway() -> None:
+    desk = FakeDesk(try_plan=Answer("Rejected", "NotPlanned", "priority"), plans=[])
+    words = {"draft": LATER, "usage": "Planned", "from": MORNING, "to": MORNING + 24 * HOUR}
+    last = json.loads(asked(desk, "free_times", words)[1].splitlines()[-1])
+    assert last["refused"]["note"] == "priority"
 
 
 def test_changes_are_made_in_a_row_though_the_page_goes() -> None:
@@ -295,7 +354,7 @@ def test_changes_are_made_in_a_row_though_the_page_goes() -> None:
         with lock:
             under_way.append(1)
             most.append(len(under_way))
-        time.sleep(0.1)
+        time.sleep(0.2)
         with lock:
             under_way.pop()
         return DONE
@@ -304,10 +363,10 @@ def test_changes_are_made_in_a_row_though_the_page_goes() -> None:
 
     async def run(served: Served) -> Any:
         asking = [asyncio.ensure_future(served.ask(call, {"id": ID})) for call in ("activate", "close", "activate")]
-        await asyncio.sleep(0.05)
+        await asyncio.sleep(0.3)  # all three are there, one may be done
         asking[1].cancel()
         await asyncio.gather(*asking, return_exceptions=True)
-        await asyncio.sleep(0.2)
+        await at_rest(desk)
         return [one[0] for one in desk.asked if one[0] != "show"]
 
     assert sorted(over(desk, run)) == ["activate", "activate", "close"] and most == [1, 1, 1]

@@ -2,12 +2,9 @@
 import sys
 
 try:
-    from uss_desk_client.library import found
     from uss_desk_map.command import main
-
-    found()
 except ImportError as missing:
-    needed = "apt-get install -y python3-pywraps2 python3-aiohttp libjs-leaflet, and run it by Debian's own python3"
-    sys.exit(f"uss_desk_map: {missing.name or 'pywraps2'} isn't there for {sys.executable}: {needed}")
+    needed = "apt-get install -y python3-aiohttp libjs-leaflet, and run it by Debian's own python3"
+    sys.exit(f"uss_desk_map: {missing.name} isn't there for {sys.executable}: {needed}")
 
 sys.exit(main())

@@ -4,19 +4,18 @@ from __future__ import annotations
 import time
 from typing import Any, Callable, Dict, Iterator, List, Mapping, NamedTuple, Optional
 
-from uss_desk_client import Answer, AreaError, Desk, DeskError, NoSuchPlan, NotTaken, Plan, looks, share_a_point
-from uss_desk_client import square_metres, square_metres_of_cells
-from uss_desk_map.drafts import Draft, Wrong, draft_of, listed, number, text, whole
+from uss_desk_client import Answer, AreaError, Desk, DeskError, NoSuchPlan, NotTaken, Plan, limits, looks, searches
+from uss_desk_client import share_a_point, square_metres, square_metres_of_cells
+from uss_desk_client.extents import LARGE
+from uss_desk_map.drafts import Draft, Wrong, listed, number, text, whole
 from uss_desk_map.ground import grid_over, rings_of
-from uss_desk_map.telling import Told, answer_told, blocked_told, conflict_told, plan_told
+from uss_desk_map.telling import Told, altitudes_told, answer_told, blocked_told, plan_told, search_told
 
 Words = Mapping[str, Any]
 USAGES = ("Planned", "InUse")
 STATUS_PATIENCE = 1.0
 """Seconds after which a desk that is asked whether it is there is told as not there."""
 MOST_SHOWN = 200
-MOST_TRIES = 500
-"""Times at which a flight may be tried in one call."""
 
 
 class Call(NamedTuple):
@@ -58,15 +57,26 @@ def ids_in(words: Words) -> List[str]:
 
 def cover(words: Words) -> Told:
     """The cells that a draft takes, and how large they and its shape are."""
-    draft = draft_of(words.get("draft"))
+    draft = draft_in(words)
     tokens, shape = draft.tokens, draft.shape
+    taken = square_metres_of_cells(tokens)
+    drawn = None if shape is None else square_metres(shape)
     return {
         "cells": tokens,
         "rings": rings_of(tokens),
-        "square_metres": square_metres_of_cells(tokens),
-        "shape_square_metres": None if shape is None else square_metres(shape),
+        "square_metres": taken,
+        "shape_square_metres": drawn,
+        "is_large": (taken if drawn is None else drawn) > LARGE * 1e6,
+        "altitudes": altitudes_told(draft.altitudes(tokens)),
         **volumes_of(draft, tokens),
     }
+
+
+def draft_in(words: Words) -> Draft:
+    draft = words.get("draft")
+    if not isinstance(draft, Draft):
+        raise Wrong("there is no draft")
+    return draft
 
 
 def volumes_of(draft: Draft, tokens: List[str]) -> Told:
@@ -90,7 +100,7 @@ def ground(words: Words) -> Told:
 
 def plan(desk: Desk, words: Words) -> Told:
     """Plans a draft under its id, or changes the plan that is stored there."""
-    draft = draft_of(words.get("draft"))
+    draft = draft_in(words)
     if draft.plan_id is None:
         raise Wrong("the draft has no id")
     if words.get("is_change") is True:
@@ -173,7 +183,7 @@ def usage_in(words: Words) -> str:
 
 def why_blocked(desk: Desk, words: Words) -> Iterator[Told]:
     """Which cells of a draft are blocked, request by request; or the other reason for which it is refused."""
-    draft, usage = draft_of(words.get("draft")), usage_in(words)
+    draft, usage = draft_in(words), usage_in(words)
     requests = 0
     try:
         for one in looks(desk, draft.area(), draft.priority, draft.plan_id, usage):
@@ -190,30 +200,21 @@ def why_blocked(desk: Desk, words: Words) -> Iterator[Told]:
     yield {"is_done": True, "requests": requests}
 
 
-def tried_times(desk: Desk, words: Words) -> Iterator[Told]:
-    """Whether a draft is free now, and at later times by even steps, up to the first at which it is."""
-    draft, usage = draft_of(words.get("draft")), usage_in(words)
-    step, tries = whole(words, "step", 1, 86_400), whole(words, "tries", 1, MOST_TRIES)
-    tokens = draft.tokens
-    for at in range(tries):
-        moved = draft.later(at * step)
-        answer = desk.try_plan(moved.area(tokens), draft.priority, draft.plan_id, usage)
-        if not answer.is_completed and not answer.conflict:
-            yield {"refused": answer_told(answer)}
-            return
-        yield {
-            "start": moved.start,
-            "is_free": answer.is_completed,
-            "tried": at + 1,
-            "tries": tries,
-            "conflict": conflict_told(answer.conflict),
-        }
-        if answer.is_completed:
-            return
-    yield {"is_done": True}
+def free_times(desk: Desk, words: Words) -> Iterator[Told]:
+    """When a draft is free between two moments, request by request: the free times into which it fits, and the
+    operator's own flights that are in its way."""
+    draft, usage = draft_in(words), usage_in(words)
+    within = tuple(whole(words, name, 0, limits.LAST_SECOND) for name in ("from", "to"))
+    try:
+        for found in searches(
+            desk, draft.area(), (within[0], within[1]), priority=draft.priority, plan_id=draft.plan_id, usage=usage
+        ):
+            yield search_told(found)
+    except NotTaken as refused:
+        yield {"refused": answer_told(refused.answer)}
 
 
-STEPS: Dict[str, Callable[[Desk, Words], Iterator[Told]]] = {"why": why_blocked, "free_time": tried_times}
+STEPS: Dict[str, Callable[[Desk, Words], Iterator[Told]]] = {"why": why_blocked, "free_times": free_times}
 
 
 def next_step(steps: Iterator[Told]) -> Optional[Told]:

@@ -21,8 +21,9 @@ from urllib.parse import urlsplit
 
 from aiohttp import web
 
-from uss_desk_client import limits
+from uss_desk_client import DeskError, Ground, NoGeoid, Tiles, find_geoid, limits
 from uss_desk_client.command import add_whom, desk_of
+from uss_desk_client.geoid import ABSENT
 from uss_desk_map.door import HOST, Door, origin_of
 from uss_desk_map.server import Map
 from uss_desk_map.telling import Told
@@ -34,11 +35,15 @@ PATIENCE = 15.0
 
 
 def reader() -> argparse.ArgumentParser:
-    words = argparse.ArgumentParser(prog="uss_desk_map", description="Shows, plans and flies an operator's flights.")
+    words = argparse.ArgumentParser(
+        prog="uss_desk_map", description="Shows, plans and flies an operator's flights on a map in the browser."
+    )
     add_whom(words.add_argument_group("whom to ask"), PATIENCE)
     words.add_argument("--port", type=int, default=PORT, help=f"of 127.0.0.1, 0 for any ({PORT})")
+    words.add_argument("--heights", metavar="FOLDER", help="of tiles of the ground's heights, as N47E008.hgt")
+    words.add_argument("--geoid", metavar="FILE", help="of the sea's height above the ellipsoid (egm96_15.gtx)")
     words.add_argument("--tiles", metavar="URL", help="of pictures beneath the map, with {z}, {x} and {y}")
-    words.add_argument("--attribution", default="", metavar="TEXT", help="what their keeper wants to be told of them")
+    words.add_argument("--attribution", default="", metavar="TEXT", help="that is shown beside those pictures")
     words.add_argument("--no-browser", action="store_true", help="print the address, and open no browser")
     return words
 
@@ -51,13 +56,14 @@ def main(words: Optional[Sequence[str]] = None) -> int:
         desk_of(asked)
         if asked.tiles:
             origin_of(asked.tiles)
+        known = ground_of(asked)
     except ValueError as wrong:
         line.error(str(wrong))
-    except OSError as wrong:
+    except (OSError, DeskError) as wrong:
         return fail(str(wrong))
     try:
         with socket.create_server((HOST, asked.port)) as held:
-            asyncio.run(serve(held, asked))
+            asyncio.run(serve(held, asked, known))
     except OSError as wrong:
         return fail(str(wrong))
     except OverflowError as wrong:
@@ -70,10 +76,11 @@ def fail(words: str) -> int:
     return FAILED
 
 
-async def serve(held: socket.socket, asked: Any) -> None:
+async def serve(held: socket.socket, asked: Any, known: Ground) -> None:
     """Serves until it is interrupted."""
     door = Door(held.getsockname()[1])
-    served = Map(door, lambda: desk_of(asked, None), setting_of(asked), asked.tiles)  # the page tells of waiting
+    # the page tells of waiting
+    served = Map(door, lambda: desk_of(asked, None), setting_of(asked, known), asked.tiles, known)
     runner = web.AppRunner(served.application(), access_log=None)
     await runner.setup()
     await web.SockSite(runner, held).start()
@@ -104,7 +111,15 @@ def way_in(room: Path, door: Door) -> Path:
     return path
 
 
-def setting_of(asked: Any) -> Told:
+def ground_of(asked: Any) -> Ground:
+    """What is known of the ground and the sea. An OSError or a DeskError if a file isn't there, or is another one."""
+    geoid = find_geoid(asked.geoid)
+    if asked.heights and geoid is None:
+        raise NoGeoid(f"--heights are above the sea: {ABSENT}")
+    return Ground(tiles=Tiles(asked.heights) if asked.heights else None, geoid=geoid)
+
+
+def setting_of(asked: Any, known: Ground) -> Told:
     """What the page is told: whom it asks, its tiles, the desk's limits. The password isn't among it."""
     parts = urlsplit(asked.url)
     return {
@@ -113,6 +128,7 @@ def setting_of(asked: Any) -> Told:
         "patience": asked.patience,
         "tiles": asked.tiles,
         "attribution": asked.attribution,
+        "has_sea": known.geoid is not None,
         "limits": {
             "lowest": limits.LOWEST / 10,
             "highest": limits.HIGHEST / 10,

@@ -1,13 +1,16 @@
 """What the page sends of a flight that was drawn, and the shape and the area that it is."""
 from __future__ import annotations
 
-from dataclasses import dataclass, replace
+from dataclasses import dataclass
 from typing import Any, List, Mapping, Optional, Sequence, Tuple
 
-from uss_desk_client import AreaError, Circle, Corridor, Polygon, Volume, area_over, cells_of, limits
-from uss_desk_client.shapes import FEWEST_CELLS, MOST_CELLS, Place, Shape
+from uss_desk_client import AreaError, Circle, Corridor, Ground, Polygon, ShapeError, Volume, area_over, cells_of
+from uss_desk_client import limits
+from uss_desk_client.shapes import FEWEST_CELLS, MOST_CELLS, Shape
+from uss_desk_client.sphere import Place
 from uss_desk_client.tokens import evenly, id_of
 from uss_desk_client.units import MOST_METRES, decimetres_down, decimetres_up, second_down, second_up
+from uss_desk_map.altitudes import ABOVE, Altitudes, Typed, altitudes_over
 
 KINDS = ("polygon", "line", "circle", "cells")
 
@@ -26,13 +29,14 @@ class Draft:
     """Of a line the width, of a circle the radius."""
     cells: Tuple[str, ...]
     """Of the kind `cells` what it takes."""
-    lower: float
-    upper: float
+    typed: Typed
     start: int
     end: int
     priority: int
     at_most: int
     plan_id: Optional[str]
+    known: Ground
+    """What is known of the ground and the sea."""
 
     @property
     def shape(self) -> Optional[Shape]:
@@ -50,23 +54,25 @@ class Draft:
         """The cells that it takes, cut as evenly as their number allows."""
         if self.shape is None:
             return list(self.cells)
-        return evenly(cells_of(self.shape, self.at_most), self.at_most)
+        try:
+            return evenly(cells_of(self.shape, self.at_most), self.at_most)
+        except ShapeError as wrong:
+            raise ShapeError(by_numbers(str(wrong), self.places)) from None
+
+    def altitudes(self, tokens: Sequence[str]) -> Altitudes:
+        """Its altitudes over the cells that it takes."""
+        return altitudes_over(tokens, self.typed, self.known)
 
     def area(self, tokens: Optional[Sequence[str]] = None) -> List[Volume]:
         """The volumes that it takes."""
+        cells = self.tokens if tokens is None else tokens
+        lower, upper = self.altitudes(cells).flight
         return area_over(
-            self.tokens if tokens is None else tokens,
-            decimetres_down(self.lower),
-            decimetres_up(self.upper),
-            second_down(self.start),
-            second_up(self.end),
+            cells, decimetres_down(lower), decimetres_up(upper), second_down(self.start), second_up(self.end)
         )
 
-    def later(self, seconds: int) -> Draft:
-        return replace(self, start=self.start + seconds, end=self.end + seconds)
 
-
-def draft_of(value: Any) -> Draft:
+def draft_of(value: Any, known: Ground = Ground()) -> Draft:
     """The draft that the page sent."""
     if not isinstance(value, dict):
         raise Wrong("the draft is no object")
@@ -85,14 +91,32 @@ def draft_of(value: Any) -> Draft:
         places,
         number(value, "metres"),
         cells,
-        number(value, "lower"),
-        number(value, "upper"),
+        typed_of(value),
         whole(value, "start", 0, limits.LAST_SECOND),
         whole(value, "end", 0, limits.LAST_SECOND),
         whole(value, "priority", 0, limits.MAX_PRIORITY),
         at_most,
         plan_id_of(value),
+        known,
     )
+
+
+def by_numbers(told: str, places: Sequence[Place]) -> str:
+    """A text with the places by their numbers on the map, in place of their degrees."""
+    for at, place in enumerate(places):
+        told = told.replace(str(place), f"corner {at + 1}")
+    return told
+
+
+def typed_of(value: Mapping[str, Any]) -> Typed:
+    """The altitudes that were filled in."""
+    above = text(value, "above")
+    if above not in ABOVE:
+        raise Wrong(f"altitudes are above {', '.join(ABOVE)}")
+    lower, upper, ground = (
+        None if value.get(name) is None else number(value, name) for name in ("lower", "upper", "ground")
+    )
+    return Typed(above, lower, upper, ground)
 
 
 def plan_id_of(value: Mapping[str, Any]) -> Optional[str]:

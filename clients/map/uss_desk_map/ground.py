@@ -4,8 +4,7 @@ from __future__ import annotations
 from typing import Iterable, List, Tuple
 
 from uss_desk_client import Rectangle
-from uss_desk_client.grid import Block, block_of_cell, block_of_rectangle, outline_of
-from uss_desk_client.library import s2
+from uss_desk_client.grid import Block, block_of_cell, block_of_rectangle, cells_over, outline_of
 
 Ring = List[Tuple[float, float]]
 """Pairs of latitude and longitude, as Leaflet wants them."""
@@ -43,15 +42,5 @@ def is_small(block: Block) -> bool:
 
 def grid_over(west: float, south: float, east: float, north: float, level: int) -> List[Ring]:
     """The cells of a level over a part of the map; none if they are too many."""
-    middle = (west + east) / 2
-    reach = s2.S2LatLngRect.FromCenterSize(
-        s2.S2LatLng.FromDegrees((south + north) / 2, (middle + 540) % 360 - 180),
-        s2.S2LatLng.FromDegrees(north - south, min(360.0, east - west)),
-    )
-    if reach.Area() * 6 * 4**level / 12.57 > MOST_CELLS:
-        return []
-    coverer = s2.S2RegionCoverer()
-    coverer.set_fixed_level(level)
-    coverer.set_max_cells(MOST_CELLS)
-    blocks = [block_of_cell(cell.ToToken()) for cell in coverer.GetCovering(reach)]
-    return [ring_of_block(block, is_small(block), middle) for block in blocks]
+    blocks = [block_of_cell(token) for token in cells_over((west, south, east, north), level, MOST_CELLS)]
+    return [ring_of_block(block, is_small(block), (west + east) / 2) for block in blocks]

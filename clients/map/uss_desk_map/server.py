@@ -8,10 +8,10 @@ from typing import Any, Awaitable, Callable, Dict, Iterator, Optional, TypeVar
 
 from aiohttp import web
 
-from uss_desk_client import Desk
+from uss_desk_client import Desk, Ground
 from uss_desk_map.calls import CALLS, GROUND, STEPS, Words, next_step
 from uss_desk_map.door import Asked, Door, guards
-from uss_desk_map.drafts import Wrong
+from uss_desk_map.drafts import Wrong, draft_of
 from uss_desk_map.telling import Told, trouble, trouble_of
 
 Result = TypeVar("Result")
@@ -45,10 +45,17 @@ def files_of(page: Path = PAGE, leaflet: Path = LEAFLET) -> Dict[str, Path]:
 
 class Map:
     """The server of one operator's map. `desk` makes the desk anew for each request, with the password as it is then;
-    `setting` is what the page is told of it."""
+    `setting` is what the page gets of it; `known` is what is known of the ground and the sea."""
 
-    def __init__(self, door: Door, desk: Callable[[], Desk], setting: Told, tiles: Optional[str] = None) -> None:
-        self._door, self._desk, self._setting = door, desk, setting
+    def __init__(
+        self,
+        door: Door,
+        desk: Callable[[], Desk],
+        setting: Told,
+        tiles: Optional[str] = None,
+        known: Ground = Ground(),
+    ) -> None:
+        self._door, self._desk, self._setting, self._known = door, desk, setting, known
         self._guards, self._files = guards(tiles), files_of()
         self._turn: Optional[asyncio.Lock] = None
 
@@ -90,7 +97,7 @@ class Map:
 
     async def _call(self, name: str, request: web.Request) -> web.Response:
         try:
-            words = words_of(await request.read())
+            words = words_of(await request.read(), self._known)
             if name in GROUND:
                 return web.json_response(await in_thread(lambda: GROUND[name](words)))
             call = CALLS[name]
@@ -110,7 +117,7 @@ class Map:
     async def _steps(self, name: str, request: web.Request) -> web.StreamResponse:
         """Answers step by step, a line of JSON for each, until the page wants no more."""
         try:
-            steps = STEPS[name](self._desk(), words_of(await request.read()))
+            steps = STEPS[name](self._desk(), words_of(await request.read(), self._known))
         except Exception as why:
             return refused(why)
         response = web.StreamResponse(headers={"Content-Type": "application/x-ndjson"})
@@ -163,12 +170,12 @@ def asked_of(request: web.Request) -> Asked:
     return Asked(request.method, request.raw_path, fields)
 
 
-def words_of(data: bytes) -> Words:
-    """The object that a body is."""
+def words_of(data: bytes, known: Ground) -> Words:
+    """The object that a body is; a draft in it is one that is read."""
     try:
         value = json.loads(data)
     except (ValueError, RecursionError):
         raise Wrong("the body is no JSON") from None
     if not isinstance(value, dict):
         raise Wrong("the body is no object")
-    return value
+    return {**value, "draft": draft_of(value["draft"], known)} if "draft" in value else value

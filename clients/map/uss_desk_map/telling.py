@@ -4,7 +4,8 @@ from __future__ import annotations
 from typing import Any, Dict, List, Optional, Sequence, Tuple
 
 from uss_desk_client import Answer, AreaError, BadAnswer, Blocked, Conflict, DeskError, NoAnswer, Plan, Refused
-from uss_desk_client import ShapeError, UnitError, Volume
+from uss_desk_client import Search, ShapeError, UnitError, Volume
+from uss_desk_map.altitudes import Altitudes
 from uss_desk_map.drafts import Wrong
 from uss_desk_map.ground import Ring, ring_of_rectangle, rings_of
 
@@ -77,6 +78,31 @@ def blocked_told(blocked: Sequence[Blocked]) -> List[Told]:
     return [
         {"cell": it.cell, "ring": rings_of([it.cell])[0], "conflict": conflict_told(it.conflict)} for it in blocked
     ]
+
+
+def altitudes_told(found: Altitudes) -> Told:
+    """What is known of the altitudes of a drawing, as far as they are filled in."""
+    ground = found.ground_above_sea
+    told: Told = {"ground": ground, "lower": None, "upper": None, "warning": "", "is_below": False}
+    try:
+        lower, upper = found.flight
+    except AreaError:
+        return told
+    return {**told, "lower": lower, "upper": upper, "warning": found.warning, "is_below": found.is_below_ground}
+
+
+def search_told(found: Search) -> Told:
+    """What is known of the times at which a flight is free."""
+    return {
+        "from": found.within.start,
+        "to": found.within.end,
+        "requests": found.requests,
+        "decided": found.decided,
+        "free": [[window.start, window.end] for window in found.windows],
+        "own": [{"id": own.plan_id, "start": own.window.start, "end": own.window.end} for own in found.own],
+        "is_done": found.is_done,
+        "is_whole": found.is_whole,
+    }
 
 
 def trouble_of(why: Exception) -> Optional[Told]:

@@ -2,6 +2,7 @@
 from __future__ import annotations
 
 import argparse
+import errno
 import re
 import socket
 import sqlite3
@@ -16,6 +17,11 @@ from .store import Store
 EQUAL_MOST = 32
 SECONDS_TO_ASK = 10
 CHUNK = 65_536
+PORT_CAUSES = {
+    errno.EADDRINUSE: "in use by another program",
+    errno.EACCES: "no right to it",
+    errno.EPERM: "no right to it",
+}
 
 
 class Failed(Exception):
@@ -40,14 +46,25 @@ def number_within(least: int, most: int) -> type:
 
 def read_line(words: Sequence[str]) -> argparse.Namespace:
     """The options and the operators of a line; ends with status 2 if it is malformed."""
-    line = argparse.ArgumentParser(prog="mock_desk", description="The desk of docs/RULES.md, unproved.")
+    line = argparse.ArgumentParser(
+        prog="mock_desk", description="The desk of docs/api.md in Python, unproved: for trying a client."
+    )
     how = line.add_mutually_exclusive_group(required=True)
-    how.add_argument("--at", type=number_within(0, SECOND_MOST), metavar="SECOND", help="plays the standard input")
-    how.add_argument("--port", type=number_within(1, 65_535), help="serves at a port of 127.0.0.1")
-    line.add_argument("--requests", type=number_within(1, 1_000_000), help="with --port: how many connections")
+    how.add_argument(
+        "--at",
+        type=number_within(0, SECOND_MOST),
+        metavar="SECOND",
+        help="play the requests of the standard input at this Unix second",
+    )
+    how.add_argument("--port", type=number_within(1, 65_535), help="serve at a port of 127.0.0.1")
+    line.add_argument(
+        "--requests", type=number_within(1, 1_000_000), help="with --port: end after so many connections"
+    )
     line.add_argument("--db", default=":memory:", metavar="FILE", help="a file of this program's own")
-    line.add_argument("--equal", metavar="P,P,..", help="the priorities that are permitted")
-    line.add_argument("--spans", type=number_within(1, 5_000_000), metavar="N", help="the most spans of live plans")
+    line.add_argument("--equal", metavar="P,P,..", help="priorities at which plans of equal priority may overlap")
+    line.add_argument(
+        "--spans", type=number_within(1, 5_000_000), metavar="N", help="the most spans of an operator's live plans"
+    )
     line.add_argument("operators", nargs="*", metavar="NAME=CEILING", help="operators to enrol first")
     end = words.index("--") if "--" in words else len(words)
     found = line.parse_intermixed_args(words[:end])
@@ -116,7 +133,9 @@ def serve(desk: Desk, port: int, requests: Optional[int]) -> None:
     """Answers one request a connection, until so many are served; raises Failed."""
     try:
         listener = socket.create_server(("127.0.0.1", port))
-    except OSError:
+    except OSError as wrong:
+        cause = PORT_CAUSES.get(wrong.errno or 0, "it can't be had")
+        print(f"uss_desk: 127.0.0.1:{port}: {cause}", file=sys.stderr)
         raise Failed(4, "network") from None
     print(f"listening 127.0.0.1:{port}", flush=True)
     with listener:

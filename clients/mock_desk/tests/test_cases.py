@@ -1,4 +1,4 @@
-"""Requests in which a reader of the rules went wrong once. examples/mock_check plays them at the program too."""
+"""Requests in which a reader of the rules went wrong once. tests/test_mock.py plays them at the program too."""
 import pathlib
 
 import pytest

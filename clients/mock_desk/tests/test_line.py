@@ -73,6 +73,13 @@ def test_ends() -> None:
     assert run("--at", "1780315000", "--", "-=5", given=STATUS.replace(b"alfa", b"-"))[1].endswith(READY)
 
 
+def test_a_port_in_use() -> None:
+    with socket.create_server(("127.0.0.1", 0)) as other:
+        port = other.getsockname()[1]
+        cause = f"uss_desk: 127.0.0.1:{port}: in use by another program\n"
+        assert run("--port", str(port), "alfa=100") == (4, b"", f"{cause}uss_desk: network\n")
+
+
 def test_a_port() -> None:
     with socket.socket() as free:
         free.bind(("127.0.0.1", 0))

@@ -1,9 +1,11 @@
 """Areas: cut at days, cut at 64 cells, never short of the flight."""
+from datetime import datetime, timedelta, timezone
 from typing import Any
 
 import pytest
 
 from uss_desk_client.areas import AreaError, Rectangle, Volume, area_of, area_over
+from uss_desk_client.grid import share_a_point
 from uss_desk_client.shapes import Polygon
 from uss_desk_client.units import time_text
 
@@ -75,3 +77,14 @@ def test_a_rectangle() -> None:
 
 def test_tokens_as_they_are_printed() -> None:
     assert Volume(("89C25000", "04", "x"), 0, 1, 0, 1).printed().cells == ("89c25", "04", "x")
+
+
+def test_slots_of_whole_seconds_that_follow_each_other_share_no_point() -> None:
+    begin = datetime(2026, 6, 1, 12, tzinfo=timezone.utc)
+    slots = [
+        area_of(SQUARE, (60, 120), begin + timedelta(hours=at), begin + timedelta(hours=at + 1)) for at in (0, 1)
+    ]
+    assert not share_a_point(*slots)
+    late = timedelta(microseconds=1)
+    slots[0] = area_of(SQUARE, (60, 120), begin, begin + timedelta(hours=1) + late)
+    assert share_a_point(*slots)

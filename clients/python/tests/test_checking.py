@@ -1,4 +1,4 @@
-"""What the desk would refuse, with the words written by hand from docs/RULES.md."""
+"""What the desk would refuse, with the words written by hand from docs/api.md."""
 import copy
 import json
 from typing import Any, Optional

@@ -1,17 +1,22 @@
 """Asking a server that loses requests and answers: a list of what it does, one after the other."""
+import concurrent.futures
 import json
+import logging
 import socket
 import threading
 import time
 from collections.abc import Callable
 from typing import Any, Optional
+from urllib.parse import urlsplit
 
 import pytest
 
 from uss_desk_client import desk as desk_module
 from uss_desk_client.areas import Volume
 from uss_desk_client.answers import NotTaken, Plan
-from uss_desk_client.desk import BadAnswer, Desk, NoAnswer, NoSuchPlan, Refused, is_as_put, put_body
+from uss_desk_client.bodies import put_body
+from uss_desk_client.errors import DeskError
+from uss_desk_client.desk import BadAnswer, Desk, NoAnswer, NoSuchPlan, Refused, is_as_put
 
 ID = "11111111-1111-4111-8111-111111111111"
 AREA = [Volume(("04",), 0, 1_000, 1_780_315_200, 1_780_318_800)]
@@ -147,33 +152,55 @@ def test_a_dry_run_is_asked_again_at_once() -> None:
     assert desk.try_plan(AREA, 10).note == "conflict" and server.methods == ["PUT", "PUT"]
 
 
-def test_too_many_requests_are_waited_for() -> None:
-    server, desk = asks((429, b"", "retry-after: 1\r\n"), DONE)
-    begun = time.monotonic()
+@pytest.fixture
+def clock(monkeypatch: pytest.MonkeyPatch) -> list[float]:
+    """A clock that sleeping alone moves on, however slow the machine is; its seconds."""
+    seconds = [0.0]
+    monkeypatch.setattr(time, "monotonic", lambda: seconds[0])
+    monkeypatch.setattr(time, "sleep", lambda pause: seconds.__setitem__(0, seconds[0] + pause))
+    return seconds
+
+
+def test_too_many_requests_are_waited_for(clock: list[float]) -> None:
+    server, desk = asks((429, b"", "retry-after: 7\r\n"), DONE)
     assert not desk.plan(ID, AREA, 10).was_lost
-    assert 1 <= time.monotonic() - begun < 4 and server.methods == ["PUT", "PUT"]
+    assert clock[0] == pytest.approx(7) and server.methods == ["PUT", "PUT"]
 
 
-def test_patience_ends() -> None:
+def test_patience_ends(clock: list[float]) -> None:
     server, desk = asks(*[(502, b"")] * 1_000, patience=0.3)
     with pytest.raises(NoAnswer, match="may stand") as ended:
         desk.plan(ID, AREA, 10)
-    assert ended.value.may_stand and 2 <= len(server.asked) < 100
+    assert ended.value.may_stand and 2 <= len(server.asked) < 100 and clock[0] <= 0.3
 
 
-def test_waiting_is_told_at_once_and_each_so_many_seconds(monkeypatch: pytest.MonkeyPatch) -> None:
-    monkeypatch.setattr(desk_module, "TELL_EACH", 0.2)
-    monkeypatch.setattr(desk_module, "LONGEST_PAUSE", 0.5)
+def test_waiting_is_told_at_once_and_each_five_seconds(clock: list[float]) -> None:
     lines: list[tuple[float, str]] = []
-    begun = time.monotonic()
-    _, desk = asks(
-        *[(502, b"")] * 1_000, patience=0.9, tell=lambda line: lines.append((time.monotonic() - begun, line))
-    )
+    _, desk = asks(*[(502, b"")] * 1_000, patience=30, tell=lambda line: lines.append((clock[0], line)))
     with pytest.raises(NoAnswer):
         desk.status()
-    moments = [moment for moment, _ in lines]
-    assert moments[0] < 0.15 and all(0.18 < later - sooner < 0.35 for sooner, later in zip(moments, moments[1:]))
-    assert len(lines) >= 3 and lines[0][1] == "no answer yet (502 bad_gateway); asking again for 1 s"
+    assert [moment for moment, _ in lines][:5] == pytest.approx([0, 5, 10, 15, 20])
+    assert lines[0][1] == "no answer yet (502 bad_gateway); asking again for 30 s"
+
+
+def test_the_id_of_a_failure_is_told() -> None:
+    lines: list[str] = []
+    named = "x-request-id: 5f\r\n"
+    _, desk = asks((502, b"", named), (400, {"error": "bad_volume"}, named), NO_PLAN, tell=lines.append)
+    with pytest.raises(Refused, match=r"^400 bad_volume.* \(request 5f\)$") as refused:
+        desk.plan(ID, AREA)
+    assert refused.value.request_id == "5f"
+    assert lines == ["no answer yet (502 bad_gateway (request 5f)); asking again for 60 s"]
+    with pytest.raises(NoSuchPlan) as lacking:
+        desk.show(ID)
+    assert (lacking.value.request_id, "request" in str(lacking.value)) == ("", False)
+
+
+def test_a_desk_is_asked_whatever_web_proxy_is_set(monkeypatch: pytest.MonkeyPatch) -> None:
+    for name in ("http_proxy", "HTTP_PROXY", "all_proxy"):
+        monkeypatch.setenv(name, "http://127.0.0.1:9")
+    _, desk = asks((200, {"status": "Ready"}))
+    assert desk.status(patience=0) == "Ready"
 
 
 def test_an_answer_at_once_tells_nothing() -> None:
@@ -218,7 +245,7 @@ def test_refusals() -> None:
     _, desk = asks(NO_PLAN, (401, b"<html>"), (403, {"error": "unknown_operator"}), (404, b"<html>"), (200, b"hello"))
     with pytest.raises(NoSuchPlan):
         desk.show(ID)
-    with pytest.raises(Refused, match="unauthorized.*ask the keeper"):
+    with pytest.raises(Refused, match="unauthorized.*ask the administrator"):
         desk.status()
     with pytest.raises(Refused, match="unknown_operator"):
         desk.plans()
@@ -245,7 +272,9 @@ def test_a_refusal_is_told_once() -> None:
     )
     with pytest.raises(Refused) as refused:
         desk.plan(ID, AREA)
-    assert str(refused.value) == "403 unknown_operator: the operator isn't enrolled: ask the keeper of the desk"
+    assert (
+        str(refused.value) == "403 unknown_operator: the operator isn't enrolled: ask the administrator of the desk"
+    )
 
 
 def test_a_closed_plan_is_not_changed() -> None:
@@ -274,6 +303,13 @@ def test_a_malformed_put_that_was_lost_is_put_again() -> None:
 
 def test_a_lost_put_that_is_refused_then_is_an_answer() -> None:
     server, desk = asks((504, b""), NO_PLAN, BLOCKED)
+    answer = desk.plan(ID, AREA, 10)
+    assert (answer.note, answer.was_lost, server.methods) == ("conflict", True, ["PUT", "GET", "PUT"])
+
+
+def test_a_lost_put_of_a_plan_with_a_conflict_is_put_again() -> None:
+    blocked = (200, {**SHOWN[1], "conflict": BLOCKED[1]["conflict"]})
+    server, desk = asks(HANG_UP, blocked, BLOCKED)
     answer = desk.plan(ID, AREA, 10)
     assert (answer.note, answer.was_lost, server.methods) == ("conflict", True, ["PUT", "GET", "PUT"])
 
@@ -324,6 +360,28 @@ def test_no_urls(words: tuple[str, ...]) -> None:
         Desk("http://x")
 
 
+OTHER_HOSTS = [
+    "http://desk.example",
+    "http://192.0.2.1:8081",
+    "HTTP://LOCALHOST.EXAMPLE",
+    "http://[2001:db8::1]/desk",
+]
+THIS_MACHINE = ["http://localhost:8081", "http://LOCALHOST", "http://127.0.0.2:8081", "http://[::1]:8081"]
+
+
+@pytest.mark.parametrize("url", OTHER_HOSTS)
+def test_a_password_is_refused_over_http(url: str) -> None:
+    with pytest.raises(ValueError) as refused:
+        Desk(url, user="alfa", password="secret")
+    host = urlsplit(url).hostname
+    assert str(refused.value) == f"a password is sent to {host} over https alone: http can be read on its way"
+
+
+@pytest.mark.parametrize("url", [*THIS_MACHINE, "https://desk.example"])
+def test_a_password_is_taken_over_https_and_at_this_machine(url: str) -> None:
+    Desk(url, user="alfa", password="secret")
+
+
 def test_what_stands_is_told_from_what_does_not() -> None:
     stored = Plan.from_answer(SHOWN[1])
     body = put_body(AREA, "Planned", "Nominal", 10, "IfAllowed")
@@ -339,3 +397,27 @@ def test_what_stands_is_told_from_what_does_not() -> None:
         put_body(AREA, "Closed", "Nominal", 10, ""),
     ):
         assert not is_as_put(stored, other)
+
+
+def test_requests_are_logged_and_the_password_isnt(caplog: pytest.LogCaptureFixture) -> None:
+    _, desk = asks((502, {}), DONE, operator=None, user="alfa", password="secret")
+    with caplog.at_level(logging.DEBUG, "uss_desk_client"):
+        desk.try_plan(AREA, plan_id=ID)
+    assert [record.message for record in caplog.records] == [
+        f"PUT /flight_plans/{ID}: 502",
+        f"PUT /flight_plans/{ID}: 200",
+    ]
+    assert "secret" not in caplog.text and "c2VjcmV0" not in caplog.text
+
+
+def test_threads_share_a_desk() -> None:
+    _, desk = asks(*[(200, {"status": "Ready"})] * 40)
+    with concurrent.futures.ThreadPoolExecutor(8) as threads:
+        assert list(threads.map(lambda _: desk.status(), range(40))) == ["Ready"] * 40
+
+
+def test_every_refusal_is_one_error() -> None:
+    _, desk = asks(BLOCKED)
+    with pytest.raises(DeskError) as refused:
+        desk.plan(ID, AREA).demand()
+    assert isinstance(refused.value, NotTaken) and refused.value.answer.note == "conflict"

@@ -6,9 +6,11 @@ from typing import Optional
 import pytest
 
 from uss_desk_client.areas import Rectangle, Volume
+from uss_desk_client.cells import LEAVES
 from uss_desk_client.geojson import ring_of
-from uss_desk_client.grid import LEAVES, Block, block_of_cell, block_of_rectangle, outline_of, share_a_point
-from uss_desk_client.shapes import Circle, Corridor, Place, Polygon, Shape, Shapes, cells_of
+from uss_desk_client.grid import Block, block_of_cell, block_of_rectangle, outline_of, share_a_point
+from uss_desk_client.shapes import Circle, Corridor, Polygon, Shape, Shapes, cells_of
+from uss_desk_client.sphere import Place
 from uss_desk_client.sizes import square_metres, square_metres_of_cells
 from uss_desk_client.tokens import token_of
 

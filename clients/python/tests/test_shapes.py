@@ -10,7 +10,6 @@ from uss_desk_client.shapes import (
     GREATEST_RADIUS,
     Circle,
     Corridor,
-    Place,
     Polygon,
     Shape,
     ShapeError,
@@ -18,6 +17,7 @@ from uss_desk_client.shapes import (
     cells_of,
     followed,
 )
+from uss_desk_client.sphere import Place
 from uss_desk_client.tokens import id_of, leaves_of
 
 SQUARE = [(8.0, 47.0), (8.01, 47.0), (8.01, 47.01), (8.0, 47.01)]

@@ -3,28 +3,42 @@ from __future__ import annotations
 
 from dataclasses import dataclass
 from datetime import datetime
-from typing import Any, Mapping, Optional, Tuple
+from typing import Any, Dict, Mapping, Optional, Tuple
 
 from uss_desk_client.areas import Volume
-from uss_desk_client.library import s2
-from uss_desk_client.units import datetime_of
+from uss_desk_client.bodies import put_body
+from uss_desk_client.cells import cell_of
+from uss_desk_client.errors import DeskError
+from uss_desk_client.sphere import Place, place_at
+from uss_desk_client.tokens import id_of
+from uss_desk_client.units import datetime_of, time_text
 
 COMPLETED = "Completed"
 
 ADVICE = {
     "style": "the desk takes InReality only to report OffNominal or Contingent and to close: use IfAllowed",
-    "state": "the plan's state doesn't allow this (docs/RULES.md, States): show it",
     "closed": "the plan is closed and stays so: plan under a new id",
     "not_planned": "there is no plan with this id to close: list the plans",
     "ended": "a volume's time is over at the desk's clock: use later times, or clear the plan",
     "horizon": "a volume starts more than thirty days ahead: plan it later",
-    "priority": "the priority is above the operator's ceiling: lower it, or ask the keeper of the desk",
+    "priority": "the priority is above the operator's ceiling: lower it, or ask the administrator of the desk",
     "plans_limit": "the operator has 200 plans, closed ones too: clear those whose time is over",
-    "spans_limit": "the operator's live plans would take more spans than the keeper allows: close or clear plans, or"
-    " ask for fewer cells",
-    "conflict": "a point of the flight is blocked: avoid it (uss-plan why draws where), or use a higher priority",
+    "spans_limit": "the operator's live plans would take more spans than the administrator allows: close or clear"
+    " plans, or ask for fewer cells",
+    "conflict": "a point of the flight is blocked: avoid it (uss-plan why draws where), take another time (uss-plan"
+    " when finds one), or use a higher priority",
 }
-"""What to do after each note."""
+"""What to do after each note but `state`."""
+STATE_ADVICE = {
+    "NotPlanned": "there is no such plan: plan it first, and report when it is in use",
+    "Planned": "the plan isn't in use yet: activate it, change it, report it or close it",
+    "OkToFly": "the plan is in use and isn't planned again: change it while it stays in use, report it, or close it",
+    "OffNominal": "the aircraft is reported off its plan: report where it may be now, or close the plan. Activate it to"
+    " make it nominal again, unless it was reported Contingent",
+    "Closed": "the plan is closed and stays so: plan under a new id",
+}
+"""What to do after the note `state`, by the status of the plan as it is stored."""
+UNKNOWN_NOTE = "this client doesn't know that note: a later version may"
 
 
 @dataclass(frozen=True)
@@ -47,15 +61,33 @@ class Conflict:
     def from_answer(cls, told: Mapping[str, Any]) -> Conflict:
         return cls(str(told["cell"]), int(told["altitude"]), int(told["second"]), int(told["priority"]))
 
+    def to_json(self) -> Dict[str, Any]:
+        """The point as the desk tells it, with its place, altitude and time for people."""
+        return {
+            "cell": self.cell,
+            "altitude": self.altitude,
+            "second": self.second,
+            "priority": self.priority,
+            "latitude": round(self.latitude, 7),
+            "longitude": round(self.longitude, 7),
+            "altitude_metres": self.altitude_metres,
+            "time": time_text(self.second),
+        }
+
+    @property
+    def place(self) -> Place:
+        """The leaf's centre; a leaf is about a centimetre wide."""
+        return place_at(cell_of(id_of(self.cell) or 1).at(0.5, 0.5))
+
     @property
     def longitude(self) -> float:
-        """Degrees of the leaf's centre; a leaf is about a centimetre wide."""
-        return float(s2.S2CellId.FromToken(self.cell).ToLatLng().lng().degrees())
+        """Degrees of the leaf's centre."""
+        return self.place[0]
 
     @property
     def latitude(self) -> float:
         """Degrees of the leaf's centre."""
-        return float(s2.S2CellId.FromToken(self.cell).ToLatLng().lat().degrees())
+        return self.place[1]
 
     @property
     def altitude_metres(self) -> float:
@@ -81,7 +113,7 @@ class Answer:
     status: str
     """The status of the plan as it is stored now: NotPlanned, Planned, OkToFly, OffNominal or Closed."""
     note: str = ""
-    """Why it was refused, a word of docs/RULES.md; empty if it was done."""
+    """Why it was refused, a word of docs/api.md; empty if it was done."""
     conflict: Optional[Conflict] = None
     """With the note `conflict`: the first blocked point."""
     was_lost: bool = False
@@ -105,7 +137,11 @@ class Answer:
     @property
     def advice(self) -> str:
         """What to do; empty if it was done."""
-        return "" if self.is_completed else ADVICE.get(self.note, "see docs/RULES.md")
+        if self.is_completed:
+            return ""
+        if self.note == "state":
+            return STATE_ADVICE.get(self.status, UNKNOWN_NOTE)
+        return ADVICE.get(self.note, UNKNOWN_NOTE)
 
     def demand(self) -> Answer:
         """This answer if the request was done; else a NotTaken is raised."""
@@ -118,7 +154,7 @@ class Answer:
         return f"{self.result}, {self.status}" + ("" if self.is_completed else f": {self.note}{where}: {self.advice}")
 
 
-class NotTaken(Exception):
+class NotTaken(DeskError):
     """A request was decided, and refused; `answer` says why."""
 
     def __init__(self, answer: Answer) -> None:
@@ -154,6 +190,16 @@ class Plan:
             tuple(Volume.from_answer(volume) for volume in shown["area"]),
             Conflict.from_answer(conflict) if conflict else None,
         )
+
+    @property
+    def is_live(self) -> bool:
+        """Whether it is there for others: planned or in use."""
+        return self.usage != "Closed"
+
+    def body(self, style: str = "IfAllowed") -> Dict[str, Any]:
+        """The body of a PUT that asks for the plan as it is stored. (A plan as it is shown can't be put again: its
+        volumes have another form there.)"""
+        return put_body(self.area, self.usage, self.aircraft, self.priority, style)
 
 
 @dataclass(frozen=True)

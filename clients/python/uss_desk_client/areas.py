@@ -5,6 +5,7 @@ from dataclasses import dataclass
 from datetime import datetime
 from typing import Any, Dict, List, Mapping, Optional, Sequence, Tuple
 
+from uss_desk_client.errors import DeskError
 from uss_desk_client.limits import MAX_CELLS, MAX_LENGTH, MAX_VOLUMES
 from uss_desk_client.shapes import Shape, cells_of
 from uss_desk_client.tokens import id_of, token_of
@@ -14,13 +15,13 @@ from uss_desk_client.units import second_up, time_text
 RECTANGLE_MEMBERS = ("face", "i_max", "i_min", "j_max", "j_min", "level")
 
 
-class AreaError(ValueError):
+class AreaError(DeskError, ValueError):
     """An area that can't be told to the desk, with what to change."""
 
 
 @dataclass(frozen=True)
 class Rectangle:
-    """A rectangle of leaves of a face, widened to whole squares of its level (docs/RULES.md, "JSON in")."""
+    """A rectangle of leaves of a face, widened to whole squares of its level (docs/api.md, "Request bodies")."""
 
     face: int
     i_min: int

@@ -309,7 +309,7 @@ CHECKED, REPORTED, CLOSING = "check", "report", "close"
 
 
 def refuse_by_rules(read: Read, moment: Optional[int], ceiling: Optional[int], stored: Optional[str]) -> None:
-    """The notes of a PUT in their order (docs/RULES.md, "The order of refusals in a PUT")."""
+    """The notes of a PUT in their order (docs/api.md, "Notes, in their order")."""
     basic = "flight_plan.basic_information"
     is_offered = (
         read.style != "InReality" or read.usage == "Closed" or (read.usage == "InUse" and read.aircraft in REPORTS)

@@ -1,46 +1,69 @@
-"""The command uss-plan: plans flights from GeoJSON files, lists, shows and closes them, tells what blocks one.
+"""The command uss-plan: plans flights from GeoJSON files, lists, shows, changes and closes them, tells what blocks one,
+when it is free, and when somebody is planned over it.
 
 Whom to ask, by options or by the environment: USS_DESK_URL; USS_DESK_USER with USS_DESK_PASSWORD, behind a proxy;
-USS_DESK_OPERATOR, at the desk's own port. The exit status is 0 if it was done, 1 if the desk decided and refused (or
-`why` found a blocked cell), 2 if the words of the line are wrong, 3 if a file or the area is wrong, 4 if the desk
-refused the request or didn't answer, 5 if this Python hasn't the S2 library. While a desk doesn't answer, a line on
-standard error says so at once and each five seconds.
+USS_DESK_OPERATOR, at the desk's own port. What it finds is printed on standard output, what it says about that on
+standard error. The exit status is 0 if it was done, 1 if the desk decided and refused (or `why` found a blocked cell,
+`when` no free time, `watch` somebody over a plan), 2 if the arguments are wrong, 3 if a file or the area is wrong, 4 if
+the desk refused the request or didn't answer. While a desk doesn't answer, a line on standard error says so at once and
+each five seconds.
 """
 from __future__ import annotations
 
 import argparse
-import json
+import logging
 import os
 import sys
-from typing import Any, Callable, List, Optional, Sequence
+from typing import Any, Callable, List, Optional, Sequence, Tuple
 
-from uss_desk_client import limits
-from uss_desk_client.answers import Answer, NotTaken, Plan
-from uss_desk_client.areas import AreaError, Rectangle, Volume, area_of, area_over
-from uss_desk_client.checking import check
-from uss_desk_client.desk import Desk, DeskError, NoAnswer, Tell, new_id
-from uss_desk_client.geojson import collection, features_of_plan, features_of_reasons, lines_in, read_document
-from uss_desk_client.geojson import shape_in
-from uss_desk_client.library import NoLibrary, found
-from uss_desk_client.picture import headline, numbered, page_of, svg_of, windows
-from uss_desk_client.shapes import ShapeError, cells_of
-from uss_desk_client.tokens import evenly
-from uss_desk_client.units import UnitError, datetime_of, decimetres_down, decimetres_up, exact, read_time
-from uss_desk_client.units import second_down, second_up, time_text
-from uss_desk_client.why import why
+import uss_desk_client
+from uss_desk_client.answers import NotTaken
+from uss_desk_client.areas import AreaError
+from uss_desk_client.altitudes import NoGround
+from uss_desk_client.errors import DeskError
+from uss_desk_client.geoid import NoGeoid
+from uss_desk_client.heights import BadTile
+from uss_desk_client.options import add_altitudes, add_dry_run, add_flight, add_large, add_shapes, add_times, add_whom
+from uss_desk_client.options import desk_of
+from uss_desk_client.printing import DESK, DONE, FILE, REFUSED, WORDS, fail, warn
+from uss_desk_client.run_changes import run_activate, run_change, run_clear, run_close, run_plan, run_report
+from uss_desk_client.run_looks import run_body, run_cells, run_check, run_list, run_show, run_why
+from uss_desk_client.run_times import run_watch, run_when
+from uss_desk_client.shapes import ShapeError
+from uss_desk_client.units import UnitError
+from uss_desk_client.watching import EVERY
 
-DONE, REFUSED, WORDS, FILE, DESK, LIBRARY = 0, 1, 2, 3, 4, 5
+__all__ = ["add_whom", "desk_of", "main"]
+
+INTERRUPTED = 130
+Run = Callable[[Any], int]
+Add = Callable[[Any], None]
+
+
+class Said(logging.Handler):
+    """Prints what the client logs as a warning."""
+
+    def emit(self, record: logging.LogRecord) -> None:
+        warn(record.getMessage())
 
 
 def main(words: Optional[Sequence[str]] = None) -> int:
     """Runs the command with these words, or those of the line."""
     asked = reader().parse_args(words)
+    logger = logging.getLogger("uss_desk_client")
+    said = Said(logging.WARNING)
+    logger.addHandler(said)
     try:
-        found()
+        return status_of(asked)
+    finally:
+        logger.removeHandler(said)
+
+
+def status_of(asked: Any) -> int:
+    """Runs the command; the exit status."""
+    try:
         return int(asked.run(asked))
-    except NoLibrary as wrong:
-        return fail(str(wrong), LIBRARY)
-    except (ShapeError, UnitError, AreaError) as wrong:
+    except (ShapeError, UnitError, AreaError, NoGeoid, NoGround, BadTile) as wrong:
         return fail(str(wrong), FILE)
     except NotTaken as refused:
         return fail(str(refused), REFUSED)
@@ -53,313 +76,147 @@ def main(words: Optional[Sequence[str]] = None) -> int:
         return FILE
     except OSError as wrong:
         return fail(str(wrong), FILE)
-
-
-def fail(words: str, status: int) -> int:
-    warn(words)
-    return status
-
-
-def warn(words: str) -> None:
-    print(f"uss-plan: {words}", file=sys.stderr, flush=True)
-
-
-# ---- the words of the line
+    except KeyboardInterrupt:
+        return DONE if asked.command == "watch" else INTERRUPTED
 
 
 def reader() -> argparse.ArgumentParser:
-    top = argparse.ArgumentParser(prog="uss-plan", description="Plans drone flights at a planning desk.")
+    """What reads the line."""
+    top = argparse.ArgumentParser(
+        prog="uss-plan",
+        description="Plans drone flights at a planning desk. COMMAND --help prints the options of a command.",
+        epilog=EPILOG,
+        formatter_class=argparse.RawDescriptionHelpFormatter,
+    )
+    top.add_argument("--version", action="version", version=f"uss-plan {uss_desk_client.__version__}")
     whom = argparse.ArgumentParser(add_help=False)
+    whom.add_argument("--json", action="store_true", help="print JSON")
     add_whom(whom.add_argument_group("whom to ask"))
     commands = top.add_subparsers(dest="command", required=True, metavar="COMMAND")
-
-    def command(name: str, run: Callable[[Any], int], help_text: str) -> argparse.ArgumentParser:
+    for name, run, help_text, options in COMMANDS:
         made = commands.add_parser(name, help=help_text, description=help_text, parents=[whom])
         made.set_defaults(run=run)
-        return made
-
-    plan = command("plan", run_plan, "plan a flight over the shapes of a GeoJSON file")
-    plan.add_argument(
-        "--polygon",
-        dest="file",
-        metavar="FILE.geojson",
-        required=True,
-        help="polygons; lines with --width, points with --radius",
-    )
-    add_flight(plan)
-    plan.add_argument("--activate", action="store_true", help="and take it into use at once")
-    listed = command("list", run_list, "list the operator's plans, closed ones too")
-    listed.add_argument("--geojson", action="store_true", help="print GeoJSON in place of a table")
-    show = command("show", run_show, "show a plan, and whether it would be refused now")
-    show.add_argument("id")
-    show.add_argument("--geojson", action="store_true", help="print GeoJSON in place of a table")
-    for name, run, help_text in (
-        ("activate", run_activate, "take a planned flight into use"),
-        ("close", run_close, "close a plan"),
-    ):
-        command(name, run, help_text).add_argument("id")
-    report = command("report", run_report, "report an aircraft that is off its plan")
-    report.add_argument("id")
-    report.add_argument("--contingent", action="store_true", help="Contingent in place of OffNominal")
-    reasons = command("why", run_why, "tell and draw which cells of a flight are blocked; nothing is stored")
-    reasons.add_argument("file", metavar="FILE.geojson")
-    add_flight(reasons)
-    reasons.add_argument("--geojson", metavar="FILE", help="write the cells there as GeoJSON; - is the terminal")
-    reasons.add_argument(
-        "--picture", metavar="FILE", help="write a picture there: FILE.svg, or FILE.html with a table"
-    )
-    checked = command("check", run_check, "tell what the desk would refuse in the body of a PUT; nobody is asked")
-    checked.add_argument("file", metavar="FILE.json")
+        for add in options:
+            add(made)
     return top
 
 
-def add_whom(group: Any, patience: float = 60.0) -> None:
-    """The options that say whom to ask, for `desk_of`."""
-    group.add_argument("--url", default=os.environ.get("USS_DESK_URL"), help="of the desk (or USS_DESK_URL)")
-    group.add_argument("--user", default=os.environ.get("USS_DESK_USER"), help="behind a proxy (or USS_DESK_USER)")
-    group.add_argument(
-        "--password-file", metavar="FILE", help="its first line is the password (or USS_DESK_PASSWORD)"
-    )
-    group.add_argument(
-        "--operator",
-        default=os.environ.get("USS_DESK_OPERATOR"),
-        help="at the desk's own port (or USS_DESK_OPERATOR)",
-    )
-    group.add_argument(
-        "--patience",
-        type=float,
-        default=patience,
-        metavar="SECONDS",
-        help=f"how long a request is asked again that isn't answered ({patience:g})",
-    )
+def add_id(words: Any) -> None:
+    words.add_argument("id", help="ID of the plan")
 
 
-def add_flight(words: argparse.ArgumentParser) -> None:
+def add_activate(words: Any) -> None:
+    words.add_argument("--activate", action="store_true", help="activate the flight too")
+
+
+def add_geojson(words: Any) -> None:
+    words.add_argument("--geojson", action="store_true", help="print GeoJSON, which a map can show")
+
+
+def add_body(words: Any) -> None:
+    words.add_argument("--body", action="store_true", help="print the body of a PUT that asks for this plan again")
+
+
+def add_contingent(words: Any) -> None:
+    words.add_argument("--contingent", action="store_true", help="report Contingent instead of OffNominal")
+
+
+def add_new_priority(words: Any) -> None:
+    words.add_argument("--priority", type=int, help="new priority, 0 to 1,000")
+
+
+def add_drawing(words: Any) -> None:
+    words.add_argument("--geojson", metavar="FILE", help="write the cells to FILE as GeoJSON; - is the terminal")
+    words.add_argument("--picture", metavar="FILE", help="draw a picture: FILE.svg, or FILE.html with a table")
+
+
+def add_body_file(words: Any) -> None:
+    words.add_argument("file", metavar="FILE.json", help="body of a PUT")
+
+
+def add_search(words: Any) -> None:
+    words.add_argument("--minutes", type=float, default=15.0, metavar="N", help="length of the flight (15)")
+    words.add_argument("--step", type=int, default=60, metavar="SECONDS", help="how exactly the times are found (60)")
+
+
+def add_watch(words: Any) -> None:
     words.add_argument(
-        "--altitude",
-        nargs=2,
-        required=True,
-        type=metres,
-        metavar=("LOWER", "UPPER"),
-        help="metres above the WGS84 ellipsoid",
+        "--every", type=float, default=EVERY, metavar="S", help=f"seconds between two looks ({EVERY:g})"
     )
     words.add_argument(
-        "--from", dest="start", required=True, type=moment, metavar="TIME", help="RFC 3339, as 2026-06-01T12:00:00Z"
+        "--exec", metavar="CMD", help="run CMD for each change, with the change as JSON on its standard input"
     )
-    words.add_argument("--to", dest="end", required=True, type=moment, metavar="TIME")
-    words.add_argument("--priority", type=int, default=0, help="0 to 1,000 (0)")
-    words.add_argument("--id", help="of the plan: a UUID (a new one)")
-    words.add_argument(
-        "--cells",
-        type=int,
-        default=limits.MAX_CELLS,
-        metavar="N",
-        help="how many cells may cover the shapes (64); more follow them more closely",
-    )
-    words.add_argument("--width", type=metres, metavar="METRES", help="of the corridor along a line")
-    words.add_argument("--radius", type=metres, metavar="METRES", help="of the circle around a point")
+    words.add_argument("--webhook", metavar="URL", help="post each change to URL as JSON")
+    words.add_argument("--looks", type=int, metavar="N", help="stop after N looks (never)")
 
 
-def metres(word: str) -> float:
-    try:
-        number = float(word)
-        exact(number)
-    except ValueError:
-        raise argparse.ArgumentTypeError(f"{word!r} is no number of metres") from None
-    return number
+CHANGED: Tuple[Add, ...] = (add_id, add_shapes, add_altitudes, add_times, add_new_priority, add_large, add_dry_run)
+EPILOG = """\
+a first flight, 60 to 120 metres above ground that maps show at 408 metres:
+  export USS_DESK_URL=https://DESK USS_DESK_USER=alfa USS_DESK_PASSWORD=..
+  uss-plan plan field.geojson --above-ground 60 120 --ground-above-sea 408 \\
+      --from 2026-06-01T12:00:00Z --to 2026-06-01T13:00:00Z     # prints the plan's ID
+  uss-plan activate ID
+  uss-plan close ID
 
+if it is refused for a conflict, `why` shows where it is blocked, and `when` at which times it is free.
+Somebody with a higher priority may plan over your flight at any time: `watch` prints that.
 
-def moment(word: str) -> str:
-    if not read_time(word):
-        raise argparse.ArgumentTypeError(f"{word!r} is no time of RFC 3339, as 2026-06-01T12:00:00Z")
-    return word
+the desk is named by options, or by these variables:
+  USS_DESK_URL, USS_DESK_USER, USS_DESK_PASSWORD    behind a proxy
+  USS_DESK_URL, USS_DESK_OPERATOR                   at the desk's own port, without a proxy
 
-
-def desk_of(asked: Any, tell_waiting: Optional[Tell] = warn) -> Desk:
-    if not asked.url:
-        raise ValueError("no desk is named: use --url or USS_DESK_URL")
-    password = os.environ.get("USS_DESK_PASSWORD", "")
-    if asked.password_file:
-        with open(asked.password_file, encoding="utf-8") as file:
-            password = file.readline().rstrip("\n")
-    if asked.operator:
-        return Desk(asked.url, operator=asked.operator, patience=asked.patience, tell=tell_waiting)
-    return Desk(asked.url, user=asked.user, password=password, patience=asked.patience, tell=tell_waiting)
-
-
-# ---- what it does
-
-
-def area_asked(asked: Any, document: Any) -> List[Volume]:
-    return area_of(
-        shape_in(document, asked.radius, asked.width),
-        (asked.altitude[0], asked.altitude[1]),
-        asked.start,
-        asked.end,
-        asked.cells,
-    )
-
-
-def area_looked_at(asked: Any, document: Any) -> List[Volume]:
-    """The area in cells that are cut as evenly as their number allows."""
-    cells = cells_of(shape_in(document, asked.radius, asked.width), asked.cells)
-    return area_over(
-        evenly(cells, asked.cells),
-        decimetres_down(asked.altitude[0]),
-        decimetres_up(asked.altitude[1]),
-        second_down(asked.start),
-        second_up(asked.end),
-    )
-
-
-def run_plan(asked: Any) -> int:
-    area = area_asked(asked, read_document(asked.file))
-    desk, plan_id = desk_of(asked), asked.id or new_id()
-    try:
-        answer = desk.plan(plan_id, area, asked.priority)
-        if answer.is_completed and asked.activate:
-            answer = desk.activate(plan_id, area, asked.priority)
-    except NoAnswer as lost:
-        return fail(f"{plan_id}: {lost}", DESK)
-    return tell(plan_id, answer)
-
-
-def tell(plan_id: str, answer: Answer) -> int:
-    print(f"{plan_id}  {answer}")
-    return DONE if answer.is_completed else REFUSED
-
-
-def run_list(asked: Any) -> int:
-    plans = desk_of(asked).plans()
-    if asked.geojson:
-        print(json.dumps(collection(one for plan in plans for one in features_of_plan(plan))))
-    elif not plans:
-        print("no plans")
-    else:
-        print(
-            table(
-                ("id", "status", "priority", "from (UTC)", "to (UTC)", "metres", "cells", "conflict"),
-                map(row_of, plans),
-            )
-        )
-    return DONE
-
-
-def row_of(plan: Plan) -> Sequence[str]:
-    area = plan.area
-    return (
-        plan.plan_id,
-        plan.status,
-        str(plan.priority),
-        short(min(volume.start for volume in area)),
-        short(max(volume.end for volume in area)),
-        f"{min(volume.lower_metres for volume in area):g} to {max(volume.upper_metres for volume in area):g}",
-        footprint(area),
-        f"priority {plan.conflict.priority}" if plan.conflict else "",
-    )
-
-
-def footprint(area: Sequence[Volume]) -> str:
-    """How many cells an area has, and rectangles."""
-    cells = {cell for volume in area for cell in volume.cells}
-    rectangles = {volume.rectangle for volume in area if volume.rectangle}
-    told = f"{len(rectangles)} rectangle{'s' * (len(rectangles) > 1)}"
-    return str(len(cells)) if not rectangles else f"{len(cells)} and {told}" if cells else told
-
-
-def rectangle_told(rectangle: Rectangle) -> str:
-    return (
-        f"rectangle: face {rectangle.face}, i {rectangle.i_min} to {rectangle.i_max}, "
-        f"j {rectangle.j_min} to {rectangle.j_max}, level {rectangle.level}"
-    )
-
-
-def short(second: int) -> str:
-    return f"{datetime_of(second):%Y-%m-%d %H:%M}"
-
-
-def table(names: Sequence[str], rows: Any) -> str:
-    """Rows of words in columns, with their names above."""
-    lines = [names, *rows]
-    widths = [max(len(line[at]) for line in lines) for at in range(len(names))]
-    return "\n".join("  ".join(word.ljust(width) for word, width in zip(line, widths)).rstrip() for line in lines)
-
-
-def run_show(asked: Any) -> int:
-    plan = desk_of(asked).show(asked.id)
-    if asked.geojson:
-        print(json.dumps(collection(features_of_plan(plan))))
-        return DONE
-    print(f"{plan.plan_id}  {plan.status} ({plan.usage}, {plan.aircraft}), priority {plan.priority}")
-    rows = [
-        (
-            str(at),
-            time_text(volume.start),
-            time_text(volume.end),
-            f"{volume.lower_metres:g}",
-            f"{volume.upper_metres:g}",
-            rectangle_told(volume.rectangle) if volume.rectangle else str(len(volume.cells)),
-        )
-        for at, volume in enumerate(plan.area)
-    ]
-    print(table(("volume", "from", "to", "lower m", "upper m", "cells"), rows))
-    print(f"conflict: {plan.conflict}" if plan.conflict else "no conflict")
-    return DONE
-
-
-def run_activate(asked: Any) -> int:
-    return tell(asked.id, desk_of(asked).activate(asked.id))
-
-
-def run_report(asked: Any) -> int:
-    return tell(asked.id, desk_of(asked).report(asked.id, "Contingent" if asked.contingent else "OffNominal"))
-
-
-def run_close(asked: Any) -> int:
-    return tell(asked.id, desk_of(asked).close(asked.id))
-
-
-def run_why(asked: Any) -> int:
-    document = read_document(asked.file)
-    is_svg = bool(asked.picture) and asked.picture.endswith(".svg")
-    if asked.picture and not is_svg and not asked.picture.endswith((".html", ".htm")):
-        return fail("--picture is a FILE.svg or a FILE.html", WORDS)
-    reasons = why(desk_of(asked), area_looked_at(asked, document), asked.priority, asked.id)
-    if asked.geojson:
-        write(asked.geojson, json.dumps(collection(features_of_reasons(reasons))) + "\n")
-    if asked.picture:
-        write(asked.picture, (svg_of if is_svg else page_of)(reasons, lines_in(document, asked.radius)))
-    if asked.geojson != "-":
-        print(headline(reasons))
-        print(windows(reasons))
-        rows = [
-            (
-                str(number),
-                it.cell,
-                str(it.conflict.priority),
-                f"{it.conflict.altitude_metres:g}",
-                time_text(it.conflict.second),
-                f"{it.conflict.latitude:.6f}",
-                f"{it.conflict.longitude:.6f}",
-            )
-            for number, it in numbered(reasons)
-        ]
-        if rows:
-            print("The first blocked point of each:")
-            print(table(("cell", "token", "priority held", "metres", "time", "latitude", "longitude"), rows))
-    return REFUSED if reasons.blocked else DONE
-
-
-def write(path: str, words: str) -> None:
-    if path == "-":
-        sys.stdout.write(words)
-        return
-    with open(path, "w", encoding="utf-8") as file:
-        file.write(words)
-
-
-def run_check(asked: Any) -> int:
-    with open(asked.file, "rb") as file:
-        fault = check(file.read())
-    print(fault or "nothing in this body would be refused for its form")
-    return REFUSED if fault else DONE
+exit status:
+  0  done
+  1  the desk refused it; `why`: a cell is blocked; `when`: no free time; `watch`: somebody is over a plan
+  2  wrong arguments
+  3  a wrong file or area
+  4  the desk refused the request, or didn't answer
+"""
+COMMANDS: List[Tuple[str, Run, str, Tuple[Add, ...]]] = [
+    (
+        "plan",
+        run_plan,
+        "plan a flight over the shapes of a GeoJSON file",
+        (add_flight, add_large, add_activate, add_dry_run),
+    ),
+    ("list", run_list, "list your plans, closed ones too", (add_geojson,)),
+    ("show", run_show, "show a plan, and its conflict if it has one", (add_id, add_geojson, add_body)),
+    ("activate", run_activate, "activate a planned flight", (add_id, add_dry_run)),
+    ("change", run_change, "change the area, the times or the priority of a plan", CHANGED),
+    (
+        "report",
+        run_report,
+        "report an aircraft that is off its plan, and where it may be",
+        (*CHANGED, add_contingent),
+    ),
+    ("close", run_close, "close a plan", (add_id, add_dry_run)),
+    (
+        "clear",
+        run_clear,
+        "remove at once all your plans that share a point with an area and a time, flights in the air and closed plans "
+        "too: it names none of them and doesn't ask; --dry-run lists them",
+        (add_shapes, add_altitudes, add_times, add_large, add_dry_run),
+    ),
+    (
+        "why",
+        run_why,
+        "print and draw which cells of a flight are blocked; nothing is stored",
+        (add_flight, add_drawing),
+    ),
+    (
+        "when",
+        run_when,
+        "print when a flight is free between --from and --to; nothing is stored",
+        (add_flight, add_search),
+    ),
+    (
+        "watch",
+        run_watch,
+        "print each change of your plans: above all, that somebody is planned over one",
+        (add_watch,),
+    ),
+    ("check", run_check, "print what the desk would refuse in the body of a PUT; no desk is asked", (add_body_file,)),
+    ("cells", run_cells, "print the tokens of S2 cells that cover the shapes; no desk is asked", (add_shapes,)),
+    ("body", run_body, "print the body of a PUT, for curl; no desk is asked", (add_flight, add_activate)),
+]

@@ -1,27 +1,34 @@
 """Asking the desk over HTTP.
 
 A request that may be lost is asked again, for at most `patience` seconds: when no answer came, after 429, 500, 502,
-503 and 504. A PUT that may have been done is looked for first (docs/RULES.md, "When no answer came").
+503 and 504. A PUT that may have been done is looked for first (docs/api.md, "When no answer came").
 """
 from __future__ import annotations
 
 import base64
 import http.client
+import ipaddress
 import json
+import logging
 import random
 import re
 import ssl
 import time
 import uuid
 from dataclasses import dataclass
-from typing import Any, Callable, Dict, List, Mapping, Optional, Sequence, Tuple, TypeVar, Union
+from typing import Any, Callable, Iterator, List, Mapping, Optional, Sequence, Tuple, TypeVar, Union
 from urllib.parse import quote, urlsplit
 
 from uss_desk_client.answers import Answer, Cleared, Plan
 from uss_desk_client.areas import Volume
+from uss_desk_client.bodies import put_body
 from uss_desk_client.checking import Fault, check, check_clear
-from uss_desk_client.units import second_down, second_up
+from uss_desk_client.errors import DeskError
+from uss_desk_client.free import MOST_REQUESTS, STEP, Search, searches
+from uss_desk_client.units import Time, second_down, second_up
+from uss_desk_client.watching import EVERY, LEAST_EVERY, Change, Watch
 
+LOG = logging.getLogger("uss_desk_client")
 Told = TypeVar("Told")
 
 ADVICE = {
@@ -30,14 +37,21 @@ ADVICE = {
     "transfer_encoding": "a proxy has put in a transfer-encoding: let it hand on a content-length",
     "no_route": "the URL of the desk is wrong: it is that before /flight_plans",
     "method": "the URL of the desk is wrong, or a proxy changes the method",
-    "bad_operator": "at the desk's own port give Desk an operator, 1 to 32 of a-z, 0-9 and -; else ask the keeper",
+    "bad_operator": "at the desk's own port give Desk an operator, 1 to 32 of a-z, 0-9 and -; else ask the"
+    " administrator",
     "bad_plan_id": "the id of a plan is a UUID",
     "bad_json": "the body is no JSON",
     "bad_member": "a member of the body is missing or malformed",
     "bad_volume": "a volume is malformed or out of its limits",
     "too_many_cells": "a rectangle's cover has more than 1,024 cells: take a lower level",
-    "unauthorized": "the user's name or password is wrong: ask the keeper of the desk",
-    "unknown_operator": "the operator isn't enrolled: ask the keeper of the desk",
+    "unauthorized": "the user's name or password is wrong: ask the administrator of the desk",
+    "certificate": "the proxy asks for a client certificate: ask the administrator of the desk",
+    "forbidden": "the proxy can't read its passwords: report it to the administrator of the desk",
+    "from_a_page": "the request has a field Origin or Sec-Fetch-Site: ask from a program, not from a web page",
+    "host": "the proxy's port without TLS has another name: use 127.0.0.1, localhost or https",
+    "timeout": "the request wasn't there in time: send it again",
+    "proxy": "the proxy could not carry it out: what was asked may be there or not",
+    "unknown_operator": "the operator isn't enrolled: ask the administrator of the desk",
     "no_such_plan": "the operator has no plan with this id: list the plans",
     "too_many_requests": "too many requests in a short time: ask more slowly",
     "out_of_memory": "the desk ended and is started again: nothing was changed",
@@ -71,17 +85,14 @@ TELL_EACH = 5.0
 Tell = Callable[[str], None]
 
 
-class DeskError(Exception):
-    """The desk didn't do what it was asked, or isn't known to have."""
-
-
 class Refused(DeskError):
     """An answer other than 200 that asking again doesn't change."""
 
-    def __init__(self, status: int, word: str, fault: Optional[Fault] = None) -> None:
-        self.status, self.word, self.fault = status, word, fault
-        self.advice = ADVICE.get(word, "see docs/RULES.md")
-        super().__init__(f"{status} {fault}" if fault else f"{status} {word}: {self.advice}")
+    def __init__(self, status: int, word: str, fault: Optional[Fault] = None, request_id: str = "") -> None:
+        self.status, self.word, self.fault, self.request_id = status, word, fault, request_id
+        self.advice = ADVICE.get(word, "this client doesn't know that error code: a later version may")
+        text = f"{status} {fault}" if fault else f"{status} {word}: {self.advice}"
+        super().__init__(text + named_by(request_id))
 
 
 class NoSuchPlan(Refused):
@@ -105,6 +116,11 @@ class BadAnswer(DeskError):
     """An answer that no desk gives: is the URL that of another server?"""
 
 
+def named_by(request_id: str) -> str:
+    """What a message ends with, so that the administrator finds the request in the proxy's log by its id."""
+    return f" (request {request_id})" if request_id else ""
+
+
 class Lost(Exception):
     """Of one attempt: no whole answer came."""
 
@@ -120,6 +136,7 @@ class Response:
     status: int
     body: bytes
     retry_after: float
+    request_id: str = ""
 
     @property
     def value(self) -> Any:
@@ -143,6 +160,14 @@ def told(make: Callable[[Any], Told], value: Any) -> Told:
         raise BadAnswer(f"the answer isn't that of a desk: {wrong!r} in {str(value)[:80]}") from None
 
 
+def is_loopback(host: str) -> bool:
+    """Whether a host is this machine, by its name or its address."""
+    try:
+        return host == "localhost" or ipaddress.ip_address(host).is_loopback
+    except ValueError:
+        return False
+
+
 def path_of(plan_id: str) -> str:
     return f"{PLANS}/{quote(plan_id, safe='')}"
 
@@ -152,21 +177,6 @@ def new_id() -> str:
     return str(uuid.uuid4())
 
 
-def put_body(area: Sequence[Volume], usage: str, aircraft: str, priority: int, style: str) -> Dict[str, Any]:
-    """The body of a PUT."""
-    return {
-        "execution_style": style,
-        "flight_plan": {
-            "astm_f3548_21": {"priority": priority},
-            "basic_information": {
-                "area": [volume.to_json() for volume in area],
-                "uas_state": aircraft,
-                "usage_state": usage,
-            },
-        },
-    }
-
-
 class Desk:
     """A desk, asked as one operator.
 
@@ -174,7 +184,8 @@ class Desk:
     `Desk("http://127.0.0.1:8080", operator="alfa")` asks at the desk's own port. `timeout` is how many seconds an
     attempt waits for the next bytes, `patience` after how many a request isn't asked again; meanwhile `tell` is called
     with a line that says why, at once and each five seconds. Methods raise Refused (NoSuchPlan) if the desk refuses a
-    request, NoAnswer if none came, BadAnswer; a PUT that was decided and refused is an Answer.
+    request, NoAnswer if none came, BadAnswer; a PUT that was decided and refused is an Answer. Threads may share one:
+    it keeps no connection, and nothing in it changes. Requests are logged to the logger `uss_desk_client`.
     """
 
     def __init__(
@@ -194,6 +205,8 @@ class Desk:
             raise ValueError(f"{url!r} is no URL of a desk, as https://desk.example")
         if (operator is None) == (user is None):
             raise ValueError("a desk is asked with a user's name and password, or as an operator at its own port")
+        if user is not None and parts.scheme == "http" and not is_loopback(parts.hostname):
+            raise ValueError(f"a password is sent to {parts.hostname} over https alone: http can be read on its way")
         self._host, self._port, self._path = parts.hostname, parts.port, parts.path.rstrip("/")
         self._tls = (tls or ssl.create_default_context()) if parts.scheme == "https" else None
         self._timeout, self._patience, self._tell = timeout, patience, tell
@@ -254,7 +267,52 @@ class Desk:
 
     def plans(self) -> List[Plan]:
         """All plans of the operator, closed ones too, ascending by id."""
-        return told(lambda value: list(map(Plan.from_answer, value["flight_plans"])), self._read(PLANS))
+        return self._plans_of(self._read(PLANS))
+
+    def find_free(
+        self,
+        area: Sequence[Volume],
+        within: Tuple[Time, Time],
+        step: int = STEP,
+        *,
+        priority: int = 0,
+        plan_id: Optional[str] = None,
+        usage: str = "Planned",
+        most: int = MOST_REQUESTS,
+        progress: Optional[Callable[[Search], object]] = None,
+    ) -> Search:
+        """The times between two moments in which a flight of this area and priority may be planned, to `step` seconds.
+
+        All of the area is wanted at all times. The flight takes as long as the area does, from its first start to its
+        last end. With a plan's id its stored version doesn't block. At most `most` PUTs are asked, no more of them in a
+        second than a proxy lets through; `progress` is called after each. (`free.searches` is the same as an
+        iterator.) A NotTaken is raised if the flight is refused for another reason than a conflict.
+        """
+        for found in searches(self, area, within, step, priority=priority, plan_id=plan_id, usage=usage, most=most):
+            if progress:
+                progress(found)
+        return found
+
+    def watch(self, every: float = EVERY) -> Iterator[Change]:
+        """Each change at the operator's plans, as it is seen: above all, that somebody is planned over one. It lists
+        the plans each `every` seconds, and goes on for ever. A desk that doesn't answer is no change: it is looked
+        again. Whoever has a clock of its own uses `watching`."""
+        if every < LEAST_EVERY:
+            raise ValueError(f"plans are listed at most each {LEAST_EVERY:g} s: a proxy lets twelve a minute through")
+        watch = self.watching()
+        while True:
+            next_look = time.monotonic() + every
+            try:
+                yield from watch.look()
+            except NoAnswer as lost:
+                LOG.warning("no look at the plans: %s", lost)
+                if self._tell:
+                    self._tell(f"no look at the plans ({lost.last}); looking again in {every:g} s")
+            time.sleep(max(0.0, next_look - time.monotonic()))
+
+    def watching(self) -> Watch:
+        """What looks for changes at the operator's plans: each `look` is one List, which isn't asked again."""
+        return Watch(lambda: self._plans_of(self._once(PLANS)))
 
     def clear(self, area: Sequence[Volume]) -> Cleared:
         """Removes the operator's plans, closed ones too, that share a point with a volume of an area, which may be of
@@ -270,7 +328,8 @@ class Desk:
         return Cleared(count, is_lost)
 
     def put(self, plan_id: str, body: Mapping[str, Any]) -> Answer:
-        """Asks a PUT with this body. One that may have been done is looked for, and put again if it isn't there."""
+        """Asks a PUT with this body. One that may have been done is looked for. It is put again if it isn't there, and
+        if it has a conflict: it may have been there before, and the PUT refused for that."""
         until, path = Deadline(self._patience, self._tell), path_of(plan_id)
         was_lost, is_stored = False, body.get("execution_style") != "Hypothetical"
         while True:
@@ -282,7 +341,7 @@ class Desk:
             until.wait(tried, was_lost and is_stored)
             if tried.may_stand and is_stored:
                 stored = self._find(plan_id, until)
-                if stored and is_as_put(stored, body):
+                if stored and stored.conflict is None and is_as_put(stored, body):
                     return Answer("Completed", stored.status, was_lost=True)
 
     # ---- how it is asked
@@ -310,6 +369,17 @@ class Desk:
 
     def _read(self, path: str, patience: Optional[float] = None) -> Any:
         return self._object(self._again("GET", path, None, patience)[0], path)
+
+    def _once(self, path: str) -> Any:
+        """The object that a GET is answered with; a NoAnswer if the first attempt has none."""
+        tried = self._try("GET", path, None, Deadline(self._timeout))
+        if isinstance(tried, Unsettled):
+            raise NoAnswer(tried.told, self._timeout, False)
+        return self._object(tried, path)
+
+    @staticmethod
+    def _plans_of(value: Any) -> List[Plan]:
+        return told(lambda listed: list(map(Plan.from_answer, listed["flight_plans"])), value)
 
     def _find(self, plan_id: str, until: Deadline) -> Optional[Plan]:
         """The plan as it is stored, or None if there is none or it couldn't be told."""
@@ -339,9 +409,11 @@ class Desk:
         try:
             response = self._ask(method, path, body, min(self._timeout, max(until.left(), 0.1)))
         except Lost as lost:
+            LOG.debug("%s %s: no answer (%s)", method, path, lost)
             return Unsettled(str(lost), lost.may_stand, 0.0)
+        LOG.debug("%s %s: %d", method, path, response.status)
         if response.status in AGAIN:
-            told = f"{response.status} {response.word}".strip()
+            told = f"{response.status} {response.word}".strip() + named_by(response.request_id)
             return Unsettled(told, response.status not in UNTOUCHED, response.retry_after)
         return response
 
@@ -358,7 +430,8 @@ class Desk:
             is_sent = True
             connection.request(method, self._path + path, body=data, headers=fields)
             answer = connection.getresponse()
-            return Response(answer.status, answer.read(), seconds_of(answer.getheader("retry-after")))
+            after, request_id = answer.getheader("retry-after"), answer.getheader("x-request-id", "")
+            return Response(answer.status, answer.read(), seconds_of(after), request_id)
         except (OSError, http.client.HTTPException) as why:
             if isinstance(why, ssl.SSLCertVerificationError):
                 raise BadAnswer(f"the desk's certificate isn't trusted: {why.verify_message}") from None
@@ -387,8 +460,8 @@ class Desk:
         if response.status == 400 and body is not None:
             fault = check_clear(body) if "extent" in body else check(body)
         if response.word == "no_such_plan":
-            return NoSuchPlan(response.status, response.word)
-        return Refused(response.status, response.word, fault)
+            return NoSuchPlan(response.status, response.word, request_id=response.request_id)
+        return Refused(response.status, response.word, fault, response.request_id)
 
 
 @dataclass(frozen=True)

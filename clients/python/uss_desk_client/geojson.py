@@ -7,8 +7,9 @@ from typing import Any, Dict, Iterable, List, Optional, Sequence, Tuple
 
 from uss_desk_client.answers import Plan
 from uss_desk_client.areas import Volume
-from uss_desk_client.library import s2
-from uss_desk_client.shapes import Circle, Corridor, Place, Polygon, Shape, ShapeError, Shapes
+from uss_desk_client.grid import block_of_cell, outline_of
+from uss_desk_client.shapes import Circle, Corridor, Polygon, Shape, ShapeError, Shapes
+from uss_desk_client.sphere import Place
 from uss_desk_client.units import Metres, time_text
 from uss_desk_client.why import Reasons
 
@@ -95,12 +96,7 @@ def read_document(path: str) -> Any:
 def ring_of(token: str) -> List[Place]:
     """The corners of a cell, counterclockwise, without the first again. Longitudes may pass 180 degrees, so that the
     corners of a cell on the antimeridian stand beside each other."""
-    cell = s2.S2Cell(s2.S2CellId.FromToken(token))
-    corners = [cell.GetS2LatLngVertex(at) for at in range(4)]
-    first = corners[0].lng().degrees()
-    return [
-        (first + (corner.lng().degrees() - first + 540) % 360 - 180, corner.lat().degrees()) for corner in corners
-    ]
+    return outline_of(block_of_cell(token))
 
 
 def collection(features: Iterable[Feature]) -> Dict[str, Any]:

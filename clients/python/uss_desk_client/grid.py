@@ -4,13 +4,9 @@ from __future__ import annotations
 from typing import Iterable, List, NamedTuple, Sequence, Tuple
 
 from uss_desk_client.areas import Rectangle, Volume
-from uss_desk_client.library import s2
-from uss_desk_client.shapes import Place
-from uss_desk_client.tokens import id_of, level_of
-
-LEAF_LEVEL = 30
-LEAVES = 1 << LEAF_LEVEL
-"""Leaves along a side of a face."""
+from uss_desk_client.cells import LEAF_LEVEL, LEAVES, Cell, cell_of, faces, point_on, projected
+from uss_desk_client.sphere import Box, Place, place_at
+from uss_desk_client.tokens import id_of, token_of
 
 
 class Block(NamedTuple):
@@ -37,9 +33,8 @@ def block_of_cell(token: str) -> Block:
     number = id_of(token)
     if number is None:
         raise ValueError(f"{token!r} is the token of no cell")
-    side = LEAVES >> level_of(number)
-    face, i, j, _ = s2.S2CellId.FromToken(token.lower()).ToFaceIJOrientation()
-    return Block(face, i // side * side, i // side * side + side, j // side * side, j // side * side + side)
+    cell = cell_of(number)
+    return Block(cell.face, cell.i, cell.i + cell.side, cell.j, cell.j + cell.side)
 
 
 def block_of_rectangle(rectangle: Rectangle) -> Block:
@@ -62,7 +57,7 @@ def blocks_of(volume: Volume) -> List[Block]:
 
 
 def share_a_point(one: Iterable[Volume], other: Iterable[Volume]) -> bool:
-    """Whether two areas have a leaf, an altitude and a second in common (docs/RULES.md, "What blocks a flight")."""
+    """Whether two areas have a leaf, an altitude and a second in common (docs/api.md, "What blocks a flight")."""
     others = list(other)
     return any(have_a_point(volume, beside) for volume in one for beside in others)
 
@@ -76,15 +71,7 @@ def have_a_point(one: Volume, other: Volume) -> bool:
 
 def corner_of(face: int, i: int, j: int) -> Place:
     """The place of the corner with the least coordinates of a leaf; `i` and `j` may be at the face's far end too."""
-    u, v = (projected(coordinate / LEAVES) for coordinate in (i, j))
-    vector = ((1.0, u, v), (-u, 1.0, v), (-u, -v, 1.0), (-1.0, -v, -u), (v, -1.0, -u), (v, u, -1.0))[face]
-    place = s2.S2LatLng(s2.S2Point_FromRaw(*vector))
-    return place.lng().degrees(), place.lat().degrees()
-
-
-def projected(share: float) -> float:
-    """S2's quadratic projection, from a share of a face's side to -1 up to 1."""
-    return (4 * share * share - 1) / 3 if share >= 0.5 else (1 - 4 * (1 - share) * (1 - share)) / 3
+    return place_at(point_on(face, projected(i / LEAVES), projected(j / LEAVES)))
 
 
 def outline_of(block: Block, parts: int = 1) -> List[Place]:
@@ -104,3 +91,30 @@ def outline_of(block: Block, parts: int = 1) -> List[Place]:
         ]
     first = ring[0][0]
     return [(first + (longitude - first + 540) % 360 - 180, latitude) for longitude, latitude in ring]
+
+
+COARSE = 4
+"""Levels at which a cell may have a pole within, or be too large for a box of its corners."""
+
+
+def cells_over(box: Box, level: int, most: int) -> List[str]:
+    """The tokens of the cells of a level that are drawn over a box; none if they are more than `most`."""
+    cells = faces()
+    for depth in range(level + 1):
+        cells = [cell for cell in cells if depth <= COARSE or is_drawn_over(cell, box)]
+        if len(cells) > max(most, 6 * 4**COARSE):
+            return []
+        if depth < level:
+            cells = [child for cell in cells for child in cell.children()]
+    found = [token_of(cell.number) for cell in cells if is_drawn_over(cell, box)]
+    return found if len(found) <= most else []
+
+
+def is_drawn_over(cell: Cell, box: Box) -> bool:
+    """Whether the box around a cell, on a map, meets another box."""
+    ring = outline_of(Block(cell.face, cell.i, cell.i + cell.side, cell.j, cell.j + cell.side), 2)
+    longitudes, latitudes = [place[0] for place in ring], [place[1] for place in ring]
+    if max(latitudes) < box[1] or box[3] < min(latitudes):
+        return False
+    begin, wide = min(longitudes), max(longitudes) - min(longitudes)
+    return wide >= 180 or (begin - box[0]) % 360 <= box[2] - box[0] or (box[0] - begin) % 360 <= wide

@@ -1,4 +1,4 @@
-"""The desk's limits, each in this one place; docs/RULES.md, "Limits", says the same."""
+"""The desk's limits, each in this one place; docs/api.md, "Limits", says the same."""
 
 MAX_BODY = 131_072
 """Bytes of a body."""

@@ -7,7 +7,7 @@ from dataclasses import dataclass
 from typing import Dict, List, Sequence, Tuple
 
 from uss_desk_client.geojson import METRES_A_DEGREE, bounds_of, ring_of
-from uss_desk_client.shapes import Place
+from uss_desk_client.sphere import Place
 from uss_desk_client.units import time_text
 from uss_desk_client.why import Blocked, Reasons
 

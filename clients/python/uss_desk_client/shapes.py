@@ -4,7 +4,8 @@ A place is a pair (longitude, latitude) in degrees of WGS84, in the order of Geo
 cells contain the shape. S2 takes degrees of WGS84 as those of a sphere, and so does this module, with lengths turned
 into angles by the least radius of curvature of WGS84: a circle or a corridor is never covered too small.
 
-S2 as Debian builds it ends the whole program at a ring that is no simple polygon. So each ring is tested here first.
+The cells are found by what `library` has. S2 as Debian builds it ends the whole program at a ring that is no simple
+polygon. So each ring is tested here first.
 """
 from __future__ import annotations
 
@@ -12,13 +13,12 @@ import math
 from dataclasses import dataclass
 from typing import Any, Iterable, List, NamedTuple, Sequence, Tuple
 
-from uss_desk_client.library import s2
+from uss_desk_client.errors import DeskError
+from uss_desk_client.library import library
 from uss_desk_client.limits import MAX_CELLS, MAX_VOLUMES
+from uss_desk_client.sphere import Place, Vector, angle_between, cross, place_at, vector_of
+from uss_desk_client.tokens import children_of, level_of, token_of
 from uss_desk_client.units import Metres, UnitError, exact
-
-Place = Tuple[float, float]
-"""Longitude and latitude in degrees."""
-Vector = Tuple[float, float, float]
 
 LEAST_RADIUS = 6_335_439.0
 """Metres: the least radius of curvature of the WGS84 ellipsoid, that of a meridian at the equator."""
@@ -37,15 +37,15 @@ MOST_PLACES = 5_000
 """Places of a ring or a path, with those that are put in between where straight lines are followed."""
 
 
-class ShapeError(ValueError):
+class ShapeError(DeskError, ValueError):
     """A shape that can't be covered by cells, with what is wrong."""
 
 
 class Shape:
     """A shape on the ground."""
 
-    def covering(self, at_most: int) -> List[Any]:
-        """Cells (S2CellId), at most so many, none within another, that contain the shape."""
+    def covering(self, at_most: int) -> List[int]:
+        """The ids of cells, at most so many, none within another, that contain the shape."""
         raise NotImplementedError
 
 
@@ -62,13 +62,13 @@ class Polygon(Shape):
     holes: Sequence[Sequence[Place]] = ()
     is_straight: bool = False
 
-    def covering(self, at_most: int) -> List[Any]:
+    def covering(self, at_most: int) -> List[int]:
         holes = [loop_of(hole, self.is_straight) for hole in self.holes]
-        cells = cover(loop_of(self.ring, self.is_straight), at_most)
-        finest = max(cell.level() for cell in cells)
+        cells = library().cover(loop_of(self.ring, self.is_straight), at_most)
+        finest = max(map(level_of, cells))
         for hole in holes:
             cells = [kept for cell in cells for kept in outside(hole, cell, finest)]
-        return merged([cells], at_most)
+        return library().merged([cells], at_most)
 
 
 @dataclass(frozen=True)
@@ -78,8 +78,8 @@ class Circle(Shape):
     centre: Place
     radius: Metres
 
-    def covering(self, at_most: int) -> List[Any]:
-        return cover(cap_of(place_of(self.centre), angle_of(self.radius)), at_most)
+    def covering(self, at_most: int) -> List[int]:
+        return library().cover(cap_of(place_of(self.centre), angle_of(self.radius)), at_most)
 
 
 @dataclass(frozen=True)
@@ -90,7 +90,7 @@ class Corridor(Shape):
     width: Metres
     is_straight: bool = False
 
-    def covering(self, at_most: int) -> List[Any]:
+    def covering(self, at_most: int) -> List[int]:
         path = that_move([place_of(place) for place in self.path])
         if len(path) < 2:
             raise ShapeError("a corridor has at least two places that differ")
@@ -99,7 +99,7 @@ class Corridor(Shape):
         half = angle_of(self.width) / 2
         regions = [cap_of(place, half) for place in path]
         regions += [strip_of(place, after, half) for place, after in zip(path, path[1:])]
-        return merged([cover(region, max(at_most, MAX_CELLS)) for region in regions], at_most)
+        return library().merged([library().cover(region, max(at_most, MAX_CELLS)) for region in regions], at_most)
 
 
 @dataclass(frozen=True)
@@ -108,10 +108,10 @@ class Shapes(Shape):
 
     shapes: Sequence[Shape]
 
-    def covering(self, at_most: int) -> List[Any]:
+    def covering(self, at_most: int) -> List[int]:
         if not self.shapes:
             raise ShapeError("there is no shape")
-        return merged([shape.covering(max(at_most, MAX_CELLS)) for shape in self.shapes], at_most)
+        return library().merged([shape.covering(max(at_most, MAX_CELLS)) for shape in self.shapes], at_most)
 
 
 def cells_of(shape: Shape, at_most: int = MAX_CELLS) -> List[str]:
@@ -123,30 +123,16 @@ def cells_of(shape: Shape, at_most: int = MAX_CELLS) -> List[str]:
     """
     if not FEWEST_CELLS <= at_most <= MOST_CELLS:
         raise ShapeError(f"at most {at_most} cells are asked for: from {FEWEST_CELLS} to {MOST_CELLS} may be")
-    return [cell.ToToken() for cell in sorted(shape.covering(at_most), key=lambda cell: int(cell.id()))]
+    return [token_of(number) for number in sorted(shape.covering(at_most))]
 
 
-def cover(region: Any, at_most: int) -> List[Any]:
-    """An outer cover of a region of S2."""
-    coverer = s2.S2RegionCoverer()
-    coverer.set_max_cells(at_most)
-    return list(coverer.GetCovering(region))
-
-
-def outside(hole: Any, cell: Any, finest: int) -> List[Any]:
+def outside(hole: Any, number: int, finest: int) -> List[int]:
     """The cells down to a level that a cell is made of, without those that lie whole in a hole."""
-    if hole.Contains(s2.S2Cell(cell)):
+    if library().contains(hole, number):
         return []
-    if cell.level() >= finest or not hole.MayIntersect(s2.S2Cell(cell)):
-        return [cell]
-    return [kept for child in range(4) for kept in outside(hole, cell.child(child), finest)]
-
-
-def merged(covers: Iterable[List[Any]], at_most: int) -> List[Any]:
-    """At most so many cells that contain those of all these covers."""
-    union = s2.S2CellUnion()
-    union.Init([cell.id() for cells in covers for cell in cells])
-    return list(union.cell_ids()) if union.num_cells() <= at_most else cover(union, at_most)
+    if level_of(number) >= finest or not library().meets(hole, number):
+        return [number]
+    return [kept for child in children_of(number) for kept in outside(hole, child, finest)]
 
 
 # ---- places and angles
@@ -161,7 +147,7 @@ def place_of(pair: Sequence[float]) -> Place:
         if isinstance(degrees, bool) or not isinstance(degrees, (int, float)) or not math.isfinite(degrees):
             raise ShapeError(f"the {name} {degrees!r} is no number of degrees")
         if abs(degrees) > limit:
-            raise ShapeError(f"the {name} {degrees} lies beyond {limit} degrees; a place is " "(longitude, latitude)")
+            raise ShapeError(f"the {name} {degrees} lies beyond {limit} degrees; a place is (longitude, latitude)")
     return float(longitude), float(latitude)
 
 
@@ -175,16 +161,6 @@ def angle_of(metres: Metres) -> float:
     if not 0 < angle < math.pi / 2:
         raise ShapeError(f"a radius or a width of {metres} m isn't above 0 and below a quarter of the globe")
     return angle
-
-
-def point_of(place: Place) -> Any:
-    """A place as a point of S2."""
-    return s2.S2LatLng.FromDegrees(place[1], place[0]).ToPoint()
-
-
-def vector_of(place: Place) -> Vector:
-    longitude, latitude = math.radians(place[0]), math.radians(place[1])
-    return (math.cos(latitude) * math.cos(longitude), math.cos(latitude) * math.sin(longitude), math.sin(latitude))
 
 
 def is_same(one: Place, other: Place) -> bool:
@@ -203,7 +179,7 @@ def that_move(places: Iterable[Place]) -> List[Place]:
 
 def length_of(begin: Place, end: Place) -> float:
     """The angle between two places in radians."""
-    return 2 * math.asin(min(1.0, math.dist(vector_of(begin), vector_of(end)) / 2))
+    return angle_between(vector_of(begin), vector_of(end))
 
 
 def turn(begin: Place, end: Place) -> float:
@@ -212,48 +188,42 @@ def turn(begin: Place, end: Place) -> float:
     return degrees - 360 if degrees > 180 else degrees + 360 if degrees < -180 else degrees
 
 
-# ---- regions of S2
+# ---- regions
 
 
 def cap_of(place: Place, angle: float) -> Any:
-    return s2.S2Cap(point_of(place), s2.S1Angle.Radians(angle + MARGIN))
+    return library().cap(place, angle + MARGIN)
 
 
 def strip_of(begin: Place, end: Place, half: float) -> Any:
     """A loop that contains all points within an angle of the shortest line between two places, but for those that
     are beyond its ends. Its long sides are shortest lines too, so they bend away from the line between them."""
     first, last = vector_of(begin), vector_of(end)
-    normal = (
-        first[1] * last[2] - first[2] * last[1],
-        first[2] * last[0] - first[0] * last[2],
-        first[0] * last[1] - first[1] * last[0],
-    )
+    normal = cross(first, last)
     size = math.hypot(*normal)
     if size == 0 or length_of(begin, end) > math.pi / 2:
         raise ShapeError(f"the line from {begin} to {end} is longer than a quarter of the globe")
 
-    def beside(vector: Vector, side: int) -> Any:
+    def beside(vector: Vector, side: int) -> Place:
         along, across = math.cos(half + MARGIN), side * math.sin(half + MARGIN) / size
         x, y, z = (along * here + across * aside for here, aside in zip(vector, normal))
-        return s2.S2LatLng.FromRadians(math.atan2(z, math.hypot(x, y)), math.atan2(y, x)).ToPoint()
+        return place_at((x, y, z))
 
-    loop = s2.S2Loop()
-    loop.Init([beside(first, -1), beside(last, -1), beside(last, 1), beside(first, 1)])
-    loop.Normalize()
-    return loop
+    return library().ring([beside(first, -1), beside(last, -1), beside(last, 1), beside(first, 1)])
 
 
 def loop_of(ring: Sequence[Place], is_straight: bool) -> Any:
-    """The loop of a ring, with the side inside that is smaller than a hemisphere."""
-    places = open_ring(ring)
-    is_in_reach(places)
-    if is_straight:
-        places = followed(places, is_ring=True)
-    is_simple(places)
-    loop = s2.S2Loop()
-    loop.Init([point_of(place) for place in places])
-    loop.Normalize()
-    return loop
+    """The region of a ring: the side that is smaller than a hemisphere."""
+    return library().ring(ring_followed(ring, is_straight))
+
+
+def ring_followed(ring: Sequence[Place], is_straight: bool) -> List[Place]:
+    """The places of a ring between which its edges are shortest lines. A ShapeError if it has no inside."""
+    corners = open_ring(ring)
+    is_in_reach(corners)
+    steps = followed_edges(corners, is_ring=True) if is_straight else list(zip(corners, range(len(corners))))
+    is_simple(steps, corners)
+    return [place for place, _ in steps]
 
 
 # ---- rings
@@ -277,7 +247,7 @@ def is_in_reach(places: List[Place]) -> None:
     for begin, end in zip(places, places[1:] + places[:1]):
         if length_of(begin, end) > math.pi / 2:
             raise ShapeError(
-                f"the edge from {begin} to {end} is longer than a quarter of the globe: " "put places in between"
+                f"the edge from {begin} to {end} is longer than a quarter of the globe: put places in between"
             )
         step = turn(begin, end)
         turned += step
@@ -294,24 +264,34 @@ def followed(places: List[Place], is_ring: bool) -> List[Place]:
     On a straight line that goes x to the east and y to the north, both in radians, at the latitude p, the shortest
     one departs by at most an eighth of x (x sin p cos p + 2 y sin p).
     """
-    found: List[Place] = []
+    return [place for place, _ in followed_edges(places, is_ring)] + ([] if is_ring else places[-1:])
+
+
+def followed_edges(places: List[Place], is_ring: bool) -> List[Tuple[Place, int]]:
+    """The places of `followed` but for the last one of a path, each with the number of the edge that it lies on."""
+    found: List[Tuple[Place, int]] = []
     ends = places[1:] + places[:1] if is_ring else places[1:]
-    for begin, end in zip(places, ends):
-        step = turn(begin, end)
-        latitude = math.radians(max(abs(begin[1]), abs(end[1])))
-        east, north = math.radians(abs(step)), math.radians(abs(end[1] - begin[1]))
-        bent = east * math.sin(2 * min(latitude, math.pi / 4)) / 2 + 2 * north * math.sin(latitude)
-        parts = max(1, math.ceil(math.sqrt(GREATEST_RADIUS * east * bent / 8 / STRAIGHT_WITHIN)))
+    for number, (begin, end) in enumerate(zip(places, ends)):
+        parts = parts_of(begin, end)
         if len(found) + parts > MOST_PLACES:
             raise ShapeError(
                 "the edges are too long to follow lines that are straight in longitude and "
                 "latitude: use several shapes, or shortest lines"
             )
+        step = turn(begin, end)
         for part in range(parts):
             longitude = begin[0] + step * part / parts
             longitude -= 360 if longitude > 180 else -360 if longitude < -180 else 0
-            found.append((longitude, begin[1] + (end[1] - begin[1]) * part / parts))
-    return found if is_ring else found + places[-1:]
+            found.append(((longitude, begin[1] + (end[1] - begin[1]) * part / parts), number))
+    return found
+
+
+def parts_of(begin: Place, end: Place) -> int:
+    """Into how many parts a straight line is cut, so that it is followed within a centimetre."""
+    latitude = math.radians(max(abs(begin[1]), abs(end[1])))
+    east, north = math.radians(abs(turn(begin, end))), math.radians(abs(end[1] - begin[1]))
+    bent = east * math.sin(2 * min(latitude, math.pi / 4)) / 2 + 2 * north * math.sin(latitude)
+    return max(1, math.ceil(math.sqrt(GREATEST_RADIUS * east * bent / 8 / STRAIGHT_WITHIN)))
 
 
 class Edge(NamedTuple):
@@ -347,19 +327,22 @@ def neighbours(places: List[Place]) -> Iterable[Tuple[int, int]]:
                 yield edge.number, other.number
 
 
-def is_simple(places: List[Place]) -> None:
-    """A ShapeError if a ring comes to a place twice, or crosses itself."""
-    points = [point_of(place) for place in places]
+def is_simple(steps: List[Tuple[Place, int]], corners: List[Place]) -> None:
+    """A ShapeError if a ring comes to a place twice, or crosses itself. `steps` are its places, each with the number of
+    the edge that it lies on; edges are told by their `corners`."""
+    places = [place for place, _ in steps]
     for first, second in neighbours(places):
-        after, beyond = (first + 1) % len(points), (second + 1) % len(points)
+        after, beyond = (first + 1) % len(places), (second + 1) % len(places)
         for one in (first, after):
             for other in (second, beyond):
                 if one != other and is_same(places[one], places[other]):
                     raise ShapeError(f"the ring comes to {places[one]} twice: cut it into several rings")
         if {first, after} & {second, beyond}:
             continue
-        if s2.CrossingSign(points[first], points[after], points[second], points[beyond]) > 0:
-            raise ShapeError(
-                f"the ring crosses itself: the edge from {places[first]} to {places[after]} and that "
-                f"from {places[second]} to {places[beyond]}"
-            )
+        if library().is_crossed(places[first], places[after], places[second], places[beyond]):
+            told = " and that ".join(edge_told(corners, steps[at][1]) for at in sorted((first, second)))
+            raise ShapeError(f"the ring crosses itself: the edge {told}")
+
+
+def edge_told(corners: List[Place], number: int) -> str:
+    return f"from {corners[number]} to {corners[(number + 1) % len(corners)]}"

@@ -7,19 +7,26 @@ from __future__ import annotations
 import math
 from typing import Iterable, List, Sequence
 
-from uss_desk_client.library import s2
-from uss_desk_client.shapes import Circle, Corridor, Place, Polygon, Shape, Shapes, angle_of, length_of, loop_of
-from uss_desk_client.shapes import place_of, that_move, vector_of
+from uss_desk_client.cells import cell_of
+from uss_desk_client.shapes import Circle, Corridor, Polygon, Shape, Shapes, angle_of, length_of
+from uss_desk_client.shapes import place_of, ring_followed, that_move
+from uss_desk_client.sphere import Place, cross, dot, minus, signed_size, unit, vector_of
+from uss_desk_client.tokens import id_of
 
 MEAN_RADIUS = 6_371_008.8
 """Metres: the mean radius of WGS84."""
-WHOLE = 4 * math.pi
-"""The size of the sphere in steradians."""
 
 
 def square_metres_of_cells(tokens: Iterable[str]) -> float:
-    """The size of cells, none within another."""
-    return metres_of(sum(s2.S2Cell(s2.S2CellId.FromToken(token)).ExactArea() for token in tokens))
+    """The size of cells, none within another. A token of no cell is a ValueError."""
+    return metres_of(sum(size_of_cell(token) for token in tokens))
+
+
+def size_of_cell(token: str) -> float:
+    number = id_of(token)
+    if number is None:
+        raise ValueError(f"{token!r} is the token of no cell")
+    return signed_size([unit(corner) for corner in cell_of(number).corners()])
 
 
 def square_metres(shape: Shape) -> float:
@@ -43,8 +50,7 @@ def metres_of(steradians: float) -> float:
 
 
 def size_within(ring: Sequence[Place], is_straight: bool) -> float:
-    size = float(loop_of(ring, is_straight).GetArea())
-    return min(size, WHOLE - size)
+    return abs(signed_size([vector_of(place) for place in ring_followed(ring, is_straight)]))
 
 
 def size_around(angle: float) -> float:
@@ -62,5 +68,6 @@ def size_along(path: List[Place], half: float) -> float:
 
 def bend_of(before: Place, here: Place, after: Place) -> float:
     """The angle in radians by which a path turns at a place."""
-    begin, middle, end = (s2.S2Point_FromRaw(*vector_of(place)) for place in (before, here, after))
-    return abs(float(s2.TurnAngle(begin, middle, end)))
+    begin, middle, end = vector_of(before), vector_of(here), vector_of(after)
+    one, other = (cross(middle, minus(begin, middle)), cross(middle, minus(end, middle)))
+    return math.pi - abs(math.atan2(dot(middle, cross(one, other)), dot(one, other)))

@@ -46,6 +46,29 @@ def children_of(number: int) -> List[int]:
     return [number - bit + (2 * child + 1) * (bit >> 2) for child in range(4)]
 
 
+def parent_of(number: int) -> Optional[int]:
+    """The id of the cell of the level above that the cell with this id lies in; None of a face."""
+    bit = lowest_bit(number) << 2
+    return number & -bit | bit if bit < 1 << LEAF_BITS else None
+
+
+def normalized(numbers: Iterable[int]) -> List[int]:
+    """The same leaves in as few cells as can be, none within another, ascending by id."""
+    kept: List[int] = []
+    for number in sorted(set(numbers), key=lambda one: (leaves_of(one)[0], -lowest_bit(one))):
+        if kept and leaves_of(kept[-1])[1] >= leaves_of(number)[1]:
+            continue
+        kept.append(number)
+        while (
+            len(kept) >= 4
+            and parent_of(number) is not None
+            and all(parent_of(one) == parent_of(number) for one in kept[-4:])
+        ):
+            number = parent_of(number) or number
+            kept[-4:] = [number]
+    return kept
+
+
 def evenly(tokens: Iterable[str], at_most: int) -> List[str]:
     """The same leaves in at most so many cells, if they are fewer now, ascending by id: the largest cells are cut
     into their four children first. Tokens that name no cell are left out."""

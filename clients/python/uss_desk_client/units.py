@@ -6,6 +6,7 @@ from datetime import datetime, timedelta, timezone
 from decimal import ROUND_CEILING, ROUND_FLOOR, Decimal
 from typing import Optional, Tuple, Union
 
+from uss_desk_client.errors import DeskError
 from uss_desk_client.limits import MAX_TIME_BYTES
 
 Metres = Union[int, float, Decimal]
@@ -21,7 +22,7 @@ FIRST_INSTANT, LAST_INSTANT = -377_705_023_201, 253_402_207_200
 """The Unix seconds between which the desk reads a time at all."""
 
 
-class UnitError(ValueError):
+class UnitError(DeskError, ValueError):
     """A length, an altitude or a time that can't be told to the desk."""
 
 
@@ -69,7 +70,7 @@ def days_before(year: int, month: int, day: int) -> int:
 
 def read_time(text: str) -> Optional[Tuple[int, bool]]:
     """The Unix second in which a time of RFC 3339 lies, and whether it lies after that second's beginning;
-    None if the desk doesn't read this text as a time (docs/RULES.md, "JSON in")."""
+    None if the desk doesn't read this text as a time (docs/api.md, "Request bodies")."""
     found = WRITTEN.fullmatch(text) if len(text) <= MAX_TIME_BYTES else None
     if not found:
         return None

@@ -3,6 +3,7 @@
 import { changeDraft, moveDraft } from "./drafts.js";
 import { button, byId, drawn, element, redraw } from "./elements.js";
 import { changed, choose, draftAtWork, nameOf, plansListed, state } from "./state.js";
+import { freeSpans } from "./times.js";
 import { clockOf, dateOf, dayOf, hourOf, metresOf, momentOf, now, spanOf, statusOf, utcOf } from "./words.js";
 
 const MINUTE = 60;
@@ -13,7 +14,8 @@ const AXIS_LETTERS = 1.05;
 const STEP = 5 * MINUTE;
 const ARROWS = { ArrowLeft: -STEP, ArrowRight: STEP, ArrowDown: -STEP, ArrowUp: STEP };
 const PLAY_MILLISECONDS = 120;
-const LEAST_TOP = 150;
+const LEAST_REACH = 150;
+const ROOM = 25;
 const TICK_LETTERS = 1.8;
 const TICKS = [25, 50, 100, 250, 500, 1000, 2500, 5000];
 
@@ -123,6 +125,7 @@ function drawStrip(width, length) {
   redraw(parts.strip, drawn("svg", { width, height, viewBox: `0 0 ${width} ${height}`, role: "group",
     "aria-label": "Flights of the day" }, hours(width, height, axis, x),
   bars.map((bar) => drawBar(bar, x, axis + bar.lane * lane, lane - 2)),
+  freeSpans(draft).map((span) => drawFree(span, x, axis + (lanes - 1) * lane, lane - 2)),
   draft && drawDraftBar(draft, x, axis + (lanes - 1) * lane, lane - 2), moment(height, x)));
 }
 
@@ -182,7 +185,13 @@ function moment(height, x) {
   return drawn("line", { class: "moment", x1: at, x2: at, y1: 0, y2: height });
 }
 
-// ---- the draft in time: dragged, or moved by the arrow keys
+// ---- the draft in time: dragged, or moved by the arrow keys, over the times at which it is free
+
+function drawFree([start, end], x, y, height) {
+  if (end <= state.day || start >= state.day + dayLength()) return null;
+  return drawn("rect", { class: "free-span", ...clipped(start, end, x), y: y + 1, height },
+    drawn("title", {}, `free: ${spanOf(start, end).local}`));
+}
 
 function drawDraftBar(draft, x, y, height) {
   const box = { ...clipped(draft.start, draft.end, x), y: y + 1, height, rx: 2 };
@@ -230,7 +239,7 @@ function dragBar(event, id) {
 
 function makeAltitudeBar() {
   parts.column = element("div", { class: "column" });
-  parts.height = element("input", { type: "range", id: "height", min: 0, max: LEAST_TOP, step: 5,
+  parts.height = element("input", { type: "range", id: "height", min: 0, max: LEAST_REACH, step: 5,
     "aria-label": "Altitude in metres", "aria-orientation": "vertical", on: { input: setAltitude } });
   parts.metres = element("output", { for: "height", id: "height-told" });
   parts.there = check("altitude-alone", "only there", "isAltitudeAlone");
@@ -250,19 +259,27 @@ function levels() {
   const found = plansListed().flatMap((plan) => plan.volumes.filter(isThen).slice(0, 1)
     .map(({ lower, upper }) => ({ id: plan.id, lower, upper, look: statusOf(plan).look, mark: statusOf(plan).mark })));
   const draft = draftAtWork();
-  if (!draft || !isThen(draft)) return found;
-  return [...found, { id: draft.id, lower: draft.lower, upper: draft.upper, look: "draft", mark: "✎" }];
+  const { lower = null, upper = null } = state.covers.get(draft?.id)?.altitudes ?? {};
+  if (lower === null || !isThen(draft)) return found;
+  return [...found, { id: draft.id, lower, upper, look: "draft", mark: "✎" }];
 }
 
 export function drawAltitude() {
   const found = levels();
-  const top = Math.max(LEAST_TOP, ...found.map((one) => Math.ceil(one.upper * 1.1 / 50) * 50));
-  const bottom = Math.min(0, ...found.map((one) => Math.floor(one.lower / 50) * 50));
+  const [bottom, top] = reachOf(found);
+  if (!state.isAltitudeAlone) state.altitude = Math.min(top, Math.max(bottom, state.altitude));
   Object.assign(parts.height, { min: String(bottom), max: String(top), value: String(state.altitude) });
   parts.height.setAttribute("aria-valuetext", metresOf(state.altitude));
   parts.metres.textContent = metresOf(state.altitude);
   parts.there.box.checked = state.isAltitudeAlone;
   drawColumn(found, bottom, top, parts.column.clientWidth || 60, parts.column.clientHeight || 200);
+}
+
+/** The lowest and the highest altitude that the column shows, with some room beside what is there. */
+function reachOf(found) {
+  if (!found.length) return [0, LEAST_REACH];
+  const bottom = Math.min(...found.map((one) => Math.floor((one.lower - ROOM) / 50) * 50));
+  return [bottom, Math.max(bottom + LEAST_REACH, ...found.map((one) => Math.ceil((one.upper + ROOM) / 50) * 50))];
 }
 
 function drawColumn(found, bottom, top, width, height) {

@@ -1,14 +1,18 @@
 // The form of a drawn flight. Its fields stay while one types; what was found out of it is told beneath.
 
-import { changeDraft, discardDraft, isWhole, leaveAsPlanned, moveDraft } from "./drafts.js";
+import { altitudeRows } from "./altitude_fields.js";
+import { coverTold } from "./cover_told.js";
+import { changeDraft, discardDraft, isReady, leaveAsPlanned, moveDraft } from "./drafts.js";
 import { startDrawing } from "./drawing.js";
 import { button, element, redraw } from "./elements.js";
-import { findReasons } from "./finding.js";
+import { choiceField, field, metresField, row, timeField, wholeField } from "./fields.js";
+import { findReasons, isCovering } from "./finding.js";
 import { busy, planDraft } from "./flying.js";
-import { sure } from "./messages.js";
-import { moveToFreeTime, reasonsTold } from "./reasons.js";
+import { newestAbout, saidAbout, sure } from "./messages.js";
+import { reasonsTold } from "./reasons.js";
 import { choose, state } from "./state.js";
-import { counted, inputOf, momentOf, secondOf, sizeOf, spanOf } from "./words.js";
+import { findTimes, timesTold } from "./times.js";
+import { counted } from "./words.js";
 
 const LATER = [[-3600, "1 h earlier"], [-900, "15 min earlier"], [900, "15 min later"], [3600, "1 h later"]];
 const CELLS = [16, 32, 64, 128, 256, 512, 1024];
@@ -18,96 +22,41 @@ const KINDS = { polygon: "Polygon", line: "Line", circle: "Circle", cells: "Cell
 export function makeDraftForm(parent, id) {
   const fields = [];
   const places = element("div", { class: "places" });
+  const drawn = element("div", { id: "drawn" });
   const found = element("div", { id: "found" });
   const actions = element("div", { class: "buttons", id: "draft-actions" });
-  parent.append(...partsOf(id, fields), actions, found, places);
+  parent.append(...partsOf(id, fields), drawn, actions, found, places);
   return () => {
     const draft = state.drafts.get(id);
     if (!draft) return;
     fields.forEach((fill) => fill(draft));
     if (!places.contains(document.activeElement)) redraw(places, placesOf(draft));
+    drawn.setAttribute("aria-busy", String(isCovering(id)));
+    redraw(drawn, coverTold(draft));
     redraw(actions, actionsOf(draft));
-    redraw(found, coverTold(draft), reasonsTold(id));
+    redraw(found, isSaidHere(id) && saidAbout(id), reasonsTold(id), timesTold(id));
   };
+}
+
+/** Whether the last that was said of a flight is of a button of its form, or there is no other card of it. */
+function isSaidHere(id) {
+  return !state.plans.has(id) || newestAbout(id)?.isOfForm;
 }
 
 function partsOf(id, fields) {
   const draft = state.drafts.get(id);
-  const isMeasured = draft.kind === "line" || draft.kind === "circle";
+  const measured = { line: "Width, m", circle: "Radius, m" }[draft.kind];
   return [
     row(field(id, fields, "Name", "name", "text", { maxlength: 60 }),
       element("p", { class: "kind" }, KINDS[draft.kind])),
-    row(isMeasured && metresField(id, fields, draft.kind === "line" ? "Width, m" : "Radius, m", "metres", 1),
-      metresField(id, fields, "From altitude, m", "lower", state.setting.limits.lowest),
-      metresField(id, fields, "To altitude, m", "upper", state.setting.limits.lowest)),
-    element("p", { class: "hint" }, "Metres above the WGS84 ellipsoid, not above the ground or the sea."),
+    measured && row(metresField(id, fields, measured, "metres", { min: 1 })),
+    ...altitudeRows(id, fields),
     row(timeField(id, fields, "Start, local time", "start"), timeField(id, fields, "End, local time", "end")),
     row(...LATER.map(([seconds, words]) => button(words, () => moveDraft(id, seconds)))),
-    row(field(id, fields, "Priority", "priority", "number",
-      { min: 0, max: state.setting.limits.priority, step: 1, read: wholeOf }),
-    draft.kind === "cells" ? null : cellsField(id, fields)),
-  ];
-}
-
-function row(...parts) {
-  return element("div", { class: "row" }, ...parts);
-}
-
-function wholeOf(input) {
-  return /^\d+$/.test(input) ? Number(input) : NaN;
-}
-
-function numberOf(input) {
-  return input.trim() === "" ? NaN : Number(input);
-}
-
-function alone(member, value) {
-  return { [member]: value };
-}
-
-/** A start that is typed moves the end with it. */
-function withEnd(_, start, draft) {
-  return { start, end: start + draft.end - draft.start };
-}
-
-/** A field of a draft. What can't be read is marked, and the draft stays as it was. */
-function field(id, fields, words, member, type, { read = String, show = String, members = alone, ...more } = {}) {
-  const input = element("input", { type, id: `draft-${member}`, autocomplete: "off", ...more, on: { input: () => {
-    const value = read(input.value);
-    const isRead = typeof value === "string" || Number.isFinite(value);
-    input.setAttribute("aria-invalid", String(!isRead));
-    if (isRead) changeDraft(id, members(member, value, state.drafts.get(id)));
-  } } });
-  fields.push((draft) => {
-    const value = show(draft[member]);
-    if (input !== document.activeElement && input.value !== value) {
-      input.value = value;
-      input.removeAttribute("aria-invalid");
-    }
-  });
-  return element("label", {}, element("span", {}, words), input);
-}
-
-function metresField(id, fields, words, member, min) {
-  return field(id, fields, words, member, "number",
-    { min, max: state.setting.limits.highest, step: "any", read: numberOf });
-}
-
-function timeField(id, fields, words, member) {
-  const utc = element("small", {});
-  fields.push((draft) => { utc.textContent = `UTC ${momentOf(draft[member]).split("(")[1].slice(0, -1)}`; });
-  const label = field(id, fields, words, member, "datetime-local",
-    { read: secondOf, show: inputOf, members: member === "start" ? withEnd : alone });
-  label.append(utc);
-  return label;
-}
-
-function cellsField(id, fields) {
-  const change = () => changeDraft(id, { at_most: Number(select.value) });
-  const select = element("select", { id: "draft-at_most", on: { change } },
-    ...CELLS.map((count) => element("option", { value: count }, String(count))));
-  fields.push((draft) => { select.value = String(draft.at_most); });
-  return element("label", {}, element("span", {}, "Cells at most"), select);
+    row(wholeField(id, fields, "Priority", "priority", { min: 0, max: state.setting.limits.priority }),
+      draft.kind !== "cells" && choiceField(id, fields, "Cells at most", "at_most",
+        CELLS.map((count) => [count, String(count)]), Number)),
+  ].filter(Boolean);
 }
 
 // ---- the places
@@ -147,13 +96,12 @@ function takePlace(id, number) {
 function actionsOf(draft) {
   const plan = state.plans.get(draft.id);
   const isStored = plan && plan.status !== "Closed";
-  const isReady = isWhole(draft) && !busy.has(draft.id);
+  const disabled = !isReady(draft) || busy.has(draft.id);
   return [
-    button("Ask", () => findReasons(draft.id), { disabled: !isReady, id: "ask",
-      title: "Ask what blocks it; nothing is stored" }),
-    button("Find a free time", () => moveToFreeTime(draft.id), { disabled: !isReady, id: "find-free" }),
-    button(isStored ? "Change the plan" : "Plan", () => planDraft(draft.id),
-      { disabled: !isReady, class: "main", id: "plan" }),
+    button("Ask", () => findReasons(draft.id), { disabled, id: "ask", title: "Ask what blocks it; nothing is stored" }),
+    button("When is it free?", () => findTimes(draft.id), { disabled, id: "find-free",
+      title: "Look for free times within a day; nothing is stored" }),
+    button(isStored ? "Change the plan" : "Plan", () => planDraft(draft.id), { disabled, class: "main", id: "plan" }),
     isStored ? button("Leave it as planned", () => leaveAsPlanned(draft.id), { id: "leave" })
       : button("Discard", () => discard(draft), { class: "danger", id: "discard" }),
     button("Back", () => choose(null)),
@@ -163,32 +111,4 @@ function actionsOf(draft) {
 async function discard(draft) {
   if (draft.places.length && !await sure(`Discard the drawing of ${draft.name}?`, "Discard")) return;
   discardDraft(draft.id);
-}
-
-function coverTold(draft) {
-  if (!isWhole(draft)) return element("p", { class: "hint", id: "cover" }, "Draw it to see the cells that it takes.");
-  const cover = state.covers.get(draft.id);
-  if (!cover) return element("p", { class: "hint", id: "cover" }, "…");
-  const faults = [cover.fault, faultOf(draft)].filter(Boolean);
-  const span = spanOf(draft.start, draft.end);
-  return element("div", { id: "cover" },
-    cover.cells && element("p", {}, `${counted(cover.cells.length, "cell")}${volumesTold(cover)}: ${beyond(cover)}`),
-    ...faults.map((fault) => element("p", { class: "fault", role: "alert" }, `! ${fault}`)),
-    element("p", { class: "hint" }, `${span.local} here, ${span.utc}`));
-}
-
-/** What about times can be told without asking. */
-function faultOf(draft) {
-  return draft.end <= draft.start ? "The end isn't after the start." : "";
-}
-
-function volumesTold({ volumes }) {
-  return volumes > 1 ? ` in ${volumes} volumes` : "";
-}
-
-function beyond({ square_metres: taken, shape_square_metres: drawn }) {
-  if (drawn === null) return `they take ${sizeOf(taken)}.`;
-  const more = Math.max(0, taken - drawn);
-  const share = Math.round(100 * more / drawn);
-  return `they take ${sizeOf(taken)}, ${sizeOf(more)} (${share} %) beyond the ${sizeOf(drawn)} drawn.`;
 }

@@ -4,6 +4,10 @@ import { changed, choose, state } from "./state.js";
 import { east, now } from "./words.js";
 
 const MINUTES = 60;
+const ELLIPSOID = "ellipsoid";
+const GROUND = "ground";
+/** What altitudes may be counted from. */
+export const ABOVE = { [GROUND]: "the ground", sea: "the sea", [ELLIPSOID]: "the WGS84 ellipsoid" };
 
 /** Where the browser keeps things of this desk and operator. */
 export function keyOf(what) {
@@ -29,16 +33,19 @@ export function keep(what, value) {
 }
 
 export function readDrafts() {
-  state.drafts = new Map(kept("drafts", []).filter(isDraft).map((draft) => [draft.id, draft]));
+  state.drafts = new Map(kept("drafts", []).map((draft) => ({ above: ELLIPSOID, ground: null, ...draft }))
+    .filter(isDraft).map((draft) => [draft.id, draft]));
   changed("drafts");
 }
 
 /** Whether what the browser kept is a draft that this page can read. */
 function isDraft(draft) {
-  const numbers = ["metres", "lower", "upper", "start", "end", "priority", "at_most"];
+  const numbers = ["metres", "start", "end", "priority", "at_most"];
+  const altitudes = ["lower", "upper", "ground"];
   return typeof draft?.id === "string" && typeof draft.name === "string" && Array.isArray(draft.cells) &&
     ["polygon", "line", "circle", "cells"].includes(draft.kind) &&
-    numbers.every((name) => Number.isFinite(draft[name])) && Array.isArray(draft.places) &&
+    numbers.every((name) => Number.isFinite(draft[name])) && draft.above in ABOVE &&
+    altitudes.every((name) => draft[name] === null || Number.isFinite(draft[name])) && Array.isArray(draft.places) &&
     draft.places.every((place) => place?.length === 2 && place.every(Number.isFinite));
 }
 
@@ -68,13 +75,13 @@ function halfHourAfter(second) {
   return (Math.floor(second / (30 * MINUTES)) + 2) * 30 * MINUTES;
 }
 
-/** A new draft, chosen. Altitudes, priority and length are those that were used last. */
+/** A new draft, chosen. Priority and length are those that were used last; its altitudes are empty. */
 export function newDraft(kind, more = {}) {
-  const last = kept("last", { lower: 60, upper: 120, priority: 0, metres: 200, at_most: 64, length: 3600 });
+  const last = { priority: 0, metres: 200, at_most: 64, length: 3600, above: GROUND, ...kept("last", {}) };
   const start = Math.max(halfHourAfter(now()), state.isMomentAlone ? state.moment : 0);
   const { length, ...rest } = last;
   const draft = { id: crypto.randomUUID(), name: nextName(kind), kind, places: [], cells: [], ...rest,
-    start, end: start + length, ...more };
+    lower: null, upper: null, ground: null, start, end: start + length, ...more };
   state.drafts.set(draft.id, draft);
   keepDrafts();
   changed("drafts");
@@ -86,18 +93,18 @@ export function newDraft(kind, more = {}) {
 export function changeDraft(id, members) {
   const draft = { ...state.drafts.get(id), ...members };
   state.drafts.set(id, draft);
-  if ("start" in members || "end" in members || "lower" in members || "priority" in members) keepLast(draft);
+  if (["start", "end", "above", "priority", "metres", "at_most"].some((name) => name in members)) keepLast(draft);
   keepDrafts();
   changed("drafts", "draft");
 }
 
-function keepLast({ lower, upper, priority, metres, at_most, start, end }) {
-  keep("last", { lower, upper, priority, metres, at_most, length: Math.max(60, end - start) });
+function keepLast({ above, priority, metres, at_most, start, end }) {
+  keep("last", { above, priority, metres, at_most, length: Math.max(60, end - start) });
 }
 
 export function discardDraft(id) {
   state.drafts.delete(id);
-  for (const known of [state.covers, state.reasons, state.tries]) known.delete(id);
+  for (const known of [state.covers, state.reasons, state.times]) known.delete(id);
   keepDrafts();
   if (state.chosen === id && !state.plans.has(id)) choose(null);
   changed("drafts", "draft", "reasons");
@@ -115,7 +122,7 @@ export function notePlanned(id) {
 export function leaveAsPlanned(id) {
   const { planned } = state.drafts.get(id);
   state.changing = null;
-  for (const known of [state.reasons, state.tries]) known.delete(id);
+  for (const known of [state.reasons, state.times]) known.delete(id);
   if (planned) changeDraft(id, { ...planned, planned });
   else discardDraft(id);
   changed("chosen", "reasons");
@@ -132,9 +139,15 @@ export function isWhole(draft) {
   return draft.places.length >= least && (draft.kind !== "cells" || draft.cells.length > 0);
 }
 
+/** Whether a draft has all that a plan needs. */
+export function isReady(draft) {
+  return isWhole(draft) && draft.lower !== null && draft.upper !== null;
+}
+
 /** What the program is told of a draft; longitudes between -180 and 180. */
 export function sentDraft(draft) {
-  const { kind, cells, metres, lower, upper, start, end, priority, at_most } = draft;
+  const { kind, cells, metres, above, lower, upper, ground, start, end, priority, at_most } = draft;
   const places = draft.places.map(([longitude, latitude]) => [east(longitude), latitude]);
-  return { kind, places, cells, metres, lower, upper, start, end, priority, at_most, plan_id: draft.id };
+  return { kind, places, cells, metres, above, lower, upper, ground, start, end, priority, at_most,
+    plan_id: draft.id };
 }

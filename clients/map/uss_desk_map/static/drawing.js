@@ -1,6 +1,7 @@
 // Drawing a flight: places are added by clicks, or by Enter at the middle of the map; dragged, put in between and taken
 // back. The cells that it takes are drawn beneath.
 
+import { drawnTold } from "./cover_told.js";
 import { changeDraft, isWhole } from "./drafts.js";
 import { button, byId, element, redraw } from "./elements.js";
 import { layer, theMap } from "./map.js";
@@ -75,7 +76,7 @@ export function drawBanner() {
   if (!draft) return;
   const wanted = { polygon: "the corners", line: "the places of the line", circle: "the middle" }[draft.kind];
   const told = `Click ${wanted} on the map, or move the map under the cross by the arrow keys and press Enter. ` +
-    `${draft.places.length} so far.`;
+    `${drawnTold(draft)}`;
   redraw(byId("drawing"), element("span", {}, told),
   button("Add the cross", () => addPlace(theMap().getCenter())),
   button("Take back", takeBack, { disabled: draft.places.length === 0 }),

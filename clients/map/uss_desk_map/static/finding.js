@@ -1,27 +1,25 @@
-// What the program finds out of a draft: the cells that it takes, what blocks it, when it is free.
+// What the program finds out of a draft: the cells that it takes, and what blocks it.
 
 import { ask, askSteps, isStop } from "./asking.js";
-import { isWhole, sentDraft } from "./drafts.js";
+import { isReady, isWhole, sentDraft } from "./drafts.js";
 import { settled } from "./elements.js";
 import { changed, state } from "./state.js";
 import { beside, ringsBeside } from "./words.js";
-
-const STEP_SECONDS = 900;
-const TRIES = 96;
 
 const stops = new Map();
 const covered = new Map();
 const covering = new Set();
 
-function usageOf(id) {
+/** The usage that is asked for: a plan in use can't be planned again. */
+export function usageOf(id) {
   return state.plans.get(id)?.usage === "InUse" ? "InUse" : "Planned";
 }
 
 // ---- the cells
 
 /** What of a draft decides which cells it takes. */
-function shapeKey({ kind, places, cells, metres, at_most, lower, upper, start, end, priority }) {
-  return JSON.stringify([kind, places, cells, metres, at_most, lower, upper, start, end, priority]);
+function shapeKey({ kind, places, cells, metres, at_most, above, lower, upper, ground, start, end, priority }) {
+  return JSON.stringify([kind, places, cells, metres, at_most, above, lower, upper, ground, start, end, priority]);
 }
 
 /** Finds the cells of a draft, one request at a time: of a draft that is dragged not each step is asked. */
@@ -31,6 +29,7 @@ export async function coverDraft(id) {
   const key = shapeKey(draft);
   if (covered.get(id) === key || covering.has(id)) return undefined;
   covering.add(id);
+  changed("cover");
   const cover = await ask("cover", { draft: sentDraft(draft) }).catch((why) => ({ fault: why.message }));
   covering.delete(id);
   if (!state.drafts.has(id)) return undefined;
@@ -39,6 +38,11 @@ export async function coverDraft(id) {
   state.covers.set(id, cover);
   changed("cover");
   return coverDraft(id);
+}
+
+/** Whether the cells of a draft are being found: what is shown of them is of the drawing before. */
+export function isCovering(id) {
+  return covering.has(id);
 }
 
 function forget(id) {
@@ -54,7 +58,8 @@ export function stop(id) {
   stops.delete(id);
 }
 
-function begin(id) {
+/** Stops what is being asked of a draft, and returns the signal that stops what is asked next. */
+export function begin(id) {
   stop(id);
   const stopping = new AbortController();
   stops.set(id, stopping);
@@ -64,7 +69,7 @@ function begin(id) {
 /** Finds out which cells of a draft are blocked. */
 export async function findReasons(id) {
   const draft = state.drafts.get(id);
-  if (!draft || !isWhole(draft)) return;
+  if (!draft || !isReady(draft)) return;
   const signal = begin(id);
   const reasons = { state: "asking", requests: 0, decided: 0, cells: 0, blocked: [], priority: draft.priority,
     key: askedKey(draft) };
@@ -104,32 +109,3 @@ export const askAgain = settled(350, (id) => {
   const [draft, reasons] = [state.drafts.get(id), state.reasons.get(id)];
   if (draft && reasons && reasons.key !== askedKey(draft)) findReasons(id);
 });
-
-// ---- when it is free
-
-/** Tries later times by quarters of an hour, up to a day, and returns the first start at which a draft is free. */
-export async function findFreeTime(id) {
-  const draft = state.drafts.get(id);
-  const signal = begin(id);
-  const tries = { state: "asking", found: [], told: "", length: draft.end - draft.start };
-  state.tries.set(id, tries);
-  changed("reasons");
-  try {
-    const words = { draft: sentDraft(draft), usage: usageOf(id), step: STEP_SECONDS, tries: TRIES };
-    for await (const step of askSteps("free_time", words, signal)) tried(tries, step);
-  } catch (why) {
-    Object.assign(tries, { state: isStop(why) ? "stopped" : "trouble", told: why.message });
-  }
-  changed("reasons");
-  return tries.found.find((one) => one.is_free)?.start ?? null;
-}
-
-function tried(tries, step) {
-  if (step.refused) Object.assign(tries, { state: "trouble", told: step.refused.advice });
-  else if (step.is_done) tries.state = "none";
-  else {
-    tries.found.push(step);
-    if (step.is_free) tries.state = "free";
-  }
-  changed("reasons");
-}

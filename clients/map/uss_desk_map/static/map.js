@@ -1,4 +1,4 @@
-// The map and its ground: a grid of degrees, cells of S2, and a keeper's own tiles if there are some.
+// The map and its ground: a grid of degrees, cells of S2, and tiles if the administrator has some.
 
 import { ask } from "./asking.js";
 import { keep, kept } from "./drafts.js";
@@ -131,11 +131,9 @@ export function showAll(places) {
 function makeTools() {
   const place = element("input", { id: "go-to", placeholder: "47.37, 8.54", size: 13, inputmode: "text",
     autocomplete: "off", "aria-label": "Go to latitude, longitude" });
-  const form = element("form", { class: "tools", on: { submit: (event) => goTo(event, place) } },
+  return element("form", { class: "tools", on: { submit: (event) => goTo(event, place) } },
     place, element("button", { type: "submit" }, "Go"),
     button("S2 cells", turnCells, { "aria-pressed": String(kept("has_cells", true)), id: "has-cells" }));
-  L.DomEvent.disableClickPropagation(form);
-  return form;
 }
 
 function goTo(event, input) {

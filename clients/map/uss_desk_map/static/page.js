@@ -8,14 +8,15 @@ import { drawBanner, drawDraft, isBeingDragged, makeDrawing, startDrawing } from
 import { button, byId, element, redraw } from "./elements.js";
 import { askAgain, coverDraft } from "./finding.js";
 import { readPlans } from "./flying.js";
+import { giveFocusBack } from "./focus.js";
 import { makeMap, showAll, theMap } from "./map.js";
-import { say } from "./messages.js";
+import { newestAbout, say } from "./messages.js";
 import { drawTable } from "./plan_table.js";
 import { planTold } from "./plan_view.js";
 import { drawPlans, placesOf } from "./plans_on_map.js";
 import { drawReasons } from "./reasons.js";
 import { draftAtWork, listen, nameOf, startOf, state } from "./state.js";
-import { startWatch, tellConflicts } from "./watch.js";
+import { markTitle, startWatch } from "./watch.js";
 
 const DESK_WORDS = {
   asking: ["…", "asking the desk"],
@@ -25,7 +26,9 @@ const DESK_WORDS = {
 };
 
 let fillForm = null;
-let shownId = null;
+/** The flight of the card, and whether it is planned and drawn; whether it is drawn on the map now. */
+let shownKind = null;
+let isDrawn = false;
 /** Whether the desk didn't answer when it was last told. */
 let wasAway = false;
 
@@ -56,17 +59,20 @@ async function setting() {
 
 function listenAll() {
   listen(["plans", "chosen", "moment", "drafts"], drawPlans);
-  listen(["plans", "chosen", "moment", "drafts", "busy"], () => drawTable(byId("plans")));
-  listen(["plans", "chosen", "moment", "draft", "drafts"], drawTime);
-  listen(["plans", "chosen", "moment", "draft", "drafts"], drawAltitude);
+  listen(["plans", "chosen", "moment", "drafts", "busy", "messages"], () => drawTable(byId("plans")));
+  listen(["plans", "chosen", "moment", "draft", "drafts", "reasons"], drawTime);
+  listen(["plans", "chosen", "moment", "draft", "drafts", "cover"], drawAltitude);
   listen(["chosen", "drafts", "draft", "cover", "plans", "drawing"], drawDraft);
   listen(["chosen", "reasons"], drawReasons);
-  listen(["drawing", "draft", "drafts", "chosen"], drawBanner);
-  listen(["chosen", "plans", "draft", "drafts", "cover", "reasons", "busy", "drawing"], drawChosen);
+  listen(["drawing", "draft", "drafts", "chosen", "cover"], drawBanner);
+  listen(["chosen", "plans", "draft", "drafts", "cover", "reasons", "busy", "drawing", "messages"], drawChosen);
+  listen(["messages"], showSaid);
   listen(["draft", "drafts", "chosen"], draftChanged);
-  listen(["plans"], tellConflicts);
+  listen(["plans"], markTitle);
   listen(["desk"], drawDesk);
   listen(["keeping"], tellKeeping);
+  // the last one, when all else is drawn
+  listen(["chosen", "plans", "draft", "drafts", "cover", "reasons", "busy", "drawing", "messages"], giveFocusBack);
 }
 
 function drawAll() {
@@ -94,12 +100,25 @@ function drawChosen() {
   const [plan, draft] = [state.plans.get(id), state.drafts.get(id)];
   parent.hidden = !plan && !draft;
   const kind = `${id} ${Boolean(plan)} ${Boolean(draftAtWork())}`;
-  if (shownId !== kind) makeChosen(parent, plan, draft);
-  shownId = kind;
+  const hadFocus = parent.contains(document.activeElement);
+  if (shownKind !== kind) makeChosen(parent, plan, draft);
   if (plan) redraw(parent.querySelector(".plan-told"), planTold(plan, zoomTo));
   fillForm?.();
   const heading = parent.querySelector("h2");
   if (heading) heading.textContent = nameOf(id);
+  goToCard(parent, kind, hadFocus);
+  shownKind = kind;
+}
+
+/** Shows the card of a flight that was chosen, and what was said of it; of one that is drawn, the map. */
+function goToCard(parent, kind, hadFocus) {
+  const [isNew, wasDrawn] = [shownKind !== kind, isDrawn];
+  isDrawn = state.drawing !== null;
+  if (isDrawn && !wasDrawn) byId("stage").scrollIntoView({ block: "start" });
+  if (isDrawn || parent.hidden || !(isNew || wasDrawn)) return;
+  const isSameFlight = !wasDrawn && kind.split(" ")[0] === shownKind?.split(" ")[0];
+  if (!isSameFlight || hadFocus) parent.querySelector("h2").focus({ preventScroll: true });
+  parent.scrollIntoView({ block: "start" });
 }
 
 function makeChosen(parent, plan, draft) {
@@ -114,7 +133,6 @@ function makeChosen(parent, plan, draft) {
     fillForm = makeDraftForm(form, draft.id);
   }
   goToTime(draftAtWork()?.start ?? startOf(plan));
-  parent.scrollIntoView({ block: "nearest" });
 }
 
 function zoomTo(plan) {
@@ -130,6 +148,13 @@ function showEverything() {
 
 function livePlaces() {
   return [...state.plans.values()].filter((plan) => plan.status !== "Closed").flatMap(placesOf);
+}
+
+/** Brings what was said of the chosen flight into view. */
+function showSaid() {
+  if (newestAbout(state.chosen) === state.messages[0]) {
+    document.querySelector("#chosen .said")?.scrollIntoView({ block: "nearest" });
+  }
 }
 
 // ---- the rest

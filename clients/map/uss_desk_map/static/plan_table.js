@@ -1,8 +1,10 @@
 // All flights in a table: plans, and what was drawn and isn't planned.
 
+import { ABOVE } from "./drafts.js";
 import { button, element, redraw } from "./elements.js";
 import { busy, readPlans } from "./flying.js";
-import { changed, choose, endOf, isShown, lowerOf, nameOf, plansListed, startOf, state, upperOf } from "./state.js";
+import { LIST, saidAbout } from "./messages.js";
+import { altitudesOf, changed, choose, endOf, isShown, nameOf, plansListed, startOf, state } from "./state.js";
 import { DRAFT, metresOf, spanOf, statusOf } from "./words.js";
 
 export function drawTable(parent) {
@@ -11,7 +13,8 @@ export function drawTable(parent) {
   const closed = [...state.plans.values()].filter((plan) => plan.status === "Closed").length;
   redraw(parent,
     element("div", { class: "row heading" }, element("h2", {}, `Flights (${plans.length + drafts.length})`),
-      button("List again", readPlans, { id: "list-again", disabled: busy.has("list") }), closedChoice(closed)),
+      button("List again", readPlans, { id: "list-again", disabled: busy.has(LIST) }), closedChoice(closed)),
+    saidAbout(LIST),
     plans.length + drafts.length === 0
       ? element("p", { class: "hint" }, "None yet: draw one above.")
       : element("table", { class: "flights" }, head(),
@@ -27,7 +30,7 @@ function closedChoice(count) {
 
 function head() {
   return element("thead", {}, element("tr", {},
-    ...["flight", "priority", "time", "altitude"].map((name) => element("th", { scope: "col" }, name))));
+    ...["flight", "priority", "time", "altitude (WGS84)"].map((name) => element("th", { scope: "col" }, name))));
 }
 
 function rowOf(id, look, mark, words, cells, isNow, note = null) {
@@ -42,19 +45,23 @@ function planRow(plan) {
   const { mark, words, look } = statusOf(plan);
   const isMarked = (state.isMomentAlone || state.isAltitudeAlone) && plan.volumes.some(isShown);
   const told = plan.conflict ? ` ▲ conflict with priority ${plan.conflict.priority}` : "";
-  const cells = cellsOf(plan.priority, startOf(plan), endOf(plan), lowerOf(plan), upperOf(plan));
+  const cells = cellsOf(plan.priority, startOf(plan), endOf(plan), altitudesOf(plan));
   return rowOf(plan.id, look, mark, words, cells, isMarked, told && element("small", { class: "fault" }, told));
 }
 
 function draftRow(draft) {
   return rowOf(draft.id, DRAFT.look, DRAFT.mark, DRAFT.words,
-    cellsOf(draft.priority, draft.start, draft.end, draft.lower, draft.upper), false);
+    cellsOf(draft.priority, draft.start, draft.end, draftAltitudes(draft)), false);
 }
 
-function cellsOf(priority, start, end, lower, upper) {
+function draftAltitudes({ lower, upper, above }) {
+  return lower !== null && upper !== null ? `${metresOf(lower)} to ${metresOf(upper)} above ${ABOVE[above]}` : "not filled in";
+}
+
+function cellsOf(priority, start, end, altitudes) {
   const span = spanOf(start, end);
   return [element("td", { "data-name": "priority" }, String(priority)),
     element("td", { "data-name": "time" }, span.local, element("small", {}, `UTC ${span.utc}`)),
-    element("td", { "data-name": "altitude" }, `${metresOf(lower)} to ${metresOf(upper)}`)];
+    element("td", { "data-name": "altitude" }, altitudes)];
 }
 

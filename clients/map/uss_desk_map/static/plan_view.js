@@ -2,8 +2,8 @@
 
 import { newDraft } from "./drafts.js";
 import { button, element } from "./elements.js";
-import { activate, busy, clear, close, draftOf, hasOneWindow, report, showPlans } from "./flying.js";
-import { say } from "./messages.js";
+import { activate, busy, clear, close, draftOf, hasOneWindow, report, showPlan } from "./flying.js";
+import { newestAbout, saidAbout, say } from "./messages.js";
 import { changed, choose, nameOf, state } from "./state.js";
 import { counted, metresOf, pointOf, spanOf, statusOf } from "./words.js";
 
@@ -17,6 +17,7 @@ export function planTold(plan, zoom) {
     plan.conflict && element("p", { class: "fault", id: "plan-conflict", role: "alert" },
       `▲ Conflict, first point: ${pointOf(plan.conflict)}.`),
     element("div", { class: "buttons", id: "plan-actions" }, actionsOf(plan, zoom)),
+    !(state.changing === plan.id && newestAbout(plan.id)?.isOfForm) && saidAbout(plan.id),
     element("div", { class: "wide" }, volumesOf(plan)),
     element("p", { class: "hint" }, "Id ", element("code", { id: "plan-id" }, plan.id)),
     cellsOf(plan),
@@ -65,12 +66,13 @@ function drawAnew(plan) {
 
 async function lookAgain(id) {
   try {
-    await showPlans([id]);
+    await showPlan(id);
     const plan = state.plans.get(id);
     const words = plan?.conflict ? "it has a conflict" : plan ? "no conflict" : "it isn't there any more";
-    say("note", `${nameOf(id)}: ${words}.`);
+    say("note", `${nameOf(id)}: ${words}.`, {}, id);
   } catch (why) {
-    say("trouble", `${nameOf(id)} couldn't be shown: ${why.message}.`, { "Try again": () => lookAgain(id) });
+    say("trouble", `${nameOf(id)} couldn't be shown: ${why.message}.`, { "Try again": () => lookAgain(id) },
+      id);
   }
 }
 
@@ -83,7 +85,7 @@ function volumesOf(plan) {
       element("td", {}, volume.is_rectangle ? "a rectangle" : counted(volume.cells.length, "cell")));
   });
   return element("table", {}, element("thead", {}, element("tr", {},
-    ...["volume", "time", "altitude", "ground"].map((name) => element("th", { scope: "col" }, name)))),
+    ...["volume", "time", "altitude (WGS84)", "ground"].map((name) => element("th", { scope: "col" }, name)))),
   element("tbody", {}, ...rows));
 }
 

@@ -1,11 +1,10 @@
-// What blocks a draft: on the map and in words, by priority, cell by cell; and the times at which it was tried.
+// What blocks a draft: on the map and in words, by priority, cell by cell.
 
-import { changeDraft } from "./drafts.js";
 import { button, element } from "./elements.js";
-import { findFreeTime, stop } from "./finding.js";
+import { stop } from "./finding.js";
 import { layer, theMap } from "./map.js";
 import { draftAtWork, state } from "./state.js";
-import { clockOf, counted, dateOf, metresOf, momentOf, placeOf } from "./words.js";
+import { counted, metresOf, momentOf, placeOf } from "./words.js";
 
 const { L } = window;
 const MOST_ROWS = 200;
@@ -46,7 +45,7 @@ function drawMark(place, html) {
 /** What was asked of a draft, as elements. */
 export function reasonsTold(id) {
   const reasons = state.reasons.get(id);
-  return [reasons && told(id, reasons), ...triesTold(id)];
+  return reasons && told(id, reasons);
 }
 
 function told(id, reasons) {
@@ -92,40 +91,4 @@ function table({ blocked }) {
   return element("details", { open: blocked.length <= 12 },
     element("summary", {}, "The first blocked point of each cell"),
     element("div", { class: "wide" }, element("table", {}, head, element("tbody", {}, ...rows))));
-}
-
-// ---- times
-
-function triesTold(id) {
-  const tries = state.tries.get(id);
-  if (!tries) return [];
-  return [element("div", { class: "asked", id: "tried", "data-state": tries.state },
-    element("p", { role: "status" }, triesVerdict(tries)),
-    tries.state === "asking" && button("Stop trying", () => stop(id)),
-    element("p", { class: "tries" }, ...tries.found.slice(-48).map(oneTry)))];
-}
-
-function triesVerdict({ state: how, found, told: words }) {
-  const last = found.at(-1);
-  switch (how) {
-    case "asking": return `Trying later times: ${counted(found.length, "time")} so far.`;
-    case "free": return `✓ Free from ${momentOf(last.start)}: the flight was moved there.`;
-    case "none": return `✕ No free time within a day from ${momentOf(found[0].start)}.`;
-    case "stopped": return `Stopped after ${counted(found.length, "time")}.`;
-    default: return `! ${words}.`;
-  }
-}
-
-function oneTry(one) {
-  return element("span", { class: one.is_free ? "try free" : "try taken", title: dateOf(one.start) },
-    `${one.is_free ? "✓" : "✕"} ${clockOf(one.start)} `);
-}
-
-/** Looks for a free time, and moves the draft there. */
-export async function moveToFreeTime(id) {
-  const start = await findFreeTime(id);
-  const draft = state.drafts.get(id);
-  if (start === null || !draft) return;
-  state.reasons.set(id, { state: "free", blocked: [], priority: draft.priority, requests: 0, decided: 0, cells: 0 });
-  changeDraft(id, { start, end: start + draft.end - draft.start });
 }

@@ -1,5 +1,7 @@
 // What the page knows. Whoever changes a part of it says so, and who shows that part draws it again.
 
+import { metresOf } from "./words.js";
+
 export const state = {
   setting: null,
   plans: new Map(),
@@ -14,13 +16,17 @@ export const state = {
   altitude: 100,
   isAltitudeAlone: false,
   hasClosed: false,
-  /** By the id of a draft: the cells that it takes, what blocks it, when it was tried. */
+  /** By the id of a draft: the cells that it takes, what blocks it, when it is free. */
   covers: new Map(),
   reasons: new Map(),
-  tries: new Map(),
+  times: new Map(),
   /** The id of the draft that is being drawn on the map, and of the plan whose drawing is being changed. */
   drawing: null,
   changing: null,
+  /** What was said, newest first. */
+  messages: [],
+  /** The second at which the plans were listed last; 0 before that. */
+  listed: 0,
 };
 
 const listeners = [];
@@ -79,12 +85,10 @@ export function endOf(plan) {
   return Math.max(...plan.volumes.map((volume) => volume.end));
 }
 
-export function lowerOf(plan) {
-  return Math.min(...plan.volumes.map((volume) => volume.lower));
-}
-
-export function upperOf(plan) {
-  return Math.max(...plan.volumes.map((volume) => volume.upper));
+/** The altitudes of a plan, in words. */
+export function altitudesOf(plan) {
+  const [lower, upper] = [plan.volumes.map((volume) => volume.lower), plan.volumes.map((volume) => volume.upper)];
+  return `${metresOf(Math.min(...lower))} to ${metresOf(Math.max(...upper))}`;
 }
 
 /** The name of a flight: the one that it was given here, or the beginning of its id. */

@@ -1,69 +1,54 @@
-// A look each minute at the flights in use, and at those that begin within the hour: was somebody planned over one?
+// A look each minute, while a flight is in use or begins within a day: was somebody planned over it, has it changed?
 
-import { isStop } from "./asking.js";
+import { Trouble } from "./asking.js";
 import { byId } from "./elements.js";
-import { showPlans } from "./flying.js";
-import { say } from "./messages.js";
-import { choose, endOf, nameOf, startOf, state } from "./state.js";
-import { clockOf, now, pointOf } from "./words.js";
+import { busy, listPlans } from "./flying.js";
+import { endOf, startOf, state } from "./state.js";
+import { clockOf, now } from "./words.js";
 
 const MINUTE = 60;
-const AHEAD = 3600;
-const FEW = 3;
+const DAY = 86_400;
+const PAUSE_AFTER_TROUBLE = 10;
 
-let lastLook = 0;
-let wasTold = new Map();
 let isLooking = false;
-
-/** The flights that are looked at, if one of them is in use. */
-function watched() {
-  const live = [...state.plans.values()].filter((plan) => plan.status !== "Closed");
-  if (!live.some((plan) => plan.usage === "InUse")) return [];
-  return live.filter((plan) => plan.usage === "InUse" || (startOf(plan) < now() + AHEAD && endOf(plan) > now()))
-    .map((plan) => plan.id);
-}
+/** The second before which no look is taken, after one that failed. */
+let pause = 0;
 
 export function startWatch() {
-  lastLook = now();
   setInterval(tick, 1000);
 }
 
-async function tick() {
-  const ids = watched();
-  tell(ids);
-  if (!ids.length || isLooking || now() - lastLook < MINUTE) return;
-  isLooking = true;
-  try {
-    await showPlans(ids);
-    lastLook = now();
-  } catch (why) {
-    if (isStop(why)) throw why;
-    lastLook = now() - MINUTE + 10;
-  }
-  isLooking = false;
+/** How many flights are in use, and how many begin within a day. */
+function watched() {
+  const live = [...state.plans.values()].filter((plan) => plan.status !== "Closed");
+  const inUse = live.filter((plan) => plan.usage === "InUse").length;
+  const soon = live.filter((plan) => plan.usage !== "InUse" && startOf(plan) < now() + DAY && endOf(plan) > now());
+  return [inUse, soon.length];
 }
 
-function tell(ids) {
-  const inUse = ids.filter((id) => state.plans.get(id)?.usage === "InUse").length;
-  const words = inUse ? `${inUse} in use: looked for conflicts at ${clockOf(lastLook)}` : "";
+async function tick() {
+  const [inUse, soon] = watched();
+  tell(inUse, soon);
+  if (inUse + soon === 0 || isLooking || busy.size > 0 || now() < Math.max(pause, state.listed + MINUTE)) return;
+  isLooking = true;
+  try {
+    await listPlans();
+  } catch (why) {
+    if (!(why instanceof Trouble)) throw why;
+    pause = now() + PAUSE_AFTER_TROUBLE;
+  } finally {
+    isLooking = false;
+  }
+}
+
+function tell(inUse, soon) {
+  const counts = [inUse && `${inUse} in use`, soon && `${soon} within a day`].filter(Boolean).join(", ");
+  const words = counts ? `${counts}: last looked at ${clockOf(state.listed)}` : "";
   if (byId("watch").textContent !== words) byId("watch").textContent = words;
 }
 
-function tellConflict(id, conflict) {
-  say("trouble", `${nameOf(id)} has a conflict: another flight was planned over it. First point: ${pointOf(conflict)}.`,
-    { "Look at it": () => choose(id) });
-}
-
-/** Tells of each conflict once, when it appears and when it goes, and marks the title. */
-export function tellConflicts() {
-  const found = new Map();
-  for (const plan of state.plans.values()) if (plan.conflict) found.set(plan.id, plan.conflict);
-  const fresh = [...found.keys()].filter((id) => !wasTold.has(id));
-  if (fresh.length > FEW) say("trouble", `${fresh.length} flights have a conflict: ${fresh.map(nameOf).join(", ")}.`);
-  else fresh.forEach((id) => tellConflict(id, found.get(id)));
-  for (const id of wasTold.keys()) {
-    if (!found.has(id) && state.plans.has(id)) say("note", `${nameOf(id)} has no conflict any more.`);
-  }
-  wasTold = found;
-  document.title = `${found.size ? `(${found.size}!) ` : ""}Flights of ${state.setting.operator}`;
+/** Marks the title with how many flights have a conflict. */
+export function markTitle() {
+  const count = [...state.plans.values()].filter((plan) => plan.conflict).length;
+  document.title = `${count ? `(${count}!) ` : ""}Flights of ${state.setting.operator}`;
 }
