@@ -8,4 +8,5 @@ pub mod RunLemmas
 pub mod ClearLemmas
 pub mod ClusterLemmas
 pub mod PieceLemmas
+pub mod WindowLemmas
 pub mod ListingLemmas

@@ -1,4 +1,4 @@
--- The first blocked point of a cluster, piece by piece.
+-- The first blocked point of some slabs, piece by piece.
 use Rattle.std.proofs.Common.{◌≡◌, ℕ, ◌+◌, ◌<◌, ◌≤◌, Bool, true, false, true≢false, ◌&&◌, cond, List, ◌∷◌, [], ◌++◌, length, get_or, take, drop, set, Option, Some, None, is_some, refl, sym, ap, ◌∙◌, inl, inr, arith}
 use Rattle.std.specs.Prelude.{nat_le, int_le, int_lt, max, min}
 use Rattle.std.specs.declared.cmp.Ordering.{Ordering}
@@ -13,7 +13,7 @@ use Rattle.s2_cellid.specs.Cell.{leaf_id_at}
 use Rattle.volume4d.specs.declared.slab.Slab.{Slab}
 use Rattle.volume4d.specs.declared.slab.Held.{Held}
 use Rattle.volume4d.specs.Point.{Point, is_leaf, point_cmp}
-use Rattle.volume4d.specs.Slab.{slab_has, slab_has_leaf, slabs_have, slab_window, top_held}
+use Rattle.volume4d.specs.Slab.{slab_has, slab_has_leaf, slabs_have, top_held}
 use Rattle.volume4d.specs.Level.{greater, level_where}
 use Rattle.volume4d.proofs.lemmas.Level.{top_held-nil, top_held-push}
 use Rattle.volume4d.specs.Bounds.{HasAll}
@@ -21,7 +21,7 @@ use Rattle.volume4d.specs.Meeting.{Spot, IsFirst}
 use Rattle.desk_rules.specs.Permission.{blocks}
 use Rattle.desk_rules.specs.Bridge.{is_blocked_among}
 use Rattle.desk_rules.specs.Conflict.{at_least}
-use Rattle.desk_run.specs.Pieces.{HasPart, IsCutTo, at_piece}
+use Rattle.desk_run.specs.Pieces.{IsCutTo, at_piece}
 
 -- ---- leaves of a slab
 
@@ -68,16 +68,6 @@ no_later x y less = elim (cases_lt (position_of y.leaf) (position_of x.leaf)) [
   | inl below ↦ absurd (not_before (position_of x.leaf) (position_of y.leaf) _ below less)
   | inr within ↦ within
 ]
-
--- a piece of bounds of some slabs has their points at its leaves
-pub has_part : (slabs : List Slab) (whole piece : Slab) → HasAll (slabs_have slabs) whole
-    → slab_window piece ≡ slab_window whole → HasPart slabs piece
-has_part slabs whole piece round window x has at =
-    let parts = and_parts _ (int_le whole.start x.second && int_lt x.second whole.end) (round x has) in
-    let placed = and_parts (slab_has_leaf whole x.leaf) _ parts.0 in
-    ap (λ w. (slab_has_leaf piece x.leaf && (int_le w.lower x.altitude && int_lt x.altitude w.upper))
-    && (int_le w.start x.second && int_lt x.second w.end)) window
-    ∙ and_from _ _ (and_from (slab_has_leaf piece x.leaf) _ at placed.1) parts.1
 
 -- ---- the first blocked point
 

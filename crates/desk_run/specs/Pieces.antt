@@ -1,20 +1,18 @@
 -- Pieces of the leaves that slabs lie at, one after the other.
-use Rattle.std.specs.Prelude.{◌≡◌, ◌≤◌, ℕ, true, cond, max, min, List, Option, None}
+use Rattle.std.specs.Prelude.{◌≡◌, ◌≤◌, ℕ, Bool, true, cond, max, min, List, Option, None}
 use Rattle.volume4d.specs.declared.slab.Slab.{Slab}
 use Rattle.volume4d.specs.declared.slab.Held.{Held}
 use Rattle.volume4d.specs.Point.{Point}
-use Rattle.volume4d.specs.Slab.{slab_has, slab_has_leaf, slabs_have, slab_window, top_held}
+use Rattle.volume4d.specs.Slab.{slab_has_leaf, slabs_have, slab_window, top_held}
 use Rattle.volume4d.specs.Meeting.{Spot, IsFirst}
 use Rattle.desk_rules.specs.Bridge.{is_blocked_among}
 use Rattle.desk_store.specs.World.{World, plans_of, held, held_at}
 
--- a slab that has the leaves of another from a position on, all or the first of them, at the same altitudes
--- and seconds
+-- a slab that has the leaves of another from a position on, all or the first of them
 pub record IsPiece (whole : Slab) (position : ℕ) (piece : Slab) : Type 0 where
   pub begins : piece.first ≡ position
   pub some : position ≤ whole.last → position ≤ piece.last
   pub within : piece.last ≤ whole.last
-  pub window : slab_window piece ≡ slab_window whole
 
 -- a slab with those of its leaves that a piece has
 pub record IsCutTo (slab piece cut : Slab) : Type 0 where
@@ -30,10 +28,10 @@ at_piece piece levels x = cond (slab_has_leaf piece x.leaf) (levels x) None
 abbrev pub AreCut : Slab → List Held → List Held → Type 0
 AreCut piece helds cut = (x : Point) → top_held cut x ≡ at_piece piece (top_held helds) x
 
--- the piece has each point that slabs have at its leaves
-abbrev pub HasPart : List Slab → Slab → Type 0
-HasPart slabs piece =
-    (x : Point) → slabs_have slabs x ≡ true → slab_has_leaf piece x.leaf ≡ true → slab_has piece x ≡ true
+-- extents have each point at a piece's leaves that passes a test
+abbrev pub HavePart : (Point → Bool) → Slab → List Slab → Type 0
+HavePart passes piece extents =
+    (x : Point) → passes x ≡ true → slab_has_leaf piece x.leaf ≡ true → slabs_have extents x ≡ true
 
 -- the first point among the slabs that is blocked by what is held at the leaves of a piece, of an operator's
 -- plan of an id with a priority, and the greatest priority that others hold there

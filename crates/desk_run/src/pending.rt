@@ -27,6 +27,7 @@ mod own;
 mod pieces;
 mod put;
 mod show;
+mod windows;
 
 /// A reply that is ready, and the change that goes with it.
 #[derive(Debug, Drop)]
@@ -92,8 +93,8 @@ pub fn prepare_over<S: PlanStore>(
             change: None,
         }),
         Call::List => ready_list(alloc, store, &terms.permitted, operator),
-        Call::Show(id) => ready_show(store, &terms.permitted, operator, id),
-        Call::Put(put) => ready_put(store, terms, moment, operator, put, ceiling),
+        Call::Show(id) => ready_show(alloc, store, &terms.permitted, operator, id),
+        Call::Put(put) => ready_put(alloc, store, terms, moment, operator, put, ceiling),
         Call::Delete(id) => ready_delete(store, operator, id),
         Call::Clear(extent) => ready_clear(alloc, store, operator, extent),
     }

@@ -3,7 +3,7 @@ use Rattle.std.specs.Prelude.{◌≡◌, ℕ, List, true, false}
 use Rattle.volume4d.specs.declared.slab.Slab.{Slab}
 use Rattle.volume4d.specs.Point.{Point}
 use Rattle.volume4d.specs.Volume.{Block, area_has}
-use Rattle.volume4d.specs.Slab.{slab_has, slabs_have}
+use Rattle.volume4d.specs.Slab.{slabs_have}
 use Rattle.volume4d.specs.Bounds.{HasAll}
 use Rattle.desk_rules.specs.declared.plan.PlanRow.{PlanRow}
 use Rattle.desk_rules.specs.declared.plan.States.{States}
@@ -41,6 +41,6 @@ abbrev pub AreSlabs : List Block → List Slab → Slab → Type 0
 AreSlabs area slabs bounds = ((x : Point) → slabs_have slabs x ≡ area_has area x)
     × HasAll (area_has area) bounds
 
--- an area has no point of an extent
-abbrev pub HasNoPoint : List Block → Slab → Type 0
-HasNoPoint area extent = (x : Point) → slab_has extent x ≡ true → area_has area x ≡ false
+-- an area has no point of some extents
+abbrev pub HasNoPoint : List Block → List Slab → Type 0
+HasNoPoint area extents = (x : Point) → slabs_have extents x ≡ true → area_has area x ≡ false

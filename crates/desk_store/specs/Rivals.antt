@@ -12,15 +12,25 @@ use Rattle.desk_store.specs.World.{World, plans_of, held, held_at}
 abbrev pub HaveLevel : Slab → List Held → (Point → Option ℕ) → Type 0
 HaveLevel extent helds level = (x : Point) → slab_has extent x ≡ true → top_held helds x ≡ level x
 
+-- at each point of some extents the greatest priority among the slabs is the level
+abbrev pub HaveLevelNear : List Slab → List Held → (Point → Option ℕ) → Type 0
+HaveLevelNear extents helds level = (x : Point) → slabs_have extents x ≡ true → top_held helds x ≡ level x
+
 -- and is the greater of that before and the level
-abbrev pub AddLevel : Slab → List Held → List Held → (Point → Option ℕ) → Type 0
-AddLevel extent before helds level = HaveLevel extent helds (λ x. greater (top_held before x) (level x))
+abbrev pub AddLevel : List Slab → List Held → List Held → (Point → Option ℕ) → Type 0
+AddLevel extents before helds level =
+    HaveLevelNear extents helds (λ x. greater (top_held before x) (level x))
 
 -- at each point of an extent the greatest priority among the slabs is the one held there by plans other than
 -- the operator's own of the id, where it is at least the least
 abbrev pub AreRivals : World → List ℕ → List ℕ → ℕ → Slab → List Held → Type 0
 AreRivals w operator id least extent helds =
     HaveLevel extent helds (λ x. at_least least (held_at (plans_of operator w) (held w operator) id x))
+
+-- and that at each point of some extents
+abbrev pub AreRivalsNear : World → List ℕ → List ℕ → ℕ → List Slab → List Held → Type 0
+AreRivalsNear w operator id least extents helds = (x : Point) → slabs_have extents x ≡ true
+    → top_held helds x ≡ at_least least (held_at (plans_of operator w) (held w operator) id x)
 
 -- at each point of some extents the greatest priority among the slabs is the one that other operators hold
 -- there

@@ -12,7 +12,7 @@ ghost use Rattle.desk_store.specs.World as world;
 ghost use Rattle.desk_store.specs.World.{text_cmp, rows_by, spans_beside, stored_of};
 ghost use Rattle.desk_store.specs.OwnRows.{other_level, others_top, rival_level, rivals_top};
 ghost use Rattle.desk_store.specs.StoreChange.{changed_by, IsFitting};
-ghost use Rattle.desk_store.specs.Rivals.{HaveLevel, AddLevel, AddsLevel};
+ghost use Rattle.desk_store.specs.Rivals.{HaveLevelNear, AddLevel, AddsLevel};
 ghost use Rattle.desk_store.specs.Listing.{filed_of, filed_all, is_one_of, without};
 ghost use Rattle.desk_store.specs.Listing.{ceiling_at, count_at, with_count};
 ghost use Rattle.desk_store.specs.declared.change.Change.TheVariants as change;
@@ -30,6 +30,7 @@ use std::alloc::{AllocError, Global};
 use std::cmp::Ordering;
 use std::collections::BTreeMap;
 use std::marker::Model;
+use std::slice;
 use volume4d::{Held, Slab};
 
 /// What a store in memory keeps of an operator.
@@ -118,7 +119,17 @@ impl PlanStore for ListStore {
         least: u32,
         extent: &Slab,
     ) -> Result<Vec<Held>, StoreFault> {
-        Ok(rivals_of(self.alloc, &self.plans, operator, id, least, extent)?)
+        self.rivals_near(operator, id, least, slice::from_ref(extent))
+    }
+
+    fn rivals_near(
+        &mut self,
+        operator: &Operator,
+        id: &PlanId,
+        least: u32,
+        extents: &[Slab],
+    ) -> Result<Vec<Held>, StoreFault> {
+        Ok(rivals_of(self.alloc, &self.plans, operator, id, least, extents)?)
     }
 
     fn held_by_others(
@@ -308,22 +319,22 @@ fn rows_of(alloc: Global, plans: &Plans, operator: &Operator) -> Result<Vec<Plan
 }
 
 // The slabs that all live plans hold but the operator's own of the id, from a priority on, where
-// they meet the extent; ascending by their first leaves, so that they are met in one pass.
+// they meet one of the extents; ascending by their first leaves, so that they are met in one pass.
 fn rivals_of(
     alloc: Global,
     plans: &Plans,
     operator: &Operator,
     id: &PlanId,
     least: u32,
-    extent: &Slab,
+    extents: &[Slab],
 ) -> Result<Vec<Held>, AllocError>
-    ensures { IfOk result (λ helds. HaveLevel extent.now helds.items
+    ensures { IfOk result (λ helds. HaveLevelNear extents.now helds.items
         (λ x. at_least least (rivals_top operator.now id.now (filed_all plans.now.entries) x))) }
 {
     let mut helds = Vec::new(alloc);
     for (key, plan) in plans {
-        if plan.may_meet(extent) {
-            push_rival(&mut helds, operator, id, least, extent, key, plan)?;
+        if plan.may_meet(extents) {
+            push_rival(&mut helds, operator, id, least, extents, key, plan)?;
         }
     }
     Ok(in_order(helds))
@@ -338,18 +349,18 @@ fn in_order(mut helds: Vec<Held>) -> Vec<Held>
     helds
 }
 
-// Appends the slabs that a plan holds and that meet the extent, unless it is the operator's own of
-// the id or of a lower priority.
+// Appends the slabs that a plan holds and that meet one of the extents, unless it is the operator's
+// own of the id or of a lower priority.
 fn push_rival(
     helds: &mut Vec<Held>,
     operator: &Operator,
     id: &PlanId,
     least: u32,
-    extent: &Slab,
+    extents: &[Slab],
     key: &(Operator, PlanId),
     plan: &Plan,
 ) -> Result<(), AllocError>
-    ensures { OnOk result (AddLevel extent.now helds.old.items helds.new.items
+    ensures { OnOk result (AddLevel extents.now helds.old.items helds.new.items
         (λ x. at_least least (rival_level operator.now id.now (filed_of (key.now, plan.now)) x))) }
 {
     if is_own(operator, id, key) {
@@ -358,7 +369,7 @@ fn push_rival(
     if !plan.is_rival(least) {
         return Ok(());
     }
-    plan.push_slabs(helds, extent)
+    plan.push_slabs(helds, extents)
 }
 
 // The slabs that the live plans of other operators hold; none if nothing is asked.

@@ -1,6 +1,8 @@
 //! A plan as a store in memory keeps it.
 
 ghost use Rattle.std.specs.Prelude.{◌≡◌, ◌&&◌, cond, false, nat_le, IfOk, OnOk};
+ghost use Rattle.std.specs.List.{list_any};
+ghost use Rattle.volume4d.specs.Bounds.{overlap};
 ghost use Rattle.volume4d.specs.Volume.{area_has};
 ghost use Rattle.volume4d.specs.Level.{level_where};
 ghost use Rattle.volume4d.specs.SpanCounts.{area_spans};
@@ -108,11 +110,11 @@ impl Plan {
         self.usage = Usage::Closed;
     }
 
-    /// Whether its bounds have a point of an extent. Its area has none where they have none.
-    pub fn may_meet(&self, extent: &Slab) -> bool
-        ensures { result ≡ false → HasNoPoint self.now.area extent.now }
+    /// Whether its bounds have a point of one of some extents. Its area has none where they have none.
+    pub fn may_meet(&self, extents: &[Slab]) -> bool
+        ensures { result ≡ false → HasNoPoint self.now.area extents.now }
     {
-        self.bounds.overlaps(extent)
+        overlaps_one(&self.bounds, extents)
     }
 
     /// Whether it is live and has a priority at least.
@@ -125,16 +127,16 @@ impl Plan {
         self.priority >= least
     }
 
-    /// Appends the slabs of its area that meet an extent, at its priority.
+    /// Appends the slabs of its area that meet one of some extents, at its priority.
     ///
     /// # Errors
     ///
     /// `AllocError` for want of memory.
-    pub fn push_slabs(&self, helds: &mut Vec<Held>, extent: &Slab) -> Result<(), AllocError>
-        ensures { OnOk result (AddLevel extent.now helds.old.items helds.new.items
+    pub fn push_slabs(&self, helds: &mut Vec<Held>, extents: &[Slab]) -> Result<(), AllocError>
+        ensures { OnOk result (AddLevel extents.now helds.old.items helds.new.items
             (λ x. level_where (area_has self.now.area x) self.now.priority)) }
     {
-        push_helds(helds, &self.slabs, self.priority, extent)
+        push_helds(helds, &self.slabs, self.priority, extents)
     }
 
     /// Appends the slabs that it holds, at its priority.
@@ -154,18 +156,25 @@ impl Plan {
     }
 }
 
-// Appends the slabs that meet an extent, at a priority.
+// Whether a slab overlaps one of some others.
+fn overlaps_one(slab: &Slab, others: &[Slab]) -> bool
+    ensures { result ≡ list_any (overlap slab.now) others.now }
+{
+    others.iter().any(|other| slab.overlaps(other))
+}
+
+// Appends the slabs that meet one of some extents, at a priority.
 fn push_helds(
     helds: &mut Vec<Held>,
     slabs: &[Slab],
     priority: u32,
-    extent: &Slab,
+    extents: &[Slab],
 ) -> Result<(), AllocError>
-    ensures { OnOk result (AddLevel extent.now helds.old.items helds.new.items
+    ensures { OnOk result (AddLevel extents.now helds.old.items helds.new.items
         (λ x. level_where (slabs_have slabs.now x) priority)) }
 {
     for slab in slabs {
-        if slab.overlaps(extent) {
+        if overlaps_one(slab, extents) {
             helds.push(Held {
                 slab: *slab,
                 priority,

@@ -4,7 +4,7 @@ ghost use Rattle.std.specs.Prelude.{◌≡◌, ℕ, length, Option, IfOk, IfErr,
 ghost use Rattle.desk_store.specs.StoreFrames.{OnlyReads, Remembers};
 ghost use Rattle.desk_store.specs.Content.{IsContent};
 ghost use Rattle.desk_store.specs.World.{World, ceiling_of, plans_of, spans_beside, stored_of};
-ghost use Rattle.desk_store.specs.Rivals.{AreHeldByOthers, AreRivals};
+ghost use Rattle.desk_store.specs.Rivals.{AreHeldByOthers, AreRivals, AreRivalsNear};
 ghost use Rattle.desk_rules.specs.States.{states_of};
 
 use crate::change::Change;
@@ -104,6 +104,21 @@ pub trait PlanStore {
     ) -> Result<Vec<Held>, StoreFault>
         ensures value { IsHonest (doubt self.new) → IfOk result (λ helds.
             AreRivals (content self.old) operator.now id.now least extent.now helds.items) }
+        ensures reads { OnlyReads content doubt faults may_leave is_shielded self.old self.new }
+        ensures cause { IfErr result (IsCounted faults self.old self.new) };
+
+    /// Slabs held by all live plans but the operator's own of the id: at each point of the extents the
+    /// greatest priority among the slabs is the greatest that these plans hold there, where that is at
+    /// least `least`, and there is none otherwise. Of points outside the extents they say nothing.
+    fn rivals_near(
+        &mut self,
+        operator: &Operator,
+        id: &PlanId,
+        least: u32,
+        extents: &[Slab],
+    ) -> Result<Vec<Held>, StoreFault>
+        ensures value { IsHonest (doubt self.new) → IfOk result (λ helds.
+            AreRivalsNear (content self.old) operator.now id.now least extents.now helds.items) }
         ensures reads { OnlyReads content doubt faults may_leave is_shielded self.old self.new }
         ensures cause { IfErr result (IsCounted faults self.old self.new) };
 

@@ -94,6 +94,17 @@ impl PlanStore for Failing {
         self.list.rivals(operator, id, least, extent)
     }
 
+    fn rivals_near(
+        &mut self,
+        operator: &Operator,
+        id: &PlanId,
+        least: u32,
+        extents: &[Slab],
+    ) -> Result<Vec<Held>, StoreFault> {
+        fail_at(&mut self.calls_left, &mut self.fault_count)?;
+        self.list.rivals_near(operator, id, least, extents)
+    }
+
     fn held_by_others(
         &mut self,
         operator: &Operator,
@@ -181,7 +192,7 @@ fn check_run(
 // A request for a new plan asks the store for the ceiling, the states of the plan, the count and the
 // rivals, and changes it; one to delete a plan asks for the ceiling and the states, and changes it; one for
 // the status asks for the ceiling. None asks for a whole plan. The plan's cell has 2^58 leaves, so that its
-// rivals are asked for in ten pieces, of 2^40 leaves and then four times as many each time.
+// rivals are asked for in four pieces, of 2^40 leaves and then 64 times as many each time.
 #[test]
 fn a_run_stops_where_the_store_fails(rt: HostRuntime) -> Result<(), Fail> {
     let calls = calls_of(rt.alloc())?;
@@ -191,13 +202,13 @@ fn a_run_stops_where_the_store_fails(rt: HostRuntime) -> Result<(), Fail> {
         (2, 0, None),
         (3, 0, None),
         (4, 0, None),
-        (12, 0, None),
-        (13, 0, None),
-        (14, 1, Some(Usage::Planned)),
-        (15, 1, Some(Usage::Planned)),
-        (16, 1, Some(Usage::Planned)),
-        (17, 2, Some(Usage::Closed)),
-        (18, 3, Some(Usage::Closed)),
+        (6, 0, None),
+        (7, 0, None),
+        (8, 1, Some(Usage::Planned)),
+        (9, 1, Some(Usage::Planned)),
+        (10, 1, Some(Usage::Planned)),
+        (11, 2, Some(Usage::Closed)),
+        (12, 3, Some(Usage::Closed)),
     ] {
         check_run(&rt, rt.alloc(), &calls, row)?;
     }
@@ -242,16 +253,16 @@ fn check_calls(
 }
 
 // Each request asks for the ceiling and the states of the plan, and for the number of plans where that plan
-// is not stored. Only one that is checked, and that nothing else refuses, asks for rivals, in ten pieces; one
+// is not stored. Only one that is checked, and that nothing else refuses, asks for rivals, in four pieces; one
 // that is refused, or that is hypothetical, changes nothing.
 #[test]
 fn a_request_asks_for_no_more_than_it_needs(rt: HostRuntime) -> Result<(), Fail> {
     for row in [
-        (false, (IfAllowed, Planned, Nominal), 14),
-        (false, (Hypothetical, Planned, Nominal), 13),
+        (false, (IfAllowed, Planned, Nominal), 8),
+        (false, (Hypothetical, Planned, Nominal), 7),
         (false, (IfAllowed, InUse, OffNominal), 3),
-        (true, (IfAllowed, InUse, Nominal), 13),
-        (true, (Hypothetical, InUse, Nominal), 12),
+        (true, (IfAllowed, InUse, Nominal), 7),
+        (true, (Hypothetical, InUse, Nominal), 6),
         (true, (InReality, InUse, OffNominal), 3),
         (true, (IfAllowed, Closed, Nominal), 3),
         (true, (InReality, InUse, Nominal), 2),

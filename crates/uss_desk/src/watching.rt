@@ -219,6 +219,16 @@ impl<S: Alter, N: Paths + Drop> PlanStore for Watched<S, N> {
         self.store.rivals(operator, id, least, extent)
     }
 
+    fn rivals_near(
+        &mut self,
+        operator: &Operator,
+        id: &PlanId,
+        least: u32,
+        extents: &[Slab],
+    ) -> Result<Vec<Held>, StoreFault> {
+        self.store.rivals_near(operator, id, least, extents)
+    }
+
     fn held_by_others(
         &mut self,
         operator: &Operator,

@@ -1,56 +1,62 @@
-//! Pieces of a cluster: a long one is asked for piece by piece, in the order of its leaves.
+//! Pieces of a plan's leaves: a long plan is asked for piece by piece, in the order of its leaves.
 
 ghost use Rattle.std.specs.Prelude.{◌+◌, ◌<◌, ◌*◌, ◌^◌, IfOk, IfErr};
 ghost use Rattle.desk_store.specs.StoreFrames.{OnlyReads};
 ghost use Rattle.desk_store.specs.StoreFaults.{IsHonest, IsCounted};
 ghost use Rattle.volume4d.specs.Bounds.{AreFilled};
 ghost use Rattle.desk_run.specs.ConflictParts.{IsFirstAmong};
-ghost use Rattle.desk_run.specs.Pieces.{AreCut, HasPart, IsCutTo, IsFirstAt, IsPiece};
+ghost use Rattle.desk_run.specs.Pieces.{AreCut, IsCutTo, IsFirstAt, IsPiece};
 
 use super::conflict::least_of;
+use super::windows::extents_in;
 use desk_rules::conflict::first_conflict;
 use desk_rules::operator::Operator;
 use desk_rules::permission::Permitted;
 use desk_rules::plan_id::PlanId;
 use desk_store::{PlanStore, StoreFault};
+use std::alloc::Global;
 use volume4d::{Held, Meeting, Slab, bounds_of};
 
-// How many leaves after its first one the first piece ends: those of a cell of level 10. A cluster that is
-// no longer is one question.
+// How many leaves after its first one the first piece ends: those of a cell of level 10. A plan that is no
+// longer is one question.
 const LENGTH: u64 = 1 << 40;
 
-// How many times as long the next piece is. A face has eleven pieces at most.
-const GROWTH: u64 = 4;
+// How many times as long the next piece is. The six faces have five pieces at most.
+const GROWTH: u64 = 64;
 
-// The first blocked point among slabs that lie close to each other. They are asked for in pieces that grow,
-// so that nothing is read after the piece with the first blocked point, and the slabs of a plan that isn't
-// blocked are a few questions.
-pub fn first_in<S: PlanStore>(
+// The first blocked point among slabs. They are asked for in pieces that grow, so that nothing is read after
+// the piece with the first blocked point, and the slabs of a plan that isn't blocked are a few questions.
+pub fn first_among<S: PlanStore>(
+    alloc: Global,
     store: &mut S,
     permitted: &Permitted,
     operator: &Operator,
     id: &PlanId,
-    cluster: &[Slab],
+    slabs: &[Slab],
     priority: u32,
 ) -> Result<Option<Meeting>, StoreFault>
-    requires { AreFilled cluster.now }
+    requires { AreFilled slabs.now }
     ensures value { IsHonest (S.doubt store.new) → IfOk result
-        (IsFirstAmong permitted.now (S.content store.old) operator.now id.now cluster.now priority) }
+        (IsFirstAmong permitted.now (S.content store.old) operator.now id.now slabs.now priority) }
     ensures reads { OnlyReads S.content S.doubt S.faults S.may_leave S.is_shielded store.old store.new }
     ensures cause { IfErr result (IsCounted S.faults store.old store.new) }
 {
-    let whole = bounds_of(cluster);
+    let whole = bounds_of(slabs);
     let mut length = LENGTH;
     let mut piece = piece_from(&whole, whole.first, length);
     while piece.last < whole.last {
-        let meeting = first_at(store, permitted, operator, id, cluster, priority, &piece)?;
+        let meeting = first_at(
+            alloc, store, permitted, operator, id, slabs, priority, &piece,
+        )?;
         if meeting.is_some() {
             return Ok(meeting);
         }
         length = length.saturating_mul(GROWTH);
         piece = next_piece(&whole, &piece, length);
     }
-    first_at(store, permitted, operator, id, cluster, priority, &piece)
+    first_at(
+        alloc, store, permitted, operator, id, slabs, priority, &piece,
+    )
 }
 
 // The piece after another, which doesn't reach the end.
@@ -79,23 +85,24 @@ fn piece_from(whole: &Slab, position: u64, length: u64) -> Slab
 // The first point among slabs that is blocked by what is held at the leaves of a piece. The slabs that a
 // store answers may reach beyond them, where it says nothing of what others hold: so they are cut.
 fn first_at<S: PlanStore>(
+    alloc: Global,
     store: &mut S,
     permitted: &Permitted,
     operator: &Operator,
     id: &PlanId,
-    cluster: &[Slab],
+    slabs: &[Slab],
     priority: u32,
     piece: &Slab,
 ) -> Result<Option<Meeting>, StoreFault>
-    requires { HasPart cluster.now piece.now }
     ensures value { IsHonest (S.doubt store.new) → IfOk result (IsFirstAt permitted.now
-        (S.content store.old) operator.now id.now cluster.now piece.now priority) }
+        (S.content store.old) operator.now id.now slabs.now piece.now priority) }
     ensures reads { OnlyReads S.content S.doubt S.faults S.may_leave S.is_shielded store.old store.new }
     ensures cause { IfErr result (IsCounted S.faults store.old store.new) }
 {
-    let mut theirs = store.rivals(operator, id, least_of(permitted, priority), piece)?;
+    let extents = extents_in(alloc, slabs, piece)?;
+    let mut theirs = store.rivals_near(operator, id, least_of(permitted, priority), &extents)?;
     cut_in_order(&mut theirs, piece);
-    Ok(first_conflict(cluster, &theirs))
+    Ok(first_conflict(slabs, &theirs))
 }
 
 // Cuts held slabs to a piece, and puts them in the order of their first leaves, so that they are met in one
@@ -120,7 +127,7 @@ fn cut_all(helds: &mut [Held], piece: &Slab)
 }
 
 // A slab with those of its leaves that a piece has, which may be none.
-fn cut(slab: &Slab, piece: &Slab) -> Slab
+pub fn cut(slab: &Slab, piece: &Slab) -> Slab
     ensures { IsCutTo slab.now piece.now result }
 {
     Slab {

@@ -26,11 +26,12 @@ use desk_rules::reply::{PutReply, Reply};
 use desk_rules::terms::Terms;
 use desk_rules::transition::{Step, transition_from};
 use desk_store::{Change, PlanStore, StoreFault};
-use std::alloc::AllocError;
+use std::alloc::{AllocError, Global};
 use volume4d::Meeting;
 
 // Gets the reply to a request of an operator under a ceiling ready.
 pub fn ready_put<S: PlanStore>(
+    alloc: Global,
     store: &mut S,
     terms: &Terms,
     moment: i64,
@@ -48,7 +49,7 @@ pub fn ready_put<S: PlanStore>(
     ensures reads { OnlyReads S.content S.doubt S.faults S.may_leave S.is_shielded store.old store.new }
     ensures cause { IfErr result (IsStoreCounted S.faults store.old store.new) }
 {
-    let verdict = verdict_on(store, terms, moment, operator, put, ceiling)?;
+    let verdict = verdict_on(alloc, store, terms, moment, operator, put, ceiling)?;
     let change = change_for(verdict.effect, operator, put)?;
     let reply = Reply::Answered(reply_of(&verdict));
     Ok(Pending { reply, change })
@@ -72,6 +73,7 @@ fn reply_of(verdict: &Verdict) -> PutReply
 
 // The verdict on a request of an operator under a ceiling.
 fn verdict_on<S: PlanStore>(
+    alloc: Global,
     store: &mut S,
     terms: &Terms,
     moment: i64,
@@ -93,7 +95,7 @@ fn verdict_on<S: PlanStore>(
         is_over,
     };
     let needed = needs_conflict(put, moment, stored, &standing);
-    let meeting = conflict_if(needed, store, &terms.permitted, operator, put)?;
+    let meeting = conflict_if(alloc, needed, store, &terms.permitted, operator, put)?;
     Ok(decide_under(put, moment, stored, &standing, meeting))
 }
 
@@ -121,6 +123,7 @@ fn is_checked(step: Step) -> bool
 
 // The conflict of the area that a request asks for, read only if it is needed.
 fn conflict_if<S: PlanStore>(
+    alloc: Global,
     needed: bool,
     store: &mut S,
     permitted: &Permitted,
@@ -136,7 +139,15 @@ fn conflict_if<S: PlanStore>(
     if !needed {
         return Ok(None);
     }
-    conflict_of(store, permitted, operator, &put.id, &put.area, put.priority)
+    conflict_of(
+        alloc,
+        store,
+        permitted,
+        operator,
+        &put.id,
+        &put.area,
+        put.priority,
+    )
 }
 
 // The states of the operator's plan of the id, and if there is none, how many plans the operator has.

@@ -78,6 +78,7 @@ fn own_listed<S: PlanStore>(
 
 // Gets the showing of an enrolled operator's plan ready.
 pub fn ready_show<S: PlanStore>(
+    alloc: Global,
     store: &mut S,
     permitted: &Permitted,
     operator: &Operator,
@@ -93,7 +94,7 @@ pub fn ready_show<S: PlanStore>(
     let Some(row) = store.plan(operator, id)? else {
         return Err(DeskFault::NoSuchPlan);
     };
-    let plan = shown(store, permitted, operator, &row)?;
+    let plan = shown(alloc, store, permitted, operator, &row)?;
     Ok(Pending {
         reply: Reply::Plan(plan),
         change: None,
@@ -102,6 +103,7 @@ pub fn ready_show<S: PlanStore>(
 
 // A plan of the operator as it is shown.
 fn shown<S: PlanStore>(
+    alloc: Global,
     store: &mut S,
     permitted: &Permitted,
     operator: &Operator,
@@ -112,7 +114,7 @@ fn shown<S: PlanStore>(
     ensures reads { OnlyReads S.content S.doubt S.faults S.may_leave S.is_shielded store.old store.new }
     ensures cause { IfErr result (IsCounted S.faults store.old store.new) }
 {
-    let conflict = shown_conflict(store, permitted, operator, row)?;
+    let conflict = shown_conflict(alloc, store, permitted, operator, row)?;
     Ok(Shown {
         row: row.copy()?,
         status: status_of(Some(row)),
@@ -122,6 +124,7 @@ fn shown<S: PlanStore>(
 
 // The conflict of a live plan of the operator at its own priority; a closed plan has none.
 fn shown_conflict<S: PlanStore>(
+    alloc: Global,
     store: &mut S,
     permitted: &Permitted,
     operator: &Operator,
@@ -135,5 +138,13 @@ fn shown_conflict<S: PlanStore>(
     if !row.usage.is_live() {
         return Ok(None);
     }
-    conflict_of(store, permitted, operator, &row.id, &row.area, row.priority)
+    conflict_of(
+        alloc,
+        store,
+        permitted,
+        operator,
+        &row.id,
+        &row.area,
+        row.priority,
+    )
 }

@@ -1,15 +1,15 @@
 use Rattle.std.proofs.Common.{◌≡◌, true}
 use Rattle.volume4d.specs.Point.{Point}
-use Rattle.volume4d.specs.Slab.{slab_has, top_held}
+use Rattle.volume4d.specs.Slab.{slabs_have, top_held}
 use Rattle.volume4d.specs.Level.{greater}
 use Rattle.desk_rules.specs.Conflict.{at_least}
 use Rattle.desk_store.specs.OwnRows.{rivals_top}
 use Rattle.desk_store.specs.Listing.{filed_all}
 use Rattle.desk_store.proofs.list.rivals_of.Given as goal
 
--- at points of the extent, the levels so far and those of the plans that are left are the levels of all
+-- at points of the extents, the levels so far and those of the plans that are left are the levels of all
 abbrev pub invariant-loop-key : goal.invariant-loop-key
-invariant-loop-key l = (x : Point) → slab_has l.extent x ≡ true
+invariant-loop-key l = (x : Point) → slabs_have l.extents x ≡ true
     → greater (top_held l.helds.items x) (at_least l.least
     (rivals_top l.operator l.id (filed_all l.key-iterator) x))
     ≡ at_least l.least (rivals_top l.operator l.id (filed_all l.plans.entries) x)

@@ -1,4 +1,3 @@
-use Rattle.std.proofs.Common.{[], None}
 use Rattle.desk_run.proofs.ClusterLemmas.{later_filled, later_order}
 use Rattle.desk_run.proofs.ListingLemmas.{covered_on, kept_on}
 use Rattle.desk_run.proofs.pending.own.push_clusters.Goals as goal
@@ -18,6 +17,6 @@ loop-rest-preserved c =
       covered = λ x has.
           covered_on rest cluster later extents c.push.new.self.items c.bounds_of.result x split
           c.bounds_of.ensures pushed (so_far.covered x has);
-      filled = later_filled [] (λ _. None) 0 rest cluster later split so_far.filled;
-      order = later_order [] (λ _. None) 0 rest cluster later split so_far.order;
+      filled = later_filled rest cluster later split so_far.filled;
+      order = later_order rest cluster later split so_far.order;
     }

@@ -5,7 +5,7 @@ use Rattle.desk_store.proofs.plan.Plan.may_meet.Goals as goal
 
 pub returns : goal.returns
 returns c = λ apart.
-    let extent = c.args.extent.now in
-    subst (λ p. HasNoPoint p.area extent) c.self.view_is
-    (no_point c.self.inside.area c.self.inside.slabs.items c.self.inside.bounds extent c.self.invariant
-    (sym c.overlaps.ensures ∙ apart))
+    let extents = c.args.extents.now in
+    subst (λ p. HasNoPoint p.area extents) c.self.view_is
+    (no_point c.self.inside.area c.self.inside.slabs.items c.self.inside.bounds extents c.self.invariant
+    (sym c.overlaps_one.ensures ∙ apart))

@@ -3,7 +3,7 @@ use Rattle.desk_rules.specs.Conflict.{at_least}
 use Rattle.desk_store.specs.World.{plans_of, held, held_at}
 use Rattle.desk_store.specs.Listing.{world_in_lists}
 use Rattle.desk_store.proofs.lemmas.Rival.{held_by_rivals}
-use Rattle.desk_store.proofs.list.ListStorePlanStore.rivals.Goals as goal
+use Rattle.desk_store.proofs.list.ListStorePlanStore.rivals_near.Goals as goal
 
 pub returns-clause-value : goal.returns-clause-value
 returns-clause-value c = λ _ x inside.

@@ -1,10 +1,9 @@
 use Rattle.std.proofs.Common.{◌≡◌, ◌≤◌, ◌-◌}
-use Rattle.volume4d.specs.Slab.{slab_window}
 use Rattle.desk_store.specs.Crashes.{LeavesNoMore}
 use Rattle.desk_store.specs.StoreFaults.{IsHonest}
 use Rattle.desk_store.specs.World.{plans_of, held, held_at}
 use Rattle.desk_run.proofs.PieceLemmas.{NoneBlockedBefore}
-use Rattle.desk_run.proofs.pending.pieces.first_in.Given as goal
+use Rattle.desk_run.proofs.pending.pieces.first_among.Given as goal
 
 -- no point before the piece is blocked, and the store has changed nothing
 abbrev pub invariant-loop-piece : goal.invariant-loop-piece
@@ -14,8 +13,7 @@ invariant-loop-piece g l =
       before :
           IsHonest (g.S.PlanStore.doubt l.store)
           → NoneBlockedBefore l.permitted (held_at (plans_of l.operator w) (held w l.operator) l.id)
-          l.priority l.cluster l.piece.first;
-      window : slab_window l.piece ≡ slab_window l.whole;
+          l.priority l.slabs l.piece.first;
       same : g.S.PlanStore.content l.store ≡ g.S.PlanStore.content l.fn.store;
       crash :
           IsHonest (g.S.PlanStore.doubt l.store) → LeavesNoMore (g.S.PlanStore.may_leave l.fn.store)

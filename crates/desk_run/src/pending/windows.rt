@@ -1,0 +1,80 @@
+//! What a store is asked of a piece: extents round those slabs of a plan that have the same altitudes and
+//! seconds and lie close to each other.
+
+ghost use Rattle.std.specs.Prelude.{◌<◌, length, IfOk, IfSome, OnOk};
+ghost use Rattle.volume4d.specs.Slab.{slab_has, slabs_have};
+ghost use Rattle.desk_run.specs.HeldAmong.{HaveAll, Keep};
+ghost use Rattle.desk_run.specs.Pieces.{HavePart};
+
+use super::conflict::wide_gap;
+use super::pieces::cut;
+use std::alloc::{AllocError, Global};
+use volume4d::Slab;
+
+// Once there are so many extents, a slab is joined to one of its window however far off that is. A plan of 32
+// volumes has at most 32 windows, so a piece has at most 96 extents.
+const MOST: usize = 64;
+
+// Extents that have the points of some slabs at the leaves of a piece.
+pub fn extents_in(alloc: Global, slabs: &[Slab], piece: &Slab) -> Result<Vec<Slab>, AllocError>
+    ensures { IfOk result (λ extents. HavePart (slabs_have slabs.now) piece.now extents.items) }
+{
+    let gap = wide_gap(slabs);
+    let mut extents = Vec::new(alloc);
+    for slab in slabs {
+        add_part(&mut extents, slab, piece, gap)?;
+    }
+    Ok(extents)
+}
+
+// Adds the points of a slab at the leaves of a piece to extents.
+fn add_part(extents: &mut Vec<Slab>, slab: &Slab, piece: &Slab, gap: u64) -> Result<(), AllocError>
+    ensures kept { OnOk result (Keep extents.old.items extents.new.items) }
+    ensures has { OnOk result (HavePart (slab_has slab.now) piece.now extents.new.items) }
+{
+    let part = cut(slab, piece);
+    if part.first > part.last {
+        return Ok(());
+    }
+    add(extents, &part, gap)
+}
+
+// Adds the points of a slab to extents: to one that it is close to, or as one more.
+fn add(extents: &mut Vec<Slab>, slab: &Slab, gap: u64) -> Result<(), AllocError>
+    ensures kept { OnOk result (Keep extents.old.items extents.new.items) }
+    ensures has { OnOk result (HaveAll (slab_has slab.now) extents.new.items) }
+{
+    match place_for(extents, slab, gap) {
+        Some(place) => widen(extents, place, slab),
+        None => extents.push(*slab)?,
+    }
+    Ok(())
+}
+
+// The place of the last extent that a slab may be joined to, if there is one.
+fn place_for(extents: &[Slab], slab: &Slab, gap: u64) -> Option<usize>
+    ensures { IfSome result (λ place. place < length extents.now) }
+{
+    let gap = if extents.len() < MOST { gap } else { u64::MAX };
+    extents
+        .iter()
+        .rposition(|extent| may_join(extent, slab, gap))
+}
+
+// Whether a slab has the altitudes and seconds of an extent, and begins no further after it than a gap.
+fn may_join(extent: &Slab, slab: &Slab, gap: u64) -> bool {
+    if slab.first.saturating_sub(extent.last) > gap {
+        return false;
+    }
+    (extent.lower, extent.upper, extent.start, extent.end)
+        == (slab.lower, slab.upper, slab.start, slab.end)
+}
+
+// Widens one of some extents, so that it has the points of a slab.
+fn widen(extents: &mut [Slab], place: usize, slab: &Slab)
+    requires { place < length extents.old }
+    ensures kept { Keep extents.old extents.new }
+    ensures has { HaveAll (slab_has slab.now) extents.new }
+{
+    extents[place] = extents[place].join(slab);
+}
