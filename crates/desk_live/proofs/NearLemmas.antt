@@ -19,7 +19,7 @@ use Rattle.volume4d.specs.Level.{greater, level_where}
 use Rattle.volume4d.specs.Point.{Point}
 use Rattle.volume4d.specs.Slab.{slab_has, slabs_have}
 use Rattle.volume4d.specs.Volume.{Block, block_has, area_has}
-use Rattle.volume4d.proofs.lemmas.Bounds.{overlapping, overlaps_round}
+use Rattle.volume4d.proofs.lemmas.Bounds.{overlapping, within_has}
 use Rattle.desk_rules.specs.Conflict.{at_least}
 use Rattle.desk_rules.specs.Plan.{is_live, row_holds}
 use Rattle.desk_store.specs.World.{Filed, World, has_id, is_by, text_cmp}
@@ -31,9 +31,12 @@ use Rattle.desk_live.specs.declared.fence.Fence.{Fence}
 use Rattle.desk_live.specs.declared.near.NearPlans.{NearPlans}
 use Rattle.desk_live.specs.declared.near.PlanKey.{PlanKey}
 use Rattle.desk_live.specs.declared.near.Wanted.{Wanted}
+use Rattle.desk_live.specs.declared.sought.Sought.{Sought}
 use Rattle.desk_live.specs.declared.volume.LiveVolume.{LiveVolume}
 use Rattle.desk_live.specs.Live.{AreLive, AreVolumes, AreVolumesOf, IsFenced, IsLiveVolume, is_volume_of, may_meet, gather}
 use Rattle.desk_live.specs.Places.{key_cmp}
+use Rattle.desk_live.specs.Regions.{HaveEach}
+use Rattle.desk_live.specs.Sought.{meets, sought_has}
 use Rattle.desk_live.specs.Near.{AddsPlans, AreNearPlans, AreWantedPlans, IsAnothers, LooksOn, TakesPlan, is_among, is_id, is_listed, is_missed_at, is_near_to, is_own_volume, is_wanted_volume, key_of, listed_level, listed_top}
 use Rattle.desk_live.proofs.GatherLemmas.{all_at, gathered_more}
 use Rattle.desk_live.proofs.lemmas.Live.{and_turned, same_key}
@@ -56,6 +59,39 @@ still_low n a b h k = grind (arith, nat_tests)
 
 itself : (text : List ℕ) → is_eq (text_cmp text text) ≡ true
 itself text = ap is_eq (tied_itself nat_list_cmp_total text)
+
+-- ---- what is sought
+
+-- a slab that has a point of some slabs overlaps one of them
+one_meets : (slab : Slab) (ps : List Slab) (x : Point) → slab_has slab x ≡ true → slabs_have ps x ≡ true
+    → list_any (overlap slab) ps ≡ true
+one_meets slab [] x has here = here
+one_meets slab (p ∷ ps) x has here =
+    go (slab_has p x) refl here (λ later. one_meets slab ps x has later) where
+      last : (b : Bool) → (b || true) ≡ true
+      last true = refl
+      last false = refl
+
+      go : (b : Bool) → slab_has p x ≡ b → (b || slabs_have ps x) ≡ true
+          → (slabs_have ps x ≡ true → list_any (overlap slab) ps ≡ true)
+          → (overlap slab p || list_any (overlap slab) ps) ≡ true
+      go true e r ih = ap (λ b. b || list_any (overlap slab) ps) (overlapping slab p x has e)
+      go false e r ih = ap (λ b. overlap slab p || b) (ih r) ∙ last (overlap slab p)
+
+-- a slab that has a point of what is sought meets it
+meeting : (slab : Slab) (sought : Sought) (x : Point) → slab_has slab x ≡ true → sought_has sought x ≡ true
+    → meets sought slab ≡ true
+meeting slab sought x has here =
+    let parts = and_parts (slab_has sought.whole x) (slabs_have sought.parts.now x) here in
+    and_from (overlap slab sought.whole) (list_any (overlap slab) sought.parts.now)
+    (overlapping slab sought.whole x has parts.0) (one_meets slab sought.parts.now x has parts.1)
+
+-- one slab is sought
+pub one_has : (extent : Slab) (parts : List Slab) (x : Point) → parts ≡ extent ∷ [] → slab_has extent x ≡ true
+    → (slab_has extent x && slabs_have parts x) ≡ true
+one_has extent parts x is here =
+    and_from (slab_has extent x) (slabs_have parts x) here
+    (ap (λ ps. slabs_have ps x) is ∙ or_false (slab_has extent x) ∙ here)
 
 -- ---- keys, in order
 
@@ -190,12 +226,12 @@ module _ (s : Wanted) where
   }
 
   -- the volume isn't near
-  pub adds_far : (extent : Slab) (live : LiveVolume) (a : NearPlans) → is_near_to s extent live ≡ false
-      → AddsPlans s (slab_has extent) (live ∷ []) a a
-  adds_far extent live a far = adds_nothing (slab_has extent) (live ∷ []) a (λ e x here.
+  pub adds_far : (sought : Sought) (live : LiveVolume) (a : NearPlans) → is_near_to s sought live ≡ false
+      → AddsPlans s (sought_has sought) (live ∷ []) a a
+  adds_far sought live a far = adds_nothing (sought_has sought) (live ∷ []) a (λ e x here.
       or_false (is_missed_at s a.keys.keys x live)
       ∙ go (slab_has live.bounds x) (is_wanted_volume s live) (not (is_among a.keys.keys live))
-      (λ has. ap (λ b. b && is_wanted_volume s live) (sym (overlapping live.bounds extent x has here))
+      (λ has. ap (λ b. b && is_wanted_volume s live) (sym (meeting live.bounds sought x has here))
       ∙ far)) where
         go : (b c d : Bool) → (b ≡ true → c ≡ false) → ((b && c) && d) ≡ false
         go true c d f = ap (λ t. t && d) (f refl)
@@ -213,9 +249,9 @@ module _ (s : Wanted) where
         none false = refl
 
   -- its plan is taken
-  pub adds_taken : (inside : Point → Bool) (extent : Slab) (live : LiveVolume) (a b : NearPlans)
-      → is_near_to s extent live ≡ true → TakesPlan live a b → AddsPlans s inside (live ∷ []) a b
-  adds_taken inside extent live a b near t = record {
+  pub adds_taken : (inside : Point → Bool) (sought : Sought) (live : LiveVolume) (a b : NearPlans)
+      → is_near_to s sought live ≡ true → TakesPlan live a b → AddsPlans s inside (live ∷ []) a b
+  adds_taken inside sought live a b near t = record {
     kept = t.kept;
     still = t.still;
     whole = λ e x here.
@@ -234,7 +270,7 @@ module _ (s : Wanted) where
 
     wanted : is_own_volume s live ≡ false
     wanted = turned (is_own_volume s live) (and_parts (nat_le s.least live.priority) _
-        (and_parts (overlap live.bounds extent) _ near).1).1
+        (and_parts (meets sought live.bounds) _ near).1).1
 
   -- with more plans listed no more volumes are missed
   later_missed : (ks ls : List PlanKey) (x : Point) (lives : List LiveVolume)
@@ -261,6 +297,17 @@ module _ (s : Wanted) where
         ∙ (λ i. later_missed b.keys.keys c.keys.keys x some two.kept (one.whole (two.still e) x here) i
         || two.whole e x here i);
     another = λ h. two.another (one.another h);
+  }
+
+  -- those inside are inside something else too
+  pub adds_within : (inside other : Point → Bool) (lives : List LiveVolume) (a b : NearPlans)
+      → ((x : Point) → inside x ≡ true → other x ≡ true) → AddsPlans s other lives a b
+      → AddsPlans s inside lives a b
+  adds_within inside other lives a b also h = record {
+    kept = h.kept;
+    still = h.still;
+    whole = λ e x here. h.whole e x (also x here);
+    another = h.another;
   }
 
   -- those near some extents, and then those near one more
@@ -293,32 +340,31 @@ module _ (s : Wanted) where
 
   -- ---- chunks
 
-  -- a volume that is wanted and has a point of an extent is within a fence that may meet it
-  apart : (extent : Slab) (fence : Fence) (live : LiveVolume) (ks : List PlanKey) (x : Point)
-      → IsFenced fence live → may_meet s.least extent fence ≡ false → slab_has extent x ≡ true
+  -- a volume that is wanted and has a point of what is sought is within a fence that may meet it
+  apart : (sought : Sought) (fence : Fence) (live : LiveVolume) (ks : List PlanKey) (x : Point)
+      → IsFenced fence live → may_meet s.least sought fence ≡ false → sought_has sought x ≡ true
       → is_missed_at s ks x live ≡ false
-  apart extent fence live ks x h far here =
+  apart sought fence live ks x h far here =
       go (slab_has live.bounds x) (nat_le s.least live.priority) (not (is_own_volume s live))
       (not (is_among ks live)) refl refl where
         go : (b c d e : Bool) → slab_has live.bounds x ≡ b → nat_le s.least live.priority ≡ c
             → ((b && (c && d)) && e) ≡ false
         go false c d e has high = refl
         go true false d e has high = refl
-        go true true d e has high = absurd (true≢false (sym (and_from (overlap fence.bounds extent) _
-            (overlaps_round live.bounds fence.bounds extent h.within
-            (overlapping live.bounds extent x has here))
-            (still_low s.least live.priority fence.top h.top high)) ∙ far))
+        go true true d e has high = absurd (true≢false (sym (and_from (nat_le s.least fence.top) _
+            (still_low s.least live.priority fence.top h.top high)
+            (meeting fence.bounds sought x (within_has live.bounds fence.bounds x h.within has) here)) ∙ far))
 
-  pub adds_fenced : (extent : Slab) (fence : Fence) (lives : List LiveVolume) (a : NearPlans)
-      → may_meet s.least extent fence ≡ false → AllByRecursion (IsFenced fence) lives
-      → AddsPlans s (slab_has extent) lives a a
-  adds_fenced extent fence lives a far h =
-      adds_nothing (slab_has extent) lives a (λ e x here. all_apart x here lives h) where
-        all_apart : (x : Point) → slab_has extent x ≡ true → (ls : List LiveVolume)
+  pub adds_fenced : (sought : Sought) (fence : Fence) (lives : List LiveVolume) (a : NearPlans)
+      → may_meet s.least sought fence ≡ false → AllByRecursion (IsFenced fence) lives
+      → AddsPlans s (sought_has sought) lives a a
+  adds_fenced sought fence lives a far h =
+      adds_nothing (sought_has sought) lives a (λ e x here. all_apart x here lives h) where
+        all_apart : (x : Point) → sought_has sought x ≡ true → (ls : List LiveVolume)
             → AllByRecursion (IsFenced fence) ls → list_any (is_missed_at s a.keys.keys x) ls ≡ false
         all_apart x here [] k = refl
         all_apart x here (l ∷ ls) k =
-            λ i. apart extent fence l a.keys.keys x k.0 far here i || all_apart x here ls k.1 i
+            λ i. apart sought fence l a.keys.keys x k.0 far here i || all_apart x here ls k.1 i
 
 -- ---- what plans that are listed hold
 
@@ -461,17 +507,17 @@ are_wanted_plans o None least extents ks w lives live near = λ x here.
 
 -- ---- one thing with volumes after the other
 
-pub adds_next : {C : Type 0} (vols : C → List LiveVolume) (P : C → Type 0) (s : Wanted) (extent : Slab)
-    (cs : List C) (i : ℕ) (one : C) (a b c : NearPlans)
+pub adds_next : {C : Type 0} (vols : C → List LiveVolume) (P : C → Type 0) (s : Wanted)
+    (inside : Point → Bool) (cs : List C) (i : ℕ) (one : C) (a b c : NearPlans)
     → i < length cs → one ≡ get_or cs i one
-    → (AllByRecursion P cs → AddsPlans s (slab_has extent) (gather vols (take i cs)) a b)
-    → (P one → AddsPlans s (slab_has extent) (vols one) b c)
-    → AllByRecursion P cs → AddsPlans s (slab_has extent) (gather vols (take (i + 1) cs)) a c
-adds_next vols P s extent cs i one a b c below is first then whole =
-    subst (λ ls. AddsPlans s (slab_has extent) ls a c)
+    → (AllByRecursion P cs → AddsPlans s inside (gather vols (take i cs)) a b)
+    → (P one → AddsPlans s inside (vols one) b c)
+    → AllByRecursion P cs → AddsPlans s inside (gather vols (take (i + 1) cs)) a c
+adds_next vols P s inside cs i one a b c below is first then whole =
+    subst (λ ls. AddsPlans s inside ls a c)
     (gathered_more vols cs i one (gather vols (take i cs)) (gather vols (take i cs) ++ vols one)
     below is refl refl)
-    (adds_both s (slab_has extent) (gather vols (take i cs)) (vols one) a b c (first whole)
+    (adds_both s inside (gather vols (take i cs)) (vols one) a b c (first whole)
     (then (subst P (sym is) (all_at P cs i one whole below))))
 
 -- ---- all that were near
@@ -484,15 +530,6 @@ near_plans s inside lives start near ks none added same whole = record {
   whole = λ x here. ap (λ js. list_any (is_missed_at s js x) lives) same ∙ added.whole whole x here;
   another = subst (AllByRecursion (IsAnothers s)) (sym same)
       (added.another (subst (AllByRecursion (IsAnothers s)) (sym none) tt));
-}
-
--- those near a slab round some extents are near these
-pub near_whole : (s : Wanted) (extents : List Slab) (whole : Slab) (lives : List LiveVolume)
-    (ks : List PlanKey) → HasAll (slabs_have extents) whole
-    → AreNearPlans s (slabs_have (whole ∷ [])) lives ks → AreNearPlans s (slabs_have extents) lives ks
-near_whole s extents whole lives ks round h = record {
-  whole = λ x here. h.whole x (or_false (slab_has whole x) ∙ round x here);
-  another = h.another;
 }
 
 pub some_weaker : {V : Type 0} {P Q : V → Type 0} (r : Option V) → ((v : V) → P v → Q v) → IfSome r P

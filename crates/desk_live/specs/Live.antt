@@ -3,9 +3,8 @@ use Rattle.std.specs.Prelude.{◌≡◌, ℕ, ◌+◌, ◌≤◌, Bool, true, no
 use Rattle.std.specs.List.{AllByRecursion, AllZip, filter, list_any}
 use Rattle.std.specs.List.Sorted.{IsPermutation, IsStrictlySortedBy}
 use Rattle.std.specs.Ordering.{is_eq}
-use Rattle.volume4d.specs.declared.slab.Slab.{Slab}
 use Rattle.volume4d.specs.Volume.{Block, block_has}
-use Rattle.volume4d.specs.Bounds.{IsBounds, IsWithin, overlap}
+use Rattle.volume4d.specs.Bounds.{IsBounds, IsWithin}
 use Rattle.desk_rules.specs.Plan.{is_live}
 use Rattle.desk_store.specs.World.{Filed, World, text_cmp, filed_cmp}
 use Rattle.desk_store.specs.Changes.{filed_by}
@@ -17,6 +16,8 @@ use Rattle.desk_live.specs.declared.chunk.Chunk.{Chunk}
 use Rattle.desk_live.specs.declared.group.Group.{Group}
 use Rattle.desk_live.specs.declared.places.Places.{Places}
 use Rattle.desk_live.specs.Places.{places_at}
+use Rattle.desk_live.specs.Sought.{meets}
+use Rattle.desk_live.specs.declared.sought.Sought.{Sought}
 use Rattle.desk_live.specs.declared.live.Gathering.{Gathering}
 use Rattle.desk_live.specs.declared.live.LiveVolumes.{LiveVolumes}
 
@@ -155,6 +156,6 @@ pub record HasLeft (stays : LiveVolume → Bool) (old new : LiveVolumes) : Type 
 
 -- ---- questions
 
--- a fence has a priority at least, and meets an extent
-abbrev pub may_meet : ℕ → Slab → Fence → Bool
-may_meet least extent fence = overlap fence.bounds extent && nat_le least fence.top
+-- a fence has a priority at least, and meets what is sought
+abbrev pub may_meet : ℕ → Sought → Fence → Bool
+may_meet least sought fence = nat_le least fence.top && meets sought fence.bounds

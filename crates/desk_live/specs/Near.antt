@@ -3,7 +3,6 @@ use Rattle.std.specs.Prelude.{◌≡◌, ℕ, Bool, true, false, not, ◌&&◌, 
 use Rattle.std.specs.List.{AllByRecursion, list_any}
 use Rattle.std.specs.Ordering.{is_eq}
 use Rattle.volume4d.specs.declared.slab.Slab.{Slab}
-use Rattle.volume4d.specs.Bounds.{overlap}
 use Rattle.volume4d.specs.Level.{greater, level_where}
 use Rattle.volume4d.specs.Point.{Point}
 use Rattle.volume4d.specs.Slab.{slab_has, slabs_have}
@@ -15,7 +14,9 @@ use Rattle.desk_live.specs.declared.volume.LiveVolume.{LiveVolume}
 use Rattle.desk_live.specs.declared.near.NearPlans.{NearPlans}
 use Rattle.desk_live.specs.declared.near.PlanKey.{PlanKey}
 use Rattle.desk_live.specs.declared.near.Wanted.{Wanted}
+use Rattle.desk_live.specs.declared.sought.Sought.{Sought}
 use Rattle.desk_live.specs.Live.{is_volume_of}
+use Rattle.desk_live.specs.Sought.{meets}
 
 -- ---- what plans that are listed hold
 
@@ -62,9 +63,9 @@ is_own_volume wanted live = is_id wanted.id live.id && is_eq (text_cmp wanted.op
 abbrev pub is_wanted_volume : Wanted → LiveVolume → Bool
 is_wanted_volume wanted live = nat_le wanted.least live.priority && not (is_own_volume wanted live)
 
--- and its bounds meet an extent
-abbrev pub is_near_to : Wanted → Slab → LiveVolume → Bool
-is_near_to wanted extent live = overlap live.bounds extent && is_wanted_volume wanted live
+-- and its bounds meet what is sought
+abbrev pub is_near_to : Wanted → Sought → LiveVolume → Bool
+is_near_to wanted sought live = meets sought live.bounds && is_wanted_volume wanted live
 
 -- its plan is listed
 abbrev pub is_among : List PlanKey → LiveVolume → Bool
@@ -79,7 +80,7 @@ is_missed_at wanted keys x live =
 abbrev pub IsAnothers : Wanted → PlanKey → Type 0
 IsAnothers wanted k = (is_id wanted.id k.id && is_eq (text_cmp wanted.operator k.operator)) ≡ false
 
--- plans are added, and none is dropped; if all are listed, no volume is missed at the points of an extent
+-- plans are added, and none is dropped; if all are listed, no volume is missed at the points inside
 pub record AddsPlans (wanted : Wanted) (inside : Point → Bool) (lives : List LiveVolume)
     (old new : NearPlans) : Type 0
   where

@@ -6,12 +6,13 @@ ghost use Rattle.desk_live.specs.Live as spec;
 ghost use Rattle.desk_live.specs.Live.{AreFenced, IsFenced, IsLeft, IsWhole, is_beside, volumes_in};
 ghost use Rattle.desk_live.specs.Regions.{chunk_has_theirs};
 ghost use Rattle.desk_live.specs.Near.{AddsPlans};
-ghost use Rattle.volume4d.specs.Slab.{slab_has};
+ghost use Rattle.desk_live.specs.Sought.{sought_has};
 
 use crate::changing::{leave, push_all};
 use crate::fence::Fence;
 use crate::near::{NearPlans, Wanted, add_each};
-use crate::order::put_in_order;
+use crate::order::{Rank, put_in_order};
+use crate::sought::Sought;
 use crate::volume::LiveVolume;
 use desk_rules::operator::Operator;
 use desk_rules::plan_id::PlanId;
@@ -30,7 +31,7 @@ pub(crate) const PART: usize = 48;
 pub(crate) struct Chunk {
     pub(crate) fence: Fence,
     // where it begins in the order, of which no clause speaks
-    pub(crate) low: u128,
+    pub(crate) low: Option<Rank>,
     volumes: Vec<LiveVolume>,
 }
 
@@ -45,7 +46,7 @@ impl Chunk {
         volumes.extend_from_slice(lives)?;
         Ok(Chunk {
             fence: Fence::round_all(lives),
-            low: lives.first().map_or(0, |live| live.place),
+            low: lives.first().map(|live| live.rank()),
             volumes,
         })
     }
@@ -59,7 +60,7 @@ impl Chunk {
     {
         self.volumes.push(*live)?;
         self.fence = self.fence.widened(live);
-        self.low = self.low.min(live.place);
+        self.low = self.low.min(Some(live.rank()));
         Ok(())
     }
 
@@ -120,16 +121,16 @@ impl Chunk {
         &self,
         near: &mut NearPlans,
         wanted: &Wanted,
-        extent: &Slab,
+        sought: &Sought,
     ) -> Result<(), AllocError>
         ensures { OnOk result (IsWhole self.now
-            → AddsPlans wanted.now (slab_has extent.now) self.now.volumes.items near.old near.new) }
+            → AddsPlans wanted.now (sought_has sought.now) self.now.volumes.items near.old near.new) }
     {
-        if !self.fence.may_meet(wanted.least, extent) {
+        if !self.fence.may_meet(wanted.least, sought) {
             return Ok(());
         }
         near.look();
-        add_each(near, &self.volumes, wanted, extent)
+        add_each(near, &self.volumes, wanted, sought)
     }
 
     /// Whether a volume of another operator is near an extent. If the fence doesn't meet it, no volume is
@@ -155,13 +156,13 @@ pub(crate) fn add_near_in(
     near: &mut NearPlans,
     chunks: &[Chunk],
     wanted: &Wanted,
-    extent: &Slab,
+    sought: &Sought,
 ) -> Result<(), AllocError>
     ensures { OnOk result (AreFenced chunks.now
-        → AddsPlans wanted.now (slab_has extent.now) (volumes_in chunks.now) near.old near.new) }
+        → AddsPlans wanted.now (sought_has sought.now) (volumes_in chunks.now) near.old near.new) }
 {
     for chunk in chunks {
-        chunk.add_near(near, wanted, extent)?;
+        chunk.add_near(near, wanted, sought)?;
     }
     Ok(())
 }
@@ -202,16 +203,16 @@ pub(crate) fn insert(
     ensures kept { OnErr result (IsPermutation (volumes_in chunks.old.items) (volumes_in chunks.new.items)) }
     ensures fenced { AreFenced chunks.old.items → AreFenced chunks.new.items }
 {
-    make_room(alloc, chunks, live.place)?;
+    make_room(alloc, chunks, &live.rank())?;
     add(alloc, chunks, live)
 }
 
-// Cuts the chunk where a place in the order is in two, if it is full.
-fn make_room(alloc: Global, chunks: &mut Vec<Chunk>, place: u128) -> Result<(), AllocError>
+// Cuts the chunk where a volume of a rank would stand in two, if it is full.
+fn make_room(alloc: Global, chunks: &mut Vec<Chunk>, rank: &Rank) -> Result<(), AllocError>
     ensures same { IsPermutation (volumes_in chunks.old.items) (volumes_in chunks.new.items) }
     ensures fenced { AreFenced chunks.old.items → AreFenced chunks.new.items }
 {
-    let at = last_upto(chunks, place);
+    let at = last_upto(chunks, rank);
     if at < chunks.len() && chunks[at].volumes.len() >= FULL {
         return cut(alloc, chunks, at);
     }
@@ -225,7 +226,7 @@ fn add(alloc: Global, chunks: &mut Vec<Chunk>, live: &LiveVolume) -> Result<(), 
     ensures kept { OnErr result (IsPermutation (volumes_in chunks.old.items) (volumes_in chunks.new.items)) }
     ensures fenced { AreFenced chunks.old.items → AreFenced chunks.new.items }
 {
-    let at = last_upto(chunks, live.place);
+    let at = last_upto(chunks, &live.rank());
     if at < chunks.len() {
         return chunks[at].push(live);
     }
@@ -245,47 +246,42 @@ fn cut(alloc: Global, chunks: &mut Vec<Chunk>, at: usize) -> Result<(), AllocErr
     Ok(())
 }
 
-// The last chunk that begins at a place in the order or before it, or else the first one.
-fn last_upto(chunks: &[Chunk], place: u128) -> usize {
+// The last chunk that begins at a rank or before it, or else the first one.
+fn last_upto(chunks: &[Chunk], rank: &Rank) -> usize {
     chunks
-        .partition_point(|chunk| chunk.low <= place)
+        .partition_point(|chunk| chunk.low <= Some(*rank))
         .saturating_sub(1)
 }
 
 // ---- taking out
 
-/// Takes the volumes of an operator's plan out of a chunk that may have a place, if one has some; how many
-/// at least.
-pub(crate) fn leave_at(
-    chunks: &mut Vec<Chunk>,
-    operator: &Operator,
-    id: &PlanId,
-    place: u128,
-) -> usize
-    ensures left { IsLeft operator.now id.now (volumes_in chunks.old.items)
+/// Takes the volumes of a rank's plan out of a chunk that may have the rank, if one has some; how many at
+/// least.
+pub(crate) fn leave_at(chunks: &mut Vec<Chunk>, rank: &Rank) -> usize
+    ensures left { IsLeft rank.now.plan.operator rank.now.plan.id (volumes_in chunks.old.items)
         (volumes_in chunks.new.items) result }
     ensures fenced { AreFenced chunks.old.items → AreFenced chunks.new.items }
 {
-    let at = chunk_with(chunks, operator, id, place);
+    let at = chunk_with(chunks, rank);
     if at < chunks.len() {
-        leave_chunk(chunks, operator, id, at)
+        leave_chunk(chunks, &rank.plan.operator, &rank.plan.id, at)
     } else {
         0
     }
 }
 
-/// The first chunk that may have a place and has a volume of an operator's plan, or the number of all.
-pub(crate) fn chunk_with(chunks: &[Chunk], operator: &Operator, id: &PlanId, place: u128) -> usize {
+/// The first chunk that may have a rank and has a volume of the rank's plan, or the number of all.
+pub(crate) fn chunk_with(chunks: &[Chunk], rank: &Rank) -> usize {
     let mut at = chunks
-        .partition_point(|chunk| chunk.low < place)
+        .partition_point(|chunk| chunk.low < Some(*rank))
         .saturating_sub(1);
     while at < chunks.len()
         && !chunks[at]
             .volumes
             .iter()
-            .any(|live| live.is_of(operator, id))
+            .any(|live| live.is_of(&rank.plan.operator, &rank.plan.id))
     {
-        if place < chunks[at].low {
+        if Some(*rank) < chunks[at].low {
             return chunks.len();
         }
         at += 1;

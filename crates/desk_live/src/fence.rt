@@ -6,6 +6,7 @@ ghost use Rattle.desk_live.specs.Live as spec;
 ghost use Rattle.desk_live.specs.Live.{IsFenced};
 ghost use Rattle.desk_live.specs.declared.volume.LiveVolume.{LiveVolume as Live};
 
+use crate::sought::Sought;
 use crate::volume::LiveVolume;
 use volume4d::Slab;
 
@@ -76,13 +77,13 @@ impl Fence {
         }
     }
 
-    /// Whether it has a priority at least, and meets an extent.
-    pub(crate) fn may_meet(&self, least: u32, extent: &Slab) -> bool
-        ensures { result ≡ spec.may_meet least extent.now self.now }
+    /// Whether it has a priority at least, and meets what is sought.
+    pub(crate) fn may_meet(&self, least: u32, sought: &Sought) -> bool
+        ensures { result ≡ spec.may_meet least sought.now self.now }
     {
-        if !self.bounds.overlaps(extent) {
+        if self.top < least {
             return false;
         }
-        least <= self.top
+        sought.meets(&self.bounds)
     }
 }

@@ -6,12 +6,14 @@ ghost use Rattle.std.specs.List.{insert as insert_at};
 ghost use Rattle.desk_live.specs.Live.{AreFenced, AreHedged, IsFenced, IsHedged, IsLeft, count_of, is_beside, volumes_in, volumes_under};
 ghost use Rattle.desk_live.specs.Regions.{group_has_theirs};
 ghost use Rattle.desk_live.specs.Near.{AddsPlans};
-ghost use Rattle.volume4d.specs.Slab.{slab_has};
+ghost use Rattle.desk_live.specs.Sought.{sought_has};
 
 use crate::chunk as chunks;
 use crate::chunk::{Chunk, FULL, PART, chunk_with, chunked};
 use crate::fence::Fence;
-use crate::near::{NearPlans, Wanted};
+use crate::near::{NearPlans, PlanKey, Wanted};
+use crate::order::Rank;
+use crate::sought::Sought;
 use crate::volume::LiveVolume;
 use desk_rules::operator::Operator;
 use desk_rules::plan_id::PlanId;
@@ -27,7 +29,7 @@ const MANY: usize = PART * PART;
 pub(crate) struct Group {
     fence: Fence,
     // where it begins in the order, of which no clause speaks
-    low: u128,
+    low: Option<Rank>,
     chunks: Vec<Chunk>,
 }
 
@@ -39,7 +41,7 @@ impl Group {
     {
         Ok(Group {
             fence: Fence::round_all(lives),
-            low: lives.first().map_or(0, |live| live.place),
+            low: lives.first().map(|live| live.rank()),
             chunks: chunked(alloc, lives)?,
         })
     }
@@ -51,7 +53,7 @@ impl Group {
     {
         Group {
             fence: round_each(&chunks),
-            low: chunks.first().map_or(0, |chunk| chunk.low),
+            low: chunks.first().and_then(|chunk| chunk.low),
             chunks,
         }
     }
@@ -66,7 +68,7 @@ impl Group {
     {
         chunks::insert(alloc, &mut self.chunks, live)?;
         self.fence = self.fence.widened(live);
-        self.low = self.low.min(live.place);
+        self.low = self.low.min(Some(live.rank()));
         Ok(())
     }
 
@@ -82,13 +84,13 @@ impl Group {
         Ok(Group::of(later))
     }
 
-    // Takes the volumes of an operator's plan out of a chunk that may have a place; how many at least.
-    fn leave(&mut self, operator: &Operator, id: &PlanId, place: u128) -> usize
-        ensures left { IsLeft operator.now id.now (volumes_in self.old.chunks.items)
+    // Takes the volumes of a rank's plan out of a chunk that may have the rank; how many at least.
+    fn leave(&mut self, rank: &Rank) -> usize
+        ensures left { IsLeft rank.now.plan.operator rank.now.plan.id (volumes_in self.old.chunks.items)
             (volumes_in self.new.chunks.items) result }
         ensures hedged { IsHedged self.old → IsHedged self.new }
     {
-        let gone = chunks::leave_at(&mut self.chunks, operator, id, place);
+        let gone = chunks::leave_at(&mut self.chunks, rank);
         self.fence = round_each(&self.chunks);
         gone
     }
@@ -125,18 +127,18 @@ impl Group {
         &self,
         near: &mut NearPlans,
         wanted: &Wanted,
-        extent: &Slab,
+        sought: &Sought,
     ) -> Result<(), AllocError>
-        ensures { OnOk result (IsHedged self.now → AddsPlans wanted.now (slab_has extent.now)
+        ensures { OnOk result (IsHedged self.now → AddsPlans wanted.now (sought_has sought.now)
             (volumes_in self.now.chunks.items) near.old near.new) }
     {
         if !near.is_whole {
             return Ok(());
         }
-        if !self.fence.may_meet(wanted.least, extent) {
+        if !self.fence.may_meet(wanted.least, sought) {
             return Ok(());
         }
-        chunks::add_near_in(near, &self.chunks, wanted, extent)
+        chunks::add_near_in(near, &self.chunks, wanted, sought)
     }
 
     /// Whether a volume of another operator is near an extent. No chunk is looked at if the fence doesn't
@@ -194,13 +196,13 @@ pub(crate) fn add_near_in(
     near: &mut NearPlans,
     groups: &[Group],
     wanted: &Wanted,
-    extent: &Slab,
+    sought: &Sought,
 ) -> Result<(), AllocError>
-    ensures { OnOk result (AreHedged groups.now → AddsPlans wanted.now (slab_has extent.now)
+    ensures { OnOk result (AreHedged groups.now → AddsPlans wanted.now (sought_has sought.now)
         (volumes_under groups.now) near.old near.new) }
 {
     for group in groups {
-        group.add_near(near, wanted, extent)?;
+        group.add_near(near, wanted, sought)?;
     }
     Ok(())
 }
@@ -242,16 +244,16 @@ pub(crate) fn insert(
         (volumes_under groups.new.items)) }
     ensures hedged { AreHedged groups.old.items → AreHedged groups.new.items }
 {
-    make_room(groups, live.place)?;
+    make_room(groups, &live.rank())?;
     add(alloc, groups, live)
 }
 
-// Cuts the group where a place in the order is in two, if it is full.
-fn make_room(groups: &mut Vec<Group>, place: u128) -> Result<(), AllocError>
+// Cuts the group where a volume of a rank would stand in two, if it is full.
+fn make_room(groups: &mut Vec<Group>, rank: &Rank) -> Result<(), AllocError>
     ensures same { volumes_under groups.new.items ≡ volumes_under groups.old.items }
     ensures hedged { AreHedged groups.old.items → AreHedged groups.new.items }
 {
-    let at = last_upto(groups, place);
+    let at = last_upto(groups, rank);
     if at < groups.len() && groups[at].chunks.len() >= FULL {
         return cut(groups, at);
     }
@@ -266,7 +268,7 @@ fn add(alloc: Global, groups: &mut Vec<Group>, live: &LiveVolume) -> Result<(), 
         (volumes_under groups.new.items)) }
     ensures hedged { AreHedged groups.old.items → AreHedged groups.new.items }
 {
-    let at = last_upto(groups, live.place);
+    let at = last_upto(groups, &live.rank());
     if at < groups.len() {
         return groups[at].insert(alloc, live);
     }
@@ -297,70 +299,63 @@ fn put_behind(groups: &mut Vec<Group>, at: usize, later: Group)
     }
 }
 
-// The last group that begins at a place in the order or before it, or else the first one.
-fn last_upto(groups: &[Group], place: u128) -> usize {
+// The last group that begins at a rank or before it, or else the first one.
+fn last_upto(groups: &[Group], rank: &Rank) -> usize {
     groups
-        .partition_point(|group| group.low <= place)
+        .partition_point(|group| group.low <= Some(*rank))
         .saturating_sub(1)
 }
 
 // ---- taking out
 
-/// Takes the volumes of an operator's plan out of groups, of which some places are known. If not all are
-/// there, they are looked for everywhere.
-pub(crate) fn leave_all(groups: &mut Vec<Group>, operator: &Operator, id: &PlanId, places: &[u128])
-    ensures same { count_of operator.now id.now (volumes_under groups.old.items) ≤ length places.now
-        → volumes_under groups.new.items
-        ≡ filter (is_beside operator.now id.now) (volumes_under groups.old.items) }
+/// Takes the volumes of a plan out of groups, of which some places are known. If not all are there, they are
+/// looked for everywhere.
+pub(crate) fn leave_all(groups: &mut Vec<Group>, plan: &PlanKey, places: &[u128])
+    ensures same { count_of plan.now.operator plan.now.id (volumes_under groups.old.items)
+        ≤ length places.now → volumes_under groups.new.items
+        ≡ filter (is_beside plan.now.operator plan.now.id) (volumes_under groups.old.items) }
     ensures hedged { AreHedged groups.old.items → AreHedged groups.new.items }
 {
-    let gone = leave_at_places(groups, operator, id, places);
+    let gone = leave_at_places(groups, plan, places);
     if gone < places.len() {
-        leave_each(groups, operator, id);
+        leave_each(groups, &plan.operator, &plan.id);
     }
 }
 
-// Takes the volumes of an operator's plan that stand at some places out of groups; how many at least.
-fn leave_at_places(
-    groups: &mut Vec<Group>,
-    operator: &Operator,
-    id: &PlanId,
-    places: &[u128],
-) -> usize
-    ensures left { IsLeft operator.now id.now (volumes_under groups.old.items)
+// Takes the volumes of a plan that stand at some places out of groups; how many at least.
+fn leave_at_places(groups: &mut Vec<Group>, plan: &PlanKey, places: &[u128]) -> usize
+    ensures left { IsLeft plan.now.operator plan.now.id (volumes_under groups.old.items)
         (volumes_under groups.new.items) result }
     ensures hedged { AreHedged groups.old.items → AreHedged groups.new.items }
 {
     let mut gone: usize = 0;
     for place in places {
-        gone = gone.saturating_add(leave_at(groups, operator, id, *place));
+        gone = gone.saturating_add(leave_at(groups, &Rank::of(plan, *place)));
     }
     gone
 }
 
-// Takes them out of the first group that may have a place and has some.
-fn leave_at(groups: &mut Vec<Group>, operator: &Operator, id: &PlanId, place: u128) -> usize
-    ensures left { IsLeft operator.now id.now (volumes_under groups.old.items)
+// Takes the volumes of a rank's plan out of the first group that may have the rank and has some.
+fn leave_at(groups: &mut Vec<Group>, rank: &Rank) -> usize
+    ensures left { IsLeft rank.now.plan.operator rank.now.plan.id (volumes_under groups.old.items)
         (volumes_under groups.new.items) result }
     ensures hedged { AreHedged groups.old.items → AreHedged groups.new.items }
 {
-    let at = group_with(groups, operator, id, place);
+    let at = group_with(groups, rank);
     if at < groups.len() {
-        leave_group(groups, operator, id, place, at)
+        leave_group(groups, rank, at)
     } else {
         0
     }
 }
 
-// The first group that may have a place and has a volume of an operator's plan there, or the number of all.
-fn group_with(groups: &[Group], operator: &Operator, id: &PlanId, place: u128) -> usize {
+// The first group that may have a rank and has a volume of the rank's plan there, or the number of all.
+fn group_with(groups: &[Group], rank: &Rank) -> usize {
     let mut at = groups
-        .partition_point(|group| group.low < place)
+        .partition_point(|group| group.low < Some(*rank))
         .saturating_sub(1);
-    while at < groups.len()
-        && chunk_with(&groups[at].chunks, operator, id, place) == groups[at].chunks.len()
-    {
-        if place < groups[at].low {
+    while at < groups.len() && chunk_with(&groups[at].chunks, rank) == groups[at].chunks.len() {
+        if Some(*rank) < groups[at].low {
             return groups.len();
         }
         at += 1;
@@ -369,19 +364,13 @@ fn group_with(groups: &[Group], operator: &Operator, id: &PlanId, place: u128) -
 }
 
 // Takes them out of a group, and the group if nothing is left of it.
-fn leave_group(
-    groups: &mut Vec<Group>,
-    operator: &Operator,
-    id: &PlanId,
-    place: u128,
-    at: usize,
-) -> usize
+fn leave_group(groups: &mut Vec<Group>, rank: &Rank, at: usize) -> usize
     requires { at < length groups.old.items }
-    ensures left { IsLeft operator.now id.now (volumes_under groups.old.items)
+    ensures left { IsLeft rank.now.plan.operator rank.now.plan.id (volumes_under groups.old.items)
         (volumes_under groups.new.items) result }
     ensures hedged { AreHedged groups.old.items → AreHedged groups.new.items }
 {
-    let gone = groups[at].leave(operator, id, place);
+    let gone = groups[at].leave(rank);
     drop_if_empty(groups, at);
     merge(groups, at);
     merge(groups, at.saturating_sub(1));

@@ -11,6 +11,7 @@ mod near;
 mod order;
 mod places;
 mod regions;
+mod sought;
 mod volume;
 
 pub use live::{Gathering, LiveVolumes};

@@ -10,7 +10,8 @@ ghost use Rattle.desk_live.specs.Live.{AreBrought, AreHedged, AreKeptOnce, ArePl
 ghost use Rattle.desk_live.specs.Live.{gathered_in, is_beside, is_of_any, stays_at, volumes_of, volumes_under};
 ghost use Rattle.desk_live.specs.Regions.{HoldNothingBeside, has_theirs};
 ghost use Rattle.desk_live.specs.Near.{AddsPlans, AreNearPlans, AreWantedPlans};
-ghost use Rattle.volume4d.specs.Slab.{slab_has, slabs_have};
+ghost use Rattle.desk_live.specs.Sought.{sought_has};
+ghost use Rattle.volume4d.specs.Slab.{slabs_have};
 
 use crate::changing::{brought_by, leave, push_all, push_plan};
 use crate::group::{Group, add_near_in, grouped, insert, leave_all};
@@ -18,27 +19,22 @@ use crate::near::{NearPlans, PlanKey, Wanted, add_each};
 use crate::order::put_in_order;
 use crate::places::{Places, places_of};
 use crate::regions::{at_most, joined, whole_of};
+use crate::sought::Sought;
 use crate::volume::LiveVolume;
 use desk_rules::operator::Operator;
 use desk_rules::plan::PlanRow;
 use desk_rules::plan_id::PlanId;
 use desk_store::Change;
 use std::alloc::{AllocError, Global};
-use std::slice;
 use volume4d::Slab;
-
-// The plans near one extent are few if reading their rows costs at most so many rows. If they aren't, one
-// question that reads what lies there costs less.
-const FEW: usize = 160;
-
-// Near several extents, each of which would be a question, plans are few up to so many rows. Reading these
-// takes half a second.
-const MOST: usize = 1 << 19;
 
 // So many extents are regions of their own at most.
 const APART: usize = 1 << 10;
 
-// So many chunks are looked into for several extents one by one, which takes a tenth of a second.
+// Of up to so many extents each is asked for at each volume.
+const PARTS: usize = 96;
+
+// So many chunks are looked into for more extents one by one, which takes a tenth of a second.
 const LOOKS: usize = 1 << 13;
 
 /// The volumes of all live plans, most of them in chunks.
@@ -97,8 +93,9 @@ impl LiveVolumes {
     }
 
     /// The plans of which one may hold a point of some extents, of those that are wanted; or none if they
-    /// aren't few. Several extents are asked one by one, as long as few chunks are looked into, and then all
-    /// as one: so at most `LOOKS` chunks are looked into, and then each volume once.
+    /// have more rows than there is room for. Each volume is looked at once for up to `PARTS` extents. More
+    /// of them are asked one by one, as long as at most `LOOKS` chunks are looked into, and then as one slab
+    /// round all.
     ///
     /// # Errors
     ///
@@ -108,28 +105,50 @@ impl LiveVolumes {
         alloc: Global,
         wanted: &Wanted,
         extents: &[Slab],
+        room: usize,
     ) -> Result<Option<Vec<PlanKey>>, AllocError>
         ensures { IfOk result (λ found. IfSome found (λ keys. (w : World) → AreKeptOnce self.now w
             → AreWantedPlans w wanted.now extents.now keys.items)) }
     {
-        let (room, looks) = if extents.len() < 2 {
-            (FEW, usize::MAX)
-        } else {
-            (MOST, LOOKS)
-        };
-        let apart = self.near_plans(alloc, wanted, extents, room, looks)?;
-        if apart.is_some() {
-            return Ok(apart);
+        if PARTS < extents.len() {
+            let apart = self.near_apart(alloc, wanted, extents, room)?;
+            if apart.is_some() {
+                return Ok(apart);
+            }
         }
-        self.near_whole(alloc, wanted, extents)
+        self.near_at_once(alloc, wanted, extents, room)
     }
 
-    // The plans whose volumes are wanted and near a slab round all of several extents, if they are few.
-    fn near_whole(
+    // The plans whose volumes are wanted and near extents, which are asked one by one, if they have at most
+    // so many rows, and if at most `LOOKS` chunks are looked into.
+    fn near_apart(
         &self,
         alloc: Global,
         wanted: &Wanted,
         extents: &[Slab],
+        room: usize,
+    ) -> Result<Option<Vec<PlanKey>>, AllocError>
+        ensures { IfOk result (λ found. IfSome found (λ keys. AreHedged self.now.groups.items
+            → AreNearPlans wanted.now (slabs_have extents.now) (volumes_of self.now) keys.items)) }
+    {
+        let mut near = NearPlans::new(alloc, room, LOOKS);
+        for extent in extents {
+            self.add_near(&mut near, wanted, &Sought::one(extent))?;
+            if !near.is_whole {
+                return Ok(None);
+            }
+        }
+        near.if_whole(alloc)
+    }
+
+    // The plans whose volumes are wanted and near extents, which are asked all at once, if they have at most
+    // so many rows. Those near a slab round all are told, if there are more than `PARTS` extents.
+    fn near_at_once(
+        &self,
+        alloc: Global,
+        wanted: &Wanted,
+        extents: &[Slab],
+        room: usize,
     ) -> Result<Option<Vec<PlanKey>>, AllocError>
         ensures { IfOk result (λ found. IfSome found (λ keys. AreHedged self.now.groups.items
             → AreNearPlans wanted.now (slabs_have extents.now) (volumes_of self.now) keys.items)) }
@@ -137,33 +156,13 @@ impl LiveVolumes {
         let Some((first, others)) = extents.split_first() else {
             return Ok(None);
         };
-        if others.is_empty() {
-            return Ok(None);
-        }
-        let whole = whole_of(first, others);
-        self.near_plans(alloc, wanted, slice::from_ref(&whole), MOST, usize::MAX)
-    }
-
-    // The plans whose volumes are wanted and near, if they have at most so many rows, and if at most so many
-    // chunks are looked into.
-    fn near_plans(
-        &self,
-        alloc: Global,
-        wanted: &Wanted,
-        extents: &[Slab],
-        room: usize,
-        looks: usize,
-    ) -> Result<Option<Vec<PlanKey>>, AllocError>
-        ensures { IfOk result (λ found. IfSome found (λ keys. AreHedged self.now.groups.items
-            → AreNearPlans wanted.now (slabs_have extents.now) (volumes_of self.now) keys.items)) }
-    {
-        let mut near = NearPlans::new(alloc, room, looks);
-        for extent in extents {
-            self.add_near(&mut near, wanted, extent)?;
-            if !near.is_whole {
-                return Ok(None);
-            }
-        }
+        let parts = at_most(alloc, extents, PARTS)?;
+        let sought = Sought {
+            whole: whole_of(first, others),
+            parts: &parts,
+        };
+        let mut near = NearPlans::new(alloc, room, usize::MAX);
+        self.add_near(&mut near, wanted, &sought)?;
         near.if_whole(alloc)
     }
 
@@ -172,13 +171,13 @@ impl LiveVolumes {
         &self,
         near: &mut NearPlans,
         wanted: &Wanted,
-        extent: &Slab,
+        sought: &Sought,
     ) -> Result<(), AllocError>
         ensures { OnOk result (AreHedged self.now.groups.items
-            → AddsPlans wanted.now (slab_has extent.now) (volumes_of self.now) near.old near.new) }
+            → AddsPlans wanted.now (sought_has sought.now) (volumes_of self.now) near.old near.new) }
     {
-        add_near_in(near, &self.groups, wanted, extent)?;
-        self.add_young(near, wanted, extent)
+        add_near_in(near, &self.groups, wanted, sought)?;
+        self.add_young(near, wanted, sought)
     }
 
     // Adds those of the volumes that are in no chunk.
@@ -186,12 +185,12 @@ impl LiveVolumes {
         &self,
         near: &mut NearPlans,
         wanted: &Wanted,
-        extent: &Slab,
+        sought: &Sought,
     ) -> Result<(), AllocError>
-        ensures { OnOk result (AddsPlans wanted.now (slab_has extent.now) self.now.young.items near.old
+        ensures { OnOk result (AddsPlans wanted.now (sought_has sought.now) self.now.young.items near.old
             near.new) }
     {
-        add_each(near, &self.young, wanted, extent)
+        add_each(near, &self.young, wanted, sought)
     }
 
     /// The volumes that a change brings, for which there is room then.
@@ -253,7 +252,7 @@ impl LiveVolumes {
             operator: *operator,
             id: *id,
         };
-        leave_all(&mut self.groups, operator, id, self.places.of(&key));
+        leave_all(&mut self.groups, &key, self.places.of(&key));
         self.places.forget(&key);
     }
 

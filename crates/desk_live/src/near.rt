@@ -1,15 +1,15 @@
 //! The plans whose volumes are near extents, as long as they have few rows.
 
 ghost use Rattle.std.specs.Prelude.{◌≡◌, ◌∷◌, [], true, IfOk, IfSome, OnOk};
-ghost use Rattle.volume4d.specs.Slab.{slab_has};
 ghost use Rattle.desk_live.specs.Near.{AddsPlans, LooksOn, TakesPlan, is_among};
+ghost use Rattle.desk_live.specs.Sought.{sought_has};
 
+use crate::sought::Sought;
 use crate::volume::LiveVolume;
 use desk_rules::operator::Operator;
 use desk_rules::plan_id::PlanId;
 use std::alloc::{AllocError, Global};
 use std::collections::BTreeSet;
-use volume4d::Slab;
 
 // What one more question costs, as so many rows.
 const QUESTION: usize = 10;
@@ -72,15 +72,15 @@ impl NearPlans {
         &mut self,
         live: &LiveVolume,
         wanted: &Wanted,
-        extent: &Slab,
+        sought: &Sought,
     ) -> Result<(), AllocError>
-        ensures { OnOk result (AddsPlans wanted.now (slab_has extent.now) (live.now ∷ []) self.old
+        ensures { OnOk result (AddsPlans wanted.now (sought_has sought.now) (live.now ∷ []) self.old
             self.new) }
     {
         if !self.is_whole {
             return Ok(());
         }
-        if !live.is_near_to(wanted, extent) {
+        if !live.is_near_to(wanted, sought) {
             return Ok(());
         }
         if self.has(live) {
@@ -139,12 +139,12 @@ pub(crate) fn add_each(
     near: &mut NearPlans,
     lives: &[LiveVolume],
     wanted: &Wanted,
-    extent: &Slab,
+    sought: &Sought,
 ) -> Result<(), AllocError>
-    ensures { OnOk result (AddsPlans wanted.now (slab_has extent.now) lives.now near.old near.new) }
+    ensures { OnOk result (AddsPlans wanted.now (sought_has sought.now) lives.now near.old near.new) }
 {
     for live in lives {
-        near.add_if_near(live, wanted, extent)?;
+        near.add_if_near(live, wanted, sought)?;
     }
     Ok(())
 }

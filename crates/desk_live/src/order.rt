@@ -1,10 +1,28 @@
 //! An order of volumes in which those that follow each other lie close together in time, on the ground and
 //! in height.
 
-ghost use Rattle.std.specs.Prelude.{IsPermutation};
+ghost use Rattle.std.specs.Prelude.{◌≡◌, IsPermutation};
 
+use crate::near::PlanKey;
 use crate::volume::LiveVolume;
 use volume4d::Slab;
+
+/// Where a volume stands in that order: by its place, and among those of one place by its plan. So the
+/// volumes of a plan are found, however many of other plans have the same place.
+#[derive(Clone, Copy, Debug, PartialEq, Eq, PartialOrd, Ord)]
+pub(crate) struct Rank {
+    pub(crate) place: u128,
+    pub(crate) plan: PlanKey,
+}
+
+impl Rank {
+    /// That of a plan's volume at a place.
+    pub(crate) fn of(plan: &PlanKey, place: u128) -> Rank
+        ensures { result.plan ≡ plan.now }
+    {
+        Rank { place, plan: *plan }
+    }
+}
 
 /// The place of a slab in that order: of its start, its first leaf and its lowest altitude one bit each in
 /// turn, the greatest first (a Z-order curve), and then its first leaf.
@@ -30,5 +48,5 @@ fn spread(number: u64) -> u64 {
 pub(crate) fn put_in_order(lives: &mut [LiveVolume])
     ensures { IsPermutation lives.old lives.new }
 {
-    lives.sort_unstable_by_key(|live| live.place);
+    lives.sort_unstable_by_key(|live| live.rank());
 }

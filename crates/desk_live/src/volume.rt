@@ -8,7 +8,8 @@ ghost use Rattle.desk_live.specs.Near as near;
 ghost use Rattle.desk_live.specs.Regions as regions;
 
 use crate::near::{PlanKey, Wanted};
-use crate::order::place_of;
+use crate::order::{Rank, place_of};
+use crate::sought::Sought;
 use desk_rules::operator::Operator;
 use desk_rules::plan::PlanRow;
 use desk_rules::plan_id::PlanId;
@@ -25,7 +26,7 @@ pub struct LiveVolume {
     pub(crate) bounds: Slab,
     // about how many rows of spans the plan has, of which no clause speaks
     pub(crate) rows: usize,
-    // where it stands in the order of chunks, of which no clause speaks
+    // its place in the order of chunks, of which no clause speaks
     pub(crate) place: u128,
 }
 
@@ -75,6 +76,11 @@ impl LiveVolume {
         }
     }
 
+    /// Where it stands in the order of chunks.
+    pub(crate) fn rank(&self) -> Rank {
+        Rank::of(&self.key(), self.place)
+    }
+
     // Whether it is of the operator's plan of the id, or if there is no id, of one of its plans.
     fn is_own(&self, wanted: &Wanted) -> bool
         ensures { result ≡ near.is_own_volume wanted.now self.now }
@@ -85,11 +91,11 @@ impl LiveVolume {
         }
     }
 
-    /// Whether it is wanted, and its bounds have a point of an extent.
-    pub(crate) fn is_near_to(&self, wanted: &Wanted, extent: &Slab) -> bool
-        ensures { result ≡ near.is_near_to wanted.now extent.now self.now }
+    /// Whether it is wanted, and its bounds meet what is sought.
+    pub(crate) fn is_near_to(&self, wanted: &Wanted, sought: &Sought) -> bool
+        ensures { result ≡ near.is_near_to wanted.now sought.now self.now }
     {
-        if !self.bounds.overlaps(extent) {
+        if !sought.meets(&self.bounds) {
             return false;
         }
         if self.priority < wanted.least {

@@ -1,14 +1,14 @@
-use Rattle.volume4d.specs.Slab.{slab_has}
+use Rattle.desk_live.specs.Sought.{sought_has}
 use Rattle.desk_live.specs.Live.{IsWhole}
 use Rattle.desk_live.proofs.NearLemmas.{adds_next, adds_none}
 use Rattle.desk_live.proofs.chunk.add_near_in.Goals as goal
 
 pub loop-chunk-init : goal.loop-chunk-init
 loop-chunk-init c = λ fenced.
-    adds_none c.args.wanted.now (slab_has c.args.extent.now) c.args.near.now
+    adds_none c.args.wanted.now (sought_has c.args.sought.now) c.args.near.now
 
 pub loop-chunk-preserved : goal.loop-chunk-preserved
 loop-chunk-preserved c =
-    adds_next (λ k. k.volumes.items) IsWhole c.args.wanted.now c.args.extent.now c.args.chunks.now
-    c.loop-chunk.chunk-index c.chunk-item.result c.args.near.now c.loop-chunk.near c.add_near.new.near
-    c.loop-chunk-test.true c.chunk-item.is c.loop-chunk.invariant c.in_ok-add_near.ensures
+    adds_next (λ k. k.volumes.items) IsWhole c.args.wanted.now (sought_has c.args.sought.now)
+    c.args.chunks.now c.loop-chunk.chunk-index c.chunk-item.result c.args.near.now c.loop-chunk.near
+    c.add_near.new.near c.loop-chunk-test.true c.chunk-item.is c.loop-chunk.invariant c.in_ok-add_near.ensures

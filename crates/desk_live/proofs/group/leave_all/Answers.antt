@@ -9,6 +9,6 @@ returns-then-gone-places-clause-same c = λ few.
 
 pub returns-else-gone-places-clause-same : goal.returns-else-gone-places-clause-same
 returns-else-gone-places-clause-same c = λ few.
-    left_all c.args.operator.now c.args.id.now (volumes_under c.args.groups.now.items)
+    left_all c.args.plan.now.operator c.args.plan.now.id (volumes_under c.args.groups.now.items)
     (volumes_under c.leave_at_places-gone.new.groups.items) c.leave_at_places-gone.result
     c.leave_at_places-gone.ensures.left (omega (arith, few, c.if-gone-places.false))

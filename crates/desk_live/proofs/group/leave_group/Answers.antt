@@ -7,8 +7,8 @@ use Rattle.desk_live.proofs.group.leave_group.Goals as goal
 
 pub returns-clause-left : goal.returns-clause-left
 returns-clause-left c =
-    let o = c.args.operator.now in
-    let id = c.args.id.now in
+    let o = c.args.rank.now.plan.operator in
+    let id = c.args.rank.now.plan.id in
     let old = c.args.groups.now.items in
     let gone = c.leave-gone.result in
     left_as o id (volumes_under old) (volumes_under (set old c.args.at c.leave-gone.new.self)) _ gone

@@ -5,6 +5,6 @@ use Rattle.desk_live.proofs.group.Group.add_near.Goals as goal
 
 pub returns-then-not-may_meet : goal.returns-then-not-may_meet
 returns-then-not-may_meet c = λ hedged.
-    adds_fenced c.args.wanted.now c.args.extent.now c.args.self.now.fence
+    adds_fenced c.args.wanted.now c.args.sought.now c.args.self.now.fence
     (volumes_in c.args.self.now.chunks.items)
     c.args.near.now (sym c.may_meet.ensures ∙ c.if-not-may_meet.true) hedged.all

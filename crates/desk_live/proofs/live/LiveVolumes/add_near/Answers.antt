@@ -1,6 +1,6 @@
 use Rattle.std.proofs.Common.{subst}
 use Rattle.std.proofs.lemmas.Result.{on_ok_weaker}
-use Rattle.volume4d.specs.Slab.{slab_has}
+use Rattle.desk_live.specs.Sought.{sought_has}
 use Rattle.desk_live.specs.Live.{AreHedged, volumes_under}
 use Rattle.desk_live.specs.Near.{AddsPlans}
 use Rattle.desk_live.proofs.NearLemmas.{adds_both}
@@ -9,7 +9,7 @@ use Rattle.desk_live.proofs.live.LiveVolumes.add_near.Goals as goal
 pub returns : goal.returns
 returns c =
     let s = c.args.wanted.now in
-    let inside = slab_has c.args.extent.now in
+    let inside = sought_has c.args.sought.now in
     let kept = c.args.self.now in
     let mid = c.add_near_in.new.near in
     on_ok_weaker c.add_young.result (λ added hedged.

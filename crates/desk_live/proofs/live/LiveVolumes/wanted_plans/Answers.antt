@@ -12,6 +12,6 @@ returns-then-is_some c =
 pub returns : goal.returns
 returns c =
     let wanted = c.args.wanted.now in
-    found_weaker c.near_whole.result (λ keys near w kept.
+    found_weaker c.near_at_once.result (λ keys near w kept.
     are_wanted_plans wanted.operator wanted.id wanted.least c.args.extents.now keys.items w
-    (volumes_of c.args.self.now) kept.live (near kept.hedged)) c.near_whole.ensures
+    (volumes_of c.args.self.now) kept.live (near kept.hedged)) c.near_at_once.ensures

@@ -1,10 +1,11 @@
 use Rattle.std.proofs.Common.{◌≡◌, take, subst, arith}
 use Rattle.std.proofs.lemmas.List.{take_all}
-use Rattle.volume4d.specs.Slab.{slabs_have}
+use Rattle.volume4d.specs.Slab.{slab_has, slabs_have}
 use Rattle.desk_live.specs.Live.{volumes_of}
 use Rattle.desk_live.specs.Near.{AreNearPlans}
-use Rattle.desk_live.proofs.NearLemmas.{adds_extent, adds_nothing, found_weaker, near_plans}
-use Rattle.desk_live.proofs.live.LiveVolumes.near_plans.Goals as goal
+use Rattle.desk_live.specs.Sought.{sought_has}
+use Rattle.desk_live.proofs.NearLemmas.{adds_extent, adds_nothing, adds_within, found_weaker, near_plans}
+use Rattle.desk_live.proofs.live.LiveVolumes.near_apart.Goals as goal
 
 pub loop-extent-init : goal.loop-extent-init
 loop-extent-init c = (
@@ -21,7 +22,10 @@ loop-extent-preserved c =
       none,
       λ fenced. adds_extent c.args.wanted.now c.args.extents.now c.loop-extent.extent-index
           c.extent-item.result (volumes_of c.args.self.now) start c.loop-extent.near c.add_near.new.near
-          c.loop-extent-test.true c.extent-item.is (before fenced) (c.in_ok-add_near.ensures fenced),
+          c.loop-extent-test.true c.extent-item.is (before fenced)
+          (adds_within c.args.wanted.now (slab_has c.extent-item.result) (sought_has c.one.result)
+          (volumes_of c.args.self.now) c.loop-extent.near c.add_near.new.near c.one.ensures
+          (c.in_ok-add_near.ensures fenced)),
     )
 
 pub returns : goal.returns

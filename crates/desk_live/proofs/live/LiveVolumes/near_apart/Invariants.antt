@@ -3,7 +3,7 @@ use Rattle.volume4d.specs.Slab.{slabs_have}
 use Rattle.desk_live.specs.declared.near.NearPlans.{NearPlans}
 use Rattle.desk_live.specs.Live.{AreHedged, volumes_of}
 use Rattle.desk_live.specs.Near.{AddsPlans}
-use Rattle.desk_live.proofs.live.LiveVolumes.near_plans.Given as goal
+use Rattle.desk_live.proofs.live.LiveVolumes.near_apart.Given as goal
 
 abbrev pub invariant-loop-extent : goal.invariant-loop-extent
 invariant-loop-extent l = (start : NearPlans) × (start.keys.keys ≡ []) × (AreHedged l.self.groups.items
