@@ -165,11 +165,6 @@ all_selected table text cells wanted known old new rows has h =
 
 -- ---- tables that may not be made
 
--- the query of what is read
-abbrev pub IsWholeText : Whole → List ℕ → Type 0
-IsWholeText whole text = (packed : Bool) → SelectsAll (table_in whole packed) text
-    (key_cells (table_read whole)) (λ db. rows_read whole (tables_in packed db))
-
 -- a query of a table that stands in one tree
 pub one_tree : (whole : Whole) (table : DeskTable) (text : List ℕ) (cells : List ℕ)
     → ((packed : Bool) → table_in whole packed ≡ table)

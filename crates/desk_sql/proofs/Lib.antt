@@ -5,6 +5,7 @@ pub mod ReadLemmas
 pub mod StatementLemmas
 pub mod CommandTexts
 pub mod NumberLemmas
+pub mod WholeTexts
 pub mod WriteLemmas
 pub mod InsertLemmas
 pub mod DeleteLemmas
@@ -22,6 +23,7 @@ pub mod MadeLemmas
 pub mod RowidLemmas
 pub mod PackedLemmas
 pub mod VolumeLemmas
+pub mod ChangeTexts
 pub mod ClearLemmas
 pub mod SureTexts
 pub mod AskLemmas

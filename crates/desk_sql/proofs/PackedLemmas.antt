@@ -6,31 +6,12 @@ use Rattle.sqlite.specs.Listing.{understood}
 use Rattle.desk_sql.specs.declared.opening.numbers.DeskTable.TheVariants.{PackedVolume, PackedSpan}
 use Rattle.desk_sql.specs.Rows.{columns, packed_tables_of}
 use Rattle.desk_sql.specs.Statements.{SelectsAll, rowids}
-use Rattle.desk_sql.proofs.Texts.{all_volumes_text, volume_rows_text, all_spans_text, volume_rowids_text, span_rowids_text}
-use Rattle.desk_sql.proofs.QueryTexts.{IsWhole, volumes_in, volume_rows_in, spans_in, rowids_query}
+use Rattle.desk_sql.proofs.Texts.{volume_rows_text, all_spans_text, volume_rowids_text, span_rowids_text}
+use Rattle.desk_sql.proofs.QueryTexts.{IsWhole, volume_rows_in, spans_in, rowids_query}
 use Rattle.desk_sql.proofs.ReadLemmas.{scanned}
 use Rattle.desk_sql.proofs.SureTexts.{IsSureWith, sure_scan}
 use Rattle.desk_sql.proofs.StatementLemmas.{every, selects_all}
 use Rattle.desk_sql.proofs.RowidLemmas.{rowids_selected}
-
-volumes_are : IsWhole PackedVolume all_volumes_text (volumes_in 8)
-    (codes "operator" ∷ codes "id" ∷ codes "place" ∷ codes "lower" ∷ codes "upper" ∷ codes "start"
-    ∷ codes "stop" ∷ codes "asked" ∷ [])
-unfolding understood everything
-volumes_are others indexes = record { is = refl; plain = (refl, refl); unlisted = refl }
-
-volumes_sure : IsSureWith PackedVolume all_volumes_text
-unfolding understood everything
-volumes_sure others indexes =
-    sure_scan (volumes_are others indexes) refl (omega arith) (λ trees misfit. true≢false misfit)
-
-pub volumes_selected :
-    SelectsAll PackedVolume all_volumes_text (0 ∷ 1 ∷ 2 ∷ []) (λ db. (packed_tables_of db).volumes)
-volumes_selected =
-    selects_all all_volumes_text _ _ _ _ _ _ volumes_are volumes_sure (0 ∷ 1 ∷ 2 ∷ []) _
-    (λ e. refl) (λ x y. refl)
-    (λ db. scanned (λ r. [] ∷ r ∷ []) (volumes_in 8).filter (volumes_in 8).project (columns 8)
-    (λ r. true) (λ r. refl) (λ r. refl) (db 8) ∙ every (map (columns 8) (db 8)))
 
 volume_rows_are : IsWhole PackedVolume volume_rows_text (volume_rows_in 8)
     (codes "operator" ∷ codes "id" ∷ codes "place" ∷ codes "lower" ∷ codes "upper" ∷ codes "start"

@@ -2,7 +2,6 @@
 use Rattle.std.proofs.Common.{◌≡◌, ℕ, pos, Bool, List, [], ◌∷◌, map, filter, refl, sym, ap, ◌∙◌, true, true≢false, ◌&&◌, codes, arith, inl, inr}
 use Rattle.std.specs.List.{list_all}
 use Rattle.sqlite.specs.Collation.TheVariants.{Binary}
-use Rattle.sqlite.specs.declared.types.Value.TheVariants.{Int, Text}
 use Rattle.sqlite.specs.Order.{Row, column}
 use Rattle.sqlite.specs.Term.{Term, col, op2, eval_all, holds}
 use Rattle.sqlite.specs.Query.{Query, inner, end}
@@ -14,6 +13,7 @@ use Rattle.sqlite.specs.Listing.{understood}
 use Rattle.desk_sql.specs.Rows.{is_at_most, is_at_least, is_below, is_above, is_of, held_columns, columns}
 use Rattle.desk_sql.specs.declared.reading.rivals.SpanQuery.{SpanQuery}
 use Rattle.desk_sql.specs.Schema.{desk_schema}
+use Rattle.desk_sql.specs.Queries.{plan_params}
 use Rattle.desk_sql.specs.Refusals.{IsSureGiven}
 use Rattle.desk_sql.specs.Statements.{Selects}
 use Rattle.desk_sql.specs.Others.{is_plans}
@@ -41,12 +41,6 @@ pub plan_spans_is : IsQuery plan_spans_text plan_spans_query
     ∷ codes "priority" ∷ [])
 unfolding understood everything
 plan_spans_is = record { is = refl; plain = (refl, refl); unlisted = refl }
-
--- what the query is given
-abbrev plan_params : List ℕ → List ℕ → SpanQuery → Row
-plan_params operator id reach =
-    Int reach.last ∷ Int reach.first ∷ Int reach.upper ∷ Int reach.lower ∷ Int reach.stop ∷ Int reach.start
-    ∷ Int (pos reach.priority) ∷ Text operator ∷ Text id ∷ []
 
 grouped : (a b c d e f g h : Bool) → (a && (b && (c && (d && (e && (f && (g && h)))))))
     ≡ ((a && (b && (c && (d && (e && (f && g)))))) && h)

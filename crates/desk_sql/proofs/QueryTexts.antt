@@ -1,8 +1,7 @@
 -- What the queries mean, found by computing.
-use Rattle.std.proofs.Common.{◌≡◌, ℕ, ℤ, pos, negsuc, List, [], ◌∷◌, codes, None, false, refl}
+use Rattle.std.proofs.Common.{◌≡◌, ℕ, pos, negsuc, List, [], ◌∷◌, codes, None, false, refl}
 use Rattle.sqlite.specs.Collation.TheVariants.{Binary}
-use Rattle.sqlite.specs.declared.types.Value.TheVariants.{Int, Text}
-use Rattle.sqlite.specs.Order.{Row}
+use Rattle.sqlite.specs.declared.types.Value.TheVariants.{Int}
 use Rattle.sqlite.specs.Term.{Term, lit, col, op2}
 use Rattle.sqlite.specs.Query.{Query, Join, inner, end}
 use Rattle.sqlite.specs.Command.TheVariants.{Select}
@@ -18,10 +17,9 @@ use Rattle.sqlite.specs.Schema.{Schema}
 use Rattle.sqlite.specs.Table.{Table}
 use Rattle.sqlite_schema.specs.declared.schema.Index.{Index}
 use Rattle.desk_sql.specs.Schema.{desk_schema, schema_to}
-use Rattle.desk_sql.specs.declared.reading.rivals.SpanQuery.{SpanQuery}
 use Rattle.desk_sql.specs.declared.opening.numbers.DeskTable.{DeskTable}
 use Rattle.desk_sql.specs.declared.opening.numbers.DeskTable.TheVariants.{Operator, Plan, OldVolume, OldSpan, Volume, Span}
-use Rattle.desk_sql.proofs.Texts.{operator_named_text, all_operators_text, plan_of_text, all_plans_text, volumes_of_text, all_volumes_text, volume_rows_text, all_spans_text, own_plans_text, rival_spans_text, operator_rowids_text, plan_rowids_text, old_volume_rowids_text, old_span_rowids_text, volume_rowids_text, span_rowids_text}
+use Rattle.desk_sql.proofs.Texts.{all_operators_text, plan_of_text, all_plans_text, volumes_of_text, volume_rows_text, all_spans_text, own_plans_text, rival_spans_text, operator_rowids_text, plan_rowids_text, old_volume_rowids_text, old_span_rowids_text, volume_rowids_text, span_rowids_text}
 
 abbrev pub query_of : Join → List Term → List Term → List (Term × Key) → Query
 query_of from filter project order = record {
@@ -49,15 +47,6 @@ IsQuery text query names = IsQueryIn desk_schema text query names
 abbrev pub IsWhole : DeskTable → List ℕ → Query → List (List ℕ) → Type 0
 IsWhole table text query names = (others : List Table) (indexes : List Index)
     → IsQueryIn (schema_to table others indexes) text query names
-
-abbrev pub operator_named_query : Query
-operator_named_query = query_of (inner 0 end) (op2 (Compare Eq Binary) (col 1 1) (col 0 0) ∷ [])
-    (col 1 1 ∷ col 1 2 ∷ []) ([])
-
-pub operator_named_is : IsQuery operator_named_text operator_named_query
-    (codes "name" ∷ codes "ceiling" ∷ [])
-unfolding understood everything
-operator_named_is = record { is = refl; plain = (refl, refl); unlisted = refl }
 
 abbrev pub all_operators_query : Query
 all_operators_query = query_of (inner 0 end) ([]) (col 1 1 ∷ col 1 2 ∷ [])
@@ -101,22 +90,6 @@ unfolding understood everything
 volumes_of_is = record { is = refl; plain = (refl, refl); unlisted = refl }
 
 -- the rows of `volume2`, which is this tree
-abbrev pub volumes_in : ℕ → Query
-volumes_in tree = query_of (inner tree end) ([])
-    (col 1 1 ∷ col 1 2 ∷ col 1 3 ∷ col 1 4 ∷ col 1 5 ∷ col 1 6
-    ∷ col 1 7 ∷ col 1 8 ∷ []) ((col 1 1, ascending Binary) ∷ (col 1 2, ascending Binary)
-    ∷ (col 1 3, ascending Binary) ∷ [])
-
-abbrev pub all_volumes_query : Query
-all_volumes_query = volumes_in 9
-
-pub all_volumes_is : IsWhole Volume all_volumes_text all_volumes_query
-    (codes "operator" ∷ codes "id" ∷ codes "place" ∷ codes "lower" ∷ codes "upper" ∷ codes "start"
-    ∷ codes "stop" ∷ codes "asked" ∷ [])
-unfolding understood everything
-all_volumes_is others indexes = record { is = refl; plain = (refl, refl); unlisted = refl }
-
--- those rows with all their columns
 abbrev pub volume_rows_in : ℕ → Query
 volume_rows_in tree = query_of (inner tree end) ([])
     (col 1 1 ∷ col 1 2 ∷ col 1 3 ∷ col 1 4 ∷ col 1 5 ∷ col 1 6
@@ -172,12 +145,6 @@ rival_spans_query = query_of (inner 11 end) (compared Ge 4 9 ∷ compared Le 4 0
     ∷ [])
     (col 1 4 ∷ col 1 5 ∷ col 1 6 ∷ col 1 7 ∷ col 1 8 ∷ col 1 9 ∷ col 1 10 ∷ [])
     ((col 1 4, ascending Binary) ∷ [])
-
--- what it is given
-abbrev pub rival_params : List ℕ → List ℕ → SpanQuery → ℤ → Row
-rival_params operator id reach low =
-    Int reach.last ∷ Int reach.first ∷ Int reach.upper ∷ Int reach.lower ∷ Int reach.stop ∷ Int reach.start
-    ∷ Int (pos reach.priority) ∷ Text operator ∷ Text id ∷ Int low ∷ []
 
 pub rival_spans_is : IsQuery rival_spans_text rival_spans_query
     (codes "first" ∷ codes "last" ∷ codes "lower" ∷ codes "upper" ∷ codes "start" ∷ codes "stop"

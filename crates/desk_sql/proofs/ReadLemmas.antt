@@ -291,3 +291,22 @@ unfolding binary
 either_true v w t u = or_true (is_null v) (is_null w) _ _
     ∙ ap₂ (λ a b. (not (is_null v) && a) || (not (is_null w) && b)) (ne_is (value_cmp v (Text t)))
     (ne_is (value_cmp w (Text u)))
+
+-- <> with NULL is never true
+or_null : (p q x y : Bool)
+    → is_true (from_truth (or3 (truth (if p || false then Null else from_truth (Some x)))
+    (truth (if q || true then Null else from_truth (Some y)))))
+    ≡ (not p && x)
+or_null true true x y = refl
+or_null true false x y = refl
+or_null false true true y = refl
+or_null false true false y = refl
+or_null false false true y = refl
+or_null false false false y = refl
+
+pub either_null : (v w : Value) (t : List ℕ) → is_true
+    (binary Or (binary (Compare Ne Binary) v (Text t)) (binary (Compare Ne Binary) w Null))
+    ≡ differs v (Text t)
+unfolding binary
+either_null v w t = or_null (is_null v) (is_null w) _ _
+    ∙ ap (λ b. not (is_null v) && b) (ne_is (value_cmp v (Text t)))

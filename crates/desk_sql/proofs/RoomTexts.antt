@@ -22,13 +22,13 @@ use Rattle.desk_sql.specs.declared.changing.writing.PlanRecord.{PlanRecord}
 use Rattle.desk_sql.specs.declared.changing.writing.VolumeRecord.{VolumeRecord}
 use Rattle.desk_sql.specs.declared.changing.writing.SpanRecord.{SpanRecord}
 use Rattle.desk_sql.specs.Batches.{volume_params, span_row_in}
-use Rattle.desk_sql.specs.Rows.{IsDesk, Tables, operator_row}
+use Rattle.desk_sql.specs.Rows.{IsDesk, Tables, operator_row, tables_of}
 use Rattle.desk_sql.specs.Statements.{Changes, enforced}
 use Rattle.desk_sql.specs.RowChanges.{key_row, plan_row_in}
-use Rattle.desk_sql.specs.Putting.{HasRoomFor, TakesOperators, TakesRoom, TextTakes}
+use Rattle.desk_sql.specs.Putting.{HasRoomFor, TakesOperators, TakesRoom, TextCounts, TextTakes}
 use Rattle.desk_sql.proofs.Texts.{insert_operator_text, insert_plan_text, insert_volume_text, insert_span_text, remove_plan_text}
 use Rattle.desk_sql.proofs.CommandTexts.{insert_operator_is, insert_operator_terms, insert_plan_is, insert_plan_terms, insert_volume_is, insert_volume_terms, insert_span_is, insert_span_terms, remove_plan_is}
-use Rattle.desk_sql.proofs.WriteLemmas.{Adds, adds, cast_null, did, insert_applies, ran, rows_written, table_at, task_at}
+use Rattle.desk_sql.proofs.WriteLemmas.{Adds, adds, cast_null, did, insert_applies, ran, ran_counting, rows_written, table_at, task_at}
 use Rattle.desk_sql.proofs.CascadeLemmas.{has_key}
 use Rattle.desk_sql.proofs.NumberLemmas.{unequal}
 use Rattle.desk_sql.proofs.RemoveLemmas.{AreCut, plan_program, plan_removed, plan_task}
@@ -180,3 +180,16 @@ pub took : (text : List ℕ) (params : Row) (Change : Tables → Tables → Type
 took text params Change Room known takes old new desk count h =
     takes.room old.step_limit old.now new.now desk
     (ran text params old new desk_schema desk.schema known.plain known.writes count h)
+
+-- of a change whose rows nobody counts
+pub any_count : (text : List ℕ) (params : Row) → TextCounts text params (λ count t. ⊤)
+any_count text params = record { counted = λ limit old new count desk h. tt }
+
+-- what ran counted so
+pub counted_so : (text : List ℕ) (params : Row) (Change : Tables → Tables → Type 0)
+    (Counts : ℕ → Tables → Type 0) → Changes text params Change → TextCounts text params Counts
+    → (old new : State) → IsDesk old.now → (count : ℕ)
+    → Executes text params old new (Ok count) → Counts count (tables_of old.now.trees)
+counted_so text params Change Counts known counts old new desk count h =
+    counts.counted old.step_limit old.now new.now count desk
+    (ran_counting text params old new desk_schema desk.schema known.plain known.writes count h)

@@ -1,5 +1,5 @@
 -- What each UPDATE sets.
-use Rattle.std.proofs.Common.{◌≡◌, ℕ, pos, Bool, true, false, ◌&&◌, List, [], ◌∷◌, map, refl, sym, ap, ap₂, subst, ◌∙◌, true≢false, IsPermutation, Option}
+use Rattle.std.proofs.Common.{◌≡◌, ℕ, pos, Bool, true, false, ◌&&◌, List, [], ◌∷◌, filter, length, map, unwrap_or, refl, sym, ap, ap₂, subst, ◌∙◌, true≢false, IsPermutation, Option}
 use Rattle.std.specs.Ordering.{is_eq}
 use Rattle.std.proofs.lemmas.Map.Text.{is_eq-slice_cmp}
 use Rattle.std.proofs.lemmas.Slice.Eq.{bytes_eq-Decides}
@@ -18,14 +18,15 @@ use Rattle.sqlite_schema.specs.declared.program.Program.{Program}
 use Rattle.desk_sql.specs.Schema.{operator_table, plan_table}
 use Rattle.desk_sql.specs.Rows.{IsDesk, AreNumbered, is_text, is_row_by, is_of, columns, tables_of, operator_row, plan_row, with_row, SetsOperators, SetsPlans}
 use Rattle.desk_sql.specs.Statements.{Changes}
-use Rattle.desk_sql.specs.RowChanges.{closing_row}
+use Rattle.desk_sql.specs.Putting.{TextCounts, TextTakes}
+use Rattle.desk_sql.specs.RowChanges.{StaysUnless, closing_row}
 use Rattle.desk_sql.proofs.Texts.{set_ceiling_text, close_plan_text}
 use Rattle.desk_sql.proofs.CommandTexts.{set_ceiling_is, set_ceiling_query, close_plan_is, close_plan_query}
 use Rattle.desk_sql.proofs.ReadLemmas.{equals_text}
 use Rattle.desk_sql.proofs.InsertLemmas.{tables_operator, tables_plan}
 use Rattle.desk_sql.proofs.NumberLemmas.{unequal}
-use Rattle.desk_sql.proofs.WriteLemmas.{May, did, changes_by, rows_written, task_at, cast_int}
-use Rattle.desk_sql.proofs.UpdateLemmas.{update_sets, changes, operator_quiet, plan_quiet, update_edit}
+use Rattle.desk_sql.proofs.WriteLemmas.{May, did, did_counting, changes_by, rows_counted, rows_written, task_at, cast_int}
+use Rattle.desk_sql.proofs.UpdateLemmas.{as_many, changes, none_pass, operator_quiet, plan_quiet, update_counts, update_edit, update_sets, update_stays}
 
 pub text_same : (v : Value) (t : List ℕ) → is_text v t ≡ true → v ≡ Text t
 text_same Null t h = absurd (true≢false (sym h ∙ ap is_eq (value_cmp-Null (Text t))))
@@ -161,6 +162,55 @@ pub set_ceiling_changes : (name : List ℕ) (ceiling : ℕ) → Changes set_ceil
 set_ceiling_changes name ceiling =
     changes_by set_ceiling_text (operator_row name ceiling) _ _ set_ceiling_is tt
     (λ limit old new desk h. set_ceiling name ceiling limit old new desk h)
+
+-- it counts the operator's row, if there is one
+pub set_ceiling_counts : (name : List ℕ) (ceiling : ℕ)
+    → TextCounts set_ceiling_text (operator_row name ceiling)
+    (λ count t. count ≡ length (filter (is_row_by name) t.operators))
+set_ceiling_counts name ceiling = record {
+  counted = λ limit old new count desk h.
+      let params = operator_row name ceiling in
+      let db = old.trees in
+      let q : Program = record { lets = []; body = set_ceiling_query } in
+      let d = did_counting set_ceiling_text params limit old new count desk (Update 0 q) set_ceiling_is h in
+      let it = rows_counted (task_at limit params operator_table.name operator_table.columns
+      operator_table.primary operator_table.references 0) (Update 0 q) db d.0 new d.1 in
+      let wanted = λ (r : Row). is_text (column r 1) name in
+      d.2 ∙ ap (λ rows. unwrap_or rows 0) it.2
+      ∙ update_counts limit params operator_table.name operator_table.columns
+      operator_table.primary operator_table.references 0 db
+      set_ceiling_query.filter set_ceiling_query.project wanted
+      (λ r. rowid r ∷ rowid r ∷ column r 1 ∷ Int (pos ceiling) ∷ []) it.0 refl (λ r. refl)
+      (λ r. both_hold _ ∙ equals_text (column r 1) name) it.1
+      ∙ as_many wanted (columns 2) (is_row_by name) (λ r. refl) (db 0);
+}
+
+-- where there is none, it writes nothing
+pub set_ceiling_room : (name : List ℕ) (ceiling : ℕ)
+    → TextTakes set_ceiling_text (operator_row name ceiling) (StaysUnless (is_row_by name))
+set_ceiling_room name ceiling = record {
+  room = λ limit old new desk h none.
+      let params = operator_row name ceiling in
+      let db = old.trees in
+      let q : Program = record { lets = []; body = set_ceiling_query } in
+      let d = did set_ceiling_text params limit old new desk (Update 0 q) set_ceiling_is h in
+      let it = rows_written (task_at limit params operator_table.name operator_table.columns
+      operator_table.primary operator_table.references 0) (Update 0 q) db d.0 new d.1 in
+      let wanted = λ (r : Row). is_text (column r 1) name in
+      let source = λ (r : Row). rowid r ∷ rowid r ∷ column r 1 ∷ Int (pos ceiling) ∷ [] in
+      let s = update_sets limit params operator_table.name operator_table.columns
+      operator_table.primary operator_table.references 0 db
+      set_ceiling_query.filter set_ceiling_query.project wanted source it.0 refl (λ r. refl)
+      (λ r. both_hold _ ∙ equals_text (column r 1) name) it.1 in
+      ap (λ (d : Database). d.trees 0) it.2
+      ∙ update_stays limit params operator_table.name operator_table.columns
+      operator_table.primary operator_table.references 0 db wanted source it.0.trees
+      (none_pass wanted (columns 2) (is_row_by name) (λ r. refl) (db 0) none)
+      (λ found.
+      let edit = update_edit limit params operator_table.name operator_table.columns
+      operator_table.primary operator_table.references 0 db found in
+      operator_quiet (taken_by db edit) edit.news) s;
+}
 
 pub set_closed_changes : (operator id : List ℕ) (priority aircraft : ℕ)
     → Changes close_plan_text (closing_row operator id priority aircraft)

@@ -18,7 +18,7 @@ use Rattle.sqlite.specs.Held.{Held, state}
 use Rattle.desk_sql.specs.Rows.{IsDesk, is_row_by, is_of, is_wanted, differs, is_at_most, is_at_least, is_below, is_above, held_columns, is_same, joined, has_volume, with_volumes, by_cells, columns, tables_of, Lists}
 use Rattle.desk_sql.specs.declared.reading.rivals.SpanQuery.{SpanQuery}
 use Rattle.desk_sql.specs.declared.reading.query.Query.{Query}
-use Rattle.desk_sql.specs.Queries.{params_of, order_of, rows_of}
+use Rattle.desk_sql.specs.Queries.{params_of, order_of, rows_of, rival_params}
 use Rattle.sqlite.specs.Schema.{Schema}
 use Rattle.sqlite.specs.Table.{Table}
 use Rattle.sqlite_schema.specs.declared.schema.Index.{Index}
@@ -32,10 +32,10 @@ use Rattle.sqlite.specs.Tree.{Trees}
 use Rattle.desk_sql.specs.Rows.{Tables}
 use Rattle.desk_sql.specs.Refusals.{IsSure, IsSureGiven}
 use Rattle.desk_sql.specs.Statements.{MayRead, Selects, SelectsAll}
-use Rattle.desk_sql.proofs.Sure.{operator_named_sure, plan_of_sure, volumes_of_sure, own_plans_sure, rival_spans_sure}
-use Rattle.desk_sql.proofs.SureTexts.{all_operators_sure, all_plans_sure, all_volumes_sure, volume_rows_sure, all_spans_sure}
-use Rattle.desk_sql.proofs.Texts.{operator_named_text, all_operators_text, plan_of_text, all_plans_text, volumes_of_text, all_volumes_text, volume_rows_text, all_spans_text, own_plans_text, rival_spans_text}
-use Rattle.desk_sql.proofs.QueryTexts.{IsQueryIn, IsQuery, IsWhole, query_of, operator_named_is, operator_named_query, all_operators_is, all_operators_query, plan_of_is, plan_of_query, all_plans_is, all_plans_query, volumes_of_is, volumes_of_query, all_volumes_is, all_volumes_query, volume_rows_is, volume_rows_query, all_spans_is, all_spans_query, own_plans_is, own_plans_query, rival_spans_is, rival_spans_query, rival_params}
+use Rattle.desk_sql.proofs.Sure.{plan_of_sure, volumes_of_sure, own_plans_sure, rival_spans_sure}
+use Rattle.desk_sql.proofs.SureTexts.{all_operators_sure, all_plans_sure, volume_rows_sure, all_spans_sure}
+use Rattle.desk_sql.proofs.Texts.{all_operators_text, plan_of_text, all_plans_text, volumes_of_text, volume_rows_text, all_spans_text, own_plans_text, rival_spans_text}
+use Rattle.desk_sql.proofs.QueryTexts.{IsQueryIn, IsQuery, IsWhole, query_of, all_operators_is, all_operators_query, plan_of_is, plan_of_query, all_plans_is, all_plans_query, volumes_of_is, volumes_of_query, volume_rows_is, volume_rows_query, all_spans_is, all_spans_query, own_plans_is, own_plans_query, rival_spans_is, rival_spans_query}
 use Rattle.desk_sql.proofs.ReadLemmas.{was_open, answer_rows, may_answer, scanned, equals_text, equals, either_true, le_number, ge_number, lt_number, gt_number}
 
 -- a value that a desk's rows have, whenever something is shown
@@ -231,15 +231,6 @@ own_test operator p s =
     ∙ and_later (is_same (column s 1) (column p 1)) (is_same (column s 2) (column p 2))
     (is_row_by operator (columns 5 p))
 
-pub operator_named_selected : (name : List ℕ)
-    → Selects operator_named_text (Text name ∷ []) [] (λ t. filter (is_row_by name) t.operators)
-operator_named_selected name =
-    selects operator_named_text _ _ _ _ _ operator_named_is _ (operator_named_sure name) [] _
-    (λ e. refl) (λ x y. refl)
-    (λ db. scanned (λ r. (Text name ∷ []) ∷ r ∷ []) operator_named_query.filter
-    operator_named_query.project (columns 2) (is_row_by name) (λ r. refl)
-    (λ r. both_hold _ ∙ equals_text (column r 1) name) (db 0))
-
 pub all_operators_selected : SelectsAll Operator all_operators_text (0 ∷ []) (λ db. (tables_of db).operators)
 all_operators_selected =
     selects_all all_operators_text _ _ _ _ _ _ all_operators_is all_operators_sure (0 ∷ []) _
@@ -273,13 +264,6 @@ volumes_of_selected operator id =
     volumes_of_query.project (columns 8) (is_of operator id) (λ r. refl)
     (λ r. ap₂ (λ a b. a && b) (equals_text (column r 1) operator)
     (both_hold _ ∙ equals_text (column r 2) id)) (db 9))
-
-pub all_volumes_selected : SelectsAll Volume all_volumes_text (0 ∷ 1 ∷ 2 ∷ []) (λ db. (tables_of db).volumes)
-all_volumes_selected =
-    selects_all all_volumes_text _ _ _ _ _ _ all_volumes_is all_volumes_sure (0 ∷ 1 ∷ 2 ∷ []) _
-    (λ e. refl) (λ x y. refl)
-    (λ db. scanned (λ r. [] ∷ r ∷ []) all_volumes_query.filter all_volumes_query.project (columns 8)
-    (λ r. true) (λ r. refl) (λ r. refl) (db 9) ∙ every (map (columns 8) (db 9)))
 
 pub volume_rows_selected : SelectsAll Volume volume_rows_text (0 ∷ 1 ∷ 2 ∷ []) (λ db. map (columns 9) (db 9))
 volume_rows_selected =

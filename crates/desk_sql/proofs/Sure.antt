@@ -6,19 +6,10 @@ use Rattle.sqlite.specs.Listing.{understood}
 use Rattle.desk_sql.specs.declared.reading.rivals.SpanQuery.{SpanQuery}
 use Rattle.desk_sql.specs.Schema.{desk_schema}
 use Rattle.desk_sql.specs.Refusals.{IsSureGiven}
-use Rattle.desk_sql.proofs.Texts.{operator_named_text, plan_of_text, volumes_of_text, own_plans_text, rival_spans_text}
-use Rattle.desk_sql.proofs.QueryTexts.{operator_named_is, operator_named_query, plan_of_is, plan_of_query, volumes_of_is, volumes_of_query, own_plans_is, own_plans_query, rival_spans_is, rival_spans_query, rival_params}
+use Rattle.desk_sql.proofs.Texts.{plan_of_text, volumes_of_text, own_plans_text, rival_spans_text}
+use Rattle.desk_sql.proofs.QueryTexts.{plan_of_is, plan_of_query, volumes_of_is, volumes_of_query, own_plans_is, own_plans_query, rival_spans_is, rival_spans_query}
+use Rattle.desk_sql.specs.Queries.{rival_params}
 use Rattle.desk_sql.proofs.SureLemmas.{sure_given}
-
-pub operator_named_sure : (name : List ℕ) → IsSureGiven desk_schema operator_named_text (Text name ∷ [])
-unfolding understood everything
-operator_named_sure name =
-    sure_given operator_named_text operator_named_query _ _ operator_named_is refl (omega arith)
-    (λ trees misfit. true≢false misfit)
-    (λ db h. elim h [
-      | inl none ↦ absurd none
-      | inr fold ↦ absurd fold.4
-    ])
 
 pub plan_of_sure : (operator id : List ℕ)
     → IsSureGiven desk_schema plan_of_text (Text operator ∷ Text id ∷ [])

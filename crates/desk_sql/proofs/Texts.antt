@@ -28,9 +28,6 @@ abbrev pub first_text : List ℕ
 first_text = codes
     "CREATE INDEX span2_first ON span2 (first, last, lower, upper, start, stop, priority, operator, id)"
 
-abbrev pub operator_named_text : List ℕ
-operator_named_text = codes "SELECT name, ceiling FROM operator WHERE name = ?1"
-
 abbrev pub all_operators_text : List ℕ
 all_operators_text = codes "SELECT name, ceiling FROM operator ORDER BY name"
 
@@ -43,10 +40,6 @@ all_plans_text = codes "SELECT operator, id, priority, usage, aircraft FROM plan
 abbrev pub volumes_of_text : List ℕ
 volumes_of_text = codes
     "SELECT operator, id, place, lower, upper, start, stop, asked FROM volume2 WHERE operator = ?1 AND id = ?2 ORDER BY place"
-
-abbrev pub all_volumes_text : List ℕ
-all_volumes_text = codes
-    "SELECT operator, id, place, lower, upper, start, stop, asked FROM volume2 ORDER BY operator, id, place"
 
 abbrev pub all_spans_text : List ℕ
 all_spans_text = codes

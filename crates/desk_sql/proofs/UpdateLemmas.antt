@@ -1,9 +1,9 @@
 -- What an UPDATE leaves, where each column of the rows that it finds is fixed.
-use Rattle.std.proofs.Common.{◌≡◌, ◌≢◌, ℕ, ◌==◌, Bool, true, false, not, cond, List, [], ◌∷◌, ◌++◌, length, map, filter, Ok, refl, sym, ap, ap₂, subst, ◌∙◌, drop, arith, Option}
-use Rattle.std.specs.List.{AllByRecursion, flat_map, list_all}
+use Rattle.std.proofs.Common.{◌≡◌, ◌≢◌, ℕ, ◌==◌, Bool, true, false, not, cond, ◌||◌, List, [], ◌∷◌, ◌++◌, length, map, filter, Ok, refl, sym, ap, ap₂, subst, ◌∙◌, drop, arith, Option}
+use Rattle.std.specs.List.{AllByRecursion, flat_map, list_all, list_any}
 use Rattle.std.specs.List.Sorted.{IsPermutation}
-use Rattle.std.proofs.lemmas.List.Sorted.{IsPermutation-map, IsPermutation-refl, IsPermutation-sym, IsPermutation-cons, IsPermutation-trans, IsPermutation-middle, IsPermutation-append_left, IsPermutation-append_right}
-use Rattle.std.proofs.lemmas.List.{map-append}
+use Rattle.std.proofs.lemmas.List.Sorted.{IsPermutation-map, IsPermutation-refl, IsPermutation-sym, IsPermutation-cons, IsPermutation-trans, IsPermutation-middle, IsPermutation-append_left, IsPermutation-append_right, length_permutation}
+use Rattle.std.proofs.lemmas.List.{length-map, map-append}
 use Rattle.std.proofs.lemmas.Bool.Decides.{nat_tests}
 use Rattle.std.proofs.lemmas.Bool.{and_parts}
 use Rattle.sqlite_keyed.proofs.ListLemmas.{map-map}
@@ -87,6 +87,37 @@ module _ (p : Row → Bool) (show : Row → Row) (passes : Row → Bool)
           (IsPermutation-trans _ _ _ (IsPermutation-middle (map show (map g (filter p rows))) (show r)
           (map show (filter (λ r. not (p r)) rows))) (IsPermutation-cons (show r) _ _ more))
 
+-- ---- rows of which none passes, or that are counted
+
+no_rows : (rows : List Row) → IsPermutation [] rows → rows ≡ []
+no_rows [] same = refl
+no_rows (r ∷ rows) same = absurd (omega (arith, length_permutation [] (r ∷ rows) same))
+
+or_false : (a b : Bool) → (a || b) ≡ false → (a ≡ false) × (b ≡ false)
+or_false true b h = cc
+or_false false b h = (refl, h)
+
+module _ (p : Row → Bool) (show : Row → Row) (passes : Row → Bool)
+    (same : (r : Row) → p r ≡ passes (show r)) where
+  pub none_pass : (rows : List Row) → list_any passes (map show rows) ≡ false → filter p rows ≡ []
+  none_pass [] h = refl
+  none_pass (r ∷ rows) h =
+      let parts = or_false (passes (show r)) (list_any passes (map show rows)) h in
+      subst (λ b. cond b (r ∷ filter p rows) (filter p rows) ≡ []) (sym (same r ∙ parts.0))
+      (none_pass rows parts.1)
+
+  counted_as : (r : Row) (rows : List Row) (b : Bool)
+      → length (filter p rows) ≡ length (filter passes (map show rows))
+      → length (cond b (r ∷ filter p rows) (filter p rows))
+      ≡ length (cond b (show r ∷ filter passes (map show rows)) (filter passes (map show rows)))
+  counted_as r rows true more = omega (arith, more)
+  counted_as r rows false more = more
+
+  pub as_many : (rows : List Row) → length (filter p rows) ≡ length (filter passes (map show rows))
+  as_many [] = refl
+  as_many (r ∷ rows) = ap (λ b. length (cond b (r ∷ filter p rows) (filter p rows))) (same r)
+      ∙ counted_as r rows (passes (show r)) (as_many rows)
+
 -- ---- what is found and written
 
 module _ (limit : Option ℕ) (params : Row) (name : List ℕ) (cols : List Column) (key : List ℕ)
@@ -136,6 +167,34 @@ module _ (limit : Option ℕ) (params : Row) (name : List ℕ) (cols : List Colu
             (Ok next))
             (sym (ap (λ (it : Written). it.trees) (same_value done.2))) done.1;
       }
+
+  -- as many rows are written as are wanted
+  pub update_counts : (terms project : List Term) (wanted : Row → Bool) (source : Row → Row) (w : Written)
+      → overlay db [] tree ≡ db tree → ((r : Row) → eval_all project (params ∷ r ∷ []) ≡ source r)
+      → ((r : Row) → list_all (holds (params ∷ r ∷ [])) terms ≡ wanted r)
+      → Updates (task_at limit params name cols key refs tree)
+      (record { lets = []; body = query_of (inner tree end) terms project [] }) params db (Ok w)
+      → length w.rows ≡ length (filter wanted (db tree))
+  update_counts terms project wanted source w same shows passes h =
+      let asked = went h in
+      let done = went asked.2 in
+      let found = asked.0 in
+      ap (λ (it : Written). length it.rows) (same_value done.2)
+      ∙ ap length (given_stay (without_all (db tree) (ids_of found)) (news_of found))
+      ∙ length-map found (λ s. cast_row (table_at limit params name cols key refs tree) (drop 1 s))
+      ∙ length_permutation _ found (update_finds terms project wanted source found same shows passes asked.1)
+      ∙ length-map (filter wanted (db tree)) source
+
+  -- where none is wanted, the tree stays
+  pub update_stays : (wanted : Row → Bool) (source : Row → Row) (next : Trees) → filter wanted (db tree) ≡ []
+      → ((found : List Row) → works desk_schema Enforced 0 tree (taken_by db (update_edit found))
+      (update_edit found).news ≡ []) → Sets wanted source next → next tree ≡ db tree
+  update_stays wanted source next none quiet s =
+      let empty : s.found ≡ [] = no_rows s.found
+      (subst (λ rows. IsPermutation (map source rows) s.found) none s.are) in
+      let step = one_step desk_schema Enforced db next (update_edit s.found) (quiet s.found) s.writes in
+      step.rows
+      ∙ ap (λ found. put_all (without_all (db tree) (ids_of found)) (update_edit found).news) empty
 
   -- what they leave, and what is made of them
   module _ (wanted : Row → Bool) (source : Row → Row) (found : List Row)

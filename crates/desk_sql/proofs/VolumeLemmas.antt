@@ -8,11 +8,9 @@ use Rattle.sqlite.specs.Order.{Row}
 use Rattle.sqlite.specs.Tree.{Trees}
 use Rattle.sqlite_keyed.proofs.ListLemmas.{map-map}
 use Rattle.desk_sql.specs.declared.opening.finding.TablesPresent.{TablesPresent}
-use Rattle.desk_sql.specs.declared.reading.whole.Whole.TheVariants as whole
-use Rattle.desk_sql.specs.Queries.{table_in}
 use Rattle.desk_sql.specs.Rows.{by_cells, columns, cover_columns, tables_at, Lists}
 use Rattle.desk_sql.specs.Schema.{has_table, is_packed, tree_of}
-use Rattle.desk_sql.specs.Volumes.{ArePartsOf, ListVolumes, cover_part, volume_part}
+use Rattle.desk_sql.specs.Volumes.{ArePartsOf, ListVolumes, cover_part, volume_part, volume_table_in}
 
 abbrev key : List ℕ
 key = 0 ∷ 1 ∷ 2 ∷ []
@@ -48,18 +46,18 @@ covers_of stored rows lists =
 
 module _ (made : TablesPresent) (db : Trees) where
   abbrev stored : List Row
-  stored = db (tree_of (table_in whole.Volumes (is_packed made)))
+  stored = db (tree_of (volume_table_in (is_packed made)))
 
-  volumes_at : has_table made (table_in whole.Volumes (is_packed made)) ≡ true
+  volumes_at : has_table made (volume_table_in (is_packed made)) ≡ true
       → map (columns 8) stored ≡ (tables_at made db).volumes
   volumes_at = grind arith
 
-  covers_at : has_table made (table_in whole.Volumes (is_packed made)) ≡ true
+  covers_at : has_table made (volume_table_in (is_packed made)) ≡ true
       → map cover_columns stored ≡ (tables_at made db).covers
   covers_at = grind arith
 
   -- rows with all columns are told as the rows of the tables
-  pub parts_listed : has_table made (table_in whole.Volumes (is_packed made)) ≡ true
+  pub parts_listed : has_table made (volume_table_in (is_packed made)) ≡ true
       → (rows volumes covers : List Row) → Lists key (map (columns 9) stored) rows
       → ArePartsOf rows volumes covers → ListVolumes (tables_at made db) volumes covers
   parts_listed there rows volumes covers lists parts = record {

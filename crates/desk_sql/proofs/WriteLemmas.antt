@@ -1,5 +1,5 @@
 -- From what a statement that writes does to the rows of the tables.
-use Rattle.std.proofs.Common.{◌≡◌, ◌≢◌, ◌⊎◌, inl, inr, ℕ, ◌/◌, ℤ, List, [], ◌∷◌, ◌++◌, length, Bool, true, false, not, cond, ◌&&◌, None, Option, Ok, Err, Result, refl, sym, ap, subst, ◌∙◌}
+use Rattle.std.proofs.Common.{◌≡◌, ◌≢◌, ◌⊎◌, inl, inr, ℕ, ◌/◌, ℤ, List, [], ◌∷◌, ◌++◌, length, Bool, true, false, not, cond, ◌&&◌, None, Some, unwrap_or, Option, Ok, Err, Result, refl, sym, ap, subst, ◌∙◌}
 use Rattle.std.specs.List.{AllByRecursion}
 use Rattle.sqlite.specs.Order.{Row}
 use Rattle.sqlite.specs.declared.types.Value.{Value}
@@ -36,7 +36,7 @@ use Rattle.desk_sql.specs.Schema.{desk_schema, table_of}
 use Rattle.desk_sql.specs.Rows.{IsDesk, Tables, tables_of}
 use Rattle.desk_sql.specs.Finding.{Holds}
 use Rattle.desk_sql.specs.Effects.{Makes}
-use Rattle.desk_sql.specs.Statements.{IsWriting, MayWrite, Changes, enforced}
+use Rattle.desk_sql.specs.Statements.{IsWriting, MayCount, MayWrite, Changes, enforced}
 use Rattle.desk_sql.proofs.CommandTexts.{IsCommand}
 
 -- a part that gave a value did not stop on the way
@@ -91,6 +91,23 @@ ran text params old new schema has plain writing count h =
           (writes.tally, writes.changed)
       by_command (Err e) w runs = absurd w
 
+-- and counts as many rows as it may
+pub ran_counting : (text : List ℕ) (params : Row) (old new : State) (schema : Schema)
+    → old.now.schema ≡ schema
+    → IsPlain (understood schema text) → IsWriting (understood schema text) → (count : ℕ)
+    → Executes text params old new (Ok count)
+    → MayCount text (understood schema text) params old.step_limit old.now new.now count
+ran_counting text params old new schema has plain writing count h =
+    by_command (understood schema text) writing (runs_as text params old new schema has
+    (command_of (understood schema text)) refl plain count h) where
+      by_command : (r : Result Compiled CompileError) → IsWriting r
+          → Runs old new None (command_of r) (statement_of text r) params count
+          → MayCount text r params old.step_limit old.now new.now count
+      by_command (Ok c) w runs =
+          let writes = runs_writes old new c.command (text_of text c) params count w runs in
+          (writes.tally, writes.changed, writes.counted)
+      by_command (Err e) w runs = absurd w
+
 -- and leaves a sound database
 pub ran_sound : (text : List ℕ) (params : Row) (old new : State) (schema : Schema)
     → old.now.schema ≡ schema
@@ -132,6 +149,34 @@ does_command text (Ok c) params limit old new command is h = (
 )
 does_command text (Err e) params limit old new command is h = absurd h
 
+counts_command : (text : List ℕ) (r : Result Compiled CompileError) (params : Row) (limit : Option ℕ)
+    (old new : Database) (count : ℕ) (command : Command) → command_of r ≡ command
+    → MayCount text r params limit old new count
+    → (tally : Tally) × Does limit enforced params old (statement_of text r) None command (Ok (tally, new))
+    × (count ≡ unwrap_or tally.rows 0)
+counts_command text (Ok c) params limit old new count command is h = (
+  h.0,
+  subst (λ k. Does limit enforced params old (text_of text c) None k (Ok (h.0, new))) is h.1,
+  h.2,
+)
+counts_command text (Err e) params limit old new count command is h = absurd h
+
+-- what a text does that counts so many rows
+pub did_counting : (text : List ℕ) (params : Row) (limit : Option ℕ) (old new : Database) (count : ℕ)
+    → IsDesk old → (command : Command) → IsCommand text command
+    → MayCount text (understood desk_schema text) params limit old new count
+    → (tally : Tally) × Does limit enforced params (record { schema = desk_schema; trees = old.trees })
+    (statement_of text (understood desk_schema text)) None command (Ok (tally, new))
+    × (count ≡ unwrap_or tally.rows 0)
+did_counting text params limit old new count desk command known may =
+    let it = counts_command text (understood desk_schema text) params limit old new count command known.is may
+    in (
+      it.0,
+      subst (λ s. Does limit enforced params (record old { schema = s })
+          (statement_of text (understood desk_schema text)) None command (Ok (it.0, new))) desk.schema it.1,
+      it.2,
+    )
+
 module _ (text : List ℕ) (params : Row) (limit : Option ℕ) (old new : Database) where
   abbrev pub May : Type 0
   May = MayWrite text (understood desk_schema text) params limit old new
@@ -170,6 +215,16 @@ rows_written task command db tally now h =
     let tested = went done.2 in
     let returned = went tested.2 in
     (done.0, done.1, ap (λ (p : Tally × Database). p.1) (same_value returned.2))
+
+-- and it counts what is written
+pub rows_counted : (task : Task) (command : Command) (db : Trees) (tally : Tally) (now : Database)
+    → OnRows task enforced None command db (Ok (tally, now))
+    → (w : Written) × WritesRows task db command (Ok w) × (tally.rows ≡ Some (length w.rows))
+rows_counted task command db tally now h =
+    let done = went h in
+    let tested = went done.2 in
+    let returned = went tested.2 in
+    (done.0, done.1, ap (λ (p : Tally × Database). p.0.rows) (same_value returned.2))
 
 -- ---- INSERT
 

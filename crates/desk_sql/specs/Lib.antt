@@ -19,3 +19,4 @@ pub mod Volumes
 pub mod Changing
 pub mod Putting
 pub mod RowChanges
+pub mod WholeTables

@@ -6,11 +6,11 @@ use Rattle.sqlite.specs.declared.types.Value.TheVariants.{Null, Int, Real, Text,
 use Rattle.sqlite.specs.Order.{Row}
 use Rattle.sqlite.specs.Tree.{Trees, IsAscending}
 use Rattle.sqlite.specs.Effect.{Database}
-use Rattle.desk_sql.specs.Rows.{IsDesk, is_of, tables_of}
+use Rattle.desk_sql.specs.Rows.{IsDesk, Tables, is_of, tables_of}
 use Rattle.desk_sql.specs.Batches.{PlanPut}
 use Rattle.desk_sql.specs.Changing.{HasKey, HasRowids, IsShort, LacksKey, has_same_key}
 use Rattle.desk_sql.specs.Schema.{desk_schema}
-use Rattle.desk_sql.specs.Statements.{MayWrite}
+use Rattle.desk_sql.specs.Statements.{MayCount, MayWrite}
 use Rattle.sqlite.specs.Listing.{understood}
 use Rattle.std.specs.Prelude.{Option}
 
@@ -35,6 +35,12 @@ TakesOperators operators old new =
 pub record TextTakes (text : List ℕ) (params : Row) (Room : Trees → Trees → Type 0) : Type 0 where
   pub room : (limit : Option ℕ) (old new : Database) → IsDesk old
       → MayWrite text (understood desk_schema text) params limit old new → Room old.trees new.trees
+
+-- a text that with these parameters counts so many rows as changed
+pub record TextCounts (text : List ℕ) (params : Row) (Counts : ℕ → Tables → Type 0) : Type 0 where
+  pub counted : (limit : Option ℕ) (old new : Database) (count : ℕ) → IsDesk old
+      → MayCount text (understood desk_schema text) params limit old new count
+      → Counts count (tables_of old.trees)
 
 -- ---- rows that are new
 

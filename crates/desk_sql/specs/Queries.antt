@@ -1,13 +1,14 @@
 -- What each query lists.
-use Rattle.std.specs.Prelude.{ℕ, pos, Bool, if◌then◌else◌, List, [], ◌∷◌, map, filter}
-use Rattle.sqlite.specs.declared.types.Value.TheVariants.{Int, Text}
+use Rattle.std.specs.Prelude.{ℕ, ℤ, pos, Bool, if◌then◌else◌, List, [], ◌∷◌, map, filter}
+use Rattle.sqlite.specs.declared.types.Value.TheVariants.{Int, Null, Text}
 use Rattle.sqlite.specs.Order.{Row}
 use Rattle.desk_sql.specs.declared.opening.numbers.DeskTable.{DeskTable}
 use Rattle.desk_sql.specs.declared.opening.numbers.DeskTable.TheVariants as desk
+use Rattle.desk_sql.specs.declared.reading.rivals.SpanQuery.{SpanQuery}
 use Rattle.desk_sql.specs.declared.reading.whole.Whole.{Whole}
 use Rattle.desk_sql.specs.declared.reading.whole.Whole.TheVariants as whole
 use Rattle.desk_sql.specs.declared.reading.query.Query.{Query}
-use Rattle.desk_sql.specs.declared.reading.query.Query.TheVariants.{OperatorNamed, PlanOf, VolumesOf, OwnPlans, RivalSpans, OtherSpans, SpansOf}
+use Rattle.desk_sql.specs.declared.reading.query.Query.TheVariants.{PlanOf, VolumesOf, OwnPlans, RivalSpans, OtherSpans, SpansOf}
 use Rattle.desk_sql.specs.Rows.{Tables, is_row_by, is_of, with_volumes, is_wanted, held_columns}
 use Rattle.desk_sql.specs.Others.{is_others_from, is_plans}
 
@@ -19,7 +20,6 @@ table_read whole.Operators = desk.Operator
 table_read whole.Plans = desk.Plan
 table_read whole.OldVolumes = desk.OldVolume
 table_read whole.OldSpans = desk.OldSpan
-table_read whole.Volumes = desk.Volume
 table_read whole.Spans = desk.Span
 
 -- that table, which in a packed file may stand in another tree
@@ -28,7 +28,6 @@ table_in whole.Operators packed = desk.Operator
 table_in whole.Plans packed = desk.Plan
 table_in whole.OldVolumes packed = desk.OldVolume
 table_in whole.OldSpans packed = desk.OldSpan
-table_in whole.Volumes packed = if packed then desk.PackedVolume else desk.Volume
 table_in whole.Spans packed = if packed then desk.PackedSpan else desk.Span
 
 -- the columns by which its rows come: its key
@@ -48,30 +47,39 @@ rows_read whole.Operators t = t.operators
 rows_read whole.Plans t = t.plans
 rows_read whole.OldVolumes t = t.old_volumes
 rows_read whole.OldSpans t = t.old_spans
-rows_read whole.Volumes t = t.volumes
 rows_read whole.Spans t = t.spans
 
 -- ---- queries that are given something
 
+-- which spans are asked for, but for those of one plan
+abbrev pub rival_params : List ℕ → List ℕ → SpanQuery → ℤ → Row
+rival_params operator id reach low =
+    Int reach.last ∷ Int reach.first ∷ Int reach.upper ∷ Int reach.lower ∷ Int reach.stop ∷ Int reach.start
+    ∷ Int (pos reach.priority) ∷ Text operator ∷ Text id ∷ Int low ∷ []
+
+-- and but for those of one operator, given to the same text: no id differs from NULL
+abbrev pub others_params : List ℕ → SpanQuery → ℤ → Row
+others_params operator reach low =
+    Int reach.last ∷ Int reach.first ∷ Int reach.upper ∷ Int reach.lower ∷ Int reach.stop ∷ Int reach.start
+    ∷ Int (pos reach.priority) ∷ Text operator ∷ Null ∷ Int low ∷ []
+
+-- and of one plan alone
+abbrev pub plan_params : List ℕ → List ℕ → SpanQuery → Row
+plan_params operator id reach =
+    Int reach.last ∷ Int reach.first ∷ Int reach.upper ∷ Int reach.lower ∷ Int reach.stop ∷ Int reach.start
+    ∷ Int (pos reach.priority) ∷ Text operator ∷ Text id ∷ []
+
 -- what a query is given, as the parameters of its text in turn
 abbrev pub params_of : Query → Row
-params_of (OperatorNamed name) = Text name.now ∷ []
 params_of (PlanOf operator id) = Text operator.now ∷ Text id.now ∷ []
 params_of (VolumesOf operator id) = Text operator.now ∷ Text id.now ∷ []
 params_of (OwnPlans operator) = Text operator.now ∷ []
-params_of (RivalSpans operator id reach low) =
-    Int reach.last ∷ Int reach.first ∷ Int reach.upper ∷ Int reach.lower ∷ Int reach.stop ∷ Int reach.start
-    ∷ Int (pos reach.priority) ∷ Text operator.now ∷ Text id.now ∷ Int low ∷ []
-params_of (OtherSpans operator reach low) =
-    Int reach.last ∷ Int reach.first ∷ Int reach.upper ∷ Int reach.lower ∷ Int reach.stop ∷ Int reach.start
-    ∷ Int (pos reach.priority) ∷ Text operator.now ∷ Int low ∷ []
-params_of (SpansOf operator id reach) =
-    Int reach.last ∷ Int reach.first ∷ Int reach.upper ∷ Int reach.lower ∷ Int reach.stop ∷ Int reach.start
-    ∷ Int (pos reach.priority) ∷ Text operator.now ∷ Text id.now ∷ []
+params_of (RivalSpans operator id reach low) = rival_params operator.now id.now reach low
+params_of (OtherSpans operator reach low) = others_params operator.now reach low
+params_of (SpansOf operator id reach) = plan_params operator.now id.now reach
 
 -- the columns by which its rows come
 abbrev pub order_of : Query → List ℕ
-order_of (OperatorNamed name) = []
 order_of (PlanOf operator id) = []
 order_of (VolumesOf operator id) = 2 ∷ []
 order_of (OwnPlans operator) = 1 ∷ 5 ∷ []
@@ -81,7 +89,6 @@ order_of (SpansOf operator id reach) = []
 
 -- its rows
 abbrev pub rows_of : Query → Tables → List Row
-rows_of (OperatorNamed name) t = filter (is_row_by name.now) t.operators
 rows_of (PlanOf operator id) t = filter (is_of operator.now id.now) t.plans
 rows_of (VolumesOf operator id) t = filter (is_of operator.now id.now) t.volumes
 rows_of (OwnPlans operator) t = with_volumes (is_row_by operator.now) t

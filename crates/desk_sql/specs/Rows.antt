@@ -162,6 +162,10 @@ has_rows (row ∷ rows) = true
 abbrev pub has_old_rows : Tables → Bool
 has_old_rows t = has_rows t.old_volumes || has_rows t.old_spans
 
+-- those that version 2 has alone have
+abbrev pub has_new_rows : Tables → Bool
+has_new_rows t = has_rows t.volumes || has_rows t.spans
+
 -- ---- changes of the tables
 
 abbrev pub AddsOperator : Row → Tables → Tables → Type 0

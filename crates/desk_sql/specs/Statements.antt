@@ -1,5 +1,5 @@
 -- What a text of SQL selects, changes or makes.
-use Rattle.std.specs.Prelude.{◌≡◌, false, ℕ, List, [], ◌∷◌, map, Option, None, Result, Ok, Err}
+use Rattle.std.specs.Prelude.{◌≡◌, false, ℕ, List, [], ◌∷◌, map, Option, None, Result, Ok, Err, unwrap_or}
 use Rattle.sqlite.specs.Order.{Row}
 use Rattle.sqlite.specs.Tree.{Trees, rowid}
 use Rattle.sqlite.specs.declared.run.Mode.{Mode}
@@ -62,6 +62,14 @@ abbrev pub MayWrite : List ℕ → Result Compiled CompileError → Row → Opti
 MayWrite text (Ok c) params limit old new =
     (tally : Tally) × Does limit enforced params old (text_of text c) None c.command (Ok (tally, new))
 MayWrite text (Err e) params limit old new = ⊥
+
+-- and may count so many rows as changed
+abbrev pub MayCount : List ℕ → Result Compiled CompileError → Row → Option ℕ → Database → Database → ℕ
+    → Type 0
+MayCount text (Ok c) params limit old new count =
+    (tally : Tally) × Does limit enforced params old (text_of text c) None c.command (Ok (tally, new))
+    × (count ≡ unwrap_or tally.rows 0)
+MayCount text (Err e) params limit old new count = ⊥
 
 -- a text that shows nothing, and with these parameters changes a desk's tables so
 pub record Changes (text : List ℕ) (params : Row) (Change : Tables → Tables → Type 0) : Type 0 where

@@ -1,8 +1,14 @@
 -- The rows of `volume2` as an opening reads them: each once, with all its columns.
-use Rattle.std.specs.Prelude.{◌≡◌, List, [], ◌∷◌, map}
+use Rattle.std.specs.Prelude.{◌≡◌, Bool, if◌then◌else◌, List, [], ◌∷◌, map}
 use Rattle.std.specs.List.{range_with_len}
 use Rattle.sqlite.specs.Order.{Row, column}
+use Rattle.desk_sql.specs.declared.opening.numbers.DeskTable.{DeskTable}
+use Rattle.desk_sql.specs.declared.opening.numbers.DeskTable.TheVariants.{PackedVolume, Volume}
 use Rattle.desk_sql.specs.Rows.{Tables, Lists}
+
+-- the table, which in a packed file stands in another tree
+abbrev pub volume_table_in : Bool → DeskTable
+volume_table_in packed = if packed then PackedVolume else Volume
 
 -- of a row with all columns of `volume2`, those without `canon`
 abbrev pub volume_part : Row → Row

@@ -9,10 +9,10 @@ mod parameters;
 mod reading;
 
 pub use changing::batch::{insert_spans, insert_volumes};
-pub use changing::transactions::{clear_plans, close_plan, is_enrolled, put_operator, put_plan};
+pub use changing::transactions::{clear_plans, close_plan, put_operator, put_plan};
 pub use changing::writing::{PlanRecord, SpanRecord, VolumeRecord, insert_operator, insert_plan};
 pub use old::emptying::{empty_old_spans, empty_old_volumes};
-pub use old::rows::has_old_rows;
+pub use old::rows::{has_new_rows, has_old_rows};
 pub use opening::finding::{TablesPresent, find_tables};
 pub use opening::making::complete_tables;
 pub use opening::numbers::DeskTable;

@@ -1,27 +1,11 @@
 -- Whether tables have a row.
-use Rattle.std.proofs.Common.{◌≡◌, ◌↔◌, Bool, true, false, not, List, [], ◌∷◌, ◌++◌, map, refl, sym, ap, ◌∙◌, arith, true≢false, IsTrue, IsPermutation}
-use Rattle.std.proofs.lemmas.List.Sorted.{length_permutation}
+use Rattle.std.proofs.Common.{◌≡◌, ◌↔◌, Bool, true, false, not, ◌||◌, List, [], ◌∷◌, map, refl, sym, ◌∙◌, true≢false, IsTrue}
 use Rattle.sqlite_value.specs.Order.{Row}
 use Rattle.sqlite.specs.Tree.{Trees}
 use Rattle.desk_sql.specs.declared.opening.finding.TablesPresent.{TablesPresent}
 use Rattle.desk_sql.specs.declared.opening.finding.TablesPresent.TheVariants.{Nothing, Operators, Plans, OldVolumes, OldSpans, OldIndex, Volumes, Spans, All, Packed}
-use Rattle.desk_sql.specs.declared.reading.whole.Whole.TheVariants as whole
-use Rattle.desk_sql.specs.Queries.{table_in}
-use Rattle.desk_sql.specs.Schema.{has_table, is_packed}
-use Rattle.desk_sql.specs.Rows.{Tables, columns, cover_columns, has_rows, tables_at}
+use Rattle.desk_sql.specs.Rows.{columns, cover_columns, has_new_rows, has_rows, tables_at}
 use Rattle.desk_tables.specs.Moving.{HasNoNewRows}
-
--- rows that end with one are some
-pub some_more : (rows : List Row) (row : Row) → has_rows (rows ++ row ∷ []) ≡ true
-some_more [] row = refl
-some_more (r ∷ rows) row = refl
-
--- rows in another order are none if and only if these are
-pub some_alike : (wanted rows : List Row) → IsPermutation wanted rows → has_rows rows ≡ has_rows wanted
-some_alike [] [] same = refl
-some_alike (x ∷ xs) (y ∷ ys) same = refl
-some_alike [] (y ∷ ys) same = absurd (omega (arith, length_permutation [] (y ∷ ys) same))
-some_alike (x ∷ xs) [] same = absurd (omega (arith, length_permutation (x ∷ xs) [] same))
 
 none_if : (rows : List Row) → has_rows rows ≡ false → rows ≡ []
 none_if [] e = refl
@@ -46,33 +30,23 @@ no_cover Spans db e = none_of_both (columns 8) cover_columns (db 9) e
 no_cover All db e = none_of_both (columns 8) cover_columns (db 9) e
 no_cover Packed db e = none_of_both (columns 8) cover_columns (db 8) e
 
-pub none_new : (made : TablesPresent) (db : Trees) (has_spans : Bool)
-    → false ≡ has_rows (tables_at made db).volumes → has_spans ≡ has_rows (tables_at made db).spans
-    → IsTrue (not has_spans) ↔ HasNoNewRows (tables_at made db)
-none_new made db false first is = (
-  λ t. record {
-    volumes = none_if (tables_at made db).volumes (sym first);
-    covers = no_cover made db (sym first);
-    spans = none_if (tables_at made db).spans (sym is);
-  },
-  λ none. refl,
-)
-none_new made db true first is = (
-  λ t. absurd (true≢false (sym t)),
-  λ none. absurd (true≢false (is ∙ ap has_rows none.spans)),
-)
+or_parts : (a b : Bool) → (a || b) ≡ false → (a ≡ false) × (b ≡ false)
+or_parts true b h = cc
+or_parts false b h = (refl, h)
 
--- the rows of `span2` are the same in the same trees, and where the table isn't made there are none
-pub spans_alike : (made : TablesPresent) (a b : Trees)
-    → (has_table made (table_in whole.Spans (is_packed made)) ≡ true → a ≡ b)
-    → (tables_at made a).spans ≡ (tables_at made b).spans
-spans_alike Nothing a b same = refl
-spans_alike Operators a b same = refl
-spans_alike Plans a b same = refl
-spans_alike OldVolumes a b same = refl
-spans_alike OldSpans a b same = refl
-spans_alike OldIndex a b same = refl
-spans_alike Volumes a b same = refl
-spans_alike Spans a b same = ap (λ db. (tables_at Spans db).spans) (same refl)
-spans_alike All a b same = ap (λ db. (tables_at All db).spans) (same refl)
-spans_alike Packed a b same = ap (λ db. (tables_at Packed db).spans) (same refl)
+pub none_new : (made : TablesPresent) (db : Trees) (has : Bool) → has ≡ has_new_rows (tables_at made db)
+    → IsTrue (not has) ↔ HasNoNewRows (tables_at made db)
+none_new made db false is =
+    let parts = or_parts (has_rows (tables_at made db).volumes) (has_rows (tables_at made db).spans) (sym is)
+    in (
+      λ t. record {
+        volumes = none_if (tables_at made db).volumes parts.0;
+        covers = no_cover made db parts.0;
+        spans = none_if (tables_at made db).spans parts.1;
+      },
+      λ none. refl,
+    )
+none_new made db true is = (
+  λ t. absurd (true≢false (sym t)),
+  λ none. absurd (true≢false (is ∙ (λ i. has_rows (none.volumes i) || has_rows (none.spans i)))),
+)

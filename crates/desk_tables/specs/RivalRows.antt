@@ -1,5 +1,5 @@
 -- Slabs that are held, as rows of `span2` show them.
-use Rattle.std.specs.Prelude.{◌≡◌, ◌<◌, ◌^◌, ◌*◌, ◌&&◌, ℕ, ℤ, Bool, pos, List, Option, Some, None, map, filter, IsPermutation, FitsSigned}
+use Rattle.std.specs.Prelude.{◌≡◌, true, ◌<◌, ◌^◌, ◌*◌, ◌&&◌, ℕ, ℤ, Bool, pos, List, Option, Some, None, map, filter, IsPermutation, FitsSigned}
 use Rattle.std.specs.Int.{w32}
 use Rattle.std.specs.List.{AllZip, flat_map}
 use Rattle.sqlite_value.specs.declared.value.Value.TheVariants.{Int}
@@ -7,6 +7,8 @@ use Rattle.sqlite_value.specs.Order.{Row, column}
 use Rattle.s2_cover.specs.declared.spans.Span.{Span}
 use Rattle.volume4d.specs.declared.slab.Slab.{Slab}
 use Rattle.volume4d.specs.declared.slab.Held.{Held}
+use Rattle.volume4d.specs.Point.{Point}
+use Rattle.volume4d.specs.Slab.{slabs_have, top_held}
 use Rattle.desk_sql.specs.Rows.{held_columns, is_at_least, is_reached, is_wanted}
 use Rattle.desk_sql.specs.Others.{is_others_from, is_plans}
 use Rattle.desk_sql.specs.declared.reading.rivals.SpanQuery.{SpanQuery}
@@ -101,3 +103,8 @@ HaveTakenAll asked questions spans helds =
 abbrev pub AreWanted : World → Wanted → Slab → List Held → Type 0
 AreWanted w wanted extent helds =
     HaveLevel extent helds (λ x. at_least wanted.least (held_but w wanted.operator wanted.id x))
+
+-- and so where they meet one of some extents
+abbrev pub AreWantedNear : World → Wanted → List Slab → List Held → Type 0
+AreWantedNear w wanted extents helds = (x : Point) → slabs_have extents x ≡ true
+    → top_held helds x ≡ at_least wanted.least (held_but w wanted.operator wanted.id x)

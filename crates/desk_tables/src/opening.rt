@@ -1,6 +1,5 @@
 //! Opening a database: what tables it has, and the content whose rows they are.
 
-pub(crate) mod any_row;
 pub(crate) mod content;
 pub(crate) mod copying;
 pub(crate) mod counting;

@@ -24,6 +24,7 @@ use sqlite::Connection;
 use sqlite_trees::store::Alter;
 use std::alloc::{AllocError, Global};
 use std::marker::Model;
+use std::slice;
 use volume4d::{Held, Slab};
 
 /// A store of plans over tables in SQLite, with a connection of its own.
@@ -172,12 +173,22 @@ impl<S: Alter> PlanStore for SqliteStore<S> {
         least: u32,
         extent: &Slab,
     ) -> Result<Vec<Held>, StoreFault> {
+        self.rivals_near(operator, id, least, slice::from_ref(extent))
+    }
+
+    fn rivals_near(
+        &mut self,
+        operator: &Operator,
+        id: &PlanId,
+        least: u32,
+        extents: &[Slab],
+    ) -> Result<Vec<Held>, StoreFault> {
         let wanted = Wanted {
             operator: *operator,
             id: Some(*id),
             least,
         };
-        let answer = self.tables.rivals(&wanted, extent, &self.known);
+        let answer = self.tables.rivals_near(&wanted, extents, &self.known);
         counted(&mut self.faults, answer)
     }
 

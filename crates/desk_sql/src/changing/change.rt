@@ -1,7 +1,12 @@
 //! The statements that change rows.
 
-ghost use Rattle.std.specs.Prelude.{◌≡◌};
+ghost use Rattle.std.specs.Prelude.{◌≡◌, ℕ, List};
+ghost use Rattle.desk_sql.specs.declared.changing.writing.PlanRecord.{PlanRecord as PlanRow};
+ghost use Rattle.desk_sql.specs.declared.changing.writing.SpanRecord.{SpanRecord as SpanRow};
+ghost use Rattle.desk_sql.specs.declared.changing.writing.VolumeRecord.{VolumeRecord as VolumeRow};
 ghost use Rattle.desk_sql.specs.RowChanges.{IsTextOf, given_to};
+ghost use Rattle.desk_sql.specs.RowChanges.{DoesAddOperator, DoesSetCeiling, DoesSetClosed};
+ghost use Rattle.desk_sql.specs.RowChanges.{DoesRemovePlan, DoesRemoveSpans};
 
 use crate::changing::writing::{PlanRecord, SpanRecord, VolumeRecord};
 use crate::parameters::Parameters;
@@ -56,26 +61,16 @@ impl<'a> Change<'a> {
         ensures { IsTextOf self.entry result.now }
     {
         match self {
-            Change::AddOperator { .. } => "INSERT INTO operator (name, ceiling) VALUES (?1, ?2)",
-            Change::AddPlan(_) => {
-                "INSERT INTO plan (operator, id, priority, usage, aircraft) VALUES (?1, ?2, ?3, ?4, ?5)"
-            }
-            Change::AddVolume(_) => {
-                "INSERT INTO volume2 (operator, id, place, lower, upper, start, stop, asked, canon) \
-                 VALUES (?1, ?2, ?3, ?4, ?5, ?6, ?7, ?8, ?9)"
-            }
-            Change::AddSpan(_) => {
-                "INSERT INTO span2 (operator, id, place, first, last, lower, upper, start, stop, priority) \
-                 VALUES (?1, ?2, ?3, ?4, ?5, ?6, ?7, ?8, ?9, ?10)"
-            }
-            Change::SetCeiling { .. } => "UPDATE operator SET ceiling = ?2 WHERE name = ?1",
-            Change::SetClosed { .. } => {
-                "UPDATE plan SET priority = ?3, usage = 2, aircraft = ?4 WHERE operator = ?1 AND id = ?2"
-            }
-            Change::RemovePlan { .. } => "DELETE FROM plan WHERE operator = ?1 AND id = ?2",
-            Change::RemoveSpans { .. } => "DELETE FROM span2 WHERE operator = ?1 AND id = ?2",
-            Change::EmptyOldVolumes => "DELETE FROM volume",
-            Change::EmptyOldSpans => "DELETE FROM span",
+            Change::AddOperator { .. } => add_operator_text(),
+            Change::AddPlan(_) => add_plan_text(),
+            Change::AddVolume(_) => add_volume_text(),
+            Change::AddSpan(_) => add_span_text(),
+            Change::SetCeiling { .. } => set_ceiling_text(),
+            Change::SetClosed { .. } => set_closed_text(),
+            Change::RemovePlan { .. } => remove_plan_text(),
+            Change::RemoveSpans { .. } => remove_spans_text(),
+            Change::EmptyOldVolumes => empty_old_volumes_text(),
+            Change::EmptyOldSpans => empty_old_spans_text(),
         }
     }
 
@@ -107,4 +102,79 @@ impl<'a> Change<'a> {
             Change::EmptyOldVolumes | Change::EmptyOldSpans => Parameters::of(&[]),
         }
     }
+}
+
+// Adds a row to `operator`.
+fn add_operator_text() -> &'static str
+    ensures { (name : List ℕ) (ceiling : ℕ) → DoesAddOperator name ceiling result.now }
+{
+    "INSERT INTO operator (name, ceiling) VALUES (?1, ?2)"
+}
+
+// Adds a row to `plan`.
+fn add_plan_text() -> &'static str
+    ensures { (row : PlanRow) → IsTextOf (Change.AddPlan row) result.now }
+{
+    "INSERT INTO plan (operator, id, priority, usage, aircraft) VALUES (?1, ?2, ?3, ?4, ?5)"
+}
+
+// Adds a row to `volume2`.
+fn add_volume_text() -> &'static str
+    ensures { (row : VolumeRow) → IsTextOf (Change.AddVolume row) result.now }
+{
+    "INSERT INTO volume2 (operator, id, place, lower, upper, start, stop, asked, canon) \
+     VALUES (?1, ?2, ?3, ?4, ?5, ?6, ?7, ?8, ?9)"
+}
+
+// Adds a row to `span2`.
+fn add_span_text() -> &'static str
+    ensures { (row : SpanRow) → IsTextOf (Change.AddSpan row) result.now }
+{
+    "INSERT INTO span2 (operator, id, place, first, last, lower, upper, start, stop, priority) \
+     VALUES (?1, ?2, ?3, ?4, ?5, ?6, ?7, ?8, ?9, ?10)"
+}
+
+// Sets the ceiling of the operator with a name.
+fn set_ceiling_text() -> &'static str
+    ensures { (name : List ℕ) (ceiling : ℕ) → DoesSetCeiling name ceiling result.now }
+{
+    "UPDATE operator SET ceiling = ?2 WHERE name = ?1"
+}
+
+// Sets the row of a plan to the usage Closed, with a priority and a state of the aircraft.
+fn set_closed_text() -> &'static str
+    ensures { (operator id : List ℕ) (priority aircraft : ℕ) →
+        DoesSetClosed operator id priority aircraft result.now }
+{
+    "UPDATE plan SET priority = ?3, usage = 2, aircraft = ?4 WHERE operator = ?1 AND id = ?2"
+}
+
+// Removes a plan, and its volumes and spans with it.
+fn remove_plan_text() -> &'static str
+    ensures { (operator id : List ℕ) → DoesRemovePlan operator id result.now }
+{
+    "DELETE FROM plan WHERE operator = ?1 AND id = ?2"
+}
+
+// Removes the spans of a plan.
+fn remove_spans_text() -> &'static str
+    ensures { (operator id : List ℕ) → DoesRemoveSpans operator id result.now }
+{
+    "DELETE FROM span2 WHERE operator = ?1 AND id = ?2"
+}
+
+// Removes all rows of `volume`.
+#[tactic(auto, using(crate::proofs::ChangeTexts::empty_old_volumes_does))]
+fn empty_old_volumes_text() -> &'static str
+    ensures { IsTextOf Change.EmptyOldVolumes result.now }
+{
+    "DELETE FROM volume"
+}
+
+// Removes all rows of `span`.
+#[tactic(auto, using(crate::proofs::ChangeTexts::empty_old_spans_does))]
+fn empty_old_spans_text() -> &'static str
+    ensures { IsTextOf Change.EmptyOldSpans result.now }
+{
+    "DELETE FROM span"
 }

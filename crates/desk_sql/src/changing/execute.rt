@@ -1,14 +1,32 @@
 //! A change of the tables, made within a transaction.
 
-ghost use Rattle.std.specs.Prelude.{◌≡◌};
+ghost use Rattle.std.specs.Prelude.{◌≡◌, IfOk};
+ghost use Rattle.sqlite.specs.State.{HasCleanDisk};
+ghost use Rattle.sqlite.specs.Held.{state};
 ghost use Rattle.desk_sql.specs.QueryEnds.{IsChanged};
-ghost use Rattle.desk_sql.specs.RowChanges.{changes, fits, takes};
+ghost use Rattle.desk_sql.specs.RowChanges.{changes, counts, fits, takes};
 ghost use Rattle.desk_sql.specs.Finding.{Holds};
-ghost use Rattle.desk_sql.specs.Rows.{IsDesk};
+ghost use Rattle.desk_sql.specs.Rows.{IsDesk, tables_of};
 
 use crate::changing::change::Change;
 use crate::changing::run::run;
 use sqlite::{Alter, Error, Transaction};
+
+/// Makes a change, and counts the rows that it changed.
+pub(crate) fn execute_counted<S: Alter>(
+    tx: &mut Transaction<'_, S>,
+    change: Change<'_>,
+) -> Result<usize, Error>
+    requires desk { Holds S.Store tx.old.conn.now IsDesk }
+    ensures same_reference { tx.new.conn.ghost_name ≡ tx.old.conn.ghost_name }
+    ensures changed { IsChanged S.Store tx.old.conn.now tx.new.conn.now result
+        (changes change.entry) (fits change.entry) (takes change.entry) }
+    ensures counted { HasCleanDisk (state S.Store tx.new.conn.now) → IfOk result (λ count.
+        counts change.entry count (tables_of (state S.Store tx.old.conn.now).now.trees)) }
+{
+    let count = run(tx, change.text(), change.params().as_slice())?;
+    Ok(count)
+}
 
 /// Makes a change.
 pub(crate) fn execute<S: Alter>(
@@ -20,6 +38,6 @@ pub(crate) fn execute<S: Alter>(
     ensures changed { IsChanged S.Store tx.old.conn.now tx.new.conn.now result
         (changes change.entry) (fits change.entry) (takes change.entry) }
 {
-    run(tx, change.text(), change.params().as_slice())?;
+    execute_counted(tx, change)?;
     Ok(())
 }

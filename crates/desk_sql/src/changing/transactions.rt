@@ -1,26 +1,24 @@
 //! Whole changes of the tables, each one transaction.
 
 ghost use Rattle.std.specs.Prelude.{◌≡◌, ⊤, map};
-ghost use Rattle.desk_sql.specs.Rows.{PutsOperator, ClosesPlan, is_row_by, tables_of, IsDesk};
-ghost use Rattle.std.specs.List.{list_any};
+ghost use Rattle.desk_sql.specs.Finding.{Holds};
+ghost use Rattle.desk_sql.specs.Rows.{PutsOperator, ClosesPlan, IsDesk};
 ghost use Rattle.std.specs.String.{string_bytes};
 ghost use Rattle.desk_sql.specs.Batches.{PutsPlan, RemovesPlans};
 ghost use Rattle.desk_sql.specs.Changing.{AreLow, HasRowids, IsShort};
 ghost use Rattle.desk_sql.specs.Putting.{IsPuttable};
 ghost use Rattle.desk_sql.specs.RowChanges.{plan_put};
 ghost use Rattle.desk_sql.specs.Effects.{IsReady};
-ghost use Rattle.desk_sql.specs.QueryEnds.{Answers, IsCommitted};
+ghost use Rattle.desk_sql.specs.QueryEnds.{IsChanged, IsCommitted};
 
 use crate::changing::batch::{insert_spans, insert_volumes, remove_plans};
 use crate::changing::change::Change;
-use crate::changing::execute::execute;
+use crate::changing::execute::{execute, execute_counted};
 use crate::changing::writing::{
     PlanRecord, SpanRecord, VolumeRecord, insert_operator, insert_plan,
 };
 use crate::laws::settled_and_sound;
-use crate::reading::answer::answer;
-use crate::reading::query::Query;
-use sqlite::{Alter, Connection, Error};
+use sqlite::{Alter, Connection, Error, Transaction};
 
 /// Removes the plans of these ids, and their volumes and spans with them, as one transaction.
 pub fn clear_plans<S: Alter>(
@@ -67,14 +65,20 @@ pub fn put_plan<S: Alter>(
     tx.commit()
 }
 
-/// Whether there is an operator with this name.
-pub fn is_enrolled<S: Alter>(connection: &mut Connection<S>, name: &str) -> Result<bool, Error>
-    requires ready { IsReady S.Store connection.old IsDesk }
-    ensures answers { Answers S.Store connection.old connection.new result
-        (λ db found. found ≡ list_any (is_row_by name.now) (tables_of db).operators) }
+// Sets the ceiling of the operator with this name, or adds the operator.
+fn set_or_add<S: Alter>(tx: &mut Transaction<'_, S>, name: &str, ceiling: u32) -> Result<(), Error>
+    requires desk { Holds S.Store tx.old.conn.now IsDesk }
+    ensures same_reference { tx.new.conn.ghost_name ≡ tx.old.conn.ghost_name }
+    ensures changed { IsChanged S.Store tx.old.conn.now tx.new.conn.now result
+        (PutsOperator name.now ceiling) (λ db. IsShort name.now × HasRowids 1 (db.trees 0)) (λ _ _. ⊤) }
 {
-    let rows = answer(connection, Query::OperatorNamed { name })?;
-    Ok(!rows.is_empty())
+    let count = execute_counted(tx, Change::SetCeiling { name, ceiling })?;
+    let is_set = count > 0;
+    if is_set {
+        return Ok(());
+    }
+    insert_operator(tx, name, ceiling)?;
+    Ok(())
 }
 
 /// Sets the ceiling of the operator with this name, or adds the operator, as one transaction.
@@ -87,14 +91,9 @@ pub fn put_operator<S: Alter>(
     ensures committed { IsCommitted S.Store connection.old connection.new result
         (PutsOperator name.now ceiling) (λ db. IsShort name.now × HasRowids 1 (db.trees 0)) }
 {
-    let is_there = is_enrolled(connection, name)?;
     settled_and_sound(connection);
     let mut tx = connection.transaction();
-    if is_there {
-        execute(&mut tx, Change::SetCeiling { name, ceiling })?;
-    } else {
-        insert_operator(&mut tx, name, ceiling)?;
-    }
+    set_or_add(&mut tx, name, ceiling)?;
     tx.commit()
 }
 

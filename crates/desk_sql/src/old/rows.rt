@@ -1,15 +1,39 @@
-//! Whether there are rows of version 1 of the schema.
+//! Whether there are rows of version 1 of the schema, and of version 2.
 
 ghost use Rattle.std.specs.Prelude.{◌≡◌, ◌&&◌, true};
 ghost use Rattle.desk_sql.specs.Schema.{HasTable, has_table, tree_of};
-ghost use Rattle.desk_sql.specs.Rows.{IsMadeTo, has_old_rows, has_rows, tables_at};
+ghost use Rattle.desk_sql.specs.Rows.{IsMadeTo, has_new_rows, has_old_rows, has_rows, tables_at};
 ghost use Rattle.desk_sql.specs.QueryEnds.{WasOpen, Answers};
 ghost use Rattle.desk_sql.specs.Effects.{IsReady};
 
 use crate::opening::finding::TablesPresent;
-use crate::opening::numbers::{DeskTable, rowids_text};
-use crate::reading::asking::ask;
-use sqlite::{Alter, Connection, Error};
+use crate::opening::numbers::{DeskTable, but_memory, rowids_text};
+use crate::reading::taking::{RowSink, hand_rows};
+use crate::reading::volumes::volume_table;
+use crate::reading::whole::Whole;
+use sqlite::{Alter, Connection, Error, Row};
+
+/// Whether a row was taken, where none is kept.
+#[derive(Drop)]
+struct AnyRow {
+    was_taken: bool,
+}
+
+impl RowSink for AnyRow {
+    ghost use Rattle.std.specs.Prelude.{◌≡◌, ⊤};
+    ghost use Rattle.desk_sql.specs.Rows.{has_rows};
+
+    ghost has_taken = { λ any rows. any.was_taken ≡ has_rows rows };
+
+    ghost keeps = { λ first now. ⊤ };
+
+    ghost refuses = { λ taken row e. ⊥ };
+
+    fn take(&mut self, _row: &Row) -> Result<(), Error> {
+        self.was_taken = true;
+        Ok(())
+    }
+}
 
 /// Whether a table has a row.
 fn has_row<S: Alter>(connection: &mut Connection<S>, table: DeskTable) -> Result<bool, Error>
@@ -18,8 +42,11 @@ fn has_row<S: Alter>(connection: &mut Connection<S>, table: DeskTable) -> Result
         (λ db found. found ≡ has_rows (db (tree_of table))) }
     ensures open { WasOpen S.Store connection.old connection.new result }
 {
-    let rows = ask(connection, rowids_text(table))?;
-    Ok(!rows.is_empty())
+    let mut any = AnyRow { was_taken: false };
+    match hand_rows(connection, rowids_text(table), &[], &mut any) {
+        Ok(()) => Ok(any.was_taken),
+        Err(e) => Err(but_memory(e)),
+    }
 }
 
 /// Whether a table that may not be made has a row.
@@ -53,4 +80,20 @@ pub fn has_old_rows<S: Alter>(
         return Ok(true);
     }
     has_row_in(connection, made, DeskTable::OldSpan)
+}
+
+/// Whether `volume2` or `span2` has a row: version 1 of the schema has not these tables.
+pub fn has_new_rows<S: Alter>(
+    connection: &mut Connection<S>,
+    made: TablesPresent,
+) -> Result<bool, Error>
+    requires ready { IsReady S.Store connection.old (IsMadeTo made) }
+    ensures answers { Answers S.Store connection.old connection.new result
+        (λ db found. found ≡ has_new_rows (tables_at made db)) }
+{
+    let packed = made.is_packed();
+    if has_row_in(connection, made, volume_table(packed))? {
+        return Ok(true);
+    }
+    has_row_in(connection, made, Whole::Spans.table(packed))
 }

@@ -135,15 +135,59 @@ pub(crate) fn rowids_text(table: DeskTable) -> &'static str
     ensures { SelectsAll table result.now (0 ∷ []) (λ db. rowids (db (tree_of table))) }
 {
     match table {
-        DeskTable::Operator => "SELECT rowid FROM operator ORDER BY rowid",
-        DeskTable::Plan => "SELECT rowid FROM plan ORDER BY rowid",
-        DeskTable::OldVolume => "SELECT rowid FROM volume ORDER BY rowid",
-        DeskTable::OldSpan => "SELECT rowid FROM span ORDER BY rowid",
-        DeskTable::Volume => "SELECT rowid FROM volume2 ORDER BY rowid",
-        DeskTable::Span => "SELECT rowid FROM span2 ORDER BY rowid",
-        DeskTable::PackedVolume => "SELECT rowid FROM volume2 ORDER BY rowid",
-        DeskTable::PackedSpan => "SELECT rowid FROM span2 ORDER BY rowid",
+        DeskTable::Operator => operator_rowids_text(),
+        DeskTable::Plan => plan_rowids_text(),
+        DeskTable::OldVolume => old_volume_rowids_text(),
+        DeskTable::OldSpan => old_span_rowids_text(),
+        DeskTable::Volume => volume_rowids_text(),
+        DeskTable::Span => span_rowids_text(),
+        DeskTable::PackedVolume => volume_rowids_text(),
+        DeskTable::PackedSpan => span_rowids_text(),
     }
+}
+
+#[tactic(auto, using(crate::proofs::RowidLemmas::operator_rowids_selected))]
+fn operator_rowids_text() -> &'static str
+    ensures { SelectsAll DeskTable.Operator result.now (0 ∷ []) (λ db. rowids (db 0)) }
+{
+    "SELECT rowid FROM operator ORDER BY rowid"
+}
+
+#[tactic(auto, using(crate::proofs::RowidLemmas::plan_rowids_selected))]
+fn plan_rowids_text() -> &'static str
+    ensures { SelectsAll DeskTable.Plan result.now (0 ∷ []) (λ db. rowids (db 2)) }
+{
+    "SELECT rowid FROM plan ORDER BY rowid"
+}
+
+#[tactic(auto, using(crate::proofs::RowidLemmas::old_volume_rowids_selected))]
+fn old_volume_rowids_text() -> &'static str
+    ensures { SelectsAll DeskTable.OldVolume result.now (0 ∷ []) (λ db. rowids (db 4)) }
+{
+    "SELECT rowid FROM volume ORDER BY rowid"
+}
+
+#[tactic(auto, using(crate::proofs::RowidLemmas::old_span_rowids_selected))]
+fn old_span_rowids_text() -> &'static str
+    ensures { SelectsAll DeskTable.OldSpan result.now (0 ∷ []) (λ db. rowids (db 6)) }
+{
+    "SELECT rowid FROM span ORDER BY rowid"
+}
+
+#[tactic(auto, using(crate::proofs::RowidLemmas::volume_rowids_selected, crate::proofs::PackedLemmas::volume_rowids_selected))]
+fn volume_rowids_text() -> &'static str
+    ensures own { SelectsAll DeskTable.Volume result.now (0 ∷ []) (λ db. rowids (db 9)) }
+    ensures packed { SelectsAll DeskTable.PackedVolume result.now (0 ∷ []) (λ db. rowids (db 8)) }
+{
+    "SELECT rowid FROM volume2 ORDER BY rowid"
+}
+
+#[tactic(auto, using(crate::proofs::RowidLemmas::span_rowids_selected, crate::proofs::PackedLemmas::span_rowids_selected))]
+fn span_rowids_text() -> &'static str
+    ensures own { SelectsAll DeskTable.Span result.now (0 ∷ []) (λ db. rowids (db 11)) }
+    ensures packed { SelectsAll DeskTable.PackedSpan result.now (0 ∷ []) (λ db. rowids (db 10)) }
+{
+    "SELECT rowid FROM span2 ORDER BY rowid"
 }
 
 /// Tests the rowids of a table.

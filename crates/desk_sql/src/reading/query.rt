@@ -1,20 +1,24 @@
 //! The queries that are given something.
 
-ghost use Rattle.std.specs.Prelude.{◌≡◌};
-ghost use Rattle.desk_sql.specs.Queries.{params_of, order_of, rows_of};
+ghost use Rattle.std.specs.Prelude.{◌≡◌, [], ◌∷◌, ℕ, ℤ, List, filter, map};
+ghost use Rattle.sqlite.specs.declared.types.Value.TheVariants.{Text};
+ghost use Rattle.desk_sql.specs.declared.reading.rivals.SpanQuery.{SpanQuery as Reach};
+ghost use Rattle.desk_sql.specs.Queries.{params_of, order_of, rows_of, plan_params, rival_params, others_params};
+ghost use Rattle.desk_sql.specs.Rows.{held_columns, is_of, is_row_by, is_wanted, with_volumes};
+ghost use Rattle.desk_sql.specs.Others.{is_others_from, is_plans};
 ghost use Rattle.desk_sql.specs.Statements.{Selects};
 
 use crate::parameters::Parameters;
 use crate::reading::rivals::SpanQuery;
 use sqlite::params;
 
+// In place of a plan's id. No comparison with NULL is true: so the text of the spans but for those of one plan
+// leaves out all spans of the operator then.
+const NO_ID: Option<&'static str> = None;
+
 /// A query, with what it is given.
 #[derive(Clone, Copy)]
 pub(crate) enum Query<'a> {
-    /// The row of the operator with this name.
-    OperatorNamed {
-        name: &'a str,
-    },
     /// The row of the plan of this operator with this id.
     PlanOf {
         operator: &'a str,
@@ -56,37 +60,12 @@ impl<'a> Query<'a> {
         ensures { Selects result.now (params_of self.entry) (order_of self.entry) (rows_of self.entry) }
     {
         match self {
-            Query::OperatorNamed { .. } => "SELECT name, ceiling FROM operator WHERE name = ?1",
-            Query::PlanOf { .. } => {
-                "SELECT operator, id, priority, usage, aircraft FROM plan WHERE operator = ?1 AND id = ?2"
-            }
-            Query::VolumesOf { .. } => {
-                "SELECT operator, id, place, lower, upper, start, stop, asked FROM volume2 \
-                 WHERE operator = ?1 AND id = ?2 ORDER BY place"
-            }
-            Query::OwnPlans { .. } => {
-                "SELECT plan.operator, plan.id, plan.priority, plan.usage, plan.aircraft, volume2.place, \
-                 volume2.lower, volume2.upper, volume2.start, volume2.stop, volume2.asked \
-                 FROM plan JOIN volume2 ON volume2.operator = plan.operator AND volume2.id = plan.id \
-                 WHERE plan.operator = ?1 ORDER BY plan.id, volume2.place"
-            }
-            Query::RivalSpans { .. } => {
-                "SELECT first, last, lower, upper, start, stop, priority FROM span2 \
-                 WHERE first >= ?10 AND first <= ?1 AND last >= ?2 AND lower < ?3 AND upper > ?4 \
-                 AND start < ?5 AND stop > ?6 AND priority >= ?7 AND (operator <> ?8 OR id <> ?9) \
-                 ORDER BY first"
-            }
-            Query::OtherSpans { .. } => {
-                "SELECT first, last, lower, upper, start, stop, priority FROM span2 \
-                 WHERE first >= ?9 AND first <= ?1 AND last >= ?2 AND lower < ?3 AND upper > ?4 \
-                 AND start < ?5 AND stop > ?6 AND priority >= ?7 AND operator <> ?8 \
-                 ORDER BY first"
-            }
-            Query::SpansOf { .. } => {
-                "SELECT first, last, lower, upper, start, stop, priority FROM span2 \
-                 WHERE first <= ?1 AND last >= ?2 AND lower < ?3 AND upper > ?4 AND start < ?5 \
-                 AND stop > ?6 AND priority >= ?7 AND operator = ?8 AND id = ?9"
-            }
+            Query::PlanOf { .. } => plan_of_text(),
+            Query::VolumesOf { .. } => volumes_of_text(),
+            Query::OwnPlans { .. } => own_plans_text(),
+            Query::RivalSpans { .. } => spans_but_text(),
+            Query::OtherSpans { .. } => spans_but_text(),
+            Query::SpansOf { .. } => plan_spans_text(),
         }
     }
 
@@ -95,7 +74,6 @@ impl<'a> Query<'a> {
         ensures { result ≡ params_of self.entry }
     {
         match self {
-            Query::OperatorNamed { name } => Parameters::of(params![name]),
             Query::PlanOf { operator, id } => Parameters::of(params![operator, id]),
             Query::VolumesOf { operator, id } => Parameters::of(params![operator, id]),
             Query::OwnPlans { operator } => Parameters::of(params![operator]),
@@ -112,7 +90,8 @@ impl<'a> Query<'a> {
                 reach: r,
                 low,
             } => Parameters::of(params![
-                r.last, r.first, r.upper, r.lower, r.stop, r.start, r.priority, operator, low
+                r.last, r.first, r.upper, r.lower, r.stop, r.start, r.priority, operator, NO_ID,
+                low
             ]),
             Query::SpansOf {
                 operator,
@@ -123,4 +102,57 @@ impl<'a> Query<'a> {
             ]),
         }
     }
+}
+
+// The row of a plan.
+fn plan_of_text() -> &'static str
+    ensures { (operator id : List ℕ) → Selects result.now (Text operator ∷ Text id ∷ []) []
+        (λ t. filter (is_of operator id) t.plans) }
+{
+    "SELECT operator, id, priority, usage, aircraft FROM plan WHERE operator = ?1 AND id = ?2"
+}
+
+// The rows of a plan's volumes, by place.
+fn volumes_of_text() -> &'static str
+    ensures { (operator id : List ℕ) → Selects result.now (Text operator ∷ Text id ∷ []) (2 ∷ [])
+        (λ t. filter (is_of operator id) t.volumes) }
+{
+    "SELECT operator, id, place, lower, upper, start, stop, asked FROM volume2 \
+     WHERE operator = ?1 AND id = ?2 ORDER BY place"
+}
+
+// Each plan of an operator with each of its volumes, by id and place.
+fn own_plans_text() -> &'static str
+    ensures { (operator : List ℕ) → Selects result.now (Text operator ∷ []) (1 ∷ 5 ∷ [])
+        (with_volumes (is_row_by operator)) }
+{
+    "SELECT plan.operator, plan.id, plan.priority, plan.usage, plan.aircraft, volume2.place, \
+     volume2.lower, volume2.upper, volume2.start, volume2.stop, volume2.asked \
+     FROM plan JOIN volume2 ON volume2.operator = plan.operator AND volume2.id = plan.id \
+     WHERE plan.operator = ?1 ORDER BY plan.id, volume2.place"
+}
+
+// The query of the spans that are reached, but for those of one plan, or of one operator if the id is NULL.
+fn spans_but_text() -> &'static str
+    ensures rivals { (operator id : List ℕ) (reach : Reach) (low : ℤ) → Selects result.now
+        (rival_params operator id reach low) (0 ∷ [])
+        (λ t. map held_columns (filter (is_wanted operator id reach low) t.spans)) }
+    ensures others { (operator : List ℕ) (reach : Reach) (low : ℤ) → Selects result.now
+        (others_params operator reach low) (0 ∷ [])
+        (λ t. map held_columns (filter (is_others_from operator reach low) t.spans)) }
+{
+    "SELECT first, last, lower, upper, start, stop, priority FROM span2 \
+     WHERE first >= ?10 AND first <= ?1 AND last >= ?2 AND lower < ?3 AND upper > ?4 \
+     AND start < ?5 AND stop > ?6 AND priority >= ?7 AND (operator <> ?8 OR id <> ?9) \
+     ORDER BY first"
+}
+
+// The spans of one plan that are reached.
+fn plan_spans_text() -> &'static str
+    ensures { (operator id : List ℕ) (reach : Reach) → Selects result.now
+        (plan_params operator id reach) [] (λ t. map held_columns (filter (is_plans operator id reach) t.spans)) }
+{
+    "SELECT first, last, lower, upper, start, stop, priority FROM span2 \
+     WHERE first <= ?1 AND last >= ?2 AND lower < ?3 AND upper > ?4 AND start < ?5 \
+     AND stop > ?6 AND priority >= ?7 AND operator = ?8 AND id = ?9"
 }

@@ -7,14 +7,12 @@ ghost use Rattle.desk_sql.specs.Schema.{has_table, is_packed, tree_of};
 ghost use Rattle.desk_sql.specs.Rows.{IsMadeTo, columns, tables_at};
 ghost use Rattle.desk_sql.specs.Effects.{StaysOpen, IsReady};
 ghost use Rattle.desk_sql.specs.Statements.{SelectsAll};
-ghost use Rattle.desk_sql.specs.Queries.{table_in};
 ghost use Rattle.desk_sql.specs.QueryEnds.{WasOpen, Answers};
-ghost use Rattle.desk_sql.specs.Volumes.{ArePartsOf, ListVolumes, cover_part, volume_part};
+ghost use Rattle.desk_sql.specs.Volumes.{ArePartsOf, ListVolumes, cover_part, volume_part, volume_table_in};
 
 use crate::opening::finding::TablesPresent;
-use crate::opening::numbers::but_memory;
+use crate::opening::numbers::{DeskTable, but_memory};
 use crate::reading::taking::{RowSink, hand_rows};
-use crate::reading::whole::Whole;
 use sqlite::{Alter, Connection, Error, Row};
 use sqlite_exec::work::FromRow;
 use sqlite_value::row;
@@ -110,10 +108,21 @@ fn value_at(row: &Row, at: usize) -> ValueRef<'_>
     }
 }
 
+/// `volume2`, which in a packed file stands in another tree.
+pub(crate) fn volume_table(packed: bool) -> DeskTable
+    ensures { result ≡ volume_table_in packed }
+{
+    if packed {
+        DeskTable::PackedVolume
+    } else {
+        DeskTable::Volume
+    }
+}
+
 // The query of all rows of `volume2`, by its key.
 fn volumes_text() -> &'static str
-    ensures { (packed : Bool) → SelectsAll (table_in Whole.Volumes packed) result.now (0 ∷ 1 ∷ 2 ∷ [])
-        (λ db. map (columns 9) (db (tree_of (table_in Whole.Volumes packed)))) }
+    ensures { (packed : Bool) → SelectsAll (volume_table_in packed) result.now (0 ∷ 1 ∷ 2 ∷ [])
+        (λ db. map (columns 9) (db (tree_of (volume_table_in packed)))) }
 {
     "SELECT operator, id, place, lower, upper, start, stop, asked, canon FROM volume2 \
      ORDER BY operator, id, place"
@@ -132,12 +141,12 @@ pub fn volume_rows<S: Alter>(
     requires ready { IsReady S.Store connection.old (IsMadeTo made) }
     ensures answers { Answers S.Store connection.old connection.new result
         (λ db rows. ListVolumes (tables_at made db) rows.volumes.items rows.covers.items) }
-    ensures open { has_table made (table_in Whole.Volumes (is_packed made)) ≡ true
+    ensures open { has_table made (volume_table_in (is_packed made)) ≡ true
         → WasOpen S.Store connection.old connection.new result }
     ensures live { OnOk result (StaysOpen S.Store connection.old connection.new) }
 {
     let mut taker = VolumeTaker::new(alloc);
-    if !made.has(Whole::Volumes.table(made.is_packed())) {
+    if !made.has(volume_table(made.is_packed())) {
         return Ok(taker.rows);
     }
     match hand_rows(connection, volumes_text(), &[], &mut taker) {

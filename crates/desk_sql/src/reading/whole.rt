@@ -1,11 +1,11 @@
 //! The rows of whole tables, as an opening reads them.
 
-ghost use Rattle.std.specs.Prelude.{◌≡◌, Bool, true, OnOk, List, []};
+ghost use Rattle.std.specs.Prelude.{◌≡◌, true, OnOk, List, []};
 ghost use Rattle.sqlite.specs.Order.{Row as Values};
 ghost use Rattle.desk_sql.specs.Schema.{has_table, is_packed};
-ghost use Rattle.desk_sql.specs.Rows.{IsMadeTo, tables_in, tables_at, Lists};
+ghost use Rattle.desk_sql.specs.Rows.{IsMadeTo, tables_at, Lists};
 ghost use Rattle.desk_sql.specs.Effects.{StaysOpen, IsReady};
-ghost use Rattle.desk_sql.specs.Statements.{SelectsAll};
+ghost use Rattle.desk_sql.specs.WholeTables.{ShowsWhole};
 ghost use Rattle.desk_sql.specs.Queries.{table_read, table_in, key_cells, rows_read};
 ghost use Rattle.desk_sql.specs.Takers.{KeepsOn};
 ghost use Rattle.desk_sql.specs.QueryEnds.{WasOpen, Answers, HandsOut};
@@ -17,19 +17,18 @@ use crate::reading::taking::{RowSink, hand_rows};
 use sqlite::{Alter, Connection, Error, Row};
 use std::alloc::Global;
 
-/// What is read as a whole: the rows of a table, those of `volume2` without `canon`.
+/// What is read as a whole: the rows of a table.
 #[derive(Clone, Copy)]
 pub enum Whole {
     /// `operator`: `name`, `ceiling`
     Operators,
     /// `plan`: `operator`, `id`, `priority`, `usage`, `aircraft`
     Plans,
-    /// `volume`, which version 1 of the schema has: the columns of `Volumes`
+    /// `volume`, which version 1 of the schema has: `operator`, `id`, `place`, `lower`, `upper`, `start`,
+    /// `stop`, `asked`
     OldVolumes,
     /// `span`, which version 1 has: the columns of `Spans`
     OldSpans,
-    /// `volume2`: `operator`, `id`, `place`, `lower`, `upper`, `start`, `stop`, `asked`
-    Volumes,
     /// `span2`: `operator`, `id`, `place`, `first`, `last`, `lower`, `upper`, `start`, `stop`, `priority`
     Spans,
 }
@@ -44,8 +43,6 @@ impl Whole {
             Whole::Plans => DeskTable::Plan,
             Whole::OldVolumes => DeskTable::OldVolume,
             Whole::OldSpans => DeskTable::OldSpan,
-            Whole::Volumes if packed => DeskTable::PackedVolume,
-            Whole::Volumes => DeskTable::Volume,
             Whole::Spans if packed => DeskTable::PackedSpan,
             Whole::Spans => DeskTable::Span,
         }
@@ -53,31 +50,49 @@ impl Whole {
 
     /// The query of these rows, by the table's key.
     fn text(self) -> &'static str
-        ensures { (packed : Bool) → SelectsAll (table_in self packed) result.now
-            (key_cells (table_read self)) (λ db. rows_read self (tables_in packed db)) }
+        ensures { ShowsWhole self result.now }
     {
         match self {
-            Whole::Operators => "SELECT name, ceiling FROM operator ORDER BY name",
-            Whole::Plans =>
-                "SELECT operator, id, priority, usage, aircraft FROM plan ORDER BY operator, id",
-            Whole::OldVolumes => {
-                "SELECT operator, id, place, lower, upper, start, stop, asked FROM volume \
-                 ORDER BY operator, id, place"
-            }
-            Whole::OldSpans => {
-                "SELECT operator, id, place, first, last, lower, upper, start, stop, priority FROM span \
-                 ORDER BY operator, id, place, first"
-            }
-            Whole::Volumes => {
-                "SELECT operator, id, place, lower, upper, start, stop, asked FROM volume2 \
-                 ORDER BY operator, id, place"
-            }
-            Whole::Spans => {
-                "SELECT operator, id, place, first, last, lower, upper, start, stop, priority FROM span2 \
-                 ORDER BY operator, id, place, first"
-            }
+            Whole::Operators => operators_text(),
+            Whole::Plans => plans_text(),
+            Whole::OldVolumes => old_volumes_text(),
+            Whole::OldSpans => old_spans_text(),
+            Whole::Spans => spans_text(),
         }
     }
+}
+
+fn operators_text() -> &'static str
+    ensures { ShowsWhole Whole.Operators result.now }
+{
+    "SELECT name, ceiling FROM operator ORDER BY name"
+}
+
+fn plans_text() -> &'static str
+    ensures { ShowsWhole Whole.Plans result.now }
+{
+    "SELECT operator, id, priority, usage, aircraft FROM plan ORDER BY operator, id"
+}
+
+fn old_volumes_text() -> &'static str
+    ensures { ShowsWhole Whole.OldVolumes result.now }
+{
+    "SELECT operator, id, place, lower, upper, start, stop, asked FROM volume \
+     ORDER BY operator, id, place"
+}
+
+fn old_spans_text() -> &'static str
+    ensures { ShowsWhole Whole.OldSpans result.now }
+{
+    "SELECT operator, id, place, first, last, lower, upper, start, stop, priority FROM span \
+     ORDER BY operator, id, place, first"
+}
+
+fn spans_text() -> &'static str
+    ensures { ShowsWhole Whole.Spans result.now }
+{
+    "SELECT operator, id, place, first, last, lower, upper, start, stop, priority FROM span2 \
+     ORDER BY operator, id, place, first"
 }
 
 /// All rows of what is read, by the table's key; none if the table isn't made.

@@ -33,7 +33,6 @@ use crate::canon::canons_of;
 use crate::changing::records::{asked_of, span_rows, volume_rows};
 use crate::kept::GhostWorld;
 use crate::known::Known;
-use crate::opening::any_row::has_row;
 use crate::opening::content::{Content, TableRows};
 use crate::opening::exact::FiledPlan;
 use crate::opening::finding::{content_with, tables_found, uncovered_parts, world_of};
@@ -43,7 +42,7 @@ use crate::opening::spans::{SpanCheck, take_spans};
 use desk_sql::laws::settled_and_sound;
 use desk_sql::{
     TablesPresent, Whole, all_rows, complete_tables, empty_old_spans, empty_old_volumes,
-    insert_spans, insert_volumes,
+    has_new_rows, insert_spans, insert_volumes,
 };
 use operator_index::ListedOperator;
 use s2_cover::laws::{canonical_list_is, one_canonical_list, one_list_of_ranges};
@@ -284,11 +283,8 @@ pub(crate) fn are_new_empty<S: Alter>(
     ensures cause { IfErr result (BlamesReading S.Store connection.old connection.new) }
     ensures reads { OnlyReads S.Store connection.old connection.new }
 {
-    if has_row(connection, Whole::Volumes, made)? {
-        return Ok(false);
-    }
-    let has_spans = has_row(connection, Whole::Spans, made)?;
-    Ok(!has_spans)
+    let has_rows = has_new_rows(connection, made)?;
+    Ok(!has_rows)
 }
 
 /// The rows of schema 1's tables but for spans, each by the columns of its key; of those that aren't made

@@ -10,6 +10,7 @@ ghost use Rattle.desk_tables.specs.Known.{Knows};
 ghost use Rattle.desk_tables.specs.SpanBounds.{Bounds};
 
 use crate::known::Known;
+use crate::reading::plans::{FEW, MOST};
 use crate::span_bounds::SpanBounds;
 use crate::tables::DeskTables;
 use desk_live::{Wanted, push_clipped};
@@ -39,7 +40,11 @@ impl<S: Alter> DeskTables<S> {
             AreHeldByOthers self.old.world operator.now extents.now helds.items) }
     {
         let wanted = of_others(operator);
-        if let Some(keys) = known.live.wanted_plans(self.allocator(), &wanted, extents)? {
+        let room = if extents.len() < 2 { FEW } else { MOST };
+        if let Some(keys) = known
+            .live
+            .wanted_plans(self.allocator(), &wanted, extents, room)?
+        {
             return self.held_near(&keys, extents);
         }
         let regions = known.live.regions(self.allocator(), operator, extents)?;

@@ -17,8 +17,24 @@ use crate::tables::DeskTables;
 use desk_live::{PlanKey, whole_of};
 use desk_sql::plan_spans;
 use desk_store::StoreFault;
+use s2_cover::Span;
 use sqlite_trees::store::Alter;
 use volume4d::{Held, Slab};
+
+/// Near one extent so many rows of plans are read by their keys at most. If there are more, one question that
+/// reads what lies there costs less.
+pub(crate) const FEW: usize = 160;
+
+/// So many rows are read by the keys of plans at most, where each extent would be a question, or where
+/// questions may be for many rows. Reading these takes half a second.
+pub(crate) const MOST: usize = 1 << 19;
+
+// A stretch of the curve of at most so many leaves, as a cell of level 7 has, is short.
+const SHORT: u64 = 1 << 46;
+
+// So many rows are read by the keys of plans at most, where questions are for a short stretch: there are few
+// rows there, and it costs less to read these one after the other.
+const FEW_BESIDE_SHORT: usize = 1 << 12;
 
 impl<S: Alter> DeskTables<S> {
     /// The slabs that live ones among some plans hold, where they meet some extents. Only their own rows are
@@ -95,4 +111,24 @@ impl<S: Alter> DeskTables<S> {
         );
         held_by(handed, rivals, self.told)
     }
+}
+
+/// How many rows are read by the keys of plans at most, where these questions would do too. No clause speaks
+/// of it.
+pub(crate) fn room_beside(questions: &[Span]) -> usize {
+    if leaves_of(questions) <= SHORT {
+        FEW_BESIDE_SHORT
+    } else {
+        MOST
+    }
+}
+
+// At how many leaves the spans begin that questions are for.
+fn leaves_of(questions: &[Span]) -> u64 {
+    let mut leaves: u64 = 0;
+    for question in questions {
+        leaves = leaves.saturating_add(question.last.saturating_sub(question.first));
+        leaves = leaves.saturating_add(1);
+    }
+    leaves
 }

@@ -11,15 +11,16 @@ ghost use Rattle.desk_tables.specs.RowsRead.{IsHead, IsVolumeAt, listing_rows};
 ghost use Rattle.desk_tables.specs.Gathering.{HasCollected, HasNoArea};
 ghost use Rattle.desk_tables.specs.Lookups.{own_of};
 ghost use Rattle.desk_tables.specs.Known.{Knows};
-ghost use Rattle.desk_tables.specs.RivalRows.{AreWanted};
+ghost use Rattle.desk_tables.specs.RivalRows.{AreWantedNear};
 ghost use Rattle.desk_tables.specs.ReadsMade.{ReadsPlans, ReadsSpans};
 
 use crate::known::Known;
 use crate::reading::listing::PlanCollector;
+use crate::reading::plans::room_beside;
 use crate::reading::rivals::Rivals;
 use crate::reading::values::{area_in, fault_told, or_fault, plan_in};
 use crate::tables::DeskTables;
-use desk_live::Wanted;
+use desk_live::{Wanted, whole_of};
 use desk_rules::operator::Operator;
 use desk_rules::plan::PlanRow;
 use desk_rules::plan_id::PlanId;
@@ -99,31 +100,38 @@ impl<S: Alter> DeskTables<S> {
         collected(taken, collector, self.told)
     }
 
-    /// The slabs that live plans hold, of those that are wanted, where they meet an extent. No row is read if
-    /// the bounds of none of their volumes meet it, and if those of few plans do, only the rows of these.
+    /// The slabs that live plans hold, of those that are wanted, where they meet extents. No row is read if
+    /// the bounds of none of their volumes meet one of these, and if those of few plans do, only the rows of
+    /// these plans.
     ///
     /// # Errors
     ///
     /// `OutOfMemory` if memory runs out. `Store` if SQLite refuses the query for another cause, or if
     /// a row is no slab's.
     #[tactic(auto, using(crate::proofs::FrameLemmas::reads_itself))]
-    pub(crate) fn rivals(
+    pub(crate) fn rivals_near(
         &mut self,
         wanted: &Wanted,
-        extent: &Slab,
+        extents: &[Slab],
         known: &Known,
     ) -> Result<Vec<Held>, StoreFault>
         requires { Knows known.now self.old.world }
         ensures { ReadsSpans S.Store self.old self.new result (λ helds.
-            AreWanted self.old.world wanted.now extent.now helds.items) }
+            AreWantedNear self.old.world wanted.now extents.now helds.items) }
     {
+        let Some((first, others)) = extents.split_first() else {
+            return Ok(Vec::new(self.allocator()));
+        };
+        let whole = whole_of(first, others);
+        let questions = known.span_bounds.questions(self.allocator(), &whole)?;
+        let room = room_beside(&questions);
         if let Some(keys) = known
             .live
-            .wanted_plans(self.allocator(), wanted, &[*extent])?
+            .wanted_plans(self.allocator(), wanted, extents, room)?
         {
-            return self.held_by_plans(&keys, wanted.least, extent);
+            return self.held_by_plans(&keys, wanted.least, &whole);
         }
-        self.wanted_in_tables(wanted, extent, &known.span_bounds)
+        self.wanted_in_tables(wanted, &whole, &known.span_bounds)
     }
 }
 

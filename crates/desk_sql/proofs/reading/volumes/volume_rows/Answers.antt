@@ -2,11 +2,10 @@ use Rattle.std.proofs.Common.{◌≡◌, List, [], ◌∷◌, arith, sym, ◌∙
 use Rattle.sqlite.specs.Held.{state}
 use Rattle.sqlite.specs.Order.{Row}
 use Rattle.sqlite.specs.State.{HasCleanDisk, Shown}
-use Rattle.desk_sql.specs.declared.reading.whole.Whole.TheVariants as whole
 use Rattle.desk_sql.specs.Finding.{Holds}
-use Rattle.desk_sql.specs.Queries.{table_in}
 use Rattle.desk_sql.specs.Rows.{Lists, columns}
 use Rattle.desk_sql.specs.Schema.{HasTable, has_table, is_packed, tree_of}
+use Rattle.desk_sql.specs.Volumes.{volume_table_in}
 use Rattle.desk_sql.proofs.AskLemmas.{all_selected}
 use Rattle.desk_sql.proofs.ReadLemmas.{was_open}
 use Rattle.desk_sql.proofs.SchemaLemmas.{has_made}
@@ -19,11 +18,11 @@ hand_rows-requires-clause-ready g c = record {
   shown = λ clean live.
       let packed = is_packed c.args.made in
       let db = (state g.S.Store c.args.connection.now).now in
-      let there : has_table c.args.made (table_in whole.Volumes packed) ≡ true =
-      ap (has_table c.args.made) (sym (c.table.ensures ∙ ap (table_in whole.Volumes) c.is_packed.ensures))
+      let there : has_table c.args.made (volume_table_in packed) ≡ true =
+      ap (has_table c.args.made) (sym (c.volume_table.ensures ∙ ap volume_table_in c.is_packed.ensures))
       ∙ sym c.has.ensures ∙ c.if-not-has.false in
       (c.volumes_text.ensures packed).sure db
-      (has_made c.args.made (table_in whole.Volumes packed) db there
+      (has_made c.args.made (volume_table_in packed) db there
       (c.requires.ready.shown clean live).schema);
 }
 
@@ -32,10 +31,10 @@ returns-in-Ok-clause-answers g c =
     let old = c.args.connection.now in
     let new = c.hand_rows.new.connection in
     let packed = is_packed c.args.made in
-    let table = table_in whole.Volumes packed in
+    let table = volume_table_in packed in
     let trees = (state g.S.Store old).now.trees in
     let there : has_table c.args.made table ≡ true =
-    ap (has_table c.args.made) (sym (c.table.ensures ∙ ap (table_in whole.Volumes) c.is_packed.ensures))
+    ap (has_table c.args.made) (sym (c.volume_table.ensures ∙ ap volume_table_in c.is_packed.ensures))
     ∙ sym c.has.ensures ∙ c.if-not-has.false in
     let start : HasCleanDisk (state g.S.Store new) → HasCleanDisk (state g.S.Store old) = λ clean.
     omega (arith, clean, c.in-Ok.ensures.answers.reads.doubt) in

@@ -1,64 +1,18 @@
-use Rattle.std.proofs.Common.{◌≡◌, Bool, [], ◌∷◌, List, ℕ, sym, subst, refl, true, false}
-use Rattle.sqlite.specs.Tree.{Trees}
-use Rattle.desk_sql.specs.declared.opening.numbers.DeskTable.TheVariants as desk
-use Rattle.desk_sql.specs.declared.reading.whole.Whole.{Whole}
-use Rattle.desk_sql.specs.declared.reading.whole.Whole.TheVariants.{Operators, Plans, OldVolumes, OldSpans, Volumes, Spans}
-use Rattle.desk_sql.specs.Queries.{table_in, key_cells, rows_read, table_read}
-use Rattle.desk_sql.specs.Rows.{tables_of, tables_in}
-use Rattle.desk_sql.specs.Statements.{SelectsAll}
-use Rattle.desk_sql.proofs.AskLemmas.{IsWholeText, one_tree, two_trees}
-use Rattle.desk_sql.proofs.PackedLemmas as packed
-use Rattle.desk_sql.proofs.StatementLemmas.{all_operators_selected, all_plans_selected, all_volumes_selected, all_spans_selected}
-use Rattle.desk_sql.proofs.old_tables.ReadLemmas.{all_old_volumes_selected, all_old_spans_selected}
+use Rattle.std.proofs.Common.{sym, subst}
+use Rattle.desk_sql.specs.WholeTables.{ShowsWhole}
 use Rattle.desk_sql.proofs.reading.whole.Whole.text.Goals as goal
 
--- what is read of the tables of version 1 is the same in a packed file
-abbrev IsSame : Whole → Type 0
-IsSame whole = (packed : Bool) (db : Trees)
-    → rows_read whole (tables_in packed db) ≡ rows_read whole (tables_of db)
-
-operators_same : IsSame Operators
-operators_same true db = refl
-operators_same false db = refl
-
-plans_same : IsSame Plans
-plans_same true db = refl
-plans_same false db = refl
-
-old_volumes_same : IsSame OldVolumes
-old_volumes_same true db = refl
-old_volumes_same false db = refl
-
-old_spans_same : IsSame OldSpans
-old_spans_same true db = refl
-old_spans_same false db = refl
-
--- what a query reads, packed or not
-abbrev IsTextIn : Whole → List ℕ → Bool → Type 0
-IsTextIn whole text packed = SelectsAll (table_in whole packed) text (key_cells (table_read whole))
-    (λ db. rows_read whole (tables_in packed db))
-
 pub returns-in-Operators : goal.returns-in-Operators
-returns-in-Operators c = subst (λ whole. IsWholeText whole _) (sym c.in-Operators.is)
-    (one_tree Operators desk.Operator _ (0 ∷ []) (λ p. refl) operators_same all_operators_selected)
+returns-in-Operators c = subst (λ whole. ShowsWhole whole c.operators_text.result.now) (sym c.in-Operators.is) c.operators_text.ensures
 
 pub returns-in-Plans : goal.returns-in-Plans
-returns-in-Plans c = subst (λ whole. IsWholeText whole _) (sym c.in-Plans.is)
-    (one_tree Plans desk.Plan _ (0 ∷ 1 ∷ []) (λ p. refl) plans_same all_plans_selected)
+returns-in-Plans c = subst (λ whole. ShowsWhole whole c.plans_text.result.now) (sym c.in-Plans.is) c.plans_text.ensures
 
 pub returns-in-OldVolumes : goal.returns-in-OldVolumes
-returns-in-OldVolumes c = subst (λ whole. IsWholeText whole _) (sym c.in-OldVolumes.is)
-    (one_tree OldVolumes desk.OldVolume _ (0 ∷ 1 ∷ 2 ∷ []) (λ p. refl) old_volumes_same
-    all_old_volumes_selected)
+returns-in-OldVolumes c = subst (λ whole. ShowsWhole whole c.old_volumes_text.result.now) (sym c.in-OldVolumes.is) c.old_volumes_text.ensures
 
 pub returns-in-OldSpans : goal.returns-in-OldSpans
-returns-in-OldSpans c = subst (λ whole. IsWholeText whole _) (sym c.in-OldSpans.is)
-    (one_tree OldSpans desk.OldSpan _ (0 ∷ 1 ∷ 2 ∷ 3 ∷ []) (λ p. refl) old_spans_same all_old_spans_selected)
-
-pub returns-in-Volumes : goal.returns-in-Volumes
-returns-in-Volumes c = subst (λ whole. IsWholeText whole _) (sym c.in-Volumes.is)
-    (two_trees (IsTextIn Volumes _) all_volumes_selected packed.volumes_selected)
+returns-in-OldSpans c = subst (λ whole. ShowsWhole whole c.old_spans_text.result.now) (sym c.in-OldSpans.is) c.old_spans_text.ensures
 
 pub returns-in-Spans : goal.returns-in-Spans
-returns-in-Spans c = subst (λ whole. IsWholeText whole _) (sym c.in-Spans.is)
-    (two_trees (IsTextIn Spans _) all_spans_selected packed.spans_selected)
+returns-in-Spans c = subst (λ whole. ShowsWhole whole c.spans_text.result.now) (sym c.in-Spans.is) c.spans_text.ensures
