@@ -3,12 +3,13 @@ use Rattle.std.proofs.Common.{◌≡◌, ◌∙◌, ◌<◌, ◌+◌, ap, ℕ, B
 use Rattle.std.proofs.lemmas.List.{map_more}
 use Rattle.std.proofs.lemmas.List.Sums.{fold_push}
 use Rattle.clap.specs.Simple.{is_simple, with_subcommand}
-use Rattle.clap.specs.Walk.{Text}
-use Rattle.desk_line.specs.Forms.{rule_of_word, shape_of_form}
+use Rattle.clap.specs.Walk.{Rule, Text}
+use Rattle.desk_line.specs.Forms.{of_kind, rule_of_row, shape_of_form}
 use Rattle.desk_line.specs.Grammar.{bare_program, line_shape, program, with_lines}
 use Rattle.desk_line.specs.declared.command.Form.{Form}
-use Rattle.desk_line.specs.declared.command.Word.{Word}
-use Rattle.desk_line.specs.declared.command.Word.TheVariants as word
+use Rattle.desk_line.specs.declared.command.ArgRow.{ArgRow}
+use Rattle.desk_line.specs.declared.command.Kind.{Kind}
+use Rattle.desk_line.specs.declared.command.Kind.TheVariants as kind
 
 pub second : (a b : Bool) → (a && b) ≡ true → b ≡ true
 second true b h = h
@@ -34,30 +35,18 @@ simple_local a b c d e f g h i x is =
     (second i _ (second h _ (second g _ (second f _ (second e _ (second d _
     (second c _ (second b _ (second a _ is)))))))))
 
-pub word_simple : (w : Word) → (rule_of_word w).is_simple ≡ true
-word_simple word.Database = refl
-word_simple word.GivenDatabase = refl
-word_simple word.NewFile = refl
-word_simple word.Moment = refl
-word_simple word.Port = refl
-word_simple word.Connections = refl
-word_simple word.Equal = refl
-word_simple word.Spans = refl
-word_simple word.Operators = refl
-word_simple word.Record = refl
-word_simple word.Until = refl
-word_simple word.Enrolments = refl
-word_simple word.Token = refl
-word_simple (word.Text name help) = refl
-word_simple (word.Small name help) = refl
-word_simple (word.Coordinate name help) = refl
-word_simple word.Picture = refl
+-- an argument of any kind is as simple as a bare one
+pub simple_kind : (k : Kind) (r : Rule) → r.is_simple ≡ true → (of_kind k r).is_simple ≡ true
+simple_kind kind.Text r is = is
+simple_kind kind.Texts r is = is
+simple_kind (kind.Number least most) r is = is
+simple_kind kind.Flag r is = is
 
 -- one word more
-pub words_more : (name : Text) (words : List Word) (i : ℕ) (d : Word) → i < length words
-    → line_shape name (map rule_of_word (take (i + 1) words))
-    ≡ line_shape name (map rule_of_word (take i words) ++ rule_of_word (get_or words i d) ∷ [])
-words_more name words i d below = ap (line_shape name) (map_more rule_of_word words i d below)
+pub words_more : (name : Text) (words : List ArgRow) (i : ℕ) (d : ArgRow) → i < length words
+    → line_shape name (map rule_of_row (take (i + 1) words))
+    ≡ line_shape name (map rule_of_row (take i words) ++ rule_of_row (get_or words i d) ∷ [])
+words_more name words i d below = ap (line_shape name) (map_more rule_of_row words i d below)
 
 -- one line more
 pub lines_more : (forms : List Form) (i : ℕ) (d : Form) → i < length forms

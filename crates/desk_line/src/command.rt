@@ -4,12 +4,13 @@
 ghost use Rattle.std.specs.Prelude.{◌≡◌, IfOk, map};
 ghost use Rattle.clap.specs.Simple.{app_of, shape_of};
 ghost use Rattle.clap.specs.Walk.{rule_of};
-ghost use Rattle.desk_line.specs.Forms.{rule_of_word, shape_of_form};
+ghost use Rattle.desk_line.specs.Forms.{bare_rule, rule_of_row, shape_of_form};
 ghost use Rattle.desk_line.specs.Grammar as spec;
-ghost use Rattle.desk_line.specs.Grammar.{line_shape, needed, value};
+ghost use Rattle.desk_line.specs.Grammar.{line_shape};
 
 use crate::line::MAX_CONNECTIONS;
-use clap::{Arg, ArgAction, Command, value_parser};
+use clap::builder::ValueParser;
+use clap::{Arg, ArgAction, Command};
 use desk_rules::terms::MAX_SPANS;
 use std::alloc::{AllocError, Global};
 use volume4d::MAX_SECOND;
@@ -21,113 +22,290 @@ const VERSION: &str = "1.0.0\nRattle logic dac8208d650f15bf";
 struct Form {
     name: &'static str,
     about: &'static str,
-    words: &'static [Word],
+    words: &'static [ArgRow],
 }
 
-// A word of a line. Those of one value are told by their name and what they are.
-enum Word {
-    // The file of operators and plans, which may be left out.
-    Database,
-    // The file, which may not.
-    GivenDatabase,
-    // The new file.
-    NewFile,
-    Moment,
-    Port,
-    Connections,
-    // The priorities at which plans may overlap.
-    Equal,
-    // The most spans of an operator's live plans.
-    Spans,
-    // The file of enrolments that the keeper changes.
-    Operators,
-    // The folder of records.
-    Record,
-    // The last second that is played.
-    Until,
-    // Operators and their ceilings.
-    Enrolments,
-    Token,
-    Text(&'static str, &'static str),
-    Small(&'static str, &'static str),
-    Coordinate(&'static str, &'static str),
-    Picture,
+// An argument of a line.
+#[derive(Clone, Copy)]
+struct ArgRow {
+    // The name by which its value is read back.
+    id: &'static str,
+    // The name of `--NAME VALUE`; an argument without one is read by its place.
+    long: Option<&'static str>,
+    // What help calls its value, if it has one.
+    value: Option<&'static str>,
+    help: &'static str,
+    is_required: bool,
+    kind: Kind,
 }
+
+// What the value of an argument is.
+#[derive(Clone, Copy)]
+enum Kind {
+    Text,
+    // One text for each use, of any number of them.
+    Texts,
+    // A number from the first to the second.
+    Number(i64, i64),
+    // There is none: it tells whether it was used.
+    Flag,
+}
+
+// The file of operators and plans, which may be left out.
+const DATABASE: ArgRow = ArgRow {
+    id: "database",
+    long: Some("db"),
+    value: Some("FILE"),
+    help: "The SQLite database of operators and plans, or :memory: for one in memory",
+    is_required: false,
+    kind: Kind::Text,
+};
+
+// The file, which may not.
+const GIVEN_DATABASE: ArgRow = ArgRow {
+    is_required: true,
+    ..DATABASE
+};
+
+const NEW_FILE: ArgRow = ArgRow {
+    id: "to",
+    long: Some("to"),
+    value: Some("NEW"),
+    help: "The new file, where there is none yet",
+    is_required: true,
+    kind: Kind::Text,
+};
+
+const MOMENT: ArgRow = ArgRow {
+    id: "moment",
+    long: Some("at"),
+    value: Some("SECOND"),
+    help: "The moment of all requests, a Unix second",
+    is_required: true,
+    kind: Kind::Number(0, MAX_SECOND),
+};
+
+const PORT: ArgRow = ArgRow {
+    id: "port",
+    long: Some("port"),
+    value: Some("N"),
+    help: "The port of 127.0.0.1 that is listened at",
+    is_required: true,
+    kind: Kind::Number(1, u16::MAX as i64),
+};
+
+const CONNECTIONS: ArgRow = ArgRow {
+    id: "connections",
+    long: Some("requests"),
+    value: Some("N"),
+    help: "How many connections are served, one request each",
+    is_required: true,
+    kind: Kind::Number(1, MAX_CONNECTIONS as i64),
+};
+
+const EQUAL: ArgRow = ArgRow {
+    id: "equal",
+    long: Some("equal"),
+    value: Some("LIST"),
+    help: "Priorities at which plans of equal priority may overlap, ascending, with commas between",
+    is_required: false,
+    kind: Kind::Text,
+};
+
+const SPANS: ArgRow = ArgRow {
+    id: "spans",
+    long: Some("spans"),
+    value: Some("N"),
+    help: "The most spans that the live plans of an operator may have",
+    is_required: false,
+    kind: Kind::Number(1, MAX_SPANS as i64),
+};
+
+const OPERATORS: ArgRow = ArgRow {
+    id: "operators",
+    long: Some("operators"),
+    value: Some("FILE"),
+    help: "A file of lines NAME CEILING, read again when it has changed",
+    is_required: false,
+    kind: Kind::Text,
+};
+
+const RECORD: ArgRow = ArgRow {
+    id: "record",
+    long: Some("record"),
+    value: Some("FOLDER"),
+    help: "A folder in which each request and its answer are recorded",
+    is_required: false,
+    kind: Kind::Text,
+};
+
+const UNTIL: ArgRow = ArgRow {
+    id: "until",
+    long: Some("until"),
+    value: Some("SECOND"),
+    help: "The last Unix second whose requests are played",
+    is_required: false,
+    kind: Kind::Number(0, MAX_SECOND),
+};
+
+const ENROLMENTS: ArgRow = ArgRow {
+    id: "enrolments",
+    long: None,
+    value: Some("NAME=CEILING"),
+    help: "An operator, and the greatest priority that it may use",
+    is_required: false,
+    kind: Kind::Texts,
+};
+
+const TOKEN: ArgRow = ArgRow {
+    id: "token",
+    long: None,
+    value: Some("TOKEN"),
+    help: "A cell of the S2 geometry library, 1 to 16 hex digits",
+    is_required: true,
+    kind: Kind::Text,
+};
+
+const FACE: ArgRow = ArgRow {
+    id: "FACE",
+    long: None,
+    value: Some("FACE"),
+    help: "The face, 0 to 5",
+    is_required: true,
+    kind: SMALL,
+};
+
+const I_MIN: ArgRow = ArgRow {
+    id: "I_MIN",
+    long: None,
+    value: Some("I_MIN"),
+    help: "The least coordinate i of a leaf",
+    is_required: true,
+    kind: COORDINATE,
+};
+
+const I_MAX: ArgRow = ArgRow {
+    id: "I_MAX",
+    long: None,
+    value: Some("I_MAX"),
+    help: "The greatest coordinate i",
+    is_required: true,
+    kind: COORDINATE,
+};
+
+const J_MIN: ArgRow = ArgRow {
+    id: "J_MIN",
+    long: None,
+    value: Some("J_MIN"),
+    help: "The least coordinate j",
+    is_required: true,
+    kind: COORDINATE,
+};
+
+const J_MAX: ArgRow = ArgRow {
+    id: "J_MAX",
+    long: None,
+    value: Some("J_MAX"),
+    help: "The greatest coordinate j",
+    is_required: true,
+    kind: COORDINATE,
+};
+
+const LEVEL: ArgRow = ArgRow {
+    id: "LEVEL",
+    long: None,
+    value: Some("LEVEL"),
+    help: "The level, 8 to 24",
+    is_required: true,
+    kind: SMALL,
+};
+
+const PICTURE: ArgRow = ArgRow {
+    id: "picture",
+    long: Some("svg"),
+    value: None,
+    help: "Prints a picture (SVG) in place of the tokens",
+    is_required: false,
+    kind: Kind::Flag,
+};
+
+const NAME: ArgRow = ArgRow {
+    id: "NAME",
+    long: None,
+    value: Some("NAME"),
+    help: "The operator's name",
+    is_required: true,
+    kind: Kind::Text,
+};
+
+const CEILING: ArgRow = ArgRow {
+    id: "CEILING",
+    long: None,
+    value: Some("CEILING"),
+    help: "The greatest priority that it may use",
+    is_required: true,
+    kind: Kind::Text,
+};
+
+// Numbers of 8 bits, and of 32.
+const SMALL: Kind = Kind::Number(0, 255);
+
+const COORDINATE: Kind = Kind::Number(0, 4_294_967_295);
 
 static FORMS: [Form; 9] = [
     Form {
         name: "play",
         about: "Answers the requests of the standard input",
-        words: &[
-            Word::Database,
-            Word::Moment,
-            Word::Equal,
-            Word::Spans,
-            Word::Record,
-            Word::Enrolments,
-        ],
+        words: &[DATABASE, MOMENT, EQUAL, SPANS, RECORD, ENROLMENTS],
     },
     Form {
         name: "token",
         about: "Tells a cell's face, its level, and its first and last leaf",
-        words: &[Word::Token],
+        words: &[TOKEN],
     },
     Form {
         name: "serve",
         about: "Answers one request a connection, at the moment that the clock tells",
         words: &[
-            Word::Database,
-            Word::Port,
-            Word::Connections,
-            Word::Equal,
-            Word::Spans,
-            Word::Operators,
-            Word::Record,
-            Word::Enrolments,
+            DATABASE,
+            PORT,
+            CONNECTIONS,
+            EQUAL,
+            SPANS,
+            OPERATORS,
+            RECORD,
+            ENROLMENTS,
         ],
     },
     Form {
         name: "cover",
         about: "Tells the cells of a rectangle of leaves, widened to whole squares of the level",
-        words: &[
-            Word::Small("FACE", "The face, 0 to 5"),
-            Word::Coordinate("I_MIN", "The least coordinate i of a leaf"),
-            Word::Coordinate("I_MAX", "The greatest coordinate i"),
-            Word::Coordinate("J_MIN", "The least coordinate j"),
-            Word::Coordinate("J_MAX", "The greatest coordinate j"),
-            Word::Small("LEVEL", "The level, 8 to 24"),
-            Word::Picture,
-        ],
+        words: &[FACE, I_MIN, I_MAX, J_MIN, J_MAX, LEVEL, PICTURE],
     },
     Form {
         name: "enrol",
         about: "Enrols an operator in a database, or replaces its ceiling",
-        words: &[
-            Word::GivenDatabase,
-            Word::Record,
-            Word::Text("NAME", "The operator's name"),
-            Word::Text("CEILING", "The greatest priority that it may use"),
-        ],
+        words: &[GIVEN_DATABASE, RECORD, NAME, CEILING],
     },
     Form {
         name: "migrate",
         about: "Moves the plans of a database of schema 1 to schema 2",
-        words: &[Word::GivenDatabase],
+        words: &[GIVEN_DATABASE],
     },
     Form {
         name: "check",
         about: "Tells what a database holds, and changes nothing in it",
-        words: &[Word::GivenDatabase],
+        words: &[GIVEN_DATABASE],
     },
     Form {
         name: "copy",
         about: "Makes a new file of what a database holds, in schema 2",
-        words: &[Word::GivenDatabase, Word::NewFile],
+        words: &[GIVEN_DATABASE, NEW_FILE],
     },
     Form {
         name: "replay",
         about: "Plays the record of the standard input, and compares each answer with its own",
-        words: &[Word::GivenDatabase, Word::Until],
+        words: &[GIVEN_DATABASE, UNTIL],
     },
 ];
 
@@ -171,10 +349,10 @@ fn command_of<'a>(alloc: Global, form: &'static Form) -> Result<Command<'a>, All
 fn with_words<'a>(
     alloc: Global,
     form: &'static Form,
-    words: &'static [Word],
+    words: &'static [ArgRow],
 ) -> Result<Command<'a>, AllocError>
     ensures { IfOk result (λ command.
-        shape_of command ≡ line_shape form.now.name.now (map rule_of_word words.now)) }
+        shape_of command ≡ line_shape form.now.name.now (map rule_of_row words.now)) }
 {
     let mut command = Command::new(alloc, form.name).about(form.about);
     for word in words {
@@ -183,175 +361,32 @@ fn with_words<'a>(
     Ok(command)
 }
 
-fn arg_of<'a>(alloc: Global, word: &Word) -> Arg<'a>
-    ensures { rule_of result ≡ rule_of_word word.now }
+// The argument of a row.
+fn arg_of<'a>(alloc: Global, row: &ArgRow) -> Arg<'a>
+    ensures { rule_of result ≡ rule_of_row row.now }
 {
-    match word {
-        Word::Database => database_arg(alloc),
-        Word::GivenDatabase => database_arg(alloc).required(true),
-        Word::NewFile => new_file_arg(alloc),
-        Word::Moment => moment_arg(alloc),
-        Word::Port => port_arg(alloc),
-        Word::Connections => connections_arg(alloc),
-        Word::Equal => equal_arg(alloc),
-        Word::Spans => spans_arg(alloc),
-        Word::Operators => operators_arg(alloc),
-        Word::Record => record_arg(alloc),
-        Word::Until => until_arg(alloc),
-        Word::Enrolments => enrolments_arg(alloc),
-        Word::Token => token_arg(alloc),
-        Word::Text(name, help) => text_arg(alloc, name, help),
-        Word::Small(name, help) => small_arg(alloc, name, help),
-        Word::Coordinate(name, help) => coordinate_arg(alloc, name, help),
-        Word::Picture => picture_arg(alloc),
+    let arg = bare_arg(alloc, row);
+    match row.kind {
+        Kind::Text => arg,
+        Kind::Texts => arg.action(ArgAction::Append),
+        Kind::Number(least, most) => arg.value_parser(ValueParser::signed(least, most)),
+        Kind::Flag => arg.action(ArgAction::SetTrue),
     }
 }
 
-fn database_arg<'a>(alloc: Global) -> Arg<'a>
-    ensures { rule_of result ≡ spec.database }
+// What the argument of a row has, of whatever kind its values are.
+fn bare_arg<'a>(alloc: Global, row: &ArgRow) -> Arg<'a>
+    ensures { rule_of result ≡ bare_rule row.now }
 {
-    Arg::new(alloc, "database")
-        .long("db")
-        .value_name("FILE")
-        .help("The SQLite database of operators and plans, or :memory: for one in memory")
-}
-
-fn new_file_arg<'a>(alloc: Global) -> Arg<'a>
-    ensures { rule_of result ≡ spec.new_file }
-{
-    Arg::new(alloc, "to")
-        .long("to")
-        .value_name("NEW")
-        .help("The new file, where there is none yet")
-        .required(true)
-}
-
-fn moment_arg<'a>(alloc: Global) -> Arg<'a>
-    ensures { rule_of result ≡ spec.moment }
-{
-    Arg::new(alloc, "moment")
-        .long("at")
-        .value_name("SECOND")
-        .help("The moment of all requests, a Unix second")
-        .required(true)
-        .value_parser(value_parser!(i64).range(0..=MAX_SECOND))
-}
-
-fn port_arg<'a>(alloc: Global) -> Arg<'a>
-    ensures { rule_of result ≡ spec.port }
-{
-    Arg::new(alloc, "port")
-        .long("port")
-        .value_name("N")
-        .help("The port of 127.0.0.1 that is listened at")
-        .required(true)
-        .value_parser(value_parser!(u16).range(1..))
-}
-
-fn connections_arg<'a>(alloc: Global) -> Arg<'a>
-    ensures { rule_of result ≡ spec.connections }
-{
-    Arg::new(alloc, "connections")
-        .long("requests")
-        .value_name("N")
-        .help("How many connections are served, one request each")
-        .required(true)
-        .value_parser(value_parser!(u32).range(1..=i64::from(MAX_CONNECTIONS)))
-}
-
-fn equal_arg<'a>(alloc: Global) -> Arg<'a>
-    ensures { rule_of result ≡ spec.equal }
-{
-    Arg::new(alloc, "equal")
-        .long("equal")
-        .value_name("LIST")
-        .help(
-            "Priorities at which plans of equal priority may overlap, ascending, with commas between",
-        )
-}
-
-fn spans_arg<'a>(alloc: Global) -> Arg<'a>
-    ensures { rule_of result ≡ spec.spans }
-{
-    Arg::new(alloc, "spans")
-        .long("spans")
-        .value_name("N")
-        .help("The most spans that the live plans of an operator may have")
-        .value_parser(value_parser!(u32).range(1..=i64::from(MAX_SPANS)))
-}
-
-fn operators_arg<'a>(alloc: Global) -> Arg<'a>
-    ensures { rule_of result ≡ spec.operators }
-{
-    Arg::new(alloc, "operators")
-        .long("operators")
-        .value_name("FILE")
-        .help("A file of lines NAME CEILING, read again when it has changed")
-}
-
-fn record_arg<'a>(alloc: Global) -> Arg<'a>
-    ensures { rule_of result ≡ spec.record_folder }
-{
-    Arg::new(alloc, "record")
-        .long("record")
-        .value_name("FOLDER")
-        .help("A folder in which each request and its answer are recorded")
-}
-
-fn until_arg<'a>(alloc: Global) -> Arg<'a>
-    ensures { rule_of result ≡ spec.until }
-{
-    Arg::new(alloc, "until")
-        .long("until")
-        .value_name("SECOND")
-        .help("The last Unix second whose requests are played")
-        .value_parser(value_parser!(i64).range(0..=MAX_SECOND))
-}
-
-fn enrolments_arg<'a>(alloc: Global) -> Arg<'a>
-    ensures { rule_of result ≡ spec.enrolments }
-{
-    Arg::new(alloc, "enrolments")
-        .value_name("NAME=CEILING")
-        .help("An operator, and the greatest priority that it may use")
-        .action(ArgAction::Append)
-}
-
-fn token_arg<'a>(alloc: Global) -> Arg<'a>
-    ensures { rule_of result ≡ spec.token }
-{
-    Arg::new(alloc, "token")
-        .value_name("TOKEN")
-        .help("A cell of the S2 geometry library, 1 to 16 hex digits")
-        .required(true)
-}
-
-fn text_arg<'a>(alloc: Global, name: &'a str, help: &'a str) -> Arg<'a>
-    ensures { rule_of result ≡ needed (value name.entry.now) }
-{
-    Arg::new(alloc, name)
-        .value_name(name)
-        .help(help)
-        .required(true)
-}
-
-fn small_arg<'a>(alloc: Global, name: &'a str, help: &'a str) -> Arg<'a>
-    ensures { rule_of result ≡ spec.small name.entry.now }
-{
-    text_arg(alloc, name, help).value_parser(value_parser!(u8))
-}
-
-fn coordinate_arg<'a>(alloc: Global, name: &'a str, help: &'a str) -> Arg<'a>
-    ensures { rule_of result ≡ spec.coordinate name.entry.now }
-{
-    text_arg(alloc, name, help).value_parser(value_parser!(u32))
-}
-
-fn picture_arg<'a>(alloc: Global) -> Arg<'a>
-    ensures { rule_of result ≡ spec.picture }
-{
-    Arg::new(alloc, "picture")
-        .long("svg")
-        .help("Prints a picture (SVG) in place of the tokens")
-        .action(ArgAction::SetTrue)
+    let arg = Arg::new(alloc, row.id)
+        .help(row.help)
+        .required(row.is_required);
+    let arg = match row.value {
+        Some(value) => arg.value_name(value),
+        None => arg,
+    };
+    match row.long {
+        Some(long) => arg.long(long),
+        None => arg,
+    }
 }

@@ -57,7 +57,8 @@ pub record IsInOrder (was : Image) (new : State) : Type 0 where
   pub ordered : OrdersFirst seen new.committed
   pub settled : IsSettled new
 
--- a crash leaves what it could leave before, or the pages that the files stood for, the first of them in order
+-- a crash leaves what it could leave before, or the pages that the files stood for, the first of them in
+-- order
 abbrev pub LeavesOrdered : ℕ → Image → (Image → Type 0) → (Image → Type 0) → Type 0
 LeavesOrdered size was old new = (image : Image) → new image
     → ((before : Image) × old before × RecoversAs size before image)

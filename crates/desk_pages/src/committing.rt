@@ -29,8 +29,8 @@ pub struct Ordered<D: Disk> {
     pager: Pager<D>,
 }
 
-/// Files whose first page was not put in order, if they were opened. Nothing can be done with them but to drop
-/// them.
+/// Files whose first page was not put in order, if they were opened. Nothing can be done with them but to
+/// drop them.
 #[derive(Drop)]
 pub struct Unordered<D: Disk> {
     left: Option<Left<D>>,
@@ -45,8 +45,8 @@ enum Left<D: Disk> {
     Uncommitted(Error, Pager<D>),
 }
 
-/// Puts the first page of the file at a path into a desk's own order, in one commit to its log; `start` stands
-/// for what the files held. Answered are the files.
+/// Puts the first page of the file at a path into a desk's own order, in one commit to its log; `start`
+/// stands for what the files held. Answered are the files.
 ///
 /// # Errors
 ///
@@ -116,7 +116,8 @@ fn pager_over<D: Disk + Drop>(
     requires db { IsTrue (D.Disk.is_usable files.db) }
     ensures over { IfOk result (λ it. IsOver files it.0) }
     ensures size { IfOk result (λ it. (state it.0).page_size ≡ bytes_of it.1) }
-    ensures left { IfErr result (IsLeft (image_of D.Disk files) (leaves D.Disk files) (faults_of D.Disk files)) }
+    ensures left { IfErr result (IsLeft (image_of D.Disk files) (leaves D.Disk files)
+        (faults_of D.Disk files)) }
 {
     match probe_page_size(&mut files) {
         Ok(Some(size)) => match Pager::new(alloc, files, size, Options::new(seed)) {

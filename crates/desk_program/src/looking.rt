@@ -1,6 +1,6 @@
 //! The lines that tell a keeper what a file holds, and what was copied of it.
 
-ghost use Rattle.std.specs.Prelude.{◌≡◌, IfOk, codes, if◌then◌else◌, string_bytes};
+ghost use Rattle.std.specs.Prelude.{◌≡◌, ℕ, IfOk, List, codes, if◌then◌else◌, string_bytes};
 ghost use Rattle.desk_line.specs.Exits.{ending};
 ghost use Rattle.desk_program.specs.Looking as spec;
 ghost use Rattle.desk_program.specs.Looking.{IsTextPrinted};
@@ -48,10 +48,7 @@ pub fn print_checked<W: Write, E: Write>(
         (ending result (E.contents errors.old) (E.contents errors.new)) (W.contents output.old)
         (W.contents output.new) }
 {
-    match checked_text(alloc, file) {
-        Ok(text) => print_text(&text, output, errors),
-        Err(_) => conclude(errors, Err(Failure::Memory)),
-    }
+    print_line(checked_text(alloc, file), output, errors)
 }
 
 /// Prints how many operators and plans were copied, and answers how it ended. The word of a failure goes to
@@ -67,17 +64,23 @@ pub fn print_copied<W: Write, E: Write>(
         (ending result (E.contents errors.old) (E.contents errors.new)) (W.contents output.old)
         (W.contents output.new) }
 {
-    match copied_text(alloc, operators, plans) {
-        Ok(text) => print_text(&text, output, errors),
-        Err(_) => conclude(errors, Err(Failure::Memory)),
-    }
+    print_line(copied_text(alloc, operators, plans), output, errors)
 }
 
-// Prints a text, and answers how it ended.
-fn print_text<W: Write, E: Write>(text: &str, output: &mut W, errors: &mut E) -> Exit<E>
-    ensures { IsTextPrinted text.now (ending result (E.contents errors.old) (E.contents errors.new))
+// Prints the line with which a command ends, if there was memory for it, and answers how it ended. The word
+// of a failure goes to `errors`; a fault there is passed over.
+pub(crate) fn print_line<W: Write, E: Write>(
+    text: Result<String, AllocError>,
+    output: &mut W,
+    errors: &mut E,
+) -> Exit<E>
+    ensures { (line : List ℕ) → IfOk text (λ text. string_bytes text ≡ line)
+        → IsTextPrinted line (ending result (E.contents errors.old) (E.contents errors.new))
         (W.contents output.old) (W.contents output.new) }
 {
+    let Ok(text) = text else {
+        return conclude(errors, Err(Failure::Memory));
+    };
     match write_whole(output, text.as_bytes()) {
         Ok(()) => Exit::silent(0),
         Err(_) => conclude(errors, Err(Failure::Write)),

@@ -5,8 +5,8 @@ ghost use Rattle.desk_line.specs.Exits.{ending};
 ghost use Rattle.desk_program.specs.MovedLine as spec;
 ghost use Rattle.desk_program.specs.MovedLine.{IsCountPrinted};
 
-use desk_ends::write_whole;
-use desk_line::{Exit, Failure, conclude};
+use crate::looking::print_line;
+use desk_line::Exit;
 use std::alloc::{AllocError, Global};
 use std::io::Write;
 
@@ -21,13 +21,7 @@ pub fn print_migrated<W: Write, E: Write>(
     ensures { IsCountPrinted count (ending result (E.contents errors.old) (E.contents errors.new))
         (W.contents output.old) (W.contents output.new) }
 {
-    let Ok(text) = migrated_text(alloc, count) else {
-        return conclude(errors, Err(Failure::Memory));
-    };
-    match write_whole(output, text.as_bytes()) {
-        Ok(()) => Exit::silent(0),
-        Err(_) => conclude(errors, Err(Failure::Write)),
-    }
+    print_line(migrated_text(alloc, count), output, errors)
 }
 
 // The line that tells how many plans were moved.

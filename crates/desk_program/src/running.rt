@@ -84,8 +84,8 @@ pub fn with_desk<S: PlanStore, R: Read, W: Write, E: Write>(
     errors: &mut E,
 ) -> u8
     requires { IsPortless line.now }
-    ensures { EndsWithStatus S.PlanStore line.now result (passage R.Read W.Write input.old input.new output.old
-        output.new) (bytes_written E.Write errors.old errors.new) desk.old desk.new }
+    ensures { EndsWithStatus S.PlanStore line.now result (passage R.Read W.Write input.old input.new
+        output.old output.new) (bytes_written E.Write errors.old errors.new) desk.old desk.new }
 {
     carry_out_portless(alloc, line, desk, input, output, errors).status
 }
