@@ -21,6 +21,9 @@ packages.txt lists them all.
 - A row that rests on nothing before it is a parameter of a test, with its name as `id`.
 - A scenario, whose steps rest on those before, is one test: the fixture `rows` compares and counts each step.
 - Whatever is started, made or mounted is a fixture, or entered in a `with` within one, so that it ends.
+- A test gives the same verdict on a slow, busy machine. It waits for a condition (`until`), a minute or more, and never
+  for an effect a fixed time. What is counted a second, or has to take less than some seconds, is compared with what the
+  same run has measured. A proxy may count a request for a moment that was answered, and write its line later.
 
 | of | has |
 |---|---|

@@ -13,7 +13,7 @@ from uss_desk_client import Desk
 FIELD = [(8.5400, 47.3700), (8.5560, 47.3690), (8.5600, 47.3790), (8.5480, 47.3830), (8.5390, 47.3780)]
 WOOD = [(8.5500, 47.3750), (8.5700, 47.3740), (8.5690, 47.3850), (8.5520, 47.3860)]
 FAR = [(8.7000, 47.5000), (8.7100, 47.5000), (8.7100, 47.5060), (8.7000, 47.5060)]
-PATIENCE = 60
+PATIENCE = 200
 """Seconds that an answer may take."""
 SOON = datetime.now(timezone.utc) + timedelta(hours=2)
 TOMORROW = SOON.replace(hour=0, minute=0, second=0, microsecond=0) + timedelta(days=1)

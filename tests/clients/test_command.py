@@ -28,7 +28,7 @@ def uss_plan(setting: Setting, name: str, *words: str) -> tuple[int, str]:
         [sys.executable, "-m", "uss_desk_client", *words],
         capture_output=True,
         text=True,
-        timeout=120,
+        timeout=600,
         check=False,
         cwd=setting.folder,
         env=environment(setting, name),

@@ -21,37 +21,36 @@ PLANS, STEPS_A_KILL = 40, 14
 
 
 class Killer:
-    """Kills the desk in mid-run, a few moments after each so many steps of the work."""
+    """Kills the desk in mid-run, a few moments after each so many steps of the work have begun. However late a kill
+    comes on a busy machine, the next one waits for it."""
 
     def __init__(self, setting: Setting) -> None:
-        self._setting, self._steps, self._is_done = setting, threading.Semaphore(0), False
-        self._thread = threading.Thread(target=self._run)
+        self._setting, self._steps, self._some = setting, 0, random.Random(1)
+        self._thread: threading.Thread | None = None
 
     def __enter__(self) -> Killer:
-        self._thread.start()
         return self
 
     def __exit__(self, *_: object) -> None:
-        self._is_done = True
-        self._steps.release(STEPS_A_KILL)
-        self._thread.join()
+        self._wait()
 
     def step(self) -> None:
         """A step of the work begins."""
-        self._steps.release()
+        self._steps += 1
+        if self._steps % STEPS_A_KILL == 0:
+            self._wait()
+            self._thread = threading.Thread(target=self._kill, args=(self._some.uniform(0, 0.01),))
+            self._thread.start()
 
-    def _run(self) -> None:
-        """Kills the desk, until the work is done."""
-        some = random.Random(1)
-        while self._are_steps_done():
-            time.sleep(some.uniform(0, 0.01))
-            self._setting.kill()
+    def _kill(self, seconds: float) -> None:
+        """Kills the desk after so many seconds."""
+        time.sleep(seconds)
+        self._setting.kill()
 
-    def _are_steps_done(self) -> bool:
-        """Whether the next so many steps have begun, once they have; False when the work is done."""
-        for _ in range(STEPS_A_KILL):
-            self._steps.acquire()
-        return not self._is_done
+    def _wait(self) -> None:
+        """Waits until the last kill was done."""
+        if self._thread:
+            self._thread.join()
 
 
 def second(moment: datetime) -> int:

@@ -5,6 +5,7 @@ from __future__ import annotations
 import http.client
 import json
 from collections.abc import Mapping
+from concurrent.futures import ThreadPoolExecutor
 from typing import Any, NamedTuple
 
 import pytest
@@ -37,7 +38,7 @@ class Answered(NamedTuple):
 
 def ask(setting: Setting, method: str, path: str, fields: Mapping[str, str], body: bytes | None = None) -> Answered:
     """What nginx answers."""
-    connection = http.client.HTTPConnection("127.0.0.1", setting.nginx.port, timeout=60)
+    connection = http.client.HTTPConnection("127.0.0.1", setting.nginx.port, timeout=300)
     try:
         connection.request(method, path, body=body, headers=dict(fields))
         answer = connection.getresponse()
@@ -86,22 +87,25 @@ def test_no_page_of_its_own(setting: Setting) -> None:
     assert ask(setting, "GET", "/refused/502", USER)[:2] == (404, {"error": "no_route"})
 
 
+AT_ONCE = 8
+
+
 def refused_of(setting: Setting, most: int, enough: int) -> set[tuple[int, str, str | None]]:
-    """What is refused of so many requests of one operator, one after the other, up to the number that is enough."""
-    found = []
-    for _ in range(most):
-        answer = ask(setting, "GET", "/status", USER)
-        if answer.status != 200:
-            found.append((answer.status, answer.value["error"], answer.after))
-        if len(found) == enough:
-            break
-    return {*found}
+    """What is refused of so many requests of one operator, some at once, up to the number that is enough."""
+    found: list[Answered] = []
+    with ThreadPoolExecutor(AT_ONCE) as pool:
+        for _ in range(0, most, AT_ONCE):
+            answers = pool.map(lambda _: ask(setting, "GET", "/status", USER), range(AT_ONCE))
+            found += [answer for answer in answers if answer.status != 200]
+            if len(found) >= enough:
+                break
+    return {(answer.status, answer.value["error"], answer.after) for answer in found}
 
 
 def test_too_many_requests(setting: Setting) -> None:
     """An operator that asks more often than it may hears of it, and when to ask again. On a busy machine it takes more
     requests until they are too many."""
-    assert refused_of(setting, most=5_000, enough=100) == {(429, "too_many_requests", "5")}
+    assert refused_of(setting, most=20_000, enough=100) == {(429, "too_many_requests", "5")}
 
 
 @pytest.mark.quick

@@ -97,7 +97,7 @@ def serve(room: pathlib.Path, before: Sequence[str], requests: Sequence[bytes], 
         except subprocess.TimeoutExpired:
             desk.kill()
             errors = f"no end within {PATIENCE} s"
-    if errors == "uss_desk: network\n":  # somebody else was faster
+    if errors.endswith("uss_desk: network\n"):  # somebody else was faster
         return serve(room, before, requests, operators)
     return Ran(desk.returncode, answered, errors, [])
 

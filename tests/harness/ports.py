@@ -6,26 +6,36 @@ import os
 import random
 import socket
 import time
+from collections import deque
 from collections.abc import Callable
 
-PATIENCE = 60
+PATIENCE = 120
 """Seconds that something may take to come about."""
 FIRST, LAST = 20_000, 32_000
 """Below the ports from which the kernel lets clients connect, so that none of these takes one that is free."""
 CHANCE = random.Random(os.getpid())
+CLAIMED, MOST_CLAIMED = deque[socket.socket](), 64
+"""Names that this process has bound, one for each port that it took lately. Until somebody listens at such a port, the
+name keeps it from this process and from the others that run tests beside it."""
 
 
 def free_port() -> int:
-    """A port at which nobody listened a moment ago."""
+    """A port at which nobody listened a moment ago, and that no test has taken."""
     for _ in range(1_000):
         port = CHANCE.randrange(FIRST, LAST)
-        with socket.socket() as probe:
-            probe.setsockopt(socket.SOL_SOCKET, socket.SO_REUSEADDR, 1)
-            try:
+        claim = socket.socket(socket.AF_UNIX)
+        try:
+            claim.bind(f"\0uss_desk tests {port}")
+            with socket.socket() as probe:
+                probe.setsockopt(socket.SOL_SOCKET, socket.SO_REUSEADDR, 1)
                 probe.bind(("127.0.0.1", port))
-            except OSError:
-                continue
-            return port
+        except OSError:
+            claim.close()
+            continue
+        CLAIMED.append(claim)
+        if len(CLAIMED) > MOST_CLAIMED:
+            CLAIMED.popleft().close()
+        return port
     raise OSError("no port is free")
 
 

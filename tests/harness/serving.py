@@ -14,7 +14,7 @@ from typing import IO
 from harness.ports import free_port
 from harness.program import DESK, Ran
 
-PATIENCE = 60
+PATIENCE = 300
 """Seconds in which a desk answers or ends."""
 TRIES = 5
 """How often another port is taken if somebody else was faster."""

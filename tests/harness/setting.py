@@ -13,7 +13,7 @@ import time
 from collections.abc import Iterator, Mapping
 
 from harness.nginx import Nginx
-from harness.ports import PATIENCE, free_port, until
+from harness.ports import free_port, until
 from harness.program import DESK, run
 
 OPERATORS = {"alfa": "a", "bravo": "b", "carol": "c"}
@@ -29,7 +29,7 @@ class Setting:
     def __init__(self, operators: Mapping[str, str] = OPERATORS) -> None:
         self.operators = operators
         self.port = free_port()
-        self.starts = 0
+        self.starts = self.ends = 0
         self._is_ending = False
         self._left = contextlib.ExitStack()
 
@@ -60,7 +60,7 @@ class Setting:
     def _is_started(self) -> bool:
         """Whether the desk listens, after its last start too."""
         output = self.folder / "output"
-        return self.starts > 0 and output.read_text().count("listening") >= self.starts
+        return self.starts > self.ends and output.read_text().count("listening") >= self.starts
 
     def _keep(self) -> None:
         """Starts the desk, and again each time that it ends."""
@@ -76,15 +76,20 @@ class Setting:
                 )
                 self.starts += 1
                 self.process.wait()
+                self.ends += 1
                 time.sleep(0.1)
 
     def kill(self) -> None:
-        """Kills the desk; it is started again."""
+        """Kills the desk, once it listens, and waits for its end; it is started again."""
+        until("the desk", self._is_started)
+        ends = self.ends
         self._signal(signal.SIGKILL)
+        until("the desk's end", lambda: self.ends > ends)
 
     @contextlib.contextmanager
     def held(self) -> Iterator[None]:
         """Within it the desk answers nothing."""
+        until("the desk", self._is_started)
         self._signal(signal.SIGSTOP)
         try:
             yield
@@ -96,7 +101,13 @@ class Setting:
         os.killpg(self.process.pid, number)
 
     def _end(self, keeper: threading.Thread) -> None:
-        """Ends the desk for good."""
-        self._is_ending = True
-        self.process.terminate()
-        keeper.join(timeout=PATIENCE)
+        """Ends the desk for good, also one that was being started again."""
+        self._is_ending, ended = True, list[subprocess.Popen[bytes]]()
+
+        def is_over() -> bool:
+            if self.process not in ended:
+                ended.append(self.process)
+                self.process.terminate()
+            return not keeper.is_alive()
+
+        until("the desk's end", is_over)

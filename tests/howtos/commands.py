@@ -52,6 +52,7 @@ ON_THE_MACHINE = {
     "operate.md": {
         "Start and stop": 1,
         "Enrol operators": 3,
+        "Passwords": 1,
         "Lock an operator out": 1,
         "An operator who leaves": 1,
         "See what is planned": 1,

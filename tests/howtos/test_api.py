@@ -7,10 +7,13 @@ import os
 import re
 import subprocess
 from collections.abc import Iterator
+from typing import Any
 
 import pytest
 from harness.places import DEPLOY, DOCS, EXAMPLES, TOP
 from harness.printed import blocks, page, section
+from harness.program import run
+from harness.requests import MOMENT, answers, plan_id, with_body
 
 PAGE = page("api.md")
 FILE = re.compile(r"\]\(\.\./examples/(\w+\.(?:http|answer))\) (\d+)")
@@ -73,6 +76,28 @@ def test_command() -> None:
     quiet = {**os.environ, "PYTHONDONTWRITEBYTECODE": "1"}
     ran = subprocess.run(["bash", "-c", command], cwd=TOP, env=quiet, capture_output=True, check=False)
     assert (ran.stdout, ran.returncode) == ((EXAMPLES / "first_put.answer").read_bytes(), 0)
+
+
+def without_a_member(value: Any) -> Iterator[Any]:
+    """The value without one of its members, for each of them, at every depth."""
+    if isinstance(value, dict):
+        for name, inner in value.items():
+            yield {other: kept for other, kept in value.items() if other != name}
+            yield from ({**value, name: less} for less in without_a_member(inner))
+    elif isinstance(value, list):
+        yield from ([less] for inner in value for less in without_a_member(inner))
+
+
+@pytest.mark.quick
+def test_smallest() -> None:
+    """The smallest body is taken, and without any of its members it is refused."""
+    (block,) = blocks(section(PAGE, "### The smallest PUT"), "bash")
+    body_text = block.partition("<<END\n")[2].partition("END\n")[0].replace("${day}", "2026-06-01")
+    bodies = [json.loads(body_text), *without_a_member(json.loads(body_text))]
+    given = b"".join(with_body("PUT", f"/flight_plans/{plan_id(1)}", "alfa", it) for it in bodies)
+    first, *others = answers(run("play", "--at", str(MOMENT), "alfa=100", given=given).output)
+    assert (first.status, first.value["planning_result"]) == (200, "Completed")
+    assert {it.status for it in others} == {400} and len(others) == len(bodies) - 1
 
 
 def described(value: object) -> set[str]:

@@ -72,5 +72,5 @@ def count_of(file: pathlib.Path) -> str:
 def put_at(port: int) -> str:
     """What curl is answered to a plan for tomorrow."""
     body = next(requests()).partition(b"\r\n\r\n")[2].replace(b"2026-06-01", TOMORROW.encode())
-    words = ["curl", "--silent", "--max-time", "60", "-H", "x-operator: alfa", "-X", "PUT", "--data-binary", "@-"]
+    words = ["curl", "--silent", "--max-time", "300", "-H", "x-operator: alfa", "-X", "PUT", "--data-binary", "@-"]
     return run([*words, f"http://127.0.0.1:{port}/flight_plans/{identity(1)}"], given=body)

@@ -26,7 +26,7 @@ def answered(port: int, operator: str, asked: bytes) -> int | str:
     """The status of the answer to a request, of which the plan is tomorrow's."""
     head, _, body = asked.replace(b"2026-06-01", TOMORROW.encode()).partition(b"\r\n\r\n")
     method, path, _ = head.decode().split(" ", 2)
-    link = http.client.HTTPConnection("127.0.0.1", port, timeout=60)
+    link = http.client.HTTPConnection("127.0.0.1", port, timeout=300)
     try:
         link.request(method, path, body=body, headers={"x-operator": operator})
         return link.getresponse().status

@@ -62,7 +62,7 @@ def unread(words: Sequence[str]) -> tuple[int, bytes]:
     os.close(output)
     with subprocess.Popen(words, stdout=left, stderr=subprocess.PIPE) as process:
         os.close(left)
-        _, errors = process.communicate(timeout=60)
+        _, errors = process.communicate(timeout=300)
     return process.returncode, errors
 
 

@@ -179,7 +179,7 @@ def test_script_ended(rows: Rows, linked: pathlib.Path, port: int, name: str, st
     with serving(serve_line(port), linked) as desk:
         rows.equal("a plan", STORED, put_at(port))
         os.killpg(desk.pid, getattr(signal, name))
-        told = desk.communicate(timeout=60)[1]
+        told = desk.communicate(timeout=300)[1]
     wanted = f"uss_desk: ended by {name}; desk.db is closed and has all of the desk\n"
     rows.equal("what is said", wanted, told)
     rows.equal("the status", status, desk.returncode)

@@ -13,7 +13,7 @@ from harness.ports import free_port
 from lies.flights import MOMENT, Step, World, name_of, read_all
 
 # seconds in which a desk answers or ends
-PATIENCE = 120
+PATIENCE = 300
 REFUSED = ("store", "not_a_desk", "damaged_log")
 # more than any part asks
 CONNECTIONS = 100_000

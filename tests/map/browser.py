@@ -26,8 +26,10 @@ from selenium.webdriver.remote.webelement import WebElement
 
 Driver = webdriver.Chrome
 Found = TypeVar("Found")
-PATIENCE = 30
+PATIENCE = 100
 """Seconds after which what the page should show is taken for not there."""
+MOVING = ".leaflet-pan-anim, .leaflet-zoom-anim"
+"""The map while it moves: meanwhile it takes no key."""
 ZONE = "Europe/Zurich"
 """The local time of the browser: never that of UTC."""
 IS_STILL = """
@@ -43,6 +45,8 @@ IS_STILL = """
     }))"""
 """Whether nothing is being found out that would move an element, it stays where it is over two frames, and is what a
 press at its middle meets."""
+SHOWN = "const [done] = arguments; requestAnimationFrame(() => requestAnimationFrame(() => done()))"
+"""Waits for two frames."""
 WORDS = [
     "--headless=new",
     "--disable-gpu",
@@ -64,6 +68,7 @@ def browser() -> Iterator[Driver]:
     options.set_capability("goog:loggingPrefs", {"browser": "ALL"})
     service = Service("/usr/bin/chromedriver", env={**os.environ, "TZ": ZONE})
     driver = webdriver.Chrome(options=options, service=service)
+    driver.set_script_timeout(PATIENCE)
     try:
         yield driver
     finally:
@@ -190,7 +195,15 @@ class Page:
             "Emulation.setDeviceMetricsOverride",
             {"width": width, "height": height, "deviceScaleFactor": 1, "mobile": is_mobile},
         )
+        has_size = "return screen.width === arguments[0] || innerWidth === arguments[0]"
+        self.until("the window's size", lambda: bool(self.js(has_size, width)))
         time.sleep(0.4)
+        self.rest()
+
+    def rest(self) -> None:
+        """Waits until the map has come to rest, and until what was drawn is shown."""
+        self.until("the map is at rest", lambda: not self.all(MOVING))
+        self.driver.execute_async_script(SHOWN)
 
     def scheme(self, name: str) -> None:
         """The system's colours: dark or light."""
@@ -317,9 +330,13 @@ class Page:
         """What stands beneath the buttons of the chosen flight."""
         return self.text("#chosen .said .message p")
 
-    def told(self, words: str) -> str:
+    def told(self, words: str, seconds: float = PATIENCE) -> str:
         """Waits until a message has these words; it."""
-        return self.until(f"a message {words!r}", lambda: next((it for it in self.messages() if words in it), ""))
+
+        def found() -> str:
+            return next((it for it in self.messages() if words in it), "")
+
+        return self.until(f"a message {words!r}", found, seconds)
 
     def verdict(self) -> str:
         """What was found out of the chosen draft, once it is known."""
@@ -341,6 +358,7 @@ class Page:
             for _ in range(times):
                 self.press(key)
                 time.sleep(0.35)
+                self.rest()
             self.press(Keys.ENTER)
         self.press(Keys.ESCAPE)
 
@@ -361,6 +379,7 @@ class Page:
         )
         ActionChains(self.driver).move_to_element_with_offset(field, x, y).click().perform()
         time.sleep(0.3)
+        self.rest()
 
     def drafts(self) -> list[dict[str, Any]]:
         """What the browser keeps of drafts."""

@@ -13,7 +13,7 @@ MEADOW = (46.9000, 7.4000)
 ELSEWHERE = "11111111-1111-4111-8111-111111111111"
 """A flight that isn't planned in a page."""
 HOUR = 3600
-MAP_PATIENCE = 8
+MAP_PATIENCE = 30
 """Seconds that the map's program asks the desk again."""
 SHORT = 4
 """The same of carol's: less than a proxy wants it to wait after too many requests."""

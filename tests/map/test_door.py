@@ -3,7 +3,6 @@
 import http.client
 import os
 import re
-import time
 from collections.abc import Iterator, Mapping
 
 import pytest
@@ -47,7 +46,7 @@ def told(
     """The status, the fields and the text of an answer of the map's program."""
     given = {"port": program.port, "token": program.token, "other": "x" * len(program.token)}
     asked = {name: value.format(**given) for name, value in (fields or {}).items()}
-    connection = http.client.HTTPConnection("127.0.0.1", program.port, timeout=60)
+    connection = http.client.HTTPConnection("127.0.0.1", program.port, timeout=300)
     try:
         connection.putrequest(method, path.format(**given), skip_host="host" in asked)
         for name, value in {**asked, "content-length": str(len(body))}.items():
@@ -112,11 +111,14 @@ def test_nothing_from_elsewhere(rows: Rows, program: Program, driver: Driver) ->
         """document.body.insertAdjacentHTML('beforeend',
             '<img src="http://127.0.0.1:1/x.png"><img src=x onerror="window.wasRun = 1">')"""
     )
-    time.sleep(0.5)
+    refused, put_in = list[str](), ["inline event handler", "127.0.0.1:1/x.png"]
+
+    def are_told() -> bool:
+        refused.extend(one for one in page.errors() if "Content Security Policy" in one)
+        return all(any(it in one for one in refused) for it in put_in)
+
+    page.until("what the policy has refused", are_told)
     rows.equal("inline scripts run", None, page.js("return window.wasRun"))
-    refused = [one for one in page.errors() if "Content Security Policy" in one]
-    put_in = ["inline event handler", "127.0.0.1:1/x.png"]
-    rows.equal("what the policy has refused", put_in, [it for it in put_in if any(it in one for one in refused)])
 
 
 @pytest.fixture

@@ -17,6 +17,9 @@ from uss_desk_client import Polygon, area_of, new_id
 
 pytestmark = [pytest.mark.alone, pytest.mark.proved, pytest.mark.browser, pytest.mark.proxy, pytest.mark.slow]
 
+LOOKS = 200
+"""Seconds in which the page looks for conflicts, which it does each minute, also after a look that failed."""
+
 
 def test_flights(rows: Rows, setting: Setting, programs: Programs, driver: Driver) -> None:
     """Plans, is refused, sees what blocks, moves it until it is free, activates, hears of a conflict, closes, clears.
@@ -84,7 +87,7 @@ def seen_when(rows: Rows, bravo: Page) -> None:
     bravo.until("shown as it begins", shown)
     bravo.click("#play")
     bravo.until("moments that are played", lambda: bravo.value("#moment", "value") != at)
-    rows.equal("bravo: shown while it is played", 1, shown())
+    bravo.until("shown while it is played", lambda: shown() == 1)
     bravo.click("#play")
     over_the_edge_of_a_day(rows, bravo)
     bravo.click("#moment-alone")
@@ -124,7 +127,7 @@ def refused_and_moved(rows: Rows, setting: Setting, alfa: Page) -> None:
     times_are_local(rows, alfa)
     dragged(rows, setting, alfa)
     lives_over_a_reload(rows, alfa)
-    moved = move_until_free(alfa)
+    moved = move_until_free(setting, alfa)
     rows.holds("alfa: it took more than one step", moved > 1)
     alfa.click("#plan")
     alfa.told("Plan survey: done, it is planned")
@@ -195,11 +198,13 @@ def lives_over_a_reload(rows: Rows, alfa: Page) -> None:
     rows.equal("alfa: still blocked", "blocked", alfa.verdict())
 
 
-def move_until_free(alfa: Page) -> int:
-    """Presses the keys of the bar of time until the flight is free; how often."""
+def move_until_free(setting: Setting, alfa: Page) -> int:
+    """Presses the keys of the bar of time until the flight is free; how often. After each the draft is asked again,
+    once it has come to rest."""
     for step in range(1, 13):
+        asked = puts_of(setting, "alfa")
         alfa.keys("#draft-bar", Keys.PAGE_UP)
-        time.sleep(0.6)
+        alfa.until("asked again", lambda: puts_of(setting, "alfa") > asked)
         if alfa.verdict() == "free":
             return step
     raise TimeoutError("alfa: no free time within twelve hours")
@@ -217,11 +222,10 @@ def planned_over(rows: Rows, setting: Setting) -> None:
 def hears_of_it(rows: Rows, setting: Setting, alfa: Page, before: int) -> None:
     """The page has told of both by itself, within the minute and a little; that the desk was killed meanwhile, and
     didn't answer for a while, it doesn't tell."""
-    message = alfa.until(
-        "the conflict", lambda: next((it for it in alfa.messages() if "survey: it has a conflict" in it), ""), 75
-    )
+    message = alfa.told("survey: it has a conflict", LOOKS)
     rows.holds("alfa: with its point", "priority 30 at 47.3" in message)
-    other = alfa.told("11111111: it is new at the desk, and wasn't planned in this page; it has a conflict")
+    # the look that has told of the one may have been taken before the other was there
+    other = alfa.told("11111111: it is new at the desk, and wasn't planned in this page; it has a conflict", LOOKS)
     rows.holds("alfa: the other one's point", "priority 40 at 47.3" in other)
     rows.equal("alfa: nothing else is told", before + 2, len(alfa.messages()))
     looked_at = "1 in use, 1 within a day: last looked at"

@@ -60,7 +60,7 @@ def test_life_by_keys(rows: Rows, setting: Setting, programs: Programs, driver: 
     page.until("the question", lambda: page.all("#question[open]"))
     rows.equal("the focus is at the harmless answer", "No", page.js("return document.activeElement.textContent"))
     page.press(Keys.ENTER)
-    rows.equal("the focus is back", "close", page.js("return document.activeElement.id"))
+    page.until("the focus is back", lambda: bool(page.js("return document.activeElement.id === 'close'")))
     press(rows, page, "look", "by keys: no conflict")
     page.press_back()
     rows.equal("close stands before it", "close", page.js("return document.activeElement.id"))

@@ -105,7 +105,7 @@ def test_what_is_said(rows: Rows, setting: Setting, programs: Programs, driver: 
     page.until("the map is in view", lambda: page.is_in_view("#map"))
     page.click("#drawing button:first-of-type")
     page.until("the card is in view", lambda: page.is_in_view("#chosen h2"))
-    rows.equal("the focus is in the card", "H2", page.js("return document.activeElement.tagName"))
+    page.until("the focus is in the card", lambda: bool(page.js("return document.activeElement.tagName === 'H2'")))
     page.type("#draft-metres", "200")
     page.altitudes(60, 120)
     page.type("#draft-priority", "101")

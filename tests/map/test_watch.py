@@ -11,6 +11,8 @@ from map.browser import Driver, Page, Program
 from map.given import MAP_PATIENCE
 from uss_desk_client import Circle, Desk, area_of
 
+pytestmark = [pytest.mark.alone, pytest.mark.browser, pytest.mark.proxy]
+
 NAMES = "abcde"
 IDS = [f"{letter * 8}-{letter * 4}-4{letter * 3}-8{letter * 3}-{letter * 12}" for letter in NAMES]
 """Of flights that lie side by side, and are called by the beginnings of their ids."""

@@ -1,14 +1,19 @@
 """What may go wrong between the page and the desk: all is told, and nothing is lost that was drawn."""
 
+import base64
+import http.client
 import re
 
 from clients.given import desk_itself
 from harness.rows import Rows
 from harness.setting import Setting
-from map.browser import Page, Program
+from map.browser import PATIENCE, Page, Program
 from map.given import AROUND_ASIDE, ASIDE, OPERATORS, SHORT
 from selenium.webdriver.common.keys import Keys
 from uss_desk_client import Polygon, area_of, new_id
+
+TRIES = 30
+"""How often a List is asked that comes too soon behind others."""
 
 
 def troubles(rows: Rows, setting: Setting, page: Page, program: Program) -> None:
@@ -22,7 +27,7 @@ def troubles(rows: Rows, setting: Setting, page: Page, program: Program) -> None
     killed(rows, setting, page)
     held(rows, setting, page)
     free_time(rows, setting, page)
-    too_many(rows, page)
+    too_many(rows, setting, page)
     rows.equal(
         "carol: nothing that was drawn is lost",
         [one["places"] for one in drawn],
@@ -43,10 +48,19 @@ def wrong_password(rows: Rows, page: Page, program: Program) -> None:
 
 
 def killed(rows: Rows, setting: Setting, page: Page) -> None:
-    """The desk is killed and started again: a change is asked again until it is done."""
+    """The desk is killed and started again: a change is asked again until it is done. Where a start takes longer than
+    the page asks, its button asks again."""
+    done, late = "Activate line 1: done, it is in use", f"no answer within {SHORT} s"
+
+    def is_done() -> bool:
+        said = " ".join(it for it in page.messages() if "Activate line 1" in it)
+        if late in said:
+            page.click("#chosen .message.trouble button")
+        return done in said
+
     setting.kill()
     page.click("#activate")
-    page.told("Activate line 1: done, it is in use")
+    page.until("the flight in use", is_done)
     rows.equal(
         "carol: in use at the desk that was started again", "OkToFly", desk_itself(setting, "carol").plans()[0].status
     )
@@ -68,13 +82,30 @@ def held(rows: Rows, setting: Setting, page: Page) -> None:
     rows.equal("carol: answered again", "free", page.verdict())
 
 
-def too_many(rows: Rows, page: Page) -> None:
-    """Too many requests in a short time are told beneath the button that asked them."""
-    page.click("#list-again")
-    page.click("#list-again")
-    page.click("#list-again")
-    page.told("The flights couldn't be listed: too many requests in a short time")
+def too_many(rows: Rows, setting: Setting, page: Page) -> None:
+    """Too many requests in a short time are told beneath the button that asked them: after the Lists that the proxy
+    lets through at once, there is one more each five seconds."""
+    words = "The flights couldn't be listed: too many requests in a short time"
+    for _ in range(TRIES):
+        while listed(setting) == 200:
+            pass
+        page.click("#list-again")
+        page.until("the list", lambda: not page.all("#list-again[disabled]"))
+        if any(words in it for it in page.messages()):
+            break
+    page.told(words)
     rows.has("carol: said beneath the button", "couldn't be listed", page.text("#plans .said"))
+
+
+def listed(setting: Setting) -> int:
+    """The status of a List of carol's."""
+    word = base64.b64encode(f"carol:{OPERATORS['carol']}".encode()).decode()
+    link = http.client.HTTPConnection("127.0.0.1", setting.nginx.port, timeout=PATIENCE)
+    try:
+        link.request("GET", "/flight_plans", headers={"authorization": f"Basic {word}"})
+        return link.getresponse().status
+    finally:
+        link.close()
 
 
 def free_time(rows: Rows, setting: Setting, page: Page) -> None:

@@ -6,7 +6,7 @@ import subprocess
 from collections.abc import Mapping, Sequence
 from os import PathLike
 
-PATIENCE = 300
+PATIENCE = 900
 
 
 def run(

@@ -18,6 +18,7 @@ import time
 from collections.abc import Sequence
 
 from harness.places import TOP
+from harness.ports import until
 from package.commands import PATIENCE, run
 
 MIRROR = os.environ.get("DEBIAN_MIRROR", "http://deb.debian.org/debian")
@@ -28,7 +29,7 @@ LEFT_OUT = ("/usr/share/locale/*", "/usr/share/doc/*", "/usr/share/man/*")
 PATH = "/usr/local/sbin:/usr/local/bin:/usr/sbin:/usr/bin:/sbin:/bin"
 ROOM = 2_000_000_000
 # Seconds that a machine may take to boot.
-BOOTED = 60
+BOOTED = 300
 PASSED_OVER = {
     "proc",
     "sys",
@@ -91,7 +92,7 @@ class Making:
         """The archive, once it is made."""
         made, self.made = self.made, None
         if made:
-            told, _ = made.communicate(timeout=PATIENCE)
+            told, _ = made.communicate(timeout=4 * PATIENCE)
             if made.returncode:
                 self.part.unlink(missing_ok=True)
                 raise RuntimeError(f"mmdebstrap made no root: {told.strip()[-500:]}")
@@ -126,14 +127,14 @@ class Machine:
     def _first_process(self) -> str:
         """The number of the machine's systemd, once it has started what it starts."""
         path = pathlib.Path(f"/proc/{self.nspawn.pid}/task/{self.nspawn.pid}/children")
-        for _ in range(10 * BOOTED):
-            if self.nspawn.poll() is not None:
-                break
-            for child in path.read_text().split():
-                if pathlib.Path(f"/proc/{child}/comm").read_text() == "systemd\n":
-                    self.first = child
-                    if self.sh("systemctl is-system-running").split()[0] in ("running", "degraded"):
-                        return child
+        end = time.monotonic() + BOOTED
+        while self.nspawn.poll() is None and time.monotonic() < end:
+            with contextlib.suppress(OSError):  # one of them ends in this moment
+                for child in path.read_text().split():
+                    if pathlib.Path(f"/proc/{child}/comm").read_text() == "systemd\n":
+                        self.first = child
+                        if self.sh("systemctl is-system-running").split()[0] in ("running", "degraded"):
+                            return child
             time.sleep(0.1)
         self.log.seek(0)
         raise RuntimeError(f"systemd-nspawn boots no machine here: {self.log.read()[-500:]}")
@@ -169,6 +170,10 @@ class Machine:
         ]
         return run([*words, f"cd /root && {line}"])
 
+    def until(self, condition: str) -> None:
+        """Waits until a line of a shell ends well there."""
+        until(condition, lambda: "status" not in self.sh(f"{condition} >/dev/null 2>&1"), PATIENCE)
+
     def curl(self, *words: str) -> str:
         """What this machine's curl prints in the network of that one."""
         return run(
@@ -180,7 +185,7 @@ class Machine:
                 "--silent",
                 "--show-error",
                 "--max-time",
-                "30",
+                "100",
                 *words,
             ]
         )

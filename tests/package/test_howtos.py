@@ -27,6 +27,7 @@ CLOSED = '{"flight_plan_status":"Closed","notes":"","planning_result":"Completed
 READY = '{"status":"Ready"}'
 UNAUTHORIZED = '{"error":"unauthorized"}'
 DESK = "http://127.0.0.1:8080"
+LOG = "/var/log/uss_desk_proxy/access.log"
 TRIES = 600
 """How often the desk is asked, ten times a second, until it answers."""
 RAN = set[str]()
@@ -213,8 +214,10 @@ def operate(rows: Rows, machine: Machine) -> None:
     rows.has("its ceiling is changed", READY, run(machine, change))
     rows.equal("by hand", ("enrolled charlie 50\n", True), (run(machine, by_hand), listens(machine)))
     rows.equal("that one too", READY, asked(machine, "charlie", "/status"))
-    word = password(machine, "bravo")
-    rows.equal("its password", READY, by_password(machine, "bravo", word))
+    former = password(machine, "bravo")
+    word = run(machine, *commands("operate.md", "Passwords")).strip()
+    given = (by_password(machine, "bravo", former), by_password(machine, "bravo", word))
+    rows.equal("a new password, and the former one no more", (UNAUTHORIZED, READY), given)
     rows.equal("a plan of its own", STORED, put(machine, 6, "bravo"))
     (see,) = commands("operate.md", "See what is planned")
     told = run(machine, see)
@@ -261,7 +264,9 @@ def watch(rows: Rows, machine: Machine) -> None:
         rows.has("health", READY, run(machine, block))
     told = run(machine, *commands("monitoring.md", "Count requests"))
     rows.holds(f"a count: {told}", re.search(r"(?m)^ +\d+ alfa\t200\t-\t-$", told))
-    rows.equal("a request of an operator", READY, by_password(machine, "alfa", password(machine, "alfa")))
+    word, before = password(machine, "alfa"), machine.sh(f"wc -l < {LOG}").strip()
+    rows.equal("a request of an operator", READY, by_password(machine, "alfa", word))
+    machine.until(f"test $(wc -l < {LOG}) -gt {before}")
     one = run(machine, *commands("monitoring.md", "One id through all logs"))
     rows.holds("one request in the access log and the journal", re.search(r"(?m)\t[0-9a-f]{32}\n.*x-request-id", one))
     told = run(machine, *commands("monitoring.md", "Metrics"))

@@ -10,6 +10,7 @@ from datetime import datetime, timedelta, timezone
 
 import pytest
 from harness.places import EXAMPLES
+from harness.ports import until
 from harness.rows import Rows
 from howtos.commands import commands
 from package.building import repacked
@@ -30,6 +31,9 @@ INSTANCES = {
 RUNNING = "uss_desk.service\nuss_desk_port.service\nuss_desk_proxy.service\nuss_desk_queue.service\n"
 # What stays after a purge: the users, and what logrotate keeps of its own.
 LEFT = {"etc/passwd-", "etc/shadow-", "etc/group-", "etc/gshadow-", "etc/.pwd.lock", "var/lib/logrotate/status"}
+# How often the desk is asked, ten times a second, until it answers.
+TRIES = 600
+LOGS = "/var/log/uss_desk_proxy"
 # A later version's program, which has changed the tables: what it tells of a file is in /run/told.
 LATER = "#!/bin/sh\ncat /run/told\n"
 
@@ -73,7 +77,7 @@ def install(rows: Rows, machine: Machine, debs: Debs) -> None:
 def listens(machine: Machine, word: str) -> str:
     """What the proxy answers once it and the desk listen."""
     told = ""
-    for _ in range(100):
+    for _ in range(TRIES):
         told = machine.curl("--user", f"alfa:{word}", "http://127.0.0.1:8081/status")
         if "Ready" in told:
             return told
@@ -104,9 +108,8 @@ def serve(rows: Rows, machine: Machine) -> str:
     rows.has("started", '{"status":"Ready"}', machine.sh(printed("4. Start it")))
     rows.equal("a request through the proxy", '{"status":"Ready"}', listens(machine, word))
     rows.equal("what runs", RUNNING, running(machine))
-    rows.has(
-        "what the desk prints", "listening 127.0.0.1:8080\n", machine.sh("journalctl --output=cat --unit=uss_desk")
-    )
+    said = machine.sh("journalctl --sync && journalctl --output=cat --unit=uss_desk")
+    rows.has("what the desk prints", "listening 127.0.0.1:8080\n", said)
     tomorrow = (datetime.now(timezone.utc) + timedelta(days=1)).date().isoformat()
     body = (EXAMPLES / "first_put.json").read_text().replace("2026-06-01", tomorrow)
     rows.equal("a plan", STORED, machine.curl("--user", f"alfa:{word}", "-X", "PUT", "--data-binary", body, PLAN))
@@ -142,14 +145,20 @@ def restart(rows: Rows, machine: Machine, word: str) -> None:
     rows.equal("promtool of the desk's metrics", "", promtool(told))
 
 
+def lines_of(machine: Machine, name: str) -> int:
+    """How many lines a log of the proxy has."""
+    return int(machine.sh(f"wc -l < {LOGS}/{name}"))
+
+
 def rotation(rows: Rows, machine: Machine, word: str) -> None:
     """The proxy's log is rotated, and its workers go on in the new one."""
-    told = machine.sh("logrotate --force --state /run/rotated /etc/logrotate.d/uss_desk_proxy && sleep 0.5")
-    listens(machine, word)
-    logs = machine.sh(
-        "cd /var/log/uss_desk_proxy && wc -l < access.log && test -s access.log.1 && stat -c '%a %G' access.log"
-    )
-    rows.equal("a rotated log", ("", "1\n640 uss_desk_metrics\n"), (told, logs))
+    told = machine.sh("logrotate --force --state /run/rotated /etc/logrotate.d/uss_desk_proxy")
+    old = machine.sh(f"cd {LOGS} && test -s access.log.1 && wc -l < access.log.1")
+    # each worker opens the new log in its own time, and writes a line after its answer
+    until("lines in the new log", lambda: "Ready" in listens(machine, word) and lines_of(machine, "access.log") > 2)
+    logs = machine.sh(f"stat -c '%a %G' {LOGS}/access.log")
+    rows.equal("a rotated log", ("", "640 uss_desk_metrics\n"), (told, logs))
+    rows.holds(f"it has the lines from before: {old}", old.strip().isdigit())
     rows.equal("the hourly rotation", "", machine.sh("systemctl start uss_desk_logs.service"))
     rows.equal("it is asked each hour", "active\n", machine.sh("systemctl is-active uss_desk_logs.timer"))
     told = machine.sh("systemctl start uss_desk_metrics.service && cat /var/lib/uss_desk_metrics/uss_desk.prom")
@@ -168,7 +177,7 @@ while True:
 
 ASK = """
 import http.client, sys
-link = http.client.HTTPConnection("127.0.0.1", int(sys.argv[1]), timeout=3)
+link = http.client.HTTPConnection("127.0.0.1", int(sys.argv[1]), timeout=int(sys.argv[2]))
 try:
     link.request("GET", "/status", headers={"x-operator": "alfa"})
     print(link.getresponse().read().decode())
@@ -183,16 +192,14 @@ def others(rows: Rows, machine: Machine, word: str) -> None:
         (machine.folder / f"root/{name}.py").write_text(script)
     machine.sh("cp ask.py impostor.py /tmp")
     for port in (8080, 8082, 8083):
-        told = machine.sh(f"runuser -u nobody -- python3 /tmp/ask.py {port}")
+        told = machine.sh(f"runuser -u nobody -- python3 /tmp/ask.py {port} 60")
         rows.equal(f"another user at port {port}", "ConnectionRefusedError\n", told)
-    rows.equal("root at port 8080", '{"status":"Ready"}\n', machine.sh("python3 /tmp/ask.py 8080"))
+    rows.equal("root at port 8080", '{"status":"Ready"}\n', machine.sh("python3 /tmp/ask.py 8080 60"))
     rows.equal("which rules are loaded", "table inet uss_desk\n", machine.sh("nft list tables"))
     machine.sh("systemctl stop uss_desk")
-    machine.sh(
-        "(runuser -u nobody -- python3 /tmp/impostor.py >/dev/null 2>&1 & echo $! >/run/impostor)"
-        "; for i in $(seq 100); do test -e /tmp/impostor && break; sleep 0.1; done"
-    )
-    rows.equal("an impostor, for root", "TimeoutError\n", machine.sh("python3 /tmp/ask.py 8080"))
+    machine.sh("(runuser -u nobody -- python3 /tmp/impostor.py >/dev/null 2>&1 & echo $! >/run/impostor)")
+    machine.until("test -e /tmp/impostor")
+    rows.equal("an impostor, for root", "TimeoutError\n", machine.sh("python3 /tmp/ask.py 8080 3"))
     # the queue tries for half a minute to reach the desk
     told = machine.curl("--user", f"alfa:{word}", "--max-time", "5", PLAN)
     rows.equal("an impostor, for an operator", "status 28", told.splitlines()[-1])

@@ -24,10 +24,8 @@ def test_operator(rows: Rows, machine: Machine, debs: Debs) -> None:
     commands = sorted(path.name for path in (machine.folder / "usr/bin").glob("uss-*"))
     for command in commands:
         rows.has(f"{command} --help", "usage: ", machine.sh(f"{command} --help"))
-    machine.sh(
-        "uss-desk-mock --port 8095 alfa=100 >/run/mock.log 2>&1 & for i in $(seq 50); do "
-        "grep -q listening /run/mock.log && break; sleep 0.1; done"
-    )
+    machine.sh("uss-desk-mock --port 8095 alfa=100 >/run/mock.log 2>&1 &")
+    machine.until("grep listening /run/mock.log")
     (machine.folder / "root/field.geojson").write_text(FIELD)
     day = (datetime.now(timezone.utc) + timedelta(days=1)).date().isoformat()
     told = machine.sh(

@@ -17,8 +17,8 @@ from package.commands import promtool, run
 pytestmark = pytest.mark.alone
 
 METRICS = str(TOOLS / "desk_metrics")
-LOG_OF_AN_HOUR = 60_000
-"""Lines."""
+LONG_LOG = 200_000
+"""Lines, so that reading all of them takes several times what the command takes beside."""
 # Eight fields of each line.
 LINES = """\
 2026-06-01T12:00:00+00:00\t127.0.0.1\talfa\tPUT\t/flight_plans/11111111-1111-4111-8111-111111111111\t200\t0.004\t76
@@ -112,22 +112,22 @@ def test_reading_on(rows: Rows, room: pathlib.Path) -> None:
     """Of a long log only what is new is read, over a rotation too."""
     log, words = room / "access.log", ["--state", str(room / "state")]
     line = LINES.splitlines(True)[0]
-    log.write_text(line * LOG_OF_AN_HOUR)
+    log.write_text(line * LONG_LOG)
     begun = processor()
-    rows.equal("all of it", LOG_OF_AN_HOUR, count_of(told_of(log, *words)))
+    rows.equal("all of it", LONG_LOG, count_of(told_of(log, *words)))
     whole = processor() - begun
     with log.open("a") as more:
         more.write(line + line[:20])
     begun = processor()
-    rows.equal("a line more, and a part of one", LOG_OF_AN_HOUR + 1, count_of(told_of(log, *words)))
+    rows.equal("a line more, and a part of one", LONG_LOG + 1, count_of(told_of(log, *words)))
     seconds = processor() - begun
     rows.holds(f"{seconds:.2f} s of the processor, and {whole:.2f} s before", seconds < whole / 2)
     with log.open("a") as more:
         more.write(line[20:] + line)
     log.rename(room / "access.log.1")
     log.write_text(line * 3)
-    rows.equal("over a rotation", LOG_OF_AN_HOUR + 6, count_of(told_of(log, *words)))
-    rows.equal("nothing new", LOG_OF_AN_HOUR + 6, count_of(told_of(log, *words)))
+    rows.equal("over a rotation", LONG_LOG + 6, count_of(told_of(log, *words)))
+    rows.equal("nothing new", LONG_LOG + 6, count_of(told_of(log, *words)))
     (room / "state").write_text("{")
     rows.equal("a state that can't be read", 3, count_of(told_of(log, *words)))
 

@@ -11,13 +11,14 @@ LOWEST, LAYER = 1_000, 10
 """Where they begin, so that all up to the 800th have as many digits, and how high each is."""
 PLANNED = done("Planned")
 """The answer to each of them."""
+DAY = (datetime.datetime.now(datetime.timezone.utc) + datetime.timedelta(days=1)).date().isoformat()
+"""Tomorrow, as these tests begin: a midnight among them changes no plan."""
 
 
 def layer(number: int) -> Json:
     """The volume of a layer."""
-    day = (datetime.datetime.now(datetime.timezone.utc) + datetime.timedelta(days=1)).date().isoformat()
     lower = LOWEST + LAYER * number
-    return volume({"cells": ["04"]}, lower, lower + LAYER, f"{day}T12:00:00Z", f"{day}T13:00:00Z")
+    return volume({"cells": ["04"]}, lower, lower + LAYER, f"{DAY}T12:00:00Z", f"{DAY}T13:00:00Z")
 
 
 def planned(number: int, operator: str = "alfa", priority: int = 10) -> bytes:

@@ -3,6 +3,7 @@
 from __future__ import annotations
 
 import pathlib
+import sqlite3
 import subprocess
 
 import pytest
@@ -22,8 +23,11 @@ TORN = entry("request", 1, planned(9))[:100]
 
 
 def count_plans(file: pathlib.Path) -> int:
-    """How many plans a file has, that of a desk that runs too."""
-    return sum(line.startswith('INSERT INTO "plan"') for line in dump_of(file)) if file.exists() else 0
+    """How many plans a file has, that of a desk that runs too; none while it is being made or written to."""
+    try:
+        return sum(line.startswith('INSERT INTO "plan"') for line in dump_of(file)) if file.exists() else 0
+    except sqlite3.DatabaseError:
+        return 0
 
 
 def test_follow(room: pathlib.Path, rows: Rows) -> None:

@@ -3,8 +3,6 @@ and the records since."""
 
 from __future__ import annotations
 
-import contextlib
-import os
 import pathlib
 import random
 import shutil
@@ -13,8 +11,7 @@ import subprocess
 import time
 
 import pytest
-from harness.ports import until
-from harness.program import DESK, Ran, run
+from harness.program import DESK, PATIENCE, Ran, run
 from harness.requests import clear, delete, list_plans, plan_id
 from harness.rows import Rows
 from harness.serving import Served
@@ -37,16 +34,6 @@ def lists_of(desk: Served) -> list[bytes]:
     return [desk.ask(list_plans(name)) for name in OPERATORS]
 
 
-def is_read(process: int, file: pathlib.Path) -> bool:
-    """Whether a process that has a file open has read all of it."""
-    for number in os.listdir(f"/proc/{process}/fd"):
-        with contextlib.suppress(OSError):
-            if os.readlink(f"/proc/{process}/fd/{number}") == str(file.resolve()):
-                place = pathlib.Path(f"/proc/{process}/fdinfo/{number}").read_text().split()[1]
-                return int(place) == file.stat().st_size
-    return False
-
-
 def test_standby(room: pathlib.Path, rows: Rows) -> None:
     """A second desk plays what comes through a pipe, and is served in the place of the first once that was killed."""
     file, folder, second = room / "desk.db", room / "records", room / "second.db"
@@ -54,7 +41,9 @@ def test_standby(room: pathlib.Path, rows: Rows) -> None:
     city = operators(random.Random(7), OPERATORS)
     with Served(*words_of(file, folder)) as desk:
         record = recorded(folder)[0]
-        with subprocess.Popen(["tail", "-c", "+1", "-f", str(record)], stdout=subprocess.PIPE) as tail:
+        # tail ends once the desk has, and all that is in the record was handed on
+        follow = ["tail", "-c", "+1", "--follow", f"--pid={desk.process.pid}", "--sleep-interval=0.2", str(record)]
+        with subprocess.Popen(follow, stdout=subprocess.PIPE) as tail:
             line = [*DESK, "replay", "--db", str(second)]
             standby = subprocess.Popen(line, stdin=tail.stdout, stdout=subprocess.PIPE, stderr=subprocess.PIPE)
             for number in range(1, 8):
@@ -64,8 +53,7 @@ def test_standby(room: pathlib.Path, rows: Rows) -> None:
                 last.sendall(planned(8))
                 time.sleep(0.01)
                 desk.kill()
-            until("the pipe", lambda: is_read(tail.pid, record))
-            tail.terminate()
+            rows.equal("the pipe ends", 0, tail.wait(PATIENCE))
         output, errors = standby.communicate()
     said, rest = entries_in(record.read_bytes())
     ran = Ran(standby.returncode, output, errors.decode().rpartition(": ")[2].rstrip())

@@ -2,9 +2,11 @@
 
 from __future__ import annotations
 
+import contextlib
 import socketserver
 import threading
 import time
+from collections.abc import Iterator
 
 READY = b"HTTP/1.1 200 OK\r\ncontent-length: 0\r\nconnection: close\r\n\r\n"
 
@@ -16,7 +18,8 @@ class Bare:
         self.paths: list[str] = []
         self.most = 0
         self._open = 0
-        self._lock = threading.Lock()
+        self._lock, self._may_go = threading.Lock(), threading.Event()
+        self._may_go.set()
         self._seconds, self._answer = seconds, READY if answers else b""
         bare = self
 
@@ -43,6 +46,15 @@ class Bare:
         self._server.shutdown()
         self._server.server_close()
 
+    @contextlib.contextmanager
+    def held(self) -> Iterator[None]:
+        """Within it nothing is answered, and nobody hung up on."""
+        self._may_go.clear()
+        try:
+            yield
+        finally:
+            self._may_go.set()
+
     def take(self, connection: socketserver.StreamRequestHandler) -> None:
         """Reads a request, notes its path and how many connections are open, and answers or hangs up."""
         with self._lock:
@@ -54,6 +66,7 @@ class Bare:
             name, _, value = line.partition(b":")
             length = int(value) if name.lower() == b"content-length" else length
         connection.rfile.read(length)
+        self._may_go.wait()
         time.sleep(self._seconds)
         with self._lock:
             self.paths.append(path)

@@ -26,6 +26,6 @@ def serving(rows: Rows, connections: int, *words: str, at: int | None = None) ->
 
 def connected(port: int, sent: bytes = b"") -> socket.socket:
     """A connection that has sent something."""
-    client = socket.create_connection(("127.0.0.1", port), timeout=60)
+    client = socket.create_connection(("127.0.0.1", port), timeout=300)
     client.sendall(sent)
     return client

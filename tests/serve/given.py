@@ -39,7 +39,7 @@ def operator(name: str) -> tuple[str, ...]:
     return "-H", f"x-operator: {name}"
 
 
-def curl(*words: str, given: bytes = b"", seconds: int = 20) -> tuple[int, str]:
+def curl(*words: str, given: bytes = b"", seconds: int = 100) -> tuple[int, str]:
     """curl's status, and what it prints."""
     line = ["curl", "--silent", "--globoff", "--no-progress-meter", "--max-time", str(seconds), *words]
     ran = subprocess.run(line, input=given, stdout=subprocess.PIPE, check=False)
@@ -52,7 +52,7 @@ def asked(*words: str, given: bytes = b"") -> str:
 
 
 def refused(*words: str, given: bytes = b"") -> str:
-    """The body of an answer, its status, its type, and after how many seconds to ask again."""
+    """The body of an answer, its status, its type, and after how many seconds to ask again, if it says so."""
     head, _, body = curl("--include", *words, given=given)[1].rpartition("\r\n\r\n")
     lines = head.split("\r\n\r\n")[-1].split("\r\n")
     fields = dict(line.lower().split(": ", 1) for line in lines[1:])
@@ -67,7 +67,7 @@ def counted(texts: Iterable[str]) -> str:
 
 def statuses(*words: str) -> str:
     """How many answers had which status; curl asks them in one line, by [1-N] in its URL."""
-    line = ["curl", "--silent", "--no-progress-meter", "--max-time", "120", "--output", "/dev/null"]
+    line = ["curl", "--silent", "--no-progress-meter", "--max-time", "300", "--output", "/dev/null"]
     ran = subprocess.run(
         [*line, "--write-out", "%{http_code}\n", *words], stdout=subprocess.PIPE, text=True, check=False
     )

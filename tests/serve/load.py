@@ -23,6 +23,8 @@ SOURCES = {"alfa": "127.0.0.2", "bravo": "127.0.0.3"}
 PATIENCE = 150
 PAUSE = 0.2
 """Seconds between two requests of bravo's, and before alfa asks again after a 429."""
+TRIES = 300
+"""How often a request is asked again after a 429."""
 
 
 class Answer(NamedTuple):
@@ -71,6 +73,26 @@ def ask(
         link.close()
 
 
+def ask_and_hang_up(port: int, operator: str, method: str, path: str, body: bytes) -> None:
+    """Sends a whole request and hangs up."""
+    link = http.client.HTTPConnection("127.0.0.1", port, timeout=PATIENCE, source_address=(SOURCES[operator], 0))
+    try:
+        link.request(method, path, body=body, headers=fields_of(operator, "bravo"))
+    finally:
+        link.close()
+
+
+def ask_until_let_through(port: int, operator: str, method: str, path: str, body: bytes) -> Answer:
+    """The answer to a request that is asked again after each 429: nginx may count a request for a while that was
+    answered. What it refuses so doesn't come to the desk."""
+    for _ in range(TRIES):
+        answer = ask(port, operator, method, path, body)
+        if answer.status != 429:
+            break
+        time.sleep(PAUSE)
+    return answer
+
+
 class Flood:
     """alfa, which puts its largest plan again and again over so many connections, in bravo's name."""
 
@@ -99,10 +121,10 @@ class Flood:
 
 
 def now_and_then(port: int, seconds: float) -> list[Answer]:
-    """What bravo is answered, which asks one thing after the other for so many seconds."""
+    """What bravo is answered, which asks one thing after the other for so many seconds, and once at least."""
     answers, end = list[Answer](), time.monotonic() + seconds
     for turn in itertools.cycle(TURNS):
-        if time.monotonic() > end:
+        if answers and time.monotonic() > end:
             break
         answers.append(ask(port, "bravo", *turn, forged="alfa"))
         time.sleep(PAUSE)

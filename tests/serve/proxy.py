@@ -12,7 +12,7 @@ from typing import NamedTuple
 
 from harness.nginx import Nginx
 from harness.places import DEPLOY
-from harness.ports import free_port, until
+from harness.ports import PATIENCE, free_port, until
 
 PASSWORDS = {"alfa": "a", "bravo": "b"}
 HASTE = ("timeout server 60s", "timeout server 9s")
@@ -70,17 +70,17 @@ def queue(
         yield process.pid
     finally:
         process.terminate()
-        process.wait(timeout=60)
+        process.wait(timeout=PATIENCE)
 
 
 @contextlib.contextmanager
-def proxy_in(folder: pathlib.Path) -> Iterator[Proxy]:
-    """The proxy, in a folder that nginx's workers may read."""
+def proxy_in(folder: pathlib.Path, texts: Mapping[str, str] = {HASTE[0]: HASTE[1]}) -> Iterator[Proxy]:
+    """The proxy, in a folder that nginx's workers may read, with other texts in HAProxy's file."""
     inner = folder / "proxy"
     inner.mkdir()
     for made in (folder, inner):
         made.chmod(0o755)
     desk_port, queue_port = free_port(), free_port()
     nginx = NginxByTls(inner, queue_port)
-    with queue(folder, queue_port, desk_port) as queue_id, nginx:
+    with queue(folder, queue_port, desk_port, texts) as queue_id, nginx:
         yield Proxy(nginx.url, nginx.port, nginx.tls_port, queue_port, queue_id, desk_port, inner)

@@ -33,7 +33,7 @@ from serve.given import (
     curl,
     operator,
 )
-from serve.silent import silent
+from serve.silent import WAITED, silent
 
 pytestmark = pytest.mark.alone
 
@@ -115,13 +115,12 @@ def test_two_lives(rows: Rows, room: pathlib.Path) -> None:
 # ---- clients that stall
 
 
-def waits(what: str, desk: Served) -> Iterator[Row]:
-    """Asks whether the desk is ready, and looks whether the answer took the 10 seconds for which the desk waits for the
-    client before."""
-    begun = time.monotonic()
+def waits(what: str, desk: Served, begun: float) -> Iterator[Row]:
+    """Asks whether the desk is ready, and looks whether the answer comes after the 10 seconds for which the desk waits
+    for the client before, which came after this moment."""
     yield what, READY, asked(*operator("alfa"), f"{desk.url}/status")
     seconds = time.monotonic() - begun
-    yield f"{what}: the seconds", "10", "10" if 9 <= seconds <= 12 else f"{seconds:.1f}"
+    yield f"{what}: 10 seconds, and not twice as many: {seconds:.1f}", True, WAITED <= seconds < 2 * WAITED
 
 
 def told(client: socket.socket) -> bytes:
@@ -134,8 +133,9 @@ def told(client: socket.socket) -> bytes:
 
 def stalled(desk: Served) -> Iterator[Row]:
     """A client that sends half a head and waits."""
+    begun = time.monotonic()
     with connected(desk.port, b"GET /status HTTP/1.1\r\nx-op") as client:
-        yield from waits("after a client that stalls", desk)
+        yield from waits("after a client that stalls", desk, begun)
         yield "the client that stalled has no answer", b"", told(client)
 
 
@@ -148,10 +148,11 @@ def dripping(desk: Served) -> Iterator[Row]:
             while not is_over.wait(1):
                 client.sendall(b"x")
 
+    begun = time.monotonic()
     with connected(desk.port, b"x") as client:
         thread = threading.Thread(target=drip)
         thread.start()
-        yield from waits("after a client that sends a byte a second", desk)
+        yield from waits("after a client that sends a byte a second", desk, begun)
         is_over.set()
         thread.join()
 

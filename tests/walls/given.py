@@ -21,7 +21,7 @@ from serve.proxy import NginxByTls, queue
 from walls.stub import Came, Stub, as_a_desk
 
 PASSWORDS = {"alfa": "a", "bravo": "b"}
-PATIENCE = 30
+PATIENCE = 100
 SHORT = 10_000
 """Bytes up to which an answer is looked at while it comes; a longer one ends with its connection."""
 Files = Mapping[str, str]

@@ -14,7 +14,7 @@ from collections.abc import Iterator
 import pytest
 from harness.places import DEPLOY
 from harness.rows import Rows
-from walls.given import ALFA, BRAVO, Answered, NginxBeside, Walls, exchange, read, request, walls_of
+from walls.given import ALFA, BRAVO, PATIENCE, Answered, NginxBeside, Walls, exchange, read, request, walls_of
 
 pytestmark = [pytest.mark.proxy, pytest.mark.quick]
 
@@ -66,7 +66,7 @@ def ask(walls: Walls, name: str | None, *fields: bytes) -> Answered:
     context = ssl.create_default_context(cafile=str(walls.folder / "desk.pem"))
     if name:
         context.load_cert_chain(walls.folder / f"{name}.pem", walls.folder / f"{name}.key")
-    with socket.create_connection(("127.0.0.1", walls.nginx.tls_port), timeout=20) as bare:
+    with socket.create_connection(("127.0.0.1", walls.nginx.tls_port), timeout=PATIENCE) as bare:
         with context.wrap_socket(bare, server_hostname="desk.example") as link:
             link.sendall(request("GET", "/status", *fields, host="desk.example"))
             return read(b"".join(iter(lambda: link.recv(4096), b"")))
@@ -109,7 +109,7 @@ def test_handshakes(rows: Rows) -> None:
     with walls_of() as walls:
         for at in range(0, len(good), 3):
             for link_bytes in (good[:at] + bytes([good[at] ^ 0xFF]) + good[at + 1 :], os.urandom(60)):
-                with socket.create_connection(("127.0.0.1", walls.nginx.tls_port), timeout=5) as link:
+                with socket.create_connection(("127.0.0.1", walls.nginx.tls_port), timeout=PATIENCE) as link:
                     link.sendall(link_bytes)
                     link.shutdown(socket.SHUT_WR)
                     try:

@@ -30,7 +30,7 @@ while True:
 ASK = """
 import socket, sys
 try:
-    with socket.create_connection(("127.0.0.1", int(sys.argv[1])), timeout=1) as link:
+    with socket.create_connection(("127.0.0.1", int(sys.argv[1])), timeout=float(sys.argv[2])) as link:
         print(link.recv(99).decode())
 except OSError as fault:
     print(type(fault).__name__)
@@ -40,11 +40,13 @@ import socket
 held, refused = [], 0
 for _ in range(150):
     try:
-        held.append(socket.create_connection(("127.0.0.1", 443), timeout=0.1))
-    except OSError:
+        held.append(socket.create_connection(("127.0.0.1", 443), timeout=20))
+    except ConnectionError:
         refused += 1
 print(len(held), refused)
 """
+SILENCE, PATIENCE = 2, 60
+"""Seconds for which a port is asked that answers nothing, and one that does."""
 
 
 class Network:
@@ -56,7 +58,9 @@ class Network:
     def run(self, *words: str, given: str = "") -> str:
         """What a command prints there."""
         line = [*self._under, *words]
-        return subprocess.run(line, input=given, capture_output=True, text=True, timeout=60, check=False).stdout
+        return subprocess.run(
+            line, input=given, capture_output=True, text=True, timeout=3 * PATIENCE, check=False
+        ).stdout
 
     def python(self, user: str, script: str, *words: str) -> list[str]:
         """The words that run a script as a user."""
@@ -71,10 +75,11 @@ class Network:
             *words,
         ]
 
-    def ask(self, user: str, port: int) -> str:
-        """What a user hears at a port."""
-        line = self.python(user, ASK, str(port))
-        return subprocess.run(line, capture_output=True, text=True, timeout=60, check=False).stdout.strip()
+    def ask(self, user: str, port: int, seconds: int) -> str:
+        """What a user hears at a port within so many seconds."""
+        line = self.python(user, ASK, str(port), str(seconds))
+        ran = subprocess.run(line, capture_output=True, text=True, timeout=3 * PATIENCE, check=False)
+        return ran.stdout.strip()
 
     def load(self, name: str) -> None:
         """Loads rules of deploy/."""
@@ -83,7 +88,7 @@ class Network:
             if "skuid" in rule and not rule.startswith("#"):
                 lines[at] = re.sub(r"\b(uss_desk_proxy|uss_desk|haproxy)\b", lambda found: USERS[str(found[1])], rule)
         line = [*self._under, "nft", "-f", "-"]
-        subprocess.run(line, input="".join(lines), text=True, timeout=60, check=True)
+        subprocess.run(line, input="".join(lines), text=True, timeout=3 * PATIENCE, check=True)
 
 
 @pytest.fixture
@@ -123,7 +128,8 @@ def test_ports(rows: Rows, network: Network) -> None:
         with subprocess.Popen(line, stdout=subprocess.PIPE, text=True) as listener:
             try:
                 assert listener.stdout and listener.stdout.readline() == "listening\n", shlex.join(line)
-                rows.equal(what, heard, network.ask(asks, port))
+                seconds = SILENCE if heard == "TimeoutError" else PATIENCE
+                rows.equal(what, heard, network.ask(asks, port, seconds))
             finally:
                 listener.kill()
             rows.equal(f"{what}: how often it is asked", count, listener.stdout.read().count("asked"))

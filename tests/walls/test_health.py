@@ -46,6 +46,6 @@ def test_no_desk(rows: Rows) -> None:
         walls.stub.__exit__()
         got = [read(exchange(walls.port, ASKED))[:2] for _ in range(3)]
         rows.equal("without a desk", [(502, {"error": "bad_gateway"})] * 3, got)
-    with walls_of(texts={**SHORTLY, "proxy_read_timeout 10s": "proxy_read_timeout 1s"}, seconds=2) as walls:
+    with walls_of(texts={**SHORTLY, "proxy_read_timeout 10s": "proxy_read_timeout 1s"}, seconds=50) as walls:
         slow = read(exchange(walls.port, ASKED))
         rows.equal("a desk that doesn't answer in time", (504, {"error": "gateway_timeout"}), slow[:2])

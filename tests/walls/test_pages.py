@@ -16,6 +16,7 @@ from harness.ports import free_port, is_listening, until
 from harness.requests import over
 from harness.rows import Rows
 from map.browser import Driver, browser
+from selenium.common.exceptions import NoSuchElementException, StaleElementReferenceException
 from serve.given import BODY, TOMORROW
 from walls.given import ALFA, Walls, exchange, mock_desk, program, read, request, walls_of
 
@@ -90,8 +91,15 @@ def is_stored(walls: Walls) -> bool:
 
 def shown(driver: Driver) -> str:
     """What the browser shows once the form is sent."""
-    until("the form", lambda: driver.title != "before" and driver.find_element("tag name", "body").text)
-    return str(driver.find_element("tag name", "body").text)
+    found = list[str]()
+
+    def is_there() -> bool:
+        with contextlib.suppress(NoSuchElementException, StaleElementReferenceException):
+            found[:] = [driver.find_element("tag name", "body").text] if driver.title != "before" else []
+        return any(found)
+
+    until("the form", is_there)
+    return found[0]
 
 
 def test_form_at_the_proxy(rows: Rows, driver: Driver, proxied: Walls) -> None:
@@ -105,8 +113,13 @@ def test_form_at_the_proxy(rows: Rows, driver: Driver, proxied: Walls) -> None:
         driver.get(page)
         rows.equal("the answer to the form", '{"error":"from_a_page"}', shown(driver))
     rows.holds("the plan is there", is_stored(proxied))
-    lines = [line.split("\t") for line in proxied.log("access").splitlines()]
-    rows.equal("in the log", ["403"], [fields[5] for fields in lines if fields[3] == "POST"])
+
+    def posts() -> list[str]:
+        lines = [line.split("\t") for line in proxied.log("access").splitlines()]
+        return [fields[5] for fields in lines if fields[3] == "POST"]
+
+    until("a line in access.log", posts)
+    rows.equal("in the log", ["403"], posts())
     sent = request("POST", "/clear_area_requests", ALFA, body=CLEAR.encode())
     cleared = read(exchange(proxied.port, sent)).value
     rows.equal("a client clears", "cleared 1", cleared["outcome"]["message"])

@@ -11,30 +11,30 @@ from collections.abc import Iterator
 
 import pytest
 from harness.rows import Rows
-from walls.given import ALFA, Walls, exchange, request, status_of, walls_of
+from walls.given import ALFA, PATIENCE, Walls, exchange, status_of, walls_of
+from walls.given import request as asked
 from walls.stub import Came, answer
 
 pytestmark = [pytest.mark.proxy, pytest.mark.quick]
 
 LIST = answer(200, json.dumps("x" * 8_000_000).encode())
-HASTE = {
-    "send_timeout 10s;": "send_timeout 1s;",
-    "rate=12r/m;": "rate=100r/s;",
-    "zone=lists burst=1": "zone=lists burst=99",
-}
-"""A tenth of the time that a slow client has, and any number of Lists."""
-SLOWLY, STEADILY = 2_000, 16_000
-"""Bytes in a tenth of a second: half of what a client has to read, and four times that."""
+ANY_NUMBER = {"rate=12r/m;": "rate=100r/s;", "zone=lists burst=1": "zone=lists burst=99"}
+"""Any number of Lists."""
+TIMES = {"short": "send_timeout 3s;", "long": "send_timeout 60s;"}
+"""A third of the time that a slow client has, and six times as much."""
+SLOWLY, STEADILY = 700, 16_000
+"""Bytes in each tenth of a second, where some 40 KB have to be read in three seconds: half of that, and twelve times
+that."""
 
 
 @pytest.fixture
-def walls() -> Iterator[Walls]:
-    """The proxy before a stub that has a List of 8 MB."""
+def walls(request: pytest.FixtureRequest) -> Iterator[Walls]:
+    """The proxy before a stub that has a List of 8 MB, with the time for slow clients that the parameter names."""
 
     def reply(came: Came) -> bytes:
         return LIST if came.first.startswith(b"GET /flight_plans ") else answer(200, b"{}")
 
-    with walls_of(reply, texts=HASTE) as made:
+    with walls_of(reply, texts={**ANY_NUMBER, "send_timeout 10s;": TIMES[request.param]}) as made:
         yield made
 
 
@@ -42,12 +42,13 @@ def reader(walls: Walls) -> socket.socket:
     """A client that has asked for alfa's List and has small buffers, so that it takes no more than it reads."""
     link = socket.socket()
     link.setsockopt(socket.SOL_SOCKET, socket.SO_RCVBUF, 16_384)
-    link.settimeout(10)
+    link.settimeout(PATIENCE)
     link.connect(("127.0.0.1", walls.port))
-    link.sendall(request("GET", "/flight_plans", ALFA))
+    link.sendall(asked("GET", "/flight_plans", ALFA))
     return link
 
 
+@pytest.mark.parametrize("walls", ["long"], indirect=True)
 def test_many(rows: Rows, walls: Walls) -> None:
     """Of twenty that read nothing four are served, and there is nothing for the others; the operator is served beside
     them."""
@@ -55,7 +56,7 @@ def test_many(rows: Rows, walls: Walls) -> None:
         links = [left.enter_context(reader(walls)) for _ in range(20)]
         got = Counter(status_of(link.recv(12)) for link in links)
         rows.equal("their answers", {200: 4, 429: 16}, got)
-        rows.equal("beside them", 200, status_of(exchange(walls.port, request("GET", "/status", ALFA))))
+        rows.equal("beside them", 200, status_of(exchange(walls.port, asked("GET", "/status", ALFA))))
 
 
 def seconds_of(walls: Walls, each: int, most: float) -> tuple[float, int]:
@@ -69,9 +70,10 @@ def seconds_of(walls: Walls, each: int, most: float) -> tuple[float, int]:
     return time.monotonic() - begun, size
 
 
+@pytest.mark.parametrize("walls", ["short"], indirect=True)
 def test_long(rows: Rows, walls: Walls) -> None:
-    """One that reads steadily is served; one that reads an eighth of that is cut off."""
-    seconds, size = seconds_of(walls, STEADILY, 5)
-    rows.holds(f"a steady client is served: {size} bytes in {seconds:.0f} s", seconds >= 5)
-    seconds, size = seconds_of(walls, SLOWLY, 20)
-    rows.at_most(f"seconds until a slow client is cut off ({size} bytes)", 15, seconds)
+    """One that reads steadily is served; one that reads a twentieth of that is cut off."""
+    seconds, size = seconds_of(walls, STEADILY, 10)
+    rows.holds(f"a steady client is served: {size} bytes in {seconds:.0f} s", seconds >= 10)
+    seconds, size = seconds_of(walls, SLOWLY, 60)
+    rows.at_most(f"seconds until a slow client is cut off ({size} bytes)", 45, seconds)

@@ -121,7 +121,7 @@ def test_smuggling(rows: Rows, walls: Walls) -> None:
     """Each way, one after the other."""
     for what, sent, statuses in CASES:
         before, behind = len(walls.stub.came), len(walls.stub.behind)
-        got = exchange(walls.port, sent, patience=3)
+        got = exchange(walls.port, sent)
         # something may come later
         time.sleep(2 * BEHIND)
         status = int(got[9:12]) if got.startswith(b"HTTP/1.1 ") else 0
