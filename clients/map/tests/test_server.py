@@ -348,7 +348,7 @@ def test_free_times_of_a_flight_that_is_refused_anyway() -> None:
 
 def test_changes_are_made_in_a_row_though_the_page_goes() -> None:
     under_way, most = [], []
-    lock = threading.Lock()
+    lock, has_gone = threading.Lock(), threading.Event()
 
     def slow(*_: object) -> Answer:
         with lock:
@@ -359,14 +359,35 @@ def test_changes_are_made_in_a_row_though_the_page_goes() -> None:
             under_way.pop()
         return DONE
 
-    desk = FakeDesk(activate=slow, close=slow, show=PLAN)
+    def closing(*words: object) -> Answer:
+        has_gone.wait(60)
+        return slow(*words)
+
+    desk = FakeDesk(activate=slow, close=closing, show=PLAN)
 
     async def run(served: Served) -> Any:
         asking = [asyncio.ensure_future(served.ask(call, {"id": ID})) for call in ("activate", "close", "activate")]
-        await asyncio.sleep(0.3)  # all three are there, one may be done
+        await until(lambda: "close" in names_of(desk))
         asking[1].cancel()
+        await asyncio.sleep(0.1)  # in which its connection ends
+        has_gone.set()
         await asyncio.gather(*asking, return_exceptions=True)
+        await until(lambda: len(names_of(desk)) == 3 and not under_way)
         await at_rest(desk)
-        return [one[0] for one in desk.asked if one[0] != "show"]
+        return names_of(desk)
 
     assert sorted(over(desk, run)) == ["activate", "activate", "close"] and most == [1, 1, 1]
+
+
+def names_of(desk: FakeDesk) -> list[str]:
+    """The changes that were asked, by their names."""
+    return [one[0] for one in desk.asked if one[0] != "show"]
+
+
+async def until(condition: Callable[[], bool]) -> None:
+    """Waits until a condition holds, for a minute at most."""
+    for _ in range(1_200):
+        if condition():
+            return
+        await asyncio.sleep(0.05)
+    raise TimeoutError

@@ -12,6 +12,8 @@ from typing import List, Optional, Sequence, Tuple
 
 from .bodies import PRIORITY_MOST, SECOND_MOST
 from .desk import Desk, play
+from .faults import KINDS, SLOW_SECONDS, Troubles, read_fault
+from .requests import Refusal, next_request
 from .store import Store
 
 EQUAL_MOST = 32
@@ -60,6 +62,15 @@ def read_line(words: Sequence[str]) -> argparse.Namespace:
     line.add_argument(
         "--requests", type=number_within(1, 1_000_000), help="with --port: end after so many connections"
     )
+    line.add_argument(
+        "--fault",
+        type=read_fault,
+        action="append",
+        default=[],
+        metavar="KIND:N",
+        help=f"with --port, for tests of a client: each Nth request meets KIND, one of {', '.join(KINDS)} (lost: "
+        f"carried out and not answered; slow: answered after {SLOW_SECONDS} seconds); may be given again",
+    )
     line.add_argument("--db", default=":memory:", metavar="FILE", help="a file of this program's own")
     line.add_argument("--equal", metavar="P,P,..", help="priorities at which plans of equal priority may overlap")
     line.add_argument(
@@ -68,6 +79,8 @@ def read_line(words: Sequence[str]) -> argparse.Namespace:
     line.add_argument("operators", nargs="*", metavar="NAME=CEILING", help="operators to enrol first")
     end = words.index("--") if "--" in words else len(words)
     found = line.parse_intermixed_args(words[:end])
+    if found.fault and found.port is None:
+        line.error("--fault needs --port")
     found.operators += words[end + 1 :]
     return found
 
@@ -129,7 +142,7 @@ def write(answer: bytes) -> None:
         raise Failed(4, "write") from None
 
 
-def serve(desk: Desk, port: int, requests: Optional[int]) -> None:
+def serve(desk: Desk, port: int, requests: Optional[int], troubles: Troubles) -> None:
     """Answers one request a connection, until so many are served; raises Failed."""
     try:
         listener = socket.create_server(("127.0.0.1", port))
@@ -142,17 +155,25 @@ def serve(desk: Desk, port: int, requests: Optional[int]) -> None:
         while requests is None or requests > 0:
             connection, _ = listener.accept()
             with connection:
-                serve_one(desk, connection)
+                serve_one(desk, connection, troubles)
             requests = None if requests is None else requests - 1
 
 
-def serve_one(desk: Desk, connection: socket.socket) -> None:
+def is_there(given: bytes) -> bool:
+    """Whether a whole request has come, or what is none."""
+    try:
+        return bool(given) and next_request(given)[0] is not None
+    except Refusal:
+        return True
+
+
+def serve_one(desk: Desk, connection: socket.socket, troubles: Troubles) -> None:
     """Answers the request of a connection, if it is there whole in time."""
     given, limit = b"", time.monotonic() + SECONDS_TO_ASK
     try:
         while time.monotonic() < limit:
-            answer, word = next(play(desk, given), (b"", "cut_short"))
-            if word != "cut_short":
+            if is_there(given):
+                answer = troubles.answer(lambda: next(play(desk, given))[0])
                 connection.settimeout(SECONDS_TO_ASK)
                 connection.sendall(answer)
                 return
@@ -174,7 +195,8 @@ def main(words: Sequence[str]) -> int:
         if line.at is not None:
             play_input(Desk(store, equal, lambda: int(line.at), line.spans))
         else:
-            serve(Desk(store, equal, lambda: int(time.time()), line.spans), line.port, line.requests)
+            desk = Desk(store, equal, lambda: int(time.time()), line.spans)
+            serve(desk, line.port, line.requests, Troubles(line.fault))
     except Failed as failed:
         print(f"uss_desk: {failed.word}", file=sys.stderr)
         return failed.status

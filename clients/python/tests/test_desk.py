@@ -103,7 +103,7 @@ def no_pauses(monkeypatch: pytest.MonkeyPatch) -> None:
 
 def asks(*script: Optional[Act], **words: Any) -> tuple[Server, Desk]:
     server = Server(*script)
-    given: Any = {"operator": "alfa", "timeout": 5, **words}
+    given: Any = {"operator": "alfa", "timeout": 60, **words}
     return server, Desk(server.url, **given)
 
 
@@ -200,7 +200,7 @@ def test_a_desk_is_asked_whatever_web_proxy_is_set(monkeypatch: pytest.MonkeyPat
     for name in ("http_proxy", "HTTP_PROXY", "all_proxy"):
         monkeypatch.setenv(name, "http://127.0.0.1:9")
     _, desk = asks((200, {"status": "Ready"}))
-    assert desk.status(patience=0) == "Ready"
+    assert desk.status(patience=20) == "Ready"
 
 
 def test_an_answer_at_once_tells_nothing() -> None:

@@ -192,7 +192,7 @@ def test_an_interpreter_without_debians_packages_says_a_line(module: str, name: 
         check=False,
         env={**os.environ, "PYTHONPATH": os.pathsep.join(map(str, places))},
         text=True,
-        timeout=30,
+        timeout=300,
     )
     assert (ended.returncode, ended.stdout) == (1, "")
     assert ended.stderr.startswith(f"{name}: ") and ended.stderr.count("\n") == 1, ended.stderr

@@ -87,7 +87,7 @@ def test_a_desk_that_restarts_is_no_change_and_each_look_is_one_list(monkeypatch
     monkeypatch.setattr(time, "sleep", slept.append)
     server = Server(shown(False), (502, {"error": "bad_gateway"}), None, shown(False), shown(True))
     said: list[str] = []
-    changes = Desk(server.url, operator="alfa", timeout=5, tell=said.append).watch(every=60)
+    changes = Desk(server.url, operator="alfa", timeout=60, tell=said.append).watch(every=60)
     assert next(changes).what == ("blocked",)
     assert server.methods == ["GET"] * 5 and {asked[1] for asked in server.asked} == {"/flight_plans"}
     assert len(said) == 2 and "looking again in 60 s" in said[0]
