@@ -271,7 +271,7 @@ def watch(rows: Rows, machine: Machine) -> None:
     rows.holds("one request in the access log and the journal", re.search(r"(?m)\t[0-9a-f]{32}\n.*x-request-id", one))
     told = run(machine, *commands("monitoring.md", "Metrics"))
     rows.equal("metrics", False, "\nstatus" in told)
-    for value in ('{status="401"} 1', "_plans 4", "_copy_intact 1", "_up 1", '_part_read{part="records"} 1'):
+    for value in ('{status="401"} 2', "_plans 4", "_copy_intact 1", "_up 1", '_part_read{part="records"} 1'):
         rows.has(value, value, told)
 
 
