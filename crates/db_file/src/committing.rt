@@ -1,0 +1,187 @@
+//! The first page of a database put into a desk's own order, in one commit: a crash leaves all of it or none.
+
+ghost use Rattle.std.specs.Prelude.{◌≡◌, IfErr, IfOk, IfSome, IsSome, IsTrue, OnOk, is_ok};
+ghost use Rattle.sqlite_pager.specs.Pager.{AreUsable, image, state, visible};
+ghost use Rattle.sqlite_wal.specs.Files.{image_at};
+ghost use Rattle.sqlite_wal.specs.Outcome.{FailsFor};
+ghost use Rattle.sqlite_wal.specs.PageSize.{bytes_of};
+ghost use Rattle.sqlite_wal.specs.Recovery.{Image, IsUnreadable};
+ghost use Rattle.sqlite_wal.specs.State.{IsSettled, StaysOrFails};
+ghost use Rattle.db_file.specs.Committing as spec;
+ghost use Rattle.db_file.specs.Committing.{AreAsOpened, IsInOrder, IsLeft, IsOver, LeavesOrdered, MayOrder, NamesSize};
+ghost use Rattle.db_file.specs.Committing.{OrdersFirst, RefusesFiles, RefusesFirst};
+ghost use Rattle.db_file.specs.Committing.{faults_of, image_of, leaves};
+ghost use Rattle.db_file.specs.Orders.{IsFirstPage};
+
+use crate::db_header::{MAX_PAGE, keeps_sums};
+use crate::orders::order_page;
+use crate::sums::give_sum;
+use sqlite_disk::{Disk, Files, Start};
+use sqlite_pager::{Error, Options, Pager};
+use sqlite_std_file::FileFrom;
+use sqlite_wal::{PageSize, probe_page_size};
+use std::alloc::Global;
+use std::hash::{BuildHasher, RandomState};
+
+/// Files whose first page is in a desk's own order. Nothing can be done with them but to drop them.
+#[derive(Drop)]
+pub struct Ordered<D: Disk> {
+    pager: Pager<D>,
+}
+
+/// Files whose first page was not put in order, if they were opened. Nothing can be done with them but to
+/// drop them.
+#[derive(Drop)]
+pub struct Unordered<D: Disk> {
+    left: Option<Left<D>>,
+}
+
+// What is left of files whose first page was not put in order, and why.
+#[derive(Drop)]
+enum Left<D: Disk> {
+    // They were only read.
+    Unread(Error, Files<D>),
+    // Their pages were not found, or the commit failed.
+    Uncommitted(Error, Pager<D>),
+}
+
+/// Puts the first page of the file at a path into a desk's own order, in one commit to its log; `start`
+/// stands for what the files held. Answered are the files.
+///
+/// # Errors
+///
+/// `Unordered` if the files can't be opened, are no database, or the commit failed.
+pub fn put_in_order<S: Start>(
+    rt: &HostRuntime,
+    path: &str,
+    start: S,
+) -> Result<Ordered<FileFrom<S>>, Unordered<FileFrom<S>>>
+    ensures ordered { IfOk result (λ it. IsTrue (state it.pager).is_clean
+        → IsInOrder (image_at S.Start) (state it.pager)) }
+    ensures sized { IfOk result (λ it. IsTrue (state it.pager).is_clean
+        → NamesSize (image_at S.Start) (state it.pager).page_size) }
+    ensures left { IfErr result (λ it. IfSome it.left
+        (IsLeft (image_at S.Start) (λ image. image ≡ image_at S.Start) 0)) }
+{
+    let Ok(random) = RandomState::new(rt) else {
+        return Err(Unordered { left: None });
+    };
+    match sqlite_std_file::open(rt, path, start) {
+        Ok(files) => commit_in_order(rt.alloc(), random.hash_one(&0u8), files),
+        Err(_) => Err(Unordered { left: None }),
+    }
+}
+
+/// Whether the first page of files was put in order. They are closed.
+pub fn is_in_order<D: Disk + Drop>(done: Result<Ordered<D>, Unordered<D>>) -> bool
+    ensures { result ≡ is_ok done }
+{
+    done.is_ok()
+}
+
+// Puts the first page of a database in files into a desk's own order, in one commit.
+fn commit_in_order<D: Disk + Drop>(
+    alloc: Global,
+    seed: u64,
+    files: Files<D>,
+) -> Result<Ordered<D>, Unordered<D>>
+    requires log { IsTrue (D.Disk.is_usable files.log) }
+    requires db { IsTrue (D.Disk.is_usable files.db) }
+    ensures ordered { IfOk result (λ it. IsTrue (state it.pager).is_clean
+        → IsInOrder (image_of D.Disk files) (state it.pager)) }
+    ensures sized { IfOk result (λ it. IsTrue (state it.pager).is_clean
+        → NamesSize (image_of D.Disk files) (state it.pager).page_size) }
+    ensures opened { IfErr result (λ it. IsSome it.left) }
+    ensures left { (was : Image) → AreAsOpened D.Disk files was
+        → IfErr result (λ it. IfSome it.left (IsLeft was (λ image. image ≡ was) 0)) }
+{
+    let (mut pager, size) = match pager_over(alloc, seed, files) {
+        Ok(found) => found,
+        Err(left) => return Err(Unordered { left: Some(left) }),
+    };
+    match find_and_order(&mut pager, size) {
+        Ok(()) => Ok(Ordered { pager }),
+        Err(error) => Err(Unordered {
+            left: Some(Left::Uncommitted(error, pager)),
+        }),
+    }
+}
+
+// The pages of files, which are only read.
+fn pager_over<D: Disk + Drop>(
+    alloc: Global,
+    seed: u64,
+    mut files: Files<D>,
+) -> Result<(Pager<D>, PageSize), Left<D>>
+    requires log { IsTrue (D.Disk.is_usable files.log) }
+    requires db { IsTrue (D.Disk.is_usable files.db) }
+    ensures over { IfOk result (λ it. IsOver files it.0) }
+    ensures size { IfOk result (λ it. (state it.0).page_size ≡ bytes_of it.1) }
+    ensures left { IfErr result (IsLeft (image_of D.Disk files) (leaves D.Disk files)
+        (faults_of D.Disk files)) }
+{
+    match probe_page_size(&mut files) {
+        Ok(Some(size)) => match Pager::new(alloc, files, size, Options::new(seed)) {
+            Ok(pager) => Ok((pager, size)),
+            Err(failed) => Err(Left::Unread(Error::OutOfMemory, failed.value)),
+        },
+        Ok(None) => Err(Left::Unread(Error::Corrupt, files)),
+        Err(error) => Err(Left::Unread(Error::Io(error), files)),
+    }
+}
+
+// Finds the pages that files stand for, and puts the first into a desk's own order, in one commit.
+// Long: how it may end, what a crash leaves, and files that no pages stand for have each a clause.
+fn find_and_order<D: Disk>(pager: &mut Pager<D>, size: PageSize) -> Result<(), Error>
+    requires usable { AreUsable pager.old }
+    requires size { (state pager.old).page_size ≡ bytes_of size }
+    ensures size { (state pager.new).page_size ≡ bytes_of size }
+    ensures clean { IsTrue (state pager.new).is_clean → IsTrue (state pager.old).is_clean }
+    ensures ordered { OnOk result (IsTrue (state pager.new).is_clean
+        → IsInOrder (image pager.old) (state pager.new)) }
+    ensures cause { FailsFor result (IsTrue (state pager.new).is_clean) (state pager.old).faults
+        (state pager.new).faults (RefusesFiles (bytes_of size) (image pager.old) pager.new) }
+    ensures crash { LeavesOrdered (bytes_of size) (image pager.old) (state pager.old).may_leave
+        (state pager.new).may_leave }
+    ensures none { IsUnreadable (bytes_of size) (image pager.old)
+        → (left : Image) → (state pager.new).may_leave left → (state pager.old).may_leave left }
+{
+    pager.recover()?;
+    order_first(pager, size)
+}
+
+/// Puts the first page of a database into a desk's own order, with its sum, if it keeps sums, in one commit.
+///
+/// # Errors
+///
+/// What the reading or the writing failed with.
+pub fn order_first<D: Disk>(pager: &mut Pager<D>, size: PageSize) -> Result<(), Error>
+    requires { (state pager.old).page_size ≡ bytes_of size }
+    ensures ordered { OnOk result (IsTrue (state pager.new).is_clean
+        → OrdersFirst (visible pager.old) (state pager.new).committed) }
+    ensures settled { OnOk result (IsTrue (state pager.new).is_clean → IsSettled (state pager.new)) }
+    ensures cause { FailsFor result (IsTrue (state pager.new).is_clean) (state pager.old).faults
+        (state pager.new).faults (RefusesFirst pager.old pager.new) }
+    ensures stays { StaysOrFails (state pager.old) (state pager.new) }
+    ensures crash { MayOrder (state pager.old) (visible pager.old) (state pager.new) }
+{
+    let mut room = [0u8; MAX_PAGE];
+    let page = &mut room[..size.bytes()];
+    pager.load(1)?;
+    page.copy_from_slice(pager.loaded());
+    order_summed(page);
+    pager.write(1, page)?;
+    pager.commit()
+}
+
+// Puts the first page of a file into a desk's own order, with its sum, if it keeps sums.
+fn order_summed(page: &mut [u8])
+    requires { IsFirstPage page.old }
+    ensures { page.new ≡ spec.in_order page.old }
+{
+    let has_sum = keeps_sums(page);
+    order_page(page);
+    if has_sum {
+        give_sum(page);
+    }
+}

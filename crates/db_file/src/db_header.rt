@@ -1,0 +1,47 @@
+//! The header of a database file: how large its pages are, and whether they have sums.
+
+ghost use Rattle.std.specs.Prelude.{◌≡◌};
+ghost use Rattle.sqlite_wal.specs.PageSize.{Names, size_in_file};
+ghost use Rattle.db_file.specs.Header as spec;
+
+use sqlite_wal::PageSize;
+
+/// How many bytes of a header are read.
+pub const HEADER: usize = 24;
+
+/// How many bytes the largest page has.
+pub const MAX_PAGE: usize = 65_536;
+
+/// How many bytes a sum has.
+pub const SUM: usize = 8;
+
+// Where the header says how large a page is, and how many bytes at the end of each page are kept for a sum
+// (the SQLite file format, sections 1.3.2 and 1.3.4).
+const SIZE_AT: usize = 16;
+
+const RESERVED_AT: usize = 20;
+
+/// The byte at a place; 0 past the end.
+pub fn byte(bytes: &[u8], at: usize) -> u8
+    ensures { result ≡ spec.byte bytes.now at }
+{
+    match bytes.get(at) {
+        Some(byte) => *byte,
+        None => 0,
+    }
+}
+
+/// Whether the pages of a database have sums, by its header.
+pub fn keeps_sums(header: &[u8]) -> bool
+    ensures { result ≡ spec.keeps_sums header.now }
+{
+    usize::from(byte(header, RESERVED_AT)) == SUM
+}
+
+/// The size of a page by the header of a database, if it names one that SQLite allows. 1 stands for 65,536.
+pub fn page_size_in(header: &[u8; HEADER]) -> Option<PageSize>
+    ensures { Names result (size_in_file header.now) }
+{
+    let named = usize::from(header[SIZE_AT]) * 256 + usize::from(header[SIZE_AT + 1]);
+    PageSize::new(if named == 1 { MAX_PAGE } else { named })
+}

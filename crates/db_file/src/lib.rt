@@ -1,0 +1,29 @@
+//! An SQLite database file and its WAL as bytes: whether the WAL is damaged or has a commit, the checksums of
+//! pages, the order in which the first page lists the tables and indexes of a desk; and a file in memory.
+#![tactic(auto)]
+
+mod commits;
+mod committing;
+mod db_header;
+mod frames;
+mod judging;
+mod laws;
+mod numbers;
+mod orders;
+mod ram;
+mod reading;
+mod reads;
+mod sums;
+mod wal_header;
+
+pub use commits::takes_commit;
+pub use committing::{Ordered, Unordered, is_in_order, order_first, put_in_order};
+pub use judging::{LogFault, Verdict, judge_log};
+pub use laws::{
+    commits_are_long, damaged_is_long, damaged_once, empty_is_sound, good_is_sound, shut_is_sound,
+    torn_is_sound,
+};
+pub use orders::{copy_in_order, copy_mended, has_other_order, order_page, order_text};
+pub use ram::Ram;
+pub use reads::{LastRead, Reads};
+pub use sums::{copy_bytes, copy_summed, count_unsummed, give_sum, has_sums, pages_without_sums};

@@ -1,0 +1,471 @@
+//! The order in which a file lists its tables and indexes, by its first page.
+
+ghost use Rattle.std.specs.Prelude.{◌≡◌, ◌≤◌, ◌<◌, ◌++◌, length, take, is_some, IfOk, IfSome, None, OnOk, Some, false, true};
+ghost use Rattle.std.specs.Fmt.{option_append};
+ghost use Rattle.std.specs.Io.KnownBytes.{Appends};
+ghost use Rattle.sqlite_wal.specs.PageSize.{IsPageSize, bytes_of, size_in_file};
+ghost use Rattle.db_file.specs.Orders as spec;
+ghost use Rattle.db_file.specs.Orders.{IsFirstPage};
+
+use crate::db_header::{HEADER, MAX_PAGE, byte, keeps_sums, page_size_in};
+use crate::sums::{copy_bytes, copy_summed, open_regular};
+use sqlite_wal::PageSize;
+use std::fs::File;
+use std::io::{self, ErrorKind, Read, Seek, Write};
+
+// What the header of a tree's page has for a leaf.
+const LEAF: u8 = 13;
+
+// How many tables and indexes a desk has.
+const ALL: u16 = 14;
+
+/// What is told of a file that lists the tables and indexes of a desk in another order than the desk takes.
+pub fn order_text() -> &'static str
+    ensures { result.now ≡ spec.order_text }
+{
+    "its tables stand in another order than a desk's: copy makes a desk of it"
+}
+
+// The name at a place of a desk's own order.
+fn own_name(place: u16) -> &'static [u8]
+    ensures { result.now ≡ spec.name_at false place }
+{
+    let name = match place {
+        0 => "operator",
+        1 => "sqlite_autoindex_operator_1",
+        2 => "plan",
+        3 => "sqlite_autoindex_plan_1",
+        4 => "volume",
+        5 => "sqlite_autoindex_volume_1",
+        6 => "span",
+        7 => "sqlite_autoindex_span_1",
+        8 => "span_first",
+        9 => "volume2",
+        10 => "sqlite_autoindex_volume2_1",
+        11 => "span2",
+        12 => "sqlite_autoindex_span2_1",
+        13 => "span2_first",
+        _ => "",
+    };
+    name.as_bytes()
+}
+
+// The place in a desk's own order of what a packed file has at a place.
+fn packed_place(place: u16) -> u16
+    ensures { result ≡ spec.packed_place place }
+{
+    if place < 8 {
+        return place;
+    }
+    if place < 12 {
+        return place + 1;
+    }
+    if place == 12 { 8 } else { place }
+}
+
+// The name at a place of the one order or the other.
+fn name_at(is_packed: bool, place: u16) -> &'static [u8]
+    ensures { result.now ≡ spec.name_at is_packed place }
+{
+    own_name(if is_packed {
+        packed_place(place)
+    } else {
+        place
+    })
+}
+
+// How many rows a page has.
+fn count_of(page: &[u8]) -> u16
+    ensures { result ≡ spec.count page.now }
+{
+    u16::from(byte(page, 103)) * 256 + u16::from(byte(page, 104))
+}
+
+// Where the cell of a slot begins.
+fn cell(page: &[u8], slot: u16) -> usize
+    ensures value { result ≡ spec.cell page.now slot }
+    ensures small { result < 65536 }
+{
+    let at = 108 + usize::from(slot) * 2;
+    usize::from(byte(page, at)) * 256 + usize::from(byte(page, at + 1))
+}
+
+// Whether the size of a slot's row takes two bytes.
+fn is_long(page: &[u8], slot: u16) -> bool
+    ensures { result ≡ spec.is_long page.now slot }
+{
+    128 <= byte(page, cell(page, slot))
+}
+
+// Where the rowid of a slot's row stands.
+fn rowid_at(page: &[u8], slot: u16) -> usize
+    ensures value { result ≡ spec.rowid_at page.now slot }
+    ensures small { result < 65538 }
+{
+    cell(page, slot) + if is_long(page, slot) { 2 } else { 1 }
+}
+
+// How many bytes the row of a slot has behind its rowid.
+fn size(page: &[u8], slot: u16) -> usize
+    ensures value { result ≡ spec.size page.now slot }
+    ensures small { result < 65536 }
+{
+    let first = usize::from(byte(page, cell(page, slot)));
+    if is_long(page, slot) {
+        (first - 128) * 128 + usize::from(byte(page, cell(page, slot) + 1))
+    } else {
+        first
+    }
+}
+
+// Whether the row of a slot lies within the page, and its rowid has one byte.
+fn is_plain(page: &[u8], slot: u16) -> bool
+    ensures { result ≡ spec.is_plain page.now slot }
+{
+    let cell = cell(page, slot);
+    if byte(page, cell + 1) >= 128 {
+        return false;
+    }
+    if byte(page, cell + 2) >= 128 {
+        return false;
+    }
+    rowid_at(page, slot) + 1 + size(page, slot) <= page.len()
+}
+
+// The bytes of a slot's row.
+fn row(page: &[u8], slot: u16) -> &[u8]
+    requires { spec.is_plain page.now slot ≡ true }
+    ensures { result.now ≡ spec.row page.now slot }
+{
+    let (_, rest) = page.split_at(rowid_at(page, slot) + 1);
+    let (row, _) = rest.split_at(size(page, slot));
+    row
+}
+
+// How many bytes a text has, by the number that stands for its length.
+fn text_len(code: u8) -> usize
+    ensures { result ≡ spec.text_len code }
+{
+    usize::from(code.saturating_sub(13)) / 2
+}
+
+// Whether a row has a name.
+fn has_name(row: &[u8], name: &[u8]) -> bool
+    ensures { result ≡ spec.has_name row.now name.now }
+{
+    let from = usize::from(byte(row, 0)) + text_len(byte(row, 1));
+    let len = text_len(byte(row, 2));
+    if from + len > row.len() {
+        return false;
+    }
+    let (_, rest) = row.split_at(from);
+    let (text, _) = rest.split_at(len);
+    text == name
+}
+
+// Whether the row of a slot has a name.
+fn is_named(page: &[u8], slot: u16, name: &[u8]) -> bool
+    ensures { result ≡ spec.is_slot_named page.now slot name.now }
+{
+    if !is_plain(page, slot) {
+        return false;
+    }
+    has_name(row(page, slot), name)
+}
+
+// The first slot whose row has a name.
+fn slot_of(page: &[u8], name: &[u8]) -> Option<u16>
+    ensures value { result ≡ spec.slot_of page.now name.now }
+    ensures plain { IfSome result (λ slot. spec.is_plain page.now slot ≡ true) }
+{
+    let count = count_of(page);
+    for slot in 0..count {
+        if is_named(page, slot, name) {
+            return Some(slot);
+        }
+    }
+    None
+}
+
+// Whether a slot stands for the row that another page has in one of its own: as `is_moved` says.
+fn is_moved(old: &[u8], from: u16, page: &[u8], to: u16) -> bool
+    requires { spec.is_plain old.now from ≡ true }
+    ensures { result ≡ spec.is_moved old.now from page.now to }
+{
+    if !is_plain(page, to) {
+        return false;
+    }
+    if cell(page, to) != cell(old, from) {
+        return false;
+    }
+    if u32::from(byte(page, rowid_at(page, to))) != u32::from(to) + 1 {
+        return false;
+    }
+    row(page, to) == row(old, from)
+}
+
+// Whether a slot stands for the row that another page has of the name at its place in an order.
+fn is_moved_by_name(is_packed: bool, old: &[u8], page: &[u8], to: u16) -> bool
+    ensures { result ≡ spec.is_moved_by_name is_packed old.now page.now to }
+{
+    match slot_of(old, name_at(is_packed, to)) {
+        Some(from) => is_moved(old, from, page, to),
+        None => false,
+    }
+}
+
+// Whether so many slots stand for the rows that another page has, in an order of names.
+fn are_moved(is_packed: bool, old: &[u8], page: &[u8], count: u16) -> bool
+    ensures { result ≡ spec.are_moved is_packed old.now page.now 0 count }
+{
+    for to in 0..count {
+        if !is_moved_by_name(is_packed, old, page, to) {
+            return false;
+        }
+    }
+    true
+}
+
+// Whether a page lists its rows in an order, with the rowids 1, 2 and so on.
+fn are_listed(is_packed: bool, page: &[u8]) -> bool
+    ensures { result ≡ spec.are_listed is_packed page.now }
+{
+    are_moved(is_packed, page, page, count_of(page))
+}
+
+// Whether a page of so few rows lists them neither in a desk's own order nor in that of a packed file.
+fn is_other(page: &[u8]) -> bool
+    ensures { result ≡ spec.is_other page.now }
+{
+    if byte(page, 100) != LEAF {
+        return false;
+    }
+    if count_of(page) > ALL {
+        return false;
+    }
+    if are_listed(false, page) {
+        return false;
+    }
+    !(count_of(page) == ALL && are_listed(true, page))
+}
+
+// Gives a slot the cell that another page has in one of its slots, and the row its rowid.
+fn move_row(old: &[u8], from: u16, to: u16, page: &mut [u8])
+    requires plain { spec.is_plain old.now from ≡ true }
+    requires room { 136 ≤ length page.old }
+    requires same { length page.old ≡ length old.now }
+    requires few { to < 14 }
+    ensures { page.new ≡ spec.moved old.now from to page.old }
+{
+    let (here, there) = (usize::from(to) * 2, usize::from(from) * 2);
+    page[108 + here] = byte(old, 108 + there);
+    page[109 + here] = byte(old, 109 + there);
+    page[rowid_at(old, from)] = to as u8 + 1;
+}
+
+// Gives a slot the row that another page has of the name at its place in a desk's own order, if it has one.
+fn place_row(old: &[u8], to: u16, page: &mut [u8]) -> bool
+    requires room { 136 ≤ length page.old }
+    requires same { length page.old ≡ length old.now }
+    requires few { to < 14 }
+    ensures length { length page.new ≡ length page.old }
+    ensures placed { result ≡ true → spec.placed_by_name old.now to page.old ≡ Some page.new }
+    ensures missing { result ≡ false → spec.placed_by_name old.now to page.old ≡ None }
+{
+    match slot_of(old, name_at(false, to)) {
+        Some(from) => {
+            move_row(old, from, to, page);
+            true
+        }
+        None => false,
+    }
+}
+
+// Gives so many slots the rows of a page, in a desk's own order, if there are rows of these names.
+fn place_rows(old: &[u8], count: u16, page: &mut [u8]) -> bool
+    requires room { 136 ≤ length page.old }
+    requires same { length page.old ≡ length old.now }
+    requires few { count ≤ 14 }
+    ensures placed { result ≡ true → spec.placed old.now 0 count page.old ≡ Some page.new }
+    ensures missing { result ≡ false → spec.placed old.now 0 count page.old ≡ None }
+{
+    for to in 0..count {
+        if !place_row(old, to, page) {
+            return false;
+        }
+    }
+    true
+}
+
+// Puts the rows of a page into a desk's own order, if it is a file's first page and lists the tables and
+// indexes of a desk, or the first few of them, in another order than the desk takes. Else it has something.
+fn put_in_order(old: &[u8], page: &mut [u8]) -> bool
+    requires room { 136 ≤ length page.old }
+    requires same { page.old ≡ old.now }
+    ensures ordered { result ≡ true → spec.ordered old.now ≡ Some page.new }
+    ensures left { result ≡ false → spec.ordered old.now ≡ None }
+{
+    if !is_other(old) {
+        return false;
+    }
+    let count = count_of(old);
+    if !place_rows(old, count, page) {
+        return false;
+    }
+    are_moved(false, old, page, count)
+}
+
+// Whether a page is a file's first and lists the tables and indexes of a desk, or the first few of them, in
+// another order than the desk takes.
+fn is_disordered(page: &[u8]) -> bool
+    requires { IsFirstPage page.now }
+    ensures { result ≡ is_some (spec.ordered page.now) }
+{
+    let mut room = [0u8; MAX_PAGE];
+    let other = &mut room[..page.len()];
+    other.copy_from_slice(page);
+    put_in_order(page, other)
+}
+
+/// Puts the rows of a file's first page into a desk's own order, if they are those of a desk in another.
+pub fn order_page(page: &mut [u8])
+    requires { IsFirstPage page.old }
+    ensures { page.new ≡ spec.ordered_page page.old }
+{
+    let mut room = [0u8; MAX_PAGE];
+    let old = &mut room[..page.len()];
+    old.copy_from_slice(page);
+    if !put_in_order(old, page) {
+        page.copy_from_slice(old);
+    }
+}
+
+// Reads the first page of a file, with its rows in a desk's own order, if they are those of a desk in
+// another.
+fn read_in_order<R: Read>(file: &mut R, page: &mut [u8]) -> io::Result<()>
+    requires { IsFirstPage page.old }
+    ensures length { length page.new ≡ length page.old }
+    ensures size { OnOk result (IfSome (R.remaining file.old) (λ bytes.
+        length (spec.ordered_file (length page.new) bytes) ≡ length bytes)) }
+    ensures whole { OnOk result (IfSome (R.remaining file.old) (λ bytes.
+        option_append (Some page.new) (R.remaining file.new)
+        ≡ Some (spec.ordered_file (length page.new) bytes))) }
+{
+    file.read_exact(page)?;
+    order_page(page);
+    Ok(())
+}
+
+/// Whether the file at a path lists the tables and indexes of a desk, or the first few of them, in another
+/// order than the desk takes; not if it can't be read. One with a log is not told by it: its first page may
+/// stand in the log anew.
+pub fn has_other_order(rt: &HostRuntime, path: &str) -> bool {
+    match open_regular(rt, path) {
+        Ok(mut file) => matches!(reads_disordered(&mut file), Ok(true)),
+        Err(_) => false,
+    }
+}
+
+// Whether a file lists, on its first page, the tables and indexes of a desk, or the first few of them, in
+// another order than the desk takes. One that says no size of its pages does not.
+fn reads_disordered<R: Read>(file: &mut R) -> io::Result<bool>
+    ensures said { IfOk result (λ is. IfSome (R.remaining file.old) (λ bytes.
+        IsPageSize (size_in_file bytes) → is ≡ spec.has_other_order bytes)) }
+    ensures none { IfOk result (λ is. IfSome (R.remaining file.old) (λ bytes.
+        ¬ IsPageSize (size_in_file bytes) → is ≡ false)) }
+{
+    let mut header = [0u8; HEADER];
+    file.read_exact(&mut header)?;
+    match page_size_in(&header) {
+        Some(size) => reads_page(file, &header, size),
+        None => Ok(false),
+    }
+}
+
+// The same of a file whose header was read, by its first page, which has this size.
+fn reads_page<R: Read>(file: &mut R, header: &[u8; HEADER], size: PageSize) -> io::Result<bool>
+    ensures { IfOk result (λ is. IfSome (R.remaining file.old) (λ rest.
+        is ≡ is_some (spec.ordered (take (bytes_of size) (header.now ++ rest))))) }
+{
+    let mut room = [0u8; MAX_PAGE];
+    let page = &mut room[..size.bytes()];
+    read_page(file, header, size, page)?;
+    Ok(is_disordered(page))
+}
+
+// Reads the first page of a file whose header was read; it has this size.
+fn read_page<R: Read>(
+    file: &mut R,
+    header: &[u8; HEADER],
+    size: PageSize,
+    page: &mut [u8],
+) -> io::Result<()>
+    requires { length page.old ≡ bytes_of size }
+    ensures length { length page.new ≡ bytes_of size }
+    ensures page { OnOk result (IfSome (R.remaining file.old) (λ rest.
+        page.new ≡ take (length page.new) (header.now ++ rest))) }
+{
+    let mut whole = (&header[..]).chain(file);
+    whole.read_exact(page)
+}
+
+/// Copies the file of a database, mended: the rows of its first page in a desk's own order, if they are those
+/// of a desk in another; and each page with its sum, if its pages have sums. Nothing else is opened, so that
+/// whoever holds the file goes on holding it.
+///
+/// # Errors
+///
+/// What the reading or the writing failed with; `Unsupported` if its header names no size of pages.
+pub fn copy_mended<W: Write>(file: &mut File, twin: &mut W) -> io::Result<()> {
+    let mut header = [0u8; HEADER];
+    file.read_exact(&mut header)?;
+    let Some(size) = page_size_in(&header) else {
+        return Err(io::Error::from(ErrorKind::Unsupported));
+    };
+    let len = file.metadata()?.len();
+    file.rewind()?;
+    copy_in_order(file, twin, size, len, keeps_sums(&header))
+}
+
+/// Copies a file of so many bytes, the rows of its first page in a desk's own order, if they are those of a
+/// desk in another; and each page with its sum, if the file has sums.
+///
+/// # Errors
+///
+/// What the reading or the writing failed with.
+pub fn copy_in_order<R: Read, W: Write>(
+    file: &mut R,
+    twin: &mut W,
+    size: PageSize,
+    len: u64,
+    has_sums: bool,
+) -> io::Result<()>
+    ensures { OnOk result (IfSome (R.remaining file.old) (λ bytes. length bytes ≡ len →
+        Appends (W.contents twin.old) (W.contents twin.new)
+        (spec.mended has_sums (bytes_of size) bytes))) }
+{
+    let mut room = [0u8; MAX_PAGE];
+    let page = &mut room[..size.bytes()];
+    read_in_order(file, page)?;
+    let mut whole = (&*page).chain(file);
+    copy_with(&mut whole, twin, size, len, has_sums)
+}
+
+// Copies a file of so many bytes, each page with its sum, if the file has sums.
+fn copy_with<R: Read, W: Write>(
+    file: &mut R,
+    twin: &mut W,
+    size: PageSize,
+    len: u64,
+    has_sums: bool,
+) -> io::Result<()>
+    ensures { OnOk result (IfSome (R.remaining file.old) (λ bytes. length bytes ≡ len →
+        Appends (W.contents twin.old) (W.contents twin.new)
+        (spec.with_sums has_sums (bytes_of size) bytes))) }
+{
+    if has_sums {
+        copy_summed(file, twin, size, len)
+    } else {
+        copy_bytes(file, twin)
+    }
+}

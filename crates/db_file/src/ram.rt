@@ -1,0 +1,160 @@
+//! A disk in memory: a file that no crash can reach, so that a sync has nothing to do.
+
+ghost use Rattle.std.specs.Prelude.{◌≡◌, length, true, false, is_ok, OnOk};
+ghost use Rattle.sqlite_disk.specs.Disk.{Holds, Torn, Cut, CountsFault};
+ghost use Rattle.sqlite_disk.specs.Refusal.{finds_no_room};
+
+use sqlite_disk::{Disk, Tally, digest_of};
+use std::alloc::{AllocError, Global};
+use std::io;
+
+/// A file in memory, gone when the program ends. Only a growth that is refused makes a call fail.
+#[derive(Drop)]
+pub struct Ram {
+    bytes: Vec<u8>,
+    // how many calls have failed, and how many reads missed their digest, each up to the type's last value
+    faults: u64,
+    caught: u64,
+}
+
+impl Ram {
+    ghost use Rattle.std.specs.Prelude.{[]};
+
+    /// An empty file.
+    pub fn new(alloc: Global) -> Ram
+        ensures empty { result.bytes.items ≡ [] }
+    {
+        Ram {
+            bytes: Vec::new(alloc),
+            faults: 0,
+            caught: 0,
+        }
+    }
+}
+
+impl Ram {
+    /// A file with these bytes.
+    pub fn of(bytes: Vec<u8>) -> Ram
+        ensures bytes { result.bytes.items ≡ bytes.items }
+    {
+        Ram {
+            bytes,
+            faults: 0,
+            caught: 0,
+        }
+    }
+}
+
+impl Disk for Ram {
+    ghost use Rattle.std.specs.Prelude.{refl};
+
+    ghost seen = { λ r. r.bytes.items };
+
+    ghost may_leave = { λ r left. left ≡ r.bytes.items };
+
+    ghost is_usable = { λ _. true };
+
+    ghost faults = { λ r. r.faults };
+
+    ghost is_clean = { λ _. true };
+
+    ghost tally_of = { λ r. record { caught = r.caught; refused = 0 } };
+
+    ghost key_of = { λ _. 0 };
+
+    ghost is_fair = { λ _ _. true };
+
+    ghost fair_if_clean = { λ _ _ _. refl };
+
+    ghost seen_may_stay = { λ _. refl };
+
+    fn mixes(&self) -> bool {
+        false
+    }
+
+    // Memory tells no lie, so it needs no secret.
+    fn key(&self) -> u64 {
+        0
+    }
+
+    fn tally(&self) -> Tally {
+        Tally {
+            caught: self.caught,
+            refused: 0,
+        }
+    }
+
+    fn may_be_used(&self) -> bool {
+        true
+    }
+
+    fn len(&mut self) -> io::Result<usize> {
+        Ok(self.bytes.len())
+    }
+
+    fn read_at(&mut self, at: usize, buf: &mut [u8]) -> io::Result<()> {
+        if at > self.bytes.len() || buf.len() > self.bytes.len() - at {
+            return Err(io::ErrorKind::UnexpectedEof.into());
+        }
+        buf.copy_from_slice(&self.bytes[at..at + buf.len()]);
+        Ok(())
+    }
+
+    fn read_checked(&mut self, key: u64, want: u64, at: usize, buf: &mut [u8]) -> io::Result<()> {
+        self.read_at(at, buf)?;
+        if digest_of(key, buf) != want {
+            self.faults = self.faults.saturating_add(1);
+            self.caught = self.caught.saturating_add(1);
+            return Err(io::ErrorKind::InvalidData.into());
+        }
+        Ok(())
+    }
+
+    fn write_at(&mut self, at: usize, bytes: &[u8]) -> io::Result<()> {
+        count(overwrite(&mut self.bytes, at, bytes), &mut self.faults)
+    }
+
+    fn set_len(&mut self, len: usize) -> io::Result<()> {
+        count(resize(&mut self.bytes, len), &mut self.faults)
+    }
+
+    fn sync(&mut self) -> io::Result<()> {
+        Ok(())
+    }
+}
+
+// What came of a growth, with one that was refused counted.
+fn count(outcome: Result<(), AllocError>, faults: &mut u64) -> io::Result<()>
+    ensures variant { is_ok result ≡ is_ok outcome }
+    ensures kind { finds_no_room result ≡ false }
+    ensures faults { CountsFault result faults.old faults.new }
+{
+    if outcome.is_err() {
+        *faults = faults.saturating_add(1);
+        return Err(io::Error::from(io::ErrorKind::OutOfMemory));
+    }
+    Ok(())
+}
+
+fn resize(file: &mut Vec<u8>, len: usize) -> Result<(), AllocError>
+    ensures len { OnOk result (length file.new.items ≡ len) }
+    ensures others { Cut len file.old.items file.new.items }
+{
+    file.resize(len, 0)
+}
+
+// Writes bytes from a place on; the file grows where it ends before.
+fn overwrite(file: &mut Vec<u8>, at: usize, bytes: &[u8]) -> Result<(), AllocError>
+    ensures written { OnOk result (Holds file.new.items at bytes.now) }
+    ensures others { Torn at (length bytes.now) file.old.items file.new.items }
+{
+    if at == file.len() {
+        return file.extend_from_slice(bytes);
+    }
+    let end = at.checked_add(bytes.len()).ok_or(AllocError)?;
+    if end > file.len() {
+        resize(file, end)?;
+    }
+    file[at..end].copy_from_slice(bytes);
+    Ok(())
+}

@@ -1,0 +1,54 @@
+//! Bytes read from a log.
+
+ghost use Rattle.std.specs.Prelude.{◌≡◌, ◌<◌, ◌≤◌, false, true, length, take, IfErr, IfOk, IfSome};
+ghost use Rattle.std.specs.Io.KnownBytes.{Consumes, IsAtEnd};
+ghost use Rattle.db_file.specs.Reads.{HaveBrokenOff};
+
+use crate::reads::{Reads, read_counted};
+use std::io::Read;
+
+// How many reads a frame may take.
+const MAX_READS: u32 = u32::MAX;
+
+/// Fills all of the room, and answers whether there were as many bytes. Interrupted reads are tried again.
+///
+/// # Errors
+///
+/// The reads that there were, if the last of them failed, or as many as there may be were not enough.
+pub fn read_whole<R: Read>(input: &mut R, room: &mut [u8]) -> Result<bool, Reads>
+    ensures whole { IfOk result (λ is_whole. is_whole ≡ true →
+        Consumes (R.remaining input.old) (R.remaining input.new) room.new) }
+    ensures short { IfOk result (λ is_whole. is_whole ≡ false →
+        IfSome (R.remaining input.old) (λ rest. length rest < length room.new)) }
+    ensures fault { IfErr result HaveBrokenOff }
+{
+    let count = fill(input, room)?;
+    Ok(count == room.len())
+}
+
+// Fills the room as far as there are bytes, and answers how far that is.
+fn fill<R: Read>(input: &mut R, room: &mut [u8]) -> Result<usize, Reads>
+    ensures within { IfOk result (λ count. count ≤ length room.new) }
+    ensures taken { IfOk result (λ count.
+        Consumes (R.remaining input.old) (R.remaining input.new) (take count room.new)) }
+    ensures end { IfOk result (λ count. count < length room.new → IsAtEnd (R.remaining input.new)) }
+    ensures fault { IfErr result HaveBrokenOff }
+{
+    let mut count = 0;
+    let mut reads = Reads::none();
+    for _ in 0..MAX_READS {
+        if count == room.len() {
+            return Ok(count);
+        }
+        match read_counted(input, &mut room[count..], &mut reads) {
+            Ok(0) => return Ok(count),
+            Ok(more) => count += more,
+            Err(_) => {
+                if !reads.may_go_on() {
+                    return Err(reads);
+                }
+            }
+        }
+    }
+    Err(reads)
+}

@@ -1,0 +1,201 @@
+//! The sums on the pages of a database, as SQLite's cksumvfs has them: the last eight bytes of each page. The
+//! desk keeps them, and sqlite3 doesn't.
+
+ghost use Rattle.std.specs.Prelude.{◌≡◌, ◌≤◌, drop, length, None, Some, take, true, IfOk, IfSome, OnOk};
+ghost use Rattle.std.specs.Io.KnownBytes.{Appends};
+ghost use Rattle.sqlite_wal.specs.PageSize.{IsPageSize, bytes_of, size_in_file};
+ghost use Rattle.db_file.specs.Header.{keeps_sums};
+ghost use Rattle.db_file.specs.Sums as spec;
+
+use crate::db_header::{HEADER, MAX_PAGE, SUM, keeps_sums, page_size_in};
+use sqlite_wal::{PageSize, checksum_of};
+use std::fs::{self, File};
+use std::io::{self, ErrorKind, Read, Write};
+
+/// Whether the pages of the database at a path have sums; they haven't if it can't be looked at.
+pub fn has_sums(rt: &HostRuntime, path: &str) -> bool {
+    summed_size(rt, path).is_some()
+}
+
+/// How many pages of the database at a path have another sum than theirs. None if its pages have no sums, or
+/// can't be read.
+pub fn pages_without_sums(rt: &HostRuntime, path: &str) -> Option<u64> {
+    let size = summed_size(rt, path)?;
+    let len = fs::metadata(rt, path).ok()?.len();
+    let mut file = File::open(rt, path).ok()?;
+    count_unsummed(&mut file, size, len).ok()
+}
+
+// The size of a page of the database at a path, if its pages have sums.
+fn summed_size(rt: &HostRuntime, path: &str) -> Option<PageSize> {
+    let mut header = [0u8; HEADER];
+    open_regular(rt, path).ok()?.read_exact(&mut header).ok()?;
+    summed_size_in(&header)
+}
+
+// The size of a page by the header of a database, if its pages have sums.
+fn summed_size_in(header: &[u8; HEADER]) -> Option<PageSize>
+    ensures some { IfSome result (λ size.
+        (keeps_sums header.now ≡ true) × (bytes_of size ≡ size_in_file header.now)) }
+    ensures none { result ≡ None → keeps_sums header.now ≡ true
+        → ¬ IsPageSize (size_in_file header.now) }
+{
+    if !keeps_sums(header) {
+        return None;
+    }
+    page_size_in(header)
+}
+
+/// Opens a file to be read. What is no regular file is not opened: a pipe would wait for a writer.
+///
+/// # Errors
+///
+/// What the opening failed with; `Unsupported` if it is no regular file.
+pub fn open_regular(rt: &HostRuntime, path: &str) -> io::Result<File> {
+    if !fs::metadata(rt, path)?.is_file() {
+        return Err(io::Error::from(ErrorKind::Unsupported));
+    }
+    File::open(rt, path)
+}
+
+/// Copies a file of so many bytes page by page, each with its sum in the place of its last bytes.
+///
+/// # Errors
+///
+/// What the reading or the writing failed with.
+pub fn copy_summed<R: Read, W: Write>(
+    file: &mut R,
+    twin: &mut W,
+    size: PageSize,
+    len: u64,
+) -> io::Result<()>
+    ensures { OnOk result (IfSome (R.remaining file.old) (λ bytes. length bytes ≡ len →
+        Appends (W.contents twin.old) (W.contents twin.new)
+        (spec.summed_file (bytes_of size) bytes))) }
+{
+    copy_pages(file, twin, size, len / size.bytes() as u64)
+}
+
+// Copies so many pages of a file, each with its sum in the place of its last bytes.
+fn copy_pages<R: Read, W: Write>(
+    file: &mut R,
+    twin: &mut W,
+    size: PageSize,
+    count: u64,
+) -> io::Result<()>
+    ensures { OnOk result (IfSome (R.remaining file.old) (λ bytes.
+        Appends (W.contents twin.old) (W.contents twin.new)
+        (spec.summed_pages (bytes_of size) count bytes))) }
+{
+    let mut room = [0u8; MAX_PAGE];
+    let page = &mut room[..size.bytes()];
+    for _ in 0..count {
+        copy_page(file, twin, page)?;
+    }
+    Ok(())
+}
+
+// Copies a page with its sum in the place of its last bytes.
+fn copy_page<R: Read, W: Write>(file: &mut R, twin: &mut W, page: &mut [u8]) -> io::Result<()>
+    requires { 8 ≤ length page.old }
+    ensures length { length page.new ≡ length page.old }
+    ensures left { OnOk result (IfSome (R.remaining file.old) (λ bytes.
+        R.remaining file.new ≡ Some (drop (length page.old) bytes))) }
+    ensures copied { OnOk result (IfSome (R.remaining file.old) (λ bytes.
+        Appends (W.contents twin.old) (W.contents twin.new)
+        (spec.summed (take (length page.old) bytes)))) }
+{
+    file.read_exact(page)?;
+    give_sum(page);
+    twin.write_all(page)
+}
+
+/// How many pages of a file of so many bytes end with another sum than theirs.
+///
+/// # Errors
+///
+/// What the reading failed with.
+pub fn count_unsummed<R: Read>(file: &mut R, size: PageSize, len: u64) -> io::Result<u64>
+    ensures { IfOk result (λ unsummed. IfSome (R.remaining file.old) (λ bytes. length bytes ≡ len →
+        unsummed ≡ spec.unsummed_in (bytes_of size) bytes)) }
+{
+    count_pages(file, size, len / size.bytes() as u64)
+}
+
+// How many of the first pages, so many, end with another sum than theirs.
+fn count_pages<R: Read>(file: &mut R, size: PageSize, count: u64) -> io::Result<u64>
+    ensures { IfOk result (λ unsummed. IfSome (R.remaining file.old) (λ bytes.
+        unsummed ≡ spec.unsummed_pages (bytes_of size) count bytes)) }
+{
+    let mut room = [0u8; MAX_PAGE];
+    let page = &mut room[..size.bytes()];
+    let mut unsummed = 0;
+    for _ in 0..count {
+        unsummed += count_page(file, page)?;
+    }
+    Ok(unsummed)
+}
+
+// 1 if the next page ends with another sum than its own, else 0.
+fn count_page<R: Read>(file: &mut R, page: &mut [u8]) -> io::Result<u64>
+    requires { 8 ≤ length page.old }
+    ensures length { length page.new ≡ length page.old }
+    ensures most { IfOk result (λ unsummed. unsummed ≤ 1) }
+    ensures left { OnOk result (IfSome (R.remaining file.old) (λ bytes.
+        R.remaining file.new ≡ Some (drop (length page.old) bytes))) }
+    ensures counted { IfOk result (λ unsummed. IfSome (R.remaining file.old) (λ bytes.
+        unsummed ≡ spec.unsummed_page (take (length page.old) bytes))) }
+{
+    file.read_exact(page)?;
+    Ok(if has_its_sum(page) { 0 } else { 1 })
+}
+
+// Whether a page ends with the sum of what stands before.
+fn has_its_sum(page: &[u8]) -> bool
+    requires { 8 ≤ length page.now }
+    ensures { result ≡ spec.has_sum page.now }
+{
+    let (bytes, sum) = page.split_at(page.len() - SUM);
+    sum == &sum_of(bytes)[..]
+}
+
+/// Writes the sum of a page in the place of its last bytes.
+pub fn give_sum(page: &mut [u8])
+    requires { 8 ≤ length page.old }
+    ensures { page.new ≡ spec.summed page.old }
+{
+    let (bytes, sum) = page.split_at_mut(page.len() - SUM);
+    sum.copy_from_slice(&sum_of(bytes));
+}
+
+// The sum of bytes, as it stands in a file.
+#[tactic(auto, unfolding(crate::specs::Sums::sum_of))]
+fn sum_of(bytes: &[u8]) -> [u8; SUM]
+    ensures { result ≡ spec.sum_of bytes.now }
+{
+    let (first, second) = checksum_of(false, (0, 0), bytes);
+    let mut sum = [0u8; SUM];
+    sum[..4].copy_from_slice(&first.to_le_bytes());
+    sum[4..].copy_from_slice(&second.to_le_bytes());
+    sum
+}
+
+/// Copies the bytes of a file.
+///
+/// # Errors
+///
+/// What the reading or the writing failed with.
+pub fn copy_bytes<R: Read, W: Write>(file: &mut R, twin: &mut W) -> io::Result<()>
+    ensures { OnOk result (IfSome (R.remaining file.old)
+        (Appends (W.contents twin.old) (W.contents twin.new))) }
+{
+    let mut room = [0u8; MAX_PAGE];
+    for _ in 0..u64::MAX {
+        let count = file.read(&mut room)?;
+        if count == 0 {
+            return Ok(());
+        }
+        twin.write_all(&room[..count])?;
+    }
+    Err(io::Error::from(ErrorKind::FileTooLarge))
+}

@@ -1,0 +1,43 @@
+//! The header of a log.
+
+ghost use Rattle.std.specs.Prelude.{◌≡◌, ◌↔◌, None, IfSome, IsTrue};
+ghost use Rattle.sqlite_wal.specs.Format.{IsHeader, IsSigned, be32};
+ghost use Rattle.sqlite_wal.specs.PageSize.{IsPageSize};
+
+use crate::numbers::{number_at, sum_at};
+use sqlite_wal::{PageSize, checksum_of};
+
+/// How many bytes a header has.
+pub const HEADER: usize = 32;
+
+// The version of the format that SQLite reads.
+const VERSION: u32 = 3_007_000;
+
+// What the header's last byte of the magic number is where the checksum reads the highest byte first.
+const BIG: u8 = 0x83;
+
+/// The size of the pages of a log, if this is the header of one.
+pub fn page_size_in(head: &[u8; 32]) -> Option<usize>
+    ensures some { IfSome result (λ page. IsHeader page head.now) }
+    ensures size { IfSome result IsPageSize }
+    ensures none { result ≡ None → IsHeader (be32 head.now 8) head.now → ¬ IsPageSize (be32 head.now 8) }
+{
+    if number_at(head, 4) != VERSION || !is_signed(head) {
+        return None;
+    }
+    let size = PageSize::new(number_at(head, 8) as usize)?;
+    Some(size.bytes())
+}
+
+// Whether a header begins with a magic number and ends with its checksum.
+fn is_signed(head: &[u8; 32]) -> bool
+    ensures { IsTrue result ↔ IsSigned head.now }
+{
+    if head[0] != 0x37 || head[1] != 0x7f || head[2] != 0x06 {
+        return false;
+    }
+    if head[3] != 0x82 && head[3] != BIG {
+        return false;
+    }
+    checksum_of(head[3] == BIG, (0, 0), &head[..24]) == sum_at(head, 24)
+}

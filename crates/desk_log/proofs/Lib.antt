@@ -1,6 +1,0 @@
-pub mod CommitLemmas
-pub mod CountLemmas
-pub mod DamageLemmas
-pub mod JudgeLemmas
-pub mod ReadLemmas
-pub mod WalkLemmas

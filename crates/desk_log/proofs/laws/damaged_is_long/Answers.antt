@@ -1,5 +1,0 @@
-use Rattle.desk_log.proofs.DamageLemmas.{long}
-use Rattle.desk_log.proofs.laws.damaged_is_long.Goals as goal
-
-pub returns : goal.returns
-returns c log stop commits damaged = long _ log stop commits damaged

@@ -1,5 +1,0 @@
-use Rattle.desk_log.proofs.DamageLemmas.{shut}
-use Rattle.desk_log.proofs.laws.shut_is_sound.Goals as goal
-
-pub returns : goal.returns
-returns c log first taken unsalted stop commits damaged = shut _ log first stop commits taken unsalted damaged

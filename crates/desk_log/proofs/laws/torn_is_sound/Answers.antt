@@ -1,6 +1,0 @@
-use Rattle.desk_log.proofs.DamageLemmas.{torn}
-use Rattle.desk_log.proofs.laws.torn_is_sound.Goals as goal
-
-pub returns : goal.returns
-returns c log first last taken none unsalted stop commits damaged =
-    torn _ log first last none stop commits taken unsalted damaged

@@ -1,4 +1,0 @@
-pub mod Commits
-pub mod Damage
-pub mod Reads
-pub mod Walks

@@ -1,3 +1,0 @@
-mod SumLemmas
-mod OrderLemmas
-mod CommitLemmas

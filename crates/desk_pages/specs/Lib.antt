@@ -1,4 +1,0 @@
-pub mod Header
-pub mod Sums
-pub mod Orders
-pub mod Committing
