@@ -3,7 +3,9 @@ use Rattle.std.proofs.Common.{◌≡◌, ℕ, ◌+◌, ◌≤◌, ◌<◌, Bool,
 use Rattle.std.specs.List.{filter}
 use Rattle.std.specs.declared.cmp.Ordering.{Ordering}
 use Rattle.std.specs.Ordering.{is_eq, ordering_then}
+use Rattle.std.specs.Cmp.Lexicographic.{nat_list_cmp_total}
 use Rattle.std.specs.Global.{Vec}
+use Rattle.std.proofs.lemmas.Cmp.{tied_itself}
 use Rattle.std.proofs.lemmas.List.{take_more}
 use Rattle.std.proofs.lemmas.Map.Lookups.{exact_bytes}
 use Rattle.desk_store.specs.World.{text_cmp}
@@ -60,6 +62,16 @@ pub others_stay : (k : PlanKey) (old new : Lists) (b : Option (Vec ℕ)) → Are
 others_stay k old new b writes q e =
     subst (λ n. places_in q old ≤ n)
     (sym (ap length_or_none (writes q ∙ ap (λ t. cond t b (list_of q old)) e))) (omega arith)
+
+itself : (k : PlanKey) → is_eq (key_cmp k k) ≡ true
+itself k =
+    then_eq (text_cmp k.operator k.operator) (text_cmp k.id k.id)
+    ∙ ap (λ n. is_eq n && is_eq (text_cmp k.id k.id)) (tied_itself nat_list_cmp_total k.operator)
+    ∙ ap is_eq (tied_itself nat_list_cmp_total k.id)
+
+-- a list that is taken out is there no more
+pub gone : (k : PlanKey) (old new : Lists) → AreWritten k old new None → list_of k new ≡ None
+gone k old new writes = writes k ∙ ap (λ t. cond t None (list_of k old)) (itself k)
 
 pub absent : (x : Option (Vec ℕ)) → false ≡ is_some x → x ≡ None
 absent None e = refl

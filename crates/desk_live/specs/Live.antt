@@ -120,6 +120,10 @@ gathered_in gathering = gathering.volumes.items
 abbrev pub HasRoomForVolumes : LiveVolumes → ℕ → Type 0
 HasRoomForVolumes kept count = length kept.young.items + count ≤ kept.young.cap
 
+-- no volume waits to be put into a chunk
+abbrev pub AreSettled : LiveVolumes → Type 0
+AreSettled kept = length kept.young.items ≡ 0
+
 -- ---- changes
 
 abbrev pub is_of_any : List ℕ → List (List ℕ) → LiveVolume → Bool

@@ -1,12 +1,12 @@
 //! The volumes of all live plans.
 
-ghost use Rattle.std.specs.Prelude.{◌≡◌, ◌≤◌, ◌++◌, not, ◌∷◌, [], List, length, IfOk, IfSome, OnOk};
+ghost use Rattle.std.specs.Prelude.{◌≡◌, ◌≤◌, ◌-◌, ◌++◌, not, ◌∷◌, [], List, length, IfOk, IfSome, OnOk};
 ghost use Rattle.std.specs.List.{filter};
 ghost use Rattle.std.specs.List.Sorted.{IsStrictlySortedBy};
 ghost use Rattle.desk_store.specs.World.{Filed, World, filed_cmp};
 ghost use Rattle.desk_store.specs.Changes.{filed_by};
 ghost use Rattle.desk_store.specs.StoreChange.{changed_by};
-ghost use Rattle.desk_live.specs.Live.{AreBrought, AreHedged, AreKeptOnce, ArePlaced, AreVolumes, HasLeft, HasRoomForVolumes};
+ghost use Rattle.desk_live.specs.Live.{AreBrought, AreHedged, AreKeptOnce, ArePlaced, AreSettled, AreVolumes, HasLeft, HasRoomForVolumes};
 ghost use Rattle.desk_live.specs.Live.{gathered_in, is_beside, is_of_any, stays_at, volumes_of, volumes_under};
 ghost use Rattle.desk_live.specs.Regions.{HoldNothingBeside, has_theirs};
 ghost use Rattle.desk_live.specs.Near.{AddsPlans, AreNearPlans, AreWantedPlans};
@@ -202,6 +202,7 @@ impl LiveVolumes {
         ensures kept { (w : World) → AreKeptOnce self.old w → AreKeptOnce self.new w }
         ensures brought { IfOk result (λ fresh. AreBrought change.now fresh.items) }
         ensures room { IfOk result (λ fresh. HasRoomForVolumes self.new (length fresh.items)) }
+        ensures settled { OnOk result (AreSettled self.new) }
     {
         self.settle(alloc)?;
         let fresh = brought_by(alloc, change)?;
@@ -258,9 +259,10 @@ impl LiveVolumes {
 
     // Puts those that the last change brought into chunks.
     fn settle(&mut self, alloc: Global) -> Result<(), AllocError>
-        ensures { (w : World) → AreKeptOnce self.old w → AreKeptOnce self.new w }
+        ensures kept { (w : World) → AreKeptOnce self.old w → AreKeptOnce self.new w }
+        ensures settled { OnOk result (AreSettled self.new) }
     {
-        for _ in 0..self.young.len() {
+        while !self.young.is_empty() {
             self.settle_one(alloc)?;
         }
         Ok(())
@@ -268,7 +270,8 @@ impl LiveVolumes {
 
     // Puts the last of them into a chunk.
     fn settle_one(&mut self, alloc: Global) -> Result<(), AllocError>
-        ensures { (w : World) → AreKeptOnce self.old w → AreKeptOnce self.new w }
+        ensures kept { (w : World) → AreKeptOnce self.old w → AreKeptOnce self.new w }
+        ensures fewer { OnOk result (length self.new.young.items ≡ length self.old.young.items - 1) }
     {
         let Some((last, rest)) = self.young.split_last() else {
             return Ok(());

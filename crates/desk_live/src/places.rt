@@ -1,6 +1,6 @@
 //! Where the volumes of each plan stand in chunks.
 
-ghost use Rattle.std.specs.Prelude.{◌≡◌, ◌≤◌, [], length, IsSome, IfOk, OnOk};
+ghost use Rattle.std.specs.Prelude.{◌≡◌, ◌≤◌, [], length, None, IsSome, IfOk, OnOk};
 ghost use Rattle.desk_live.specs.Live.{ArePlaced};
 ghost use Rattle.desk_live.specs.Near.{key_of};
 ghost use Rattle.desk_live.specs.Places.{AreNoFewer, AreOthers, IsOneMore, list_of, places_in};
@@ -51,7 +51,8 @@ impl Places {
 
     /// Forgets those of a plan.
     pub(crate) fn forget(&mut self, key: &PlanKey)
-        ensures { AreOthers key.now self.old.plans.entries self.new.plans.entries }
+        ensures others { AreOthers key.now self.old.plans.entries self.new.plans.entries }
+        ensures gone { list_of key.now self.new.plans.entries ≡ None }
     {
         if let Some(places) = self.plans.remove(key) {
             drop(places);

@@ -44,7 +44,7 @@ ghost use Rattle.desk_tables.specs.Leftovers.{RemainsOf};
 
 use crate::opening::files::FilesFault;
 use crate::store::SqliteStore;
-use ram_disk::Ram;
+use db_file::Ram;
 use sqlite::FileStore;
 use sqlite_disk::{Calls, Disk, Modelled, Start};
 use volume4d::laws::one_shape;

@@ -1,5 +1,6 @@
 //! Opening a database: what tables it has, and the content whose rows they are.
 
+pub(crate) mod connecting;
 pub(crate) mod content;
 pub(crate) mod copying;
 pub(crate) mod counting;

@@ -18,11 +18,12 @@ ghost use Rattle.desk_tables.specs.Known.{Knows};
 ghost use Rattle.desk_tables.specs.Writable.{HaveFewRows};
 
 use crate::known::Known;
+use crate::opening::connecting::{connect, connect_new, connect_there};
 use crate::opening::content::Content;
 use crate::opening::copying::store_of;
 use crate::opening::looking::{Holdings, holdings_of, read_content};
 use crate::opening::open::OpenFault;
-use crate::opening::path::{Unreached, connect, connect_new, connect_there};
+use crate::opening::path::Unreached;
 use crate::store::SqliteStore;
 use sqlite::{Connection, FileFrom, FileStore, Start, Unknown};
 use sqlite_disk::Disk;

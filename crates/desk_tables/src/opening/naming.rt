@@ -11,6 +11,7 @@ ghost use Rattle.desk_tables.specs.Files.{IsUnreached};
 ghost use Rattle.desk_tables.specs.Naming.{OnlyReadsIn};
 ghost use Rattle.desk_tables.specs.OpeningSteps.{ShowsOperators, ShowsPart};
 
+use crate::opening::connecting::connect_there;
 use crate::opening::content::{
     TableRows, are_shared, keys_ascend, names_ascend, operators_in, plans_in,
 };
@@ -19,7 +20,7 @@ use crate::opening::exact::{FiledPlan, PLAN_WIDTH, RowFault, is_keyed, operator_
 use crate::opening::finding::{heads_in, tables_found};
 use crate::opening::moving::{are_new_empty, are_old, old_heads_in};
 use crate::opening::open::OpenFault;
-use crate::opening::path::{Unreached, connect_there};
+use crate::opening::path::Unreached;
 use crate::opening::spans::{SpanCheck, take_spans};
 use crate::reading::values::{count_at, head_in, id_in};
 use desk_rules::decide::MAX_PRIORITY;

@@ -1,4 +1,4 @@
-//! A connection to the files at a path, with the options of a desk.
+//! What asks for the files at a path, and tells if they were not opened: nothing else makes an `Unreached`.
 
 ghost use Rattle.std.specs.Prelude.{◌≡◌, IfErr, IfOk, IsTrue, None, true, false};
 ghost use Rattle.std.specs.Option.{IsSomeAnd};
@@ -42,28 +42,8 @@ impl<D: Disk> Unreached<D> {
     }
 }
 
-/// A connection to the database in the files at a path; `start` stands for what the files held. Where there
-/// are no files, they are made.
-///
-/// # Errors
-///
-/// `OutOfMemory` if memory runs out, and `Store` if the files cannot be opened for another cause.
-pub(crate) fn connect<S: Start>(
-    rt: &HostRuntime,
-    path: &str,
-    start: S,
-) -> Result<Connection<FileStore<FileFrom<S>>>, Unreached<FileFrom<S>>>
-    ensures found { IfOk result (Finds (image_at S.Start)) }
-    ensures fresh { IfOk result IsNew }
-    ensures unread { IfErr result (IsUnreached (image_at S.Start)) }
-{
-    let files = open_pair(rt, path, start)?;
-    let options = options(rt)?;
-    over_pair(rt.alloc(), files, options)
-}
-
-// A connection to the database in two files. If there is none, what is left of the files is told.
-fn over_pair<D: Disk + Drop>(
+/// A connection to the database in two files. If there is none, what is left of the files is told.
+pub(crate) fn over_pair<D: Disk + Drop>(
     alloc: Global,
     files: Files<D>,
     options: Options,
@@ -85,48 +65,38 @@ fn over_pair<D: Disk + Drop>(
     }
 }
 
-/// A connection to files that are there already, as `connect` gives it.
+/// Nothing, if files are there already.
 ///
 /// # Errors
 ///
-/// Those of `connect`, and `Store` if there is no file at the path, or an empty one.
-pub(crate) fn connect_there<S: Start>(
-    rt: &HostRuntime,
-    path: &str,
-    start: S,
-) -> Result<Connection<FileStore<FileFrom<S>>>, Unreached<FileFrom<S>>>
-    ensures found { IfOk result (Finds (image_at S.Start)) }
-    ensures fresh { IfOk result IsNew }
-    ensures unread { IfErr result (IsUnreached (image_at S.Start)) }
+/// `Store` if there is no file at the path, or an empty one.
+pub(crate) fn find_file<D: Disk>(rt: &HostRuntime, path: &str) -> Result<(), Unreached<D>>
+    ensures fault { IfErr result (λ it. IsUnread it.fault) }
+    ensures left { IfErr result (λ it. it.left ≡ None) }
 {
     match metadata(rt, path) {
-        Ok(found) if found.len() > 0 => connect(rt, path, start),
+        Ok(found) if found.len() > 0 => Ok(()),
         _ => Err(unopened(OpenFault::Store)),
     }
 }
 
-/// A connection to files that are made, as `connect` gives it.
+/// Nothing, if nothing is there.
 ///
 /// # Errors
 ///
-/// Those of `connect`, and `Store` if there is something at the path.
-pub(crate) fn connect_new<S: Start>(
-    rt: &HostRuntime,
-    path: &str,
-    start: S,
-) -> Result<Connection<FileStore<FileFrom<S>>>, Unreached<FileFrom<S>>>
-    ensures found { IfOk result (Finds (image_at S.Start)) }
-    ensures fresh { IfOk result IsNew }
-    ensures unread { IfErr result (IsUnreached (image_at S.Start)) }
+/// `Store` if there is something at the path.
+pub(crate) fn find_nothing<D: Disk>(rt: &HostRuntime, path: &str) -> Result<(), Unreached<D>>
+    ensures fault { IfErr result (λ it. IsUnread it.fault) }
+    ensures left { IfErr result (λ it. it.left ≡ None) }
 {
     match exists(rt, path) {
-        Ok(false) => connect(rt, path, start),
+        Ok(false) => Ok(()),
         _ => Err(unopened(OpenFault::Store)),
     }
 }
 
-// The two files at a path. Names that SQLite reads otherwise than as a path are refused.
-fn open_pair<S: Start>(
+/// The two files at a path. Names that SQLite reads otherwise than as a path are refused.
+pub(crate) fn open_pair<S: Start>(
     rt: &HostRuntime,
     path: &str,
     start: S,
@@ -149,8 +119,8 @@ fn open_pair<S: Start>(
     }
 }
 
-// The options of a desk's files: the seed of the log's salts is drawn by the operating system.
-fn options<D: Disk>(rt: &HostRuntime) -> Result<Options, Unreached<D>>
+/// The options of a desk's files: the seed of the log's salts is drawn by the operating system.
+pub(crate) fn options<D: Disk>(rt: &HostRuntime) -> Result<Options, Unreached<D>>
     ensures frames { IfOk result (λ options. options.checkpoint_frames ≡ log_frames) }
     ensures fault { IfErr result (λ it. IsUnread it.fault) }
     ensures left { IfErr result (λ it. it.left ≡ None) }

@@ -20,7 +20,7 @@ returns c =
       hedged = c.leave_all.ensures.hedged;
       placed = λ placed.
           placed_without old.places c.forget.new.self key all (volumes_under c.leave_all.new.groups.items)
-          placed c.forget.ensures
+          placed c.forget.ensures.others
           (c.leave_all.ensures.same (subst (λ n. count_of o id all ≤ n) (sym c.of.ensures) (placed o id)));
       room = c.leave.ensures.room;
       less = c.leave.ensures.fewer;

@@ -4,7 +4,7 @@ use Rattle.desk_live.proofs.live.LiveVolumes.prepare.Goals as goal
 
 pub returns-in_err-reserve-clause-kept : goal.returns-in_err-reserve-clause-kept
 returns-in_err-reserve-clause-kept c = λ w was.
-    let kept = c.settle.ensures w was in record {
+    let kept = c.settle.ensures.kept w was in record {
       live = subst (λ ys. AreLive w (volumes_under c.settle.new.self.groups.items ++ ys))
           (sym c.reserve.ensures.items) kept.live;
       hedged = kept.hedged;
@@ -13,7 +13,7 @@ returns-in_err-reserve-clause-kept c = λ w was.
 
 pub returns-clause-kept : goal.returns-clause-kept
 returns-clause-kept c = λ w was.
-    let kept = c.settle.ensures w was in record {
+    let kept = c.settle.ensures.kept w was in record {
       live = subst (λ ys. AreLive w (volumes_under c.settle.new.self.groups.items ++ ys))
           (sym c.reserve.ensures.items) kept.live;
       hedged = kept.hedged;

@@ -4,8 +4,8 @@ use Rattle.desk_live.proofs.LiveLemmas.{groups_moved, last_moved}
 use Rattle.desk_live.proofs.PlaceLemmas.{placed_added, placed_still}
 use Rattle.desk_live.proofs.live.LiveVolumes.settle_one.Goals as goal
 
-pub returns-in_err-insert : goal.returns-in_err-insert
-returns-in_err-insert c = λ w was.
+pub returns-in_err-insert-clause-kept : goal.returns-in_err-insert-clause-kept
+returns-in_err-insert-clause-kept c = λ w was.
     let old = c.args.self.now in
     let same = c.in_err-insert.ensures.kept in record {
       live = groups_moved w (volumes_under old.groups.items) (volumes_under c.insert.new.groups.items)
@@ -15,8 +15,8 @@ returns-in_err-insert c = λ w was.
           (volumes_under c.insert.new.groups.items) was.placed c.add.ensures.kept same;
     }
 
-pub returns : goal.returns
-returns c = λ w was.
+pub returns-clause-kept : goal.returns-clause-kept
+returns-clause-kept c = λ w was.
     let old = c.args.self.now in
     let live = c.in-Some.last.now in
     let all = volumes_under old.groups.items in

@@ -4,7 +4,7 @@ use Rattle.sqlite_wal.specs.Files.{image_at}
 use Rattle.sqlite_wal.specs.Recovery.{Image}
 use Rattle.desk_tables.specs.Files.{Finds}
 use Rattle.desk_tables.proofs.LeftoverLemmas.{stays_as_is, unread_if}
-use Rattle.desk_tables.proofs.opening.path.connect.Goals as goal
+use Rattle.desk_tables.proofs.opening.connecting.connect.Goals as goal
 
 abbrev image : List ℕ → List ℕ → Image
 image log db = record { log = log; db = db }
