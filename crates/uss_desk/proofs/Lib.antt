@@ -1,6 +1,2 @@
-mod KeepLemmas
-mod NameLemmas
 mod RunLemmas
-mod TwinLemmas
-mod OperatorLemmas
 mod WatchLemmas

@@ -1,9 +1,8 @@
 -- What a call leaves of a watched store, by what it leaves of the store within.
-use Rattle.std.proofs.Common.{◌≡◌, ℕ, ◌+◌, Option, subst, arith}
+use Rattle.std.proofs.Common.{◌≡◌, ℕ, ◌+◌, subst, arith}
 use Rattle.sqlite_trees.specs.View.{doubt}
 use Rattle.sqlite_trees.specs.declared.store.Store.{Ghosts}
 use Rattle.sqlite.specs.Held.{state}
-use Rattle.desk_store.specs.World.{World}
 use Rattle.desk_store.specs.StoreFrames.{OnlyReads}
 use Rattle.desk_tables.specs.Leaving.{MayLeave}
 use Rattle.desk_tables.specs.Store.{Shown}

@@ -1,16 +1,15 @@
 -- Guarding: what is known of a desk's files if the disk lies once the desk is opened.
-use Rattle.std.specs.Prelude.{◌⊎◌, List, ℕ}
+use Rattle.std.specs.Prelude.{◌≡◌, ◌⊎◌, List, ℕ}
 use Rattle.sqlite_disk.specs.declared.Disk as disk
 use Rattle.sqlite_disk.specs.declared.calls.Calls as calls
 use Rattle.sqlite_disk.specs.declared.modelled.Modelled.{Modelled}
 use Rattle.sqlite_disk.specs.declared.start.Start.{Ghosts}
-use Rattle.sqlite_disk.specs.Events.{Event, HasCollision}
+use Rattle.sqlite_disk.specs.Events.{Event, HasCollision, replay}
 use Rattle.sqlite_disk.specs.Modelled.{start_of}
 use Rattle.sqlite_std_file.specs.declared.host.Host.{Host}
 use Rattle.sqlite_store.specs.declared.store.FileStore.{FileStore}
 use Rattle.sqlite_store.specs.FileStore.{files}
-use Rattle.sqlite.specs.Files.{file_state, over_files}
-use Rattle.sqlite.specs.State.{HasCleanDisk}
+use Rattle.sqlite.specs.Files.{file_state}
 use Rattle.desk_store.specs.StoreFaults.{IsHonest}
 use Rattle.sqlite_trees.specs.View.{doubt}
 use Rattle.desk_run.specs.DeskWorld.{Parts}
@@ -21,6 +20,12 @@ use Rattle.desk_tables.specs.Store.{Shown}
 pub record Past (D : Type 0) : Type 0 where
   pub start : D → List ℕ
   pub calls : D → List Event
+
+-- a disk's files have this past: by it each says whether it tests what it reads, and whether it has returned
+-- what was written
+pub record IsPastOf {D : Type 0} (g : disk.Ghosts D) (past : Past D) : Type 0 where
+  pub fair : (d : D) → g.is_fair d ≡ (replay (past.start d) (past.calls d)).is_fair
+  pub clean : (d : D) → g.is_clean d ≡ (replay (past.start d) (past.calls d)).is_honest
 
 -- that of a file of the operating system that held what `start` stands for
 abbrev pub past_of :

@@ -1,6 +1,5 @@
 -- Read first: Running, Opening, Guarding, Closing, Keeping; DamageTold stands alone.
 pub mod OpenedFor
-pub mod Operators
 pub mod Rolls
 pub mod LineRecord
 pub mod Guarding
@@ -9,11 +8,3 @@ pub mod RecordsPlayed
 pub mod RecordedPlays
 pub mod Watching
 pub mod FilesLeft
-pub mod Naming
-pub mod KeeperOutside
-pub mod Stored
-pub mod FilesTold
-pub mod DamageTold
-pub mod Ways
-pub mod Twins
-pub mod Reordering

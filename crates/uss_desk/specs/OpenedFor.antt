@@ -1,6 +1,5 @@
 -- OpenedFor: what a line is carried out at, and what a database that can't be opened means.
-use Rattle.std.specs.Prelude.{◌≡◌, ℕ, [], None, Result, Ok, Err, IfErr, IfOk, MatchResult, ⊤}
-use Rattle.std.specs.Option.{IsSomeAnd}
+use Rattle.std.specs.Prelude.{◌≡◌, ℕ, [], Result, Ok, Err, IfErr, IfOk, MatchResult}
 use Rattle.sqlite_disk.specs.declared.Disk as disk
 use Rattle.sqlite_wal.specs.Recovery.{Image}
 use Rattle.sqlite_store.specs.declared.store.FileStore.{FileStore}
@@ -11,39 +10,18 @@ use Rattle.desk_rules.specs.Terms.{no_terms}
 use Rattle.desk_run.specs.DeskWorld.{DeskWorld, Parts, with_content, world_of}
 use Rattle.desk_line.specs.declared.failure.Failure.{Failure}
 use Rattle.desk_line.specs.declared.failure.Failure.TheVariants as failure
-use Rattle.desk_line.specs.Lines.{file_of}
 use Rattle.desk_line.specs.declared.line.Database.{Database}
 use Rattle.desk_line.specs.declared.line.Database.TheVariants.{InMemory, File}
 use Rattle.desk_tables.specs.Files.{AreNotMoved, AreRefused, OpensIn, OpensMoved}
 use Rattle.desk_tables.specs.LyingDisk.{IsGuarded}
 use Rattle.desk_tables.specs.Leaving.{MayLeave}
 use Rattle.desk_tables.specs.Store.{Shown}
-use Rattle.desk_tables.specs.declared.opening.files.FilesFault.{FilesFault}
 use Rattle.desk_tables.specs.declared.opening.open.OpenFault.{OpenFault}
 use Rattle.desk_tables.specs.declared.opening.open.OpenFault.TheVariants as opening
-use Rattle.uss_desk.specs.declared.opening.Unopened.{Unopened}
+use Rattle.desk_admin.specs.Unopened.{FailsOver, IsUnreadFor}
+use Rattle.desk_admin.specs.declared.unopened.Unopened.{Unopened}
 use Rattle.uss_desk.specs.declared.opening.Opened.{Opened}
 use Rattle.uss_desk.specs.declared.opening.Opened.TheVariants as opened
-
--- why a program ends at a database that can't be opened
-abbrev pub open_failure : OpenFault → Failure
-open_failure opening.OutOfMemory = failure.Memory
-open_failure opening.Store = failure.Store
-open_failure opening.NotADesk = failure.NotADesk
-open_failure opening.OldSchema = failure.OldSchema
-
--- the failure is that of this fault, and no files were asked for
-pub record IsUnreadFor {D : Type 0} {g : disk.Ghosts D} (it : Unopened D g) (fault : OpenFault) : Type 0 where
-  pub failure : it.failure ≡ open_failure fault
-  pub refused : it.refused ≡ None
-
--- the failure is that of files that were refused, of which this is so
-pub record FailsOver {D : Type 0} {g : disk.Ghosts D} (Refused : FilesFault D g → Type 0) (it : Unopened D g)
-    : Type 0 where
-  pub files : FilesFault D g
-  pub are : IsSomeAnd it.refused (λ s. s.value ≡ files)
-  pub failure : it.failure ≡ open_failure files.fault
-  pub refused : Refused files
 
 -- memory ran out: nothing else keeps a desk in memory from being opened
 abbrev pub IsMemory : Failure → Type 0
@@ -100,15 +78,6 @@ module _ {D : Type 0} {g : disk.Ghosts D} (image : Image) where
   abbrev pub IsMovedAt : Database → MovedDesk g → Type 0
   IsMovedAt InMemory moved = MatchResult moved (λ _. ⊥) (λ it. IsUnreadFor it opening.Store)
   IsMovedAt (File path) moved = IsMovedIn moved
-
--- what was opened, or the failure alone
-abbrev pub or_failure : {D T : Type 0} {g : disk.Ghosts D} → Result T (Unopened D g) → Result T Failure
-or_failure (Ok it) = Ok it
-or_failure (Err unread) = Err unread.failure
-
--- a database in memory has no file
-abbrev pub IsInMemory : Database → Type 0
-IsInMemory database = file_of database ≡ None
 
 -- what is opened for a line: a desk in memory or one over files
 abbrev pub OpenedDesk : {M : Type 0} → disk.Ghosts M → {D : Type 0} → disk.Ghosts D → Type 0

@@ -1,11 +1,11 @@
 -- OpenedLines: what comes of a line at what was opened for it, to the exit status.
-use Rattle.std.specs.Prelude.{◌≡◌, ◌≤◌, ℕ, List, Option, None, Some, Result, Ok, Err, IfErr, IfOk, IfSome}
+use Rattle.std.specs.Prelude.{◌≡◌, ◌≤◌, ℕ, List, Option, None, Some, Result, Ok, Err, IfErr, IfOk}
 use Rattle.std.specs.Option.{IsSomeAnd}
 use Rattle.sqlite_trees.specs.declared.store.Store.{Ghosts}
 use Rattle.sqlite_trees.specs.View.{doubt}
 use Rattle.sqlite_disk.specs.declared.Disk as disk
 use Rattle.sqlite_store.specs.declared.store.FileStore.{FileStore}
-use Rattle.sqlite.specs.Files.{file_state, over_files}
+use Rattle.sqlite.specs.Files.{file_state}
 use Rattle.sqlite.specs.State.{HasCleanDisk}
 use Rattle.sqlite.specs.Held.{state}
 use Rattle.desk_store.specs.World.{World}
@@ -14,6 +14,7 @@ use Rattle.desk_store.specs.Crashes.{LeavesOnly}
 use Rattle.desk_run.specs.DeskWorld.{Parts}
 use Rattle.desk_tables.specs.Store.{Shown}
 use Rattle.desk_tables.specs.Leaving.{MayLeave}
+use Rattle.desk_tables.specs.LyingDisk.{IsGuarded}
 use Rattle.desk_wire.specs.Passage.{Course}
 use Rattle.desk_line.specs.declared.failure.Failure.{Failure}
 use Rattle.desk_line.specs.declared.line.Line.{Line}
@@ -22,9 +23,8 @@ use Rattle.desk_program.specs.Keeping.{IsLineKept}
 use Rattle.desk_program.specs.MovedLine.{IsCountPrinted}
 use Rattle.desk_program.specs.Outside.{Outside}
 use Rattle.desk_program.specs.CarryingOut.{IsCarriedOut, IsUnopened}
-use Rattle.uss_desk.specs.declared.opening.Opened.TheVariants as opened
 use Rattle.uss_desk.specs.Guarding.{Past, IsTrueOrCollided}
-use Rattle.uss_desk.specs.OpenedFor.{OpenedDesk, load_world, or_failure}
+use Rattle.uss_desk.specs.OpenedFor.{load_world}
 
 -- the store of a desk over tables is honest: its disk has returned what was written
 abbrev pub IsSound : {S : Type 0} → Ghosts S → Parts (Shown S) → Type 0
@@ -59,6 +59,11 @@ pub record IsLineRun {S : Type 0} (g : Ghosts S) (opened : Result (Parts (Shown 
   pub kept : IfOk opened (IsKeptAt g line o left)
   pub undone : IfErr opened (IsUnopened o left)
 
+-- each later read of the desk that was opened is tested, if its disk has returned what was written so far
+abbrev pub AreReadsTested :
+    {D : Type 0} {g : disk.Ghosts D} → Result (Parts (Shown (FileStore D g))) Failure → Type 0
+AreReadsTested opened = IfOk opened (λ desk. IsGuarded desk.store.held)
+
 -- if the disk returned what was written until the desk was open, it has done so to the end, whatever it
 -- returned since and whoever wrote into the files; or a digest has collided
 abbrev pub StaysGuarded :
@@ -76,14 +81,3 @@ IsMoveTold (Ok moved) end left writes =
     (left ≡ Some moved.0) × IsCountPrinted moved.1 end writes.before writes.after
 IsMoveTold (Err failure) end left writes =
     (left ≡ None) × FailsWith failure end × (writes.after ≡ writes.before)
-
-module _ {M : Type 0} {m : disk.Ghosts M} {D : Type 0} {g : disk.Ghosts D} (past : Past D) where
-  -- what a line says is done, at a desk in memory, or at one over files, which stays guarded
-  abbrev pub IsLineDone :
-      OpenedDesk m g → Line → Outside → Option (Parts (Shown (FileStore M m)))
-      → Option (Parts (Shown (FileStore D g))) → Type 0
-  IsLineDone (opened.Memory desk) line o memory files =
-      (files ≡ None) × IsLineRun over_files desk line o memory
-  IsLineDone (opened.Files desk) line o memory files =
-      (memory ≡ None) × IsLineRun over_files (or_failure desk) line o files
-      × StaysGuarded past (or_failure desk) files

@@ -1,12 +1,10 @@
 -- RecordedPlays: what comes of a line of `play` that is recorded, at what was opened for it, to the exit
 -- status.
-use Rattle.std.specs.Prelude.{◌≡◌, ◌≤◌, Option, None, Result, IfErr, IfOk}
+use Rattle.std.specs.Prelude.{◌≡◌, ◌≤◌, Option, Result, IfErr, IfOk}
 use Rattle.std.specs.Option.{IsSomeAnd}
 use Rattle.sqlite_trees.specs.declared.store.Store.{Ghosts}
 use Rattle.sqlite_trees.specs.View.{doubt}
 use Rattle.sqlite_disk.specs.declared.Disk as disk
-use Rattle.sqlite_store.specs.declared.store.FileStore.{FileStore}
-use Rattle.sqlite.specs.Files.{over_files}
 use Rattle.sqlite.specs.Held.{state}
 use Rattle.desk_store.specs.World.{World}
 use Rattle.desk_store.specs.Crashes.{LeavesOnly}
@@ -16,10 +14,8 @@ use Rattle.desk_tables.specs.Store.{Shown}
 use Rattle.desk_line.specs.declared.failure.Failure.{Failure}
 use Rattle.desk_line.specs.declared.line.Play.{Play as PlayWords}
 use Rattle.desk_recording.specs.Inputs.{InputOutside, IsPlayRecorded, IsRecordedKept, IsUnrecorded}
-use Rattle.uss_desk.specs.declared.opening.Opened.TheVariants as opened
-use Rattle.uss_desk.specs.Guarding.{Past}
-use Rattle.uss_desk.specs.OpenedFor.{OpenedDesk, load_world, or_failure}
-use Rattle.uss_desk.specs.OpenedLines.{IsSound, StaysGuarded}
+use Rattle.uss_desk.specs.OpenedFor.{load_world}
+use Rattle.uss_desk.specs.OpenedLines.{IsSound}
 
 module _ {S : Type 0} (g : Ghosts S) (play : PlayWords) (o : InputOutside) where
   -- the input is played at the desk that was opened: its disk was then in no more doubt than it is now, and
@@ -43,15 +39,3 @@ module _ {S : Type 0} (g : Ghosts S) (play : PlayWords) (o : InputOutside) where
       pub done : IfOk opened (IsInputDoneAt left)
       pub kept : IfOk opened (IsInputKeptAt left)
       pub undone : IfErr opened (IsUnrecorded o left)
-
-module _ {M : Type 0} {m : disk.Ghosts M} {D : Type 0} {g : disk.Ghosts D} (past : Past D)
-    (play : PlayWords) (o : InputOutside) where
-  -- an input is played at a desk in memory, or at one over files, which stays guarded
-  abbrev pub IsInputDone :
-      OpenedDesk m g → Option (Parts (Shown (FileStore M m))) → Option (Parts (Shown (FileStore D g)))
-      → Type 0
-  IsInputDone (opened.Memory desk) memory files =
-      (files ≡ None) × IsInputRun over_files play o desk memory
-  IsInputDone (opened.Files desk) memory files =
-      (memory ≡ None) × IsInputRun over_files play o (or_failure desk) files
-      × StaysGuarded past (or_failure desk) files

@@ -3,18 +3,7 @@ use Rattle.std.specs.Prelude.{◌≡◌, ◌⊎◌, ℕ, Bool, true, false, List
 use Rattle.desk_store.specs.declared.fault.StoreFault.{StoreFault}
 use Rattle.desk_store.specs.declared.fault.StoreFault.TheVariants.{Store}
 use Rattle.desk_wire.specs.Passage.{Course}
-use Rattle.desk_program.specs.Serving.{Grows}
-
--- a look at a path: whether that of the database file, or that of its log, leads to the file that is open
-pub data Look : Type 0 where
-  File : Bool → Look
-  Log : Bool → Look
-
--- both paths are looked at, and lead to the files; or one of them doesn't, and no more is looked at
-abbrev pub AreAtPaths : Course (Option (List Look)) → Bool → Type 0
-AreAtPaths looks true = Grows looks.before looks.after (File true ∷ Log true ∷ [])
-AreAtPaths looks false = Grows looks.before looks.after (File false ∷ [])
-    ⊎ Grows looks.before looks.after (File true ∷ Log false ∷ [])
+use Rattle.desk_host.specs.Paths.{AreAtPaths, Look}
 
 -- the paths are looked at first; if one doesn't lead to its file, the store has failed, and is as it was;
 -- else no change more was refused for that

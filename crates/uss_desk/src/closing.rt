@@ -4,10 +4,10 @@ ghost use Rattle.std.specs.Prelude.{◌≡◌};
 ghost use Rattle.desk_line.specs.Exits.{ending};
 ghost use Rattle.uss_desk.specs.FilesLeft.{IsClosed, IsEnded, IsUnclosed};
 
-use crate::opening::FileDesk;
-use crate::watching::{Closed, Paths};
+use crate::opening::DeskAt;
+use crate::watching::Closed;
+use desk_host::paths::Paths;
 use desk_line::{Exit, Failure, conclude};
-use sqlite::{FileFrom, Start};
 use sqlite_disk::Disk;
 use std::io::Write;
 
@@ -15,11 +15,11 @@ use std::io::Write;
 /// exit status: that of the line, or that of `Store` if the line ended well and its desk can't be closed, or
 /// was not at its paths any more. The word of that failure goes to `errors`; a fault there is passed over. In
 /// memory there is nothing to close.
-pub fn close_after<F: Start, N: Paths + Drop, E: Write>(
+pub fn close_after<D: Disk + Drop, N: Paths + Drop, E: Write>(
     status: u8,
-    desk: Option<FileDesk<F, N>>,
+    desk: Option<DeskAt<D, N>>,
     errors: &mut E,
-) -> (Exit<E>, Option<Closed<FileFrom<F>>>)
+) -> (Exit<E>, Option<Closed<D>>)
     ensures { IsClosed desk status
         (ending result.0 (E.contents errors.old) (E.contents errors.new)) result.1 }
 {

@@ -2,16 +2,15 @@
 
 ghost use Rattle.std.specs.Prelude.{◌≡◌, OnOk};
 ghost use Rattle.desk_program.specs.Outside.{bytes_written, ended};
-ghost use Rattle.uss_desk.specs.FilesTold.{Tells};
-ghost use Rattle.uss_desk.specs.OpenedFor.{or_failure};
+ghost use Rattle.desk_host.specs.Telling.{Tells};
+ghost use Rattle.desk_admin.specs.Unopened.{or_failure};
 ghost use Rattle.uss_desk.specs.OpenedLines.{IsMoveTold};
 
-use crate::causes::tell_database;
 use crate::closing::{close_after, status_closed};
 use crate::opening::{FileDesk, MovedDesk, open_old};
-use crate::paths::paths_at;
-use crate::reordering::reorder_for;
-use crate::watching::Paths;
+use desk_admin::causes::tell_database;
+use desk_admin::reordering::reorder_for;
+use desk_host::paths::{Paths, paths_at};
 use desk_line::{Database, Exit, Failure, conclude};
 use desk_program::print_migrated;
 use sqlite::{Start, Unknown};
@@ -35,7 +34,7 @@ pub fn migrate_here(rt: &HostRuntime, alloc: Global, database: &Database) -> Res
 }
 
 /// Tells why no plans of a database were moved, if none were.
-#[tactic(auto, using(crate::proofs::KeepLemmas::tells_nothing))]
+#[tactic(auto, using(desk_host::proofs::TellLemmas::tells_nothing))]
 pub fn tell_unmoved<F: Start, N: Paths + Drop, E: Write>(
     rt: &HostRuntime,
     database: &Database,

@@ -1,80 +1,34 @@
 //! What a line is carried out at: a desk over the database that it names, or why that can't be opened.
 
 ghost use Rattle.std.specs.Prelude.{◌≡◌, IfErr, IfOk};
-ghost use Rattle.std.specs.Option.{IsSomeAnd};
 ghost use Rattle.sqlite_wal.specs.Files.{image_at};
-ghost use Rattle.desk_line.specs.Exits.{failure_word};
 ghost use Rattle.desk_line.specs.Lines.{database_of};
-ghost use Rattle.desk_tables.specs.OpenWords.{open_word};
 ghost use Rattle.uss_desk.specs.OpenedFor as spec;
 ghost use Rattle.uss_desk.specs.OpenedFor.{IsBlank, IsMemory, IsMovedAt, IsMovedIn, IsOpenedAt, IsOpenedIn};
-ghost use Rattle.uss_desk.specs.OpenedFor.{IsUnreadFor};
 ghost use Rattle.uss_desk.specs.Rolls.{HasNotedAt, HasNotedDesk};
 
-use crate::causes::tell_unenrolled;
-use crate::naming::make_private;
 use crate::rolls::Roll;
-use crate::watching::{NoPaths, Paths, Watched};
+use crate::watching::Watched;
+use db_file::Ram;
+use desk_admin::unopened::{Unopened, Unread, open_failure};
+use desk_host::naming::make_private;
+use desk_host::paths::{NoPaths, Paths};
+use desk_host::telling::tell_unenrolled;
 use desk_line::{Database, Failure, Line};
 use desk_run::Desk;
-use desk_tables::{FilesFault, OpenFault, SqliteStore};
-use ram_disk::Ram;
+use desk_tables::{OpenFault, SqliteStore};
 use sqlite::{FileFrom, FileStore, Start};
 use sqlite_disk::Disk;
-use std::alloc::{AllocError, Global};
-use std::snapshot::Snapshot;
+use std::alloc::Global;
+
+/// A desk over a database in files of a disk `D`, at these paths (`N`).
+pub type DeskAt<D, N> = Desk<Watched<FileStore<D>, N>>;
 
 /// A desk in memory.
-pub type MemoryDesk = Desk<Watched<FileStore<Ram>, NoPaths>>;
+pub type MemoryDesk = DeskAt<Ram, NoPaths>;
 
 /// A desk over the database in files, where `F` stands for what they held, and `N` for their paths.
-pub type FileDesk<F, N> = Desk<Watched<FileStore<FileFrom<F>>, N>>;
-
-/// Why a database was not opened. What refused it is closed, and clauses alone read what it was.
-#[derive(Drop)]
-pub struct Unopened<D: Disk> {
-    /// The failure with which the line ends.
-    pub failure: Failure,
-    /// What refused the files, if files were asked for.
-    pub refused: Option<Snapshot<FilesFault<D>>>,
-}
-
-impl<D: Disk + Drop> Unopened<D> {
-    /// Files were refused. Their connection is closed, so that they can be looked at again.
-    pub fn of(refused: FilesFault<D>) -> Unopened<D>
-        ensures failure { result.failure ≡ spec.open_failure refused.fault }
-        ensures refused { IsSomeAnd result.refused (λ s. s.value ≡ refused) }
-    {
-        Unopened {
-            failure: open_failure(&refused.fault),
-            refused: Some(Snapshot::of(&refused)),
-        }
-    }
-
-    /// No files were asked for.
-    pub fn unread(fault: OpenFault) -> Unopened<D>
-        ensures { IsUnreadFor result fault }
-    {
-        Unopened {
-            failure: open_failure(&fault),
-            refused: None,
-        }
-    }
-}
-
-impl<D: Disk + Drop> From<AllocError> for Unopened<D> {
-    ghost use Rattle.desk_tables.specs.declared.opening.open.OpenFault.TheVariants.{OutOfMemory};
-    ghost use Rattle.uss_desk.specs.OpenedFor.{IsUnreadFor};
-
-    ghost from_gives = { λ _ it. IsUnreadFor it OutOfMemory };
-
-    fn from(_error: AllocError) -> Unopened<D> {
-        Unopened::unread(OpenFault::OutOfMemory)
-    }
-}
-
-/// Why files were not opened, where `F` stands for what they held.
-pub type Unread<F> = Unopened<FileFrom<F>>;
+pub type FileDesk<F, N> = DeskAt<FileFrom<F>, N>;
 
 /// What was opened over a database: a desk in memory (`M`), or one over files (`D`).
 #[derive(Drop)]
@@ -140,16 +94,6 @@ pub fn open_database<F: Start, N: Paths + Drop>(
             Opened::Memory(open_in_memory(rt.alloc()))
         }
         Database::File(path) => { Opened::Files(open_file(rt, path, is_told, start, paths, roll)) },
-    }
-}
-
-/// What was opened over files, on whatever disk they are, or the failure alone.
-pub fn or_failure<D: Disk + Drop, T>(opened: Result<T, Unopened<D>>) -> Result<T, Failure>
-    ensures { result ≡ spec.or_failure opened }
-{
-    match opened {
-        Ok(it) => Ok(it),
-        Err(unread) => Err(unread.failure),
     }
 }
 
@@ -238,18 +182,5 @@ fn open_old_file<F: Start, N: Paths + Drop>(
             Ok((Desk::new(Watched::over(store, paths)), count))
         }
         Err(refused) => Err(Unopened::of(refused)),
-    }
-}
-
-/// The failure with which the program ends if a database can't be opened: its word is that of `open_word`.
-pub fn open_failure(fault: &OpenFault) -> Failure
-    ensures failure { result ≡ spec.open_failure fault.now }
-    ensures word { failure_word result ≡ open_word fault.now }
-{
-    match fault {
-        OpenFault::OutOfMemory => Failure::Memory,
-        OpenFault::Store => Failure::Store,
-        OpenFault::NotADesk => Failure::NotADesk,
-        OpenFault::OldSchema => Failure::OldSchema,
     }
 }

@@ -5,22 +5,25 @@ ghost use Rattle.std.specs.Prelude.{◌≡◌, ◌++◌, IfOk, option_map};
 ghost use Rattle.uss_desk.specs.LineRecord as spec;
 ghost use Rattle.uss_desk.specs.LineRecord.{enrolled_by};
 
-use crate::causes::{tell, tell_of};
 use crate::closing::close_after;
-use crate::folders::{FoundRecord, Unkept, last_record, make_part, move_rest, name_part, tail_of};
-use crate::naming::IN_USE;
-use crate::opening::{open_file, or_failure};
-use crate::paths::paths_at;
+use crate::opening::{DeskAt, open_file};
 use crate::rolls::Roll;
-use crate::watching::{Closed, Paths, Watched};
+use crate::watching::Closed;
+use desk_admin::causes::tell;
+use desk_admin::unopened::or_failure;
 use desk_ends::Moment;
+use desk_host::folders::{
+    FoundRecord, Unkept, last_record, make_part, move_rest, name_part, tail_of,
+};
+use desk_host::naming::IN_USE;
+use desk_host::paths::{Paths, paths_at};
+use desk_host::telling::tell_of;
 use desk_line::{Enrolment, Exit, Failure, Line};
 use desk_recording::{
     Journal, Parted, Record, Tail, TailEnd, WrittenRecord, begin_record, missing_of, recover,
 };
 use desk_rules::terms::Terms;
-use desk_run::Desk;
-use sqlite::{FileStore, Unknown};
+use sqlite::Unknown;
 use sqlite_disk::Disk;
 use std::alloc::AllocError;
 use std::fs::{self, File};
@@ -80,9 +83,6 @@ struct Undone<'s> {
     tail: Tail,
     ended: TailEnd,
 }
-
-// The desk, over whatever disk its files are, at which a record's last request is asked again.
-type DeskAt<D, N> = Desk<Watched<FileStore<D>, N>>;
 
 /// The folder in which a line records what it does, if it names one, once what its last record left undone is
 /// done.

@@ -1,25 +1,21 @@
-//! A record played at the desk over the database that the words name.
+//! A record played at the desk that was opened over the database that the words name.
 
-ghost use Rattle.std.specs.Prelude.{IfErr, IfOk};
-ghost use Rattle.sqlite_wal.specs.Files.{image_at};
 ghost use Rattle.sqlite.specs.Files.{over_files};
 ghost use Rattle.desk_line.specs.Exits.{ending};
 ghost use Rattle.desk_wire.specs.Passage.{passage};
-ghost use Rattle.desk_replay.specs.ReplayTold.{IsUnplayed};
-ghost use Rattle.uss_desk.specs.Guarding.{past_of};
-ghost use Rattle.uss_desk.specs.OpenedFor.{IsOpenedAt};
-ghost use Rattle.uss_desk.specs.RecordsPlayed.{IsReplayDone, IsReplayedAt};
+ghost use Rattle.uss_desk.specs.Guarding.{IsPastOf, Past};
+ghost use Rattle.uss_desk.specs.OpenedLines.{AreReadsTested, StaysGuarded};
+ghost use Rattle.uss_desk.specs.RecordsPlayed.{IsReplayRun};
 
-use crate::causes::tell_refusal;
 use crate::closing::{close_after, status_closed};
-use crate::opening::{FileDesk, MemoryDesk, Opened, OpenedDesk, open_database, or_failure};
-use crate::paths::paths_at;
+use crate::opening::{DeskAt, Opened, open_database};
+use crate::refusals::tell_refusal;
 use crate::rolls::Roll;
-use crate::watching::{Paths, Watched};
+use desk_admin::unopened::or_failure;
+use desk_host::paths::{Paths, paths_at};
 use desk_line::{Exit, Failure, Replaying};
 use desk_replay::replay_opened;
-use desk_run::Desk;
-use sqlite::{FileStore, Start, Unknown};
+use sqlite::Unknown;
 use sqlite_disk::Disk;
 use std::alloc::Global;
 use std::io::{BufReader, Read, Write};
@@ -37,64 +33,51 @@ pub fn replay_here(rt: &HostRuntime, alloc: Global, words: &Replaying) -> Result
     let mut output = rt.stdout();
     let mut errors = rt.stderr();
     let paths = paths_at(rt, &words.database)?;
-    let opened = open_database(
-        rt,
-        &words.database,
-        false,
-        Unknown,
-        paths,
-        &mut Roll::new(false),
-    );
-    tell_refusal(rt, &words.database, &opened, &mut errors);
-    let (exit, _, desk) = replay_line(alloc, words, opened, &mut input, &mut output, &mut errors);
-    Ok(status_closed(close_after(exit.status, desk, &mut errors)))
-}
-
-/// Plays the record of the input at the desk that was opened over the database of the words, prints how many
-/// requests were played, and answers how it ended and the desk in memory or over files. If an entry is not
-/// played, then where and why goes to `errors`, and the word of that failure; if no desk was opened, the word
-/// alone.
-pub fn replay_line<F: Start, N: Paths + Drop, R: Read, W: Write, E: Write>(
-    alloc: Global,
-    words: &Replaying,
-    opened: OpenedDesk<F, N>,
-    input: &mut R,
-    output: &mut W,
-    errors: &mut E,
-) -> (Exit<E>, Option<MemoryDesk>, Option<FileDesk<F, N>>)
-    requires { IsOpenedAt (image_at F.Start) words.now.database opened }
-    ensures { IsReplayDone (past_of F.Start) opened words.now.until
-        (passage R.Read W.Write input.old input.new output.old output.new)
-        (ending result.0 (E.contents errors.old) (E.contents errors.new)) result.1 result.2 }
-{
-    match opened {
+    let mut roll = Roll::new(false);
+    match open_database(rt, &words.database, false, Unknown, paths, &mut roll) {
         Opened::Memory(desk) => {
-            let (exit, left) = replay_over(alloc, words.until, desk, input, output, errors);
-            (exit, left, None)
+            let (exit, _) = replay_line(
+                alloc,
+                words.until,
+                desk,
+                &mut input,
+                &mut output,
+                &mut errors,
+            );
+            Ok(exit.status)
         }
-        Opened::Files(desk) => {
-            let desk = or_failure(desk);
-            let (exit, left) = replay_over(alloc, words.until, desk, input, output, errors);
-            (exit, None, left)
+        Opened::Files(found) => {
+            tell_refusal(rt, &words.database, &found, &mut errors);
+            let desk = or_failure(found);
+            let (exit, desk) = replay_line(
+                alloc,
+                words.until,
+                desk,
+                &mut input,
+                &mut output,
+                &mut errors,
+            );
+            Ok(status_closed(close_after(exit.status, desk, &mut errors)))
         }
     }
 }
 
-// Plays the record of the input at the desk over files that was opened, on whatever disk they are.
-fn replay_over<D: Disk + Drop, N: Paths + Drop, R: Read, W: Write, E: Write>(
+/// Plays the record of the input at the desk that was opened, prints how many requests were played, and
+/// answers how it ended and the desk, if there was one. If an entry is not played, then where and why goes to
+/// `errors`, and the word of that failure; if no desk was opened, the word alone.
+pub fn replay_line<D: Disk + Drop, N: Paths + Drop, R: Read, W: Write, E: Write>(
     alloc: Global,
     until: Option<u64>,
-    opened: Result<Desk<Watched<FileStore<D>, N>>, Failure>,
+    opened: Result<DeskAt<D, N>, Failure>,
     input: &mut R,
     output: &mut W,
     errors: &mut E,
-) -> (Exit<E>, Option<Desk<Watched<FileStore<D>, N>>>)
-    ensures opened { IfOk opened (IsReplayedAt over_files until
+) -> (Exit<E>, Option<DeskAt<D, N>>)
+    ensures run { IsReplayRun over_files opened until
         (passage R.Read W.Write input.old input.new output.old output.new)
-        (ending result.0 (E.contents errors.old) (E.contents errors.new)) result.1) }
-    ensures unopened { IfErr opened (IsUnplayed
-        (passage R.Read W.Write input.old input.new output.old output.new)
-        (ending result.0 (E.contents errors.old) (E.contents errors.new)) result.1) }
+        (ending result.0 (E.contents errors.old) (E.contents errors.new)) result.1 }
+    ensures guarded { (past : Past D) → IsPastOf D.Disk past → AreReadsTested opened
+        → StaysGuarded past opened result.1 }
 {
     replay_opened(alloc, until, opened, input, output, errors)
 }

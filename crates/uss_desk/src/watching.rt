@@ -1,6 +1,6 @@
 //! A store over files that takes a change only while its files are at their paths.
 
-ghost use Rattle.std.specs.Prelude.{◌≡◌, ◌≤◌, ◌+◌, List, [], ◌∷◌, Option, None, IfErr, IfOk, OnErr, OnOk};
+ghost use Rattle.std.specs.Prelude.{◌≡◌, ◌≤◌, ◌+◌, [], ◌∷◌, Option, IfErr, IfOk, OnErr, OnOk};
 ghost use Rattle.sqlite_wal.specs.Reads.{AreClean};
 ghost use Rattle.sqlite.specs.Closing.{IsCopied};
 ghost use Rattle.desk_store.specs.Crashes.{LeavesOldOr, LeavesOnly};
@@ -9,9 +9,10 @@ ghost use Rattle.desk_store.specs.StoreFaults.{HasRisen, IsHonest};
 ghost use Rattle.desk_store.specs.StoreFrames.{Remembers};
 ghost use Rattle.desk_tables.specs.Closing.{IsLeftUnclosed};
 ghost use Rattle.desk_wire.specs.Passage.{course};
-ghost use Rattle.desk_program.specs.Serving.{Grows};
-ghost use Rattle.uss_desk.specs.Watching.{AreAtPaths, File, IsWatched, Log, Look};
+ghost use Rattle.desk_host.specs.Paths.{AreAtPaths};
+ghost use Rattle.uss_desk.specs.Watching.{IsWatched};
 
+use desk_host::paths::Paths;
 use desk_rules::operator::Operator;
 use desk_rules::plan::{PlanRow, States};
 use desk_rules::plan_id::PlanId;
@@ -22,40 +23,6 @@ use sqlite_disk::Disk;
 use sqlite_trees::store::Alter;
 use std::marker::Model;
 use volume4d::{Held, Slab};
-
-/// The paths of a desk's database file and of its log, while the desk has both open.
-pub trait Paths {
-    /// What was looked at, in its order, if it is known.
-    ghost looks: { Self → Option (List Look) } = { λ _. None };
-
-    /// Takes the files to which the paths lead for those that are opened. It is asked before that, and once
-    /// more when both are there, for one that wasn't.
-    fn hold(&mut self);
-
-    /// Whether the path of the database file leads to the file that is open.
-    fn has_file(&mut self) -> bool
-        ensures { Grows (looks self.old) (looks self.new) (File result ∷ []) };
-
-    /// Whether the path of the log leads to the log that is open.
-    fn has_log(&mut self) -> bool
-        ensures { Grows (looks self.old) (looks self.new) (Log result ∷ []) };
-}
-
-/// The paths of a database in memory: it has none, so that nobody can move it.
-#[derive(Clone, Copy)]
-pub struct NoPaths;
-
-impl Paths for NoPaths {
-    fn hold(&mut self) {}
-
-    fn has_file(&mut self) -> bool {
-        true
-    }
-
-    fn has_log(&mut self) -> bool {
-        true
-    }
-}
 
 /// What came of the files of a desk that was closed.
 #[derive(Drop)]

@@ -5,7 +5,7 @@ use Rattle.desk_tables.specs.Files.{AreRefused, OpensIn}
 use Rattle.desk_tables.specs.LyingDisk.{IsGuarded}
 use Rattle.desk_tables.specs.Leaving.{IsSettledAt}
 use Rattle.uss_desk.specs.Rolls.{HasNoted}
-use Rattle.uss_desk.proofs.RunLemmas.{fails_over}
+use Rattle.desk_admin.proofs.UnopenedLemmas.{fails_over}
 use Rattle.uss_desk.proofs.opening.open_file.Goals as goal
 
 pub returns-after-is_told-clause-opened : goal.returns-after-is_told-clause-opened

@@ -1,7 +1,7 @@
 use Rattle.std.proofs.Common.{ap, sym, subst, ◌∙◌}
 use Rattle.sqlite_wal.specs.Files.{image_at}
 use Rattle.desk_tables.specs.Files.{AreNotMoved, OpensMoved}
-use Rattle.uss_desk.proofs.RunLemmas.{fails_over}
+use Rattle.desk_admin.proofs.UnopenedLemmas.{fails_over}
 use Rattle.uss_desk.proofs.opening.open_old_file.Goals as goal
 
 pub returns-in-Ok : goal.returns-in-Ok

@@ -1,24 +1,18 @@
-use Rattle.std.proofs.Common.{refl, subst}
-use Rattle.std.specs.Prelude.{IfErr, IfOk}
-use Rattle.sqlite_wal.specs.Files.{image_at}
-use Rattle.sqlite.specs.Files.{over_files}
-use Rattle.desk_line.specs.Lines.{database_of}
-use Rattle.uss_desk.specs.Guarding.{past_of}
-use Rattle.uss_desk.specs.OpenedFor.{IsOpenedAt}
-use Rattle.uss_desk.proofs.RunLemmas.{for_files, run_at, stays_guarded}
+use Rattle.uss_desk.proofs.RunLemmas.{ok_then, some_then, stays_guarded}
 use Rattle.uss_desk.proofs.running.run_line.Goals as goal
 
-pub returns-in-Files : goal.returns-in-Files
-returns-in-Files g c =
-    let image = image_at g.F.Start in
-    let ended = c.run_over-left-in-Files in
-    let database = database_of c.args.line.now in
-    let opens = for_files _ image database c.in-Files.desk
-    (subst (IsOpenedAt image database) c.in-Files.is c.requires.opened) in
-    let run = run_at over_files _ _ c.or_failure-desk.ensures ended.ensures in
-    rw c.in-Files.is (
-      refl,
-      run,
-      stays_guarded (past_of g.F.Start) (λ _. refl) (λ _. refl) image c.args.line.now _
-          c.in-Files.desk ended.result.1 opens run.done,
-    )
+pub returns-clause-run : goal.returns-clause-run
+returns-clause-run g c = record {
+  done = ok_then c.args.opened c.run_opened.ensures.opened (λ desk some.
+      some_then c.run_opened.result.1 some
+      (λ left out. (out.done, out.remembered.doubt, out.remembered.shield)));
+  kept = ok_then c.args.opened c.run_opened.ensures.opened (λ desk some.
+      some_then c.run_opened.result.1 some (λ left out. out.kept));
+  undone = c.run_opened.ensures.unopened;
+}
+
+pub returns-clause-guarded : goal.returns-clause-guarded
+returns-clause-guarded g c past is tested =
+    stays_guarded past is c.args.opened c.run_opened.result.1 tested
+    (ok_then c.args.opened c.run_opened.ensures.opened (λ desk some.
+    some_then c.run_opened.result.1 some (λ left out. out.remembered.shield)))

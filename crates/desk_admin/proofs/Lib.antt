@@ -1,0 +1,3 @@
+pub mod UnopenedLemmas
+mod KeepLemmas
+mod TwinLemmas

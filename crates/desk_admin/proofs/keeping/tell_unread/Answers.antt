@@ -1,0 +1,8 @@
+use Rattle.desk_admin.proofs.keeping.tell_unread.Goals as goal
+
+pub returns : goal.returns
+returns g c = record {
+  between = _;
+  cause = c.tell_database.ensures;
+  fails = (c.conclude.ensures.status, c.conclude.ensures.told);
+}

@@ -1,0 +1,15 @@
+use Rattle.std.proofs.Common.{subst}
+use Rattle.sqlite_wal.specs.Files.{image_at}
+use Rattle.desk_wire.specs.Passage.{course}
+use Rattle.desk_line.specs.Exits.{ending}
+use Rattle.desk_admin.specs.Twins.{IsJudged}
+use Rattle.desk_admin.proofs.twins.check_by_twin.Goals as goal
+
+pub returns-clause-judged : goal.returns-clause-judged
+returns-clause-judged g c =
+    let told = c.tell_found-judged in
+    subst (λ before. IsJudged (image_at g.F.Start) c.args.path.now c.args.way told.result.1
+    (ending told.result.0 before (g.E.Write.contents told.new.writers.errors))
+    (course (g.W.Write.contents c.args.writers.now.output) (g.W.Write.contents told.new.writers.output)))
+    c.in-Ok.ensures.quiet
+    (told.ensures (image_at g.F.Start) c.look_in-found.ensures.looks c.look_in-found.ensures.fault)

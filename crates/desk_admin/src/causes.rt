@@ -1,0 +1,101 @@
+//! Why a file can't be opened, as far as that can be told afterwards: a line for the administrator. Clauses
+//! say that something is told, and not what.
+
+ghost use Rattle.std.specs.Prelude.{◌≡◌, IfErr, IfOk, None};
+ghost use Rattle.desk_program.specs.Outside.{bytes_written};
+ghost use Rattle.desk_host.specs.Telling.{Tells};
+
+use db_file::order_text;
+use desk_host::access::tell_store;
+use desk_host::probing::probe;
+use desk_host::telling::tell_of;
+use desk_host::ways::{Way, way_to};
+use desk_line::{Database, Failure};
+use desk_tables::{Named, PartFault, Unreached, part_at};
+use sqlite::Unknown;
+use sqlite_disk::Disk;
+use std::io::Write;
+
+/// Tells why a database can't be opened by a line that makes its file where there is none.
+#[tactic(auto, using(desk_host::proofs::TellLemmas::tells_nothing))]
+pub fn tell_made<E: Write>(rt: &HostRuntime, database: &Database, failure: Failure, errors: &mut E)
+    ensures { Tells (bytes_written E.Write errors.old errors.new) }
+{
+    match (database, failure) {
+        (Database::File(path), Failure::Store) => {
+            tell_store(rt, path, path, probe(rt, path, true), errors);
+        }
+        _ => tell_database(rt, database, failure, errors),
+    }
+}
+
+/// Tells why a database can't be opened, if it is in a file that has to be there.
+#[tactic(auto, using(desk_host::proofs::TellLemmas::tells_nothing))]
+pub fn tell_database<E: Write>(
+    rt: &HostRuntime,
+    database: &Database,
+    failure: Failure,
+    errors: &mut E,
+)
+    ensures { Tells (bytes_written E.Write errors.old errors.new) }
+{
+    match database {
+        Database::File(path) => tell(rt, path, path, failure, errors),
+        Database::InMemory => {}
+    }
+}
+
+/// Tells why the file at a path can't be opened: `uss_desk: NAME: CAUSE`. A fault of the writer is passed
+/// over.
+#[tactic(auto, using(desk_host::proofs::TellLemmas::tells_nothing))]
+pub fn tell<E: Write>(rt: &HostRuntime, path: &str, name: &str, failure: Failure, errors: &mut E)
+    ensures { Tells (bytes_written E.Write errors.old errors.new) }
+{
+    let cause = match failure {
+        Failure::Store => return tell_store(rt, path, name, probe(rt, path, false), errors),
+        Failure::NotADesk => desk_cause(rt, path),
+        Failure::OldSchema => "rows of schema 1: migrate it",
+        _ => return,
+    };
+    tell_of(rt.alloc(), name, cause, errors);
+}
+
+// Why a file holds no desk, if that is found once more.
+fn desk_cause(rt: &HostRuntime, path: &str) -> &'static str {
+    if way_to(rt, path, false) == Way::Disordered {
+        return order_text();
+    }
+    match part_of(part_at(rt, path, Unknown)) {
+        Some(part) => part_cause(part),
+        None => "no table, other tables than a desk's, or rows of no content",
+    }
+}
+
+// The part that was named of files, on whatever disk they are. They are closed.
+fn part_of<D: Disk + Drop>(named: Result<Named<D>, Unreached<D>>) -> Option<PartFault>
+    ensures named { IfOk named (λ it. result ≡ it.part) }
+    ensures none { IfErr named (λ _. result ≡ None) }
+{
+    match named {
+        Ok(named) => named.part(),
+        Err(_) => None,
+    }
+}
+
+// Which part of a file is that of no desk.
+fn part_cause(part: PartFault) -> &'static str {
+    match part {
+        PartFault::NoTable => "no table",
+        PartFault::OtherTables => "other tables than a desk's",
+        PartFault::BothSchemas => "rows of schema 1 beside rows of schema 2",
+        PartFault::Operator => "rows of no content in operator",
+        PartFault::Plan => "rows of no content in plan",
+        PartFault::Plans => "plans of no operator, or too many of one, in plan",
+        PartFault::Volume => "rows of no content in volume2",
+        PartFault::Cover => "covers of no content in volume2",
+        PartFault::Span => "rows of no content in span2",
+        PartFault::OldVolume => "rows of no content in volume",
+        PartFault::OldSpan => "rows of no content in span",
+        PartFault::OldPlan => "plans beyond the limits of schema 1 in volume",
+    }
+}

@@ -1,0 +1,526 @@
+//! What a keeper does to a file: a look at what it holds, and a copy of it.
+
+ghost use Rattle.std.specs.Prelude.{◌≡◌, ℕ, [], List, IfErr, IfOk, Ok, OnErr, OnOk, string_bytes};
+ghost use Rattle.sqlite_wal.specs.Files.{image_at};
+ghost use Rattle.sqlite_wal.specs.Recovery.{Image};
+ghost use Rattle.desk_store.specs.World.{World};
+ghost use Rattle.desk_program.specs.Looking.{IsTextPrinted, copied_line};
+ghost use Rattle.desk_program.specs.Outside.{bytes_written, ended};
+ghost use Rattle.desk_tables.specs.Copying.{AreHoldingsOf, AreNotCopied};
+ghost use Rattle.desk_admin.specs.FilesTold.{FailsAtFiles, FailsBy, FailsTelling, FailsToCopy, FailsToLook};
+ghost use Rattle.desk_admin.specs.FilesTold.{FailsToRead};
+ghost use Rattle.desk_admin.specs.FilesTold.{FailsUntried, IsChecked, IsCopied, IsCopyMade, IsNamedIf, IsReadAs};
+ghost use Rattle.desk_admin.specs.FilesTold.{IsAsCopied, IsNamedNow, TellsHoldings};
+ghost use Rattle.desk_host.specs.Telling.{Tells};
+ghost use Rattle.desk_admin.specs.Stored.{IsStoredAs};
+ghost use Rattle.desk_admin.specs.KeeperOutside.{keeper_outside};
+ghost use Rattle.desk_host.specs.Naming.{AreNames, ChangesOwn, Follows, GivesUp, HasFailedStep, IsNotFree};
+ghost use Rattle.desk_host.specs.Naming.{IsUnnamed, LeavesOthers, Synced, TakesAll, free_steps, named_steps};
+ghost use Rattle.desk_host.specs.FolderSteps.{steps_of};
+
+use crate::causes::{tell, tell_database};
+use crate::unopened::{Unopened, Unread, open_failure};
+use db_file::has_sums;
+use desk_host::naming::{Folder, Names, name_with, names_of, put_in_place};
+use desk_host::room::make_room;
+use desk_host::telling::tell_of;
+use desk_line::{Copying, Database, Exit, Failure, conclude};
+use desk_program::{CheckedFile, print_checked, print_copied};
+use desk_tables::{
+    Copied, CopyFault, FilesFault, Holdings, OpenFault, Unclosed, copy_from, look_at,
+};
+use sqlite::{Connection, FileFrom, FileStore, Files, Start};
+use sqlite_disk::Disk;
+use std::alloc::{AllocError, Global};
+use std::fs;
+use std::io::Write;
+use std::snapshot::Snapshot;
+
+/// A connection with which a file was read, where `F` stands for what the file held.
+pub type Look<F> = Connection<FileStore<FileFrom<F>>>;
+
+/// What was copied from files of a disk `D` to files of `N`: the connection to the first, the new files, and
+/// what they hold.
+pub type Copies<D, N> = (Connection<FileStore<D>>, (Files<N>, Holdings));
+
+/// Why nothing was copied. What refused it is closed, and clauses alone read what it was.
+#[derive(Drop)]
+pub struct Uncopied<R, M, U: Drop> {
+    /// The failure with which the line ends.
+    pub failure: Failure,
+    /// What refused the files that were to be copied, if they were refused.
+    pub unread: Option<Snapshot<R>>,
+    /// What refused the new files, if they were refused.
+    pub unmade: Option<Snapshot<M>>,
+    /// The log of the new files, if it can't be copied.
+    pub unclosed: Option<U>,
+}
+
+/// Why files of a disk `D` were not copied to files of `N`.
+pub type CopyEnd<D, N> = Uncopied<FilesFault<D>, FilesFault<N>, Unclosed<N>>;
+
+impl<D: Disk + Drop, N: Disk + Drop> Uncopied<FilesFault<D>, FilesFault<N>, Unclosed<N>> {
+    // No files were asked for, or their names failed.
+    fn untried(failure: Failure) -> CopyEnd<D, N>
+        ensures { FailsUntried failure result }
+    {
+        Uncopied {
+            failure,
+            unread: None,
+            unmade: None,
+            unclosed: None,
+        }
+    }
+}
+
+impl<D: Disk + Drop, N: Disk + Drop> From<AllocError>
+    for Uncopied<FilesFault<D>, FilesFault<N>, Unclosed<N>> {
+    ghost use Rattle.desk_line.specs.declared.failure.Failure.TheVariants.{Memory};
+    ghost use Rattle.desk_admin.specs.FilesTold.{FailsUntried};
+
+    ghost from_gives = { λ _ it. FailsUntried Memory it };
+
+    fn from(_error: AllocError) -> CopyEnd<D, N> {
+        Uncopied::untried(Failure::Memory)
+    }
+}
+
+// Files were refused, on whatever disks they lie.
+fn refused_copy<D: Disk + Drop, N: Disk + Drop>(refused: &CopyFault<D, N>) -> CopyEnd<D, N>
+    ensures { FailsBy refused.now result }
+{
+    match refused {
+        CopyFault::Unread(files) => Uncopied {
+            failure: open_failure(&files.fault),
+            unread: Some(Snapshot::of(files)),
+            unmade: None,
+            unclosed: None,
+        },
+        CopyFault::Unmade(files, _) => Uncopied {
+            failure: open_failure(&files.fault),
+            unread: None,
+            unmade: Some(Snapshot::of(files)),
+            unclosed: None,
+        },
+    }
+}
+
+/// What a keeper's line writes to.
+#[derive(Drop)]
+pub struct Writers<W: Drop, E: Drop> {
+    /// What it prints to.
+    pub output: W,
+    /// What it tells why it fails, and the word of that.
+    pub errors: E,
+}
+
+/// What stands for what the files of a copy held before it.
+#[derive(Drop)]
+pub struct Starts<F: Drop, N: Drop> {
+    /// Those that are copied.
+    pub source: F,
+    /// Those that the copy is made in.
+    pub copy: N,
+}
+
+// What is known of a file beside what it holds.
+#[derive(Clone, Copy)]
+struct Bulk {
+    has_sums: bool,
+    size: u64,
+    log: u64,
+}
+
+/// Prints what a database holds, and answers how that ended and the connection with which it was read, or why
+/// it was not. It is left as it is. Why it can't be read, and the word of the failure, go to `errors`; a
+/// fault there is passed over.
+pub fn check_file<F: Start, W: Write + Drop, E: Write + Drop>(
+    rt: &HostRuntime,
+    database: &Database,
+    start: F,
+    writers: &mut Writers<W, E>,
+) -> (Exit<E>, Result<Look<F>, Unread<F>>)
+    ensures { IsChecked (image_at F.Start) database.now
+        (ended E.Write result.0 writers.old.errors writers.new.errors) result.1
+        (bytes_written W.Write writers.old.output writers.new.output) }
+{
+    match look_for(rt, database, start) {
+        Ok((connection, file)) => {
+            let exit = print_checked(rt.alloc(), &file, &mut writers.output, &mut writers.errors);
+            (exit, Ok(connection))
+        }
+        Err(unread) => {
+            let exit = tell_unread(rt, database, unread.failure, &mut writers.errors);
+            (exit, Err(unread))
+        }
+    }
+}
+
+/// The exit status of a look. What was looked at, on whatever disk it is, is closed.
+pub fn status_checked<D: Disk + Drop, E>(
+    checked: (Exit<E>, Result<Connection<FileStore<D>>, Unopened<D>>),
+) -> u8
+    ensures { result ≡ checked.0.status }
+{
+    let (exit, _) = checked;
+    exit.status
+}
+
+// Tells why a database can't be read, and the word of the failure.
+fn tell_unread<E: Write>(
+    rt: &HostRuntime,
+    database: &Database,
+    failure: Failure,
+    errors: &mut E,
+) -> Exit<E>
+    ensures { FailsTelling failure (ended E.Write result errors.old errors.new) }
+{
+    tell_database(rt, database, failure, errors);
+    conclude(errors, Err(failure))
+}
+
+// What a database holds, with the connection with which it was read.
+#[tactic(auto, using(crate::proofs::KeepLemmas::look_fails))]
+fn look_for<F: Start>(
+    rt: &HostRuntime,
+    database: &Database,
+    start: F,
+) -> Result<(Look<F>, CheckedFile), Unread<F>>
+    ensures looks { IfOk result (λ found. IsReadAs (image_at F.Start) found.0 found.1) }
+    ensures fault { IfErr result (FailsToLook (image_at F.Start) database.now) }
+{
+    match database {
+        Database::File(path) => look_in(rt, path, start),
+        Database::InMemory => Err(Unopened::unread(OpenFault::Store)),
+    }
+}
+
+/// What the file at a path holds, with the connection with which it was read.
+///
+/// # Errors
+///
+/// What refused it; `Memory` if memory runs out.
+#[tactic(auto, using(crate::proofs::KeepLemmas::read_as, crate::proofs::KeepLemmas::refused_fails))]
+pub fn look_in<F: Start>(
+    rt: &HostRuntime,
+    path: &str,
+    start: F,
+) -> Result<(Look<F>, CheckedFile), Unread<F>>
+    ensures looks { IfOk result (λ found. IsReadAs (image_at F.Start) found.0 found.1) }
+    ensures fault { IfErr result (FailsToRead (image_at F.Start)) }
+{
+    let bulk = bulk_of(rt, path)?;
+    match look_at(rt, path, start) {
+        Ok((connection, holdings)) => Ok((connection, told_of(&holdings, bulk))),
+        Err(refused) => Err(Unopened::of(refused)),
+    }
+}
+
+// What is told of a file.
+fn told_of(holdings: &Holdings, bulk: Bulk) -> CheckedFile
+    ensures counted { (w : World) → AreHoldingsOf holdings.now w → TellsHoldings result w }
+    ensures schema { result.is_old ≡ holdings.now.is_old }
+{
+    CheckedFile {
+        is_old: holdings.is_old,
+        has_sums: bulk.has_sums,
+        operators: holdings.operators,
+        plans: holdings.plans,
+        live: holdings.live,
+        spans: holdings.spans,
+        most_spans: holdings.most_spans,
+        size: bulk.size,
+        log: bulk.log,
+    }
+}
+
+// How large a file and its log are, and whether its pages have sums; nothing if it can't be looked at. To be
+// called while no connection has it: that this closes the file would take the connection's lock away.
+fn bulk_of(rt: &HostRuntime, path: &str) -> Result<Bulk, AllocError> {
+    let log = name_with(rt.alloc(), path, "-wal")?;
+    Ok(Bulk {
+        has_sums: has_sums(rt, path),
+        size: size_of(rt, path),
+        log: size_of(rt, &log),
+    })
+}
+
+fn size_of(rt: &HostRuntime, path: &str) -> u64 {
+    match fs::metadata(rt, path) {
+        Ok(found) => found.len(),
+        Err(_) => 0,
+    }
+}
+
+/// Copies what a database holds to a new file, prints how much it is, and answers how that ended and the
+/// connection to the first with the new files, or why nothing is copied. The first is left as it is. Why, and
+/// the word of the failure, go to `errors`; a fault there is passed over. If there is a `twin`, the file is
+/// read at that path, and told of as itself.
+#[tactic(auto, using(crate::proofs::KeepLemmas::uncopied))]
+pub fn copy_file<F: Start, N: Start, P: Folder, W: Write + Drop, E: Write + Drop>(
+    rt: &HostRuntime,
+    folder: &mut P,
+    words: &Copying,
+    twin: Option<&str>,
+    starts: Starts<F, N>,
+    writers: &mut Writers<W, E>,
+) -> (
+    Exit<E>,
+    Result<Copies<FileFrom<F>, FileFrom<N>>, CopyEnd<FileFrom<F>, FileFrom<N>>>,
+)
+    ensures copied { IsCopied (image_at F.Start) (image_at N.Start) words.now.database (keeper_outside W.Write
+        E.Write writers.old writers.new (steps_of P.Folder folder.old folder.new) result.0) result.1 }
+    ensures named { IsNamedIf result.1 (string_bytes words.now.to) (steps_of P.Folder folder.old folder.new) }
+    ensures own { LeavesOthers (string_bytes words.now.to) (steps_of P.Folder folder.old folder.new) }
+{
+    match copy_for(rt, folder, words, twin, starts, &mut writers.errors) {
+        Ok(copies) => {
+            let exit = print_holdings(
+                rt.alloc(),
+                &copies.1.1,
+                &mut writers.output,
+                &mut writers.errors,
+            );
+            (exit, Ok(copies))
+        }
+        Err(uncopied) => (
+            conclude(&mut writers.errors, Err(uncopied.failure)),
+            Err(uncopied),
+        ),
+    }
+}
+
+/// The exit status of a copy. What was copied, on whatever disk it is, is closed.
+pub fn status_copied<D: Disk + Drop, N: Disk + Drop, E>(
+    copied: (Exit<E>, Result<Copies<D, N>, CopyEnd<D, N>>),
+) -> u8
+    ensures { result ≡ copied.0.status }
+{
+    let (exit, _) = copied;
+    exit.status
+}
+
+// Prints how much was copied.
+fn print_holdings<W: Write, E: Write>(
+    alloc: Global,
+    holdings: &Holdings,
+    output: &mut W,
+    errors: &mut E,
+) -> Exit<E>
+    ensures { IsTextPrinted (copied_line holdings.now.operators holdings.now.plans)
+        (ended E.Write result errors.old errors.new) (W.contents output.old) (W.contents output.new) }
+{
+    print_copied(alloc, holdings.operators, holdings.plans, output, errors)
+}
+
+// Copies what a database holds to a new file. It is written under another name, which it loses once all is on
+// the disk: a copy that is cut off leaves nothing of the new name.
+#[tactic(auto, using(desk_host::proofs::NameLemmas::leaves_none, desk_host::proofs::NameLemmas::leaves_all))]
+fn copy_for<F: Start, N: Start, P: Folder, E: Write>(
+    rt: &HostRuntime,
+    folder: &mut P,
+    words: &Copying,
+    twin: Option<&str>,
+    starts: Starts<F, N>,
+    errors: &mut E,
+) -> Result<Copies<FileFrom<F>, FileFrom<N>>, CopyEnd<FileFrom<F>, FileFrom<N>>>
+    ensures made { IfOk result
+        (IsCopyMade ⟦<FileFrom<N> as Disk>⟧ (image_at F.Start) (image_at N.Start)) }
+    ensures fault { IfErr result (FailsToCopy (image_at F.Start) (image_at N.Start) words.now.database
+        (steps_of P.Folder folder.old folder.new)) }
+    ensures quiet { OnOk result (E.contents errors.new ≡ E.contents errors.old) }
+    ensures told { Tells (bytes_written E.Write errors.old errors.new) }
+    ensures named { IsNamedIf result (string_bytes words.now.to) (steps_of P.Folder folder.old folder.new) }
+    ensures own { LeavesOthers (string_bytes words.now.to) (steps_of P.Folder folder.old folder.new) }
+{
+    let Database::File(path) = &words.database else {
+        return Err(Uncopied::untried(Failure::Store));
+    };
+    let names = names_of(rt.alloc(), &words.to)?;
+    if let Err(failure) = make_room_or_tell(rt.alloc(), folder, path, &names, errors) {
+        return Err(Uncopied::untried(failure));
+    }
+    let source = Source::of(path, twin);
+    let copied = copy_closed(rt, source.path, &names.part, starts);
+    keep_copy(rt, folder, source, &names, copied, errors)
+}
+
+// A file that is copied: how it is told of, and where it is read.
+#[derive(Clone, Copy)]
+struct Source<'s> {
+    name: &'s str,
+    path: &'s str,
+}
+
+impl<'s> Source<'s> {
+    // The file at a path, or its twin, if it has one.
+    fn of(path: &'s str, twin: Option<&'s str>) -> Source<'s> {
+        Source {
+            name: path,
+            path: twin.unwrap_or(path),
+        }
+    }
+}
+
+// Gives new files their names, if they were made, or removes what was made, on whatever disks the files are.
+// Why they were not made, or have no names, is told.
+fn keep_copy<D: Disk + Drop, N: Disk + Drop, P: Folder, E: Write>(
+    rt: &HostRuntime,
+    folder: &mut P,
+    source: Source<'_>,
+    names: &Names,
+    copied: Result<Copies<D, N>, CopyEnd<D, N>>,
+    errors: &mut E,
+) -> Result<Copies<D, N>, CopyEnd<D, N>>
+    ensures made { IfOk result (λ it. copied ≡ Ok it) }
+    ensures fault { IfErr result (IsAsCopied copied (steps_of P.Folder folder.old folder.new)) }
+    ensures quiet { OnOk result (E.contents errors.new ≡ E.contents errors.old) }
+    ensures told { Tells (bytes_written E.Write errors.old errors.new) }
+    ensures named { (to : List ℕ) → AreNames to names.now
+        → IsNamedNow result to (steps_of P.Folder folder.old folder.new) }
+    ensures own { (to : List ℕ) → AreNames to names.now
+        → TakesAll (ChangesOwn to) (steps_of P.Folder folder.old folder.new) }
+{
+    let copies = match copied {
+        Ok(copies) => copies,
+        Err(uncopied) => {
+            give_up(rt, folder, source, names, uncopied.failure, errors);
+            return Err(uncopied);
+        }
+    };
+    if let Err(failure) = publish_copy(rt.alloc(), folder, names, errors) {
+        return Err(Uncopied::untried(failure));
+    }
+    Ok(copies)
+}
+
+// Gives a new file that is whole its name, or tells that it can't be given it.
+#[tactic(auto, using(desk_host::proofs::TellLemmas::tells_nothing))]
+fn publish_copy<P: Folder, E: Write>(
+    alloc: Global,
+    folder: &mut P,
+    names: &Names,
+    errors: &mut E,
+) -> Result<(), Failure>
+    ensures quiet { OnOk result (E.contents errors.new ≡ E.contents errors.old) }
+    ensures told { Tells (bytes_written E.Write errors.old errors.new) }
+    ensures named { (to : List ℕ) → AreNames to names.now
+        → OnOk result (Follows (steps_of P.Folder folder.old folder.new) (named_steps to (Synced to))) }
+    ensures unnamed { (to : List ℕ) → AreNames to names.now
+        → OnErr result (IsUnnamed [] to (steps_of P.Folder folder.old folder.new)) }
+    ensures own { (to : List ℕ) → AreNames to names.now
+        → TakesAll (ChangesOwn to) (steps_of P.Folder folder.old folder.new) }
+    ensures failed { IfErr result (λ f. (f ≡ Failure.Store)
+        × HasFailedStep (steps_of P.Folder folder.old folder.new)) }
+{
+    if put_in_place(folder, names) {
+        return Ok(());
+    }
+    let cause = "it can't be given its name, or its folder can't be synced";
+    tell_of(alloc, &names.to, cause, errors);
+    Err(Failure::Store)
+}
+
+// Copies what the file at a path holds to new files at another, and closes these.
+fn copy_closed<F: Start, N: Start>(
+    rt: &HostRuntime,
+    path: &str,
+    to: &str,
+    starts: Starts<F, N>,
+) -> Result<Copies<FileFrom<F>, FileFrom<N>>, CopyEnd<FileFrom<F>, FileFrom<N>>>
+    ensures made { IfOk result
+        (IsCopyMade ⟦<FileFrom<N> as Disk>⟧ (image_at F.Start) (image_at N.Start)) }
+    ensures fault { IfErr result (FailsAtFiles (image_at F.Start) (image_at N.Start)) }
+{
+    close_copied(copy_from(rt, path, starts.source, to, starts.copy))
+}
+
+// Closes the store of a copy, if it was made, or answers why it was not, on whatever disks the files are.
+fn close_copied<D: Disk + Drop, N: Disk + Drop>(
+    copied: Result<Copied<D, N>, CopyFault<D, N>>,
+) -> Result<Copies<D, N>, CopyEnd<D, N>>
+    ensures made { (image other : Image) → IfOk copied (IsStoredAs image other)
+        → IfOk result (IsCopyMade N.Disk image other) }
+    ensures fault { (image other : Image) → IfOk copied (IsStoredAs image other)
+        → IfErr copied (AreNotCopied image other) → IfErr result (FailsAtFiles image other) }
+{
+    match copied {
+        Ok(copied) => close_copy(copied),
+        Err(refused) => Err(refused_copy(&refused)),
+    }
+}
+
+// Closes the store of a copy, on whatever disks it and what was copied are.
+#[tactic(auto, using(crate::proofs::KeepLemmas::fails_closing))]
+fn close_copy<D: Disk + Drop, N: Disk + Drop>(
+    copied: Copied<D, N>,
+) -> Result<Copies<D, N>, CopyEnd<D, N>>
+    ensures made { (image other : Image) → IsStoredAs image other copied
+        → IfOk result (IsCopyMade N.Disk image other) }
+    ensures fault { (image other : Image) → IsStoredAs image other copied
+        → IfErr result (FailsAtFiles image other) }
+{
+    let (connection, (store, holdings)) = copied;
+    match store.close() {
+        Ok(files) => Ok((connection, (files, holdings))),
+        Err(unclosed) => Err(Uncopied {
+            failure: Failure::Store,
+            unread: None,
+            unmade: None,
+            unclosed: Some(unclosed),
+        }),
+    }
+}
+
+// Makes room for a new file, or tells what stands in the way. Nothing of what is copied (`source`) is
+// removed.
+#[tactic(auto, using(desk_host::proofs::TellLemmas::tells_nothing))]
+fn make_room_or_tell<P: Folder, E: Write>(
+    alloc: Global,
+    folder: &mut P,
+    source: &str,
+    names: &Names,
+    errors: &mut E,
+) -> Result<(), Failure>
+    ensures quiet { OnOk result (E.contents errors.new ≡ E.contents errors.old) }
+    ensures told { Tells (bytes_written E.Write errors.old errors.new) }
+    ensures free { (to : List ℕ) → AreNames to names.now
+        → OnOk result (Follows (steps_of P.Folder folder.old folder.new) (free_steps to)) }
+    ensures refused { (to : List ℕ) → AreNames to names.now
+        → IfErr result (λ f. (f ≡ Failure.Store)
+        × IsNotFree to (steps_of P.Folder folder.old folder.new)) }
+{
+    match make_room(folder, source, names) {
+        Ok(()) => Ok(()),
+        Err(taken) => {
+            tell_of(alloc, taken.path, taken.cause, errors);
+            Err(Failure::Store)
+        }
+    }
+}
+
+// Tells why nothing is copied, and removes what was made.
+#[tactic(auto, using(desk_host::proofs::TellLemmas::tells_nothing))]
+fn give_up<P: Folder, E: Write>(
+    rt: &HostRuntime,
+    folder: &mut P,
+    source: Source<'_>,
+    names: &Names,
+    failure: Failure,
+    errors: &mut E,
+)
+    ensures told { Tells (bytes_written E.Write errors.old errors.new) }
+    ensures gone { (to : List ℕ) → AreNames to names.now
+        → GivesUp to (steps_of P.Folder folder.old folder.new) }
+{
+    if folder.is_free(&names.part) {
+        tell(rt, source.path, source.name, failure, errors);
+        return;
+    }
+    if let Failure::Store = failure {
+        let cause = "it can't be written: a full disk, or one that fails";
+        tell_of(rt.alloc(), &names.to, cause, errors);
+    }
+    folder.remove(&names.part);
+    folder.remove(&names.part_log);
+}

@@ -1,0 +1,224 @@
+//! The file that a line opens, put in order before that if its tables stand in another, once a twin of it was
+//! read as a desk's.
+
+ghost use Rattle.std.specs.Prelude.{◌≡◌, IfErr, IfOk, OnErr, OnOk, false, true};
+ghost use Rattle.sqlite_wal.specs.Files.{image_at};
+ghost use Rattle.sqlite_wal.specs.Recovery.{Image};
+ghost use Rattle.desk_program.specs.Outside.{bytes_written};
+ghost use Rattle.desk_admin.specs.FilesTold.{FailsToRead, IsReadAs};
+ghost use Rattle.desk_host.specs.FolderSteps.{steps_of};
+ghost use Rattle.desk_admin.specs.Reordering as spec;
+ghost use Rattle.desk_admin.specs.Reordering.{IsAdmitted, IsOrderedByTwin, IsOrderedOr, IsReorderTold, IsReordered};
+ghost use Rattle.desk_admin.specs.Reordering.{IsReorderedIf};
+ghost use Rattle.desk_host.specs.Scratch.{AreTwins};
+ghost use Rattle.desk_host.specs.Telling.{IsWrittenIfRoom, Tells};
+
+use crate::causes::tell;
+use crate::keeping::look_in;
+use crate::twins::{Found, Judged};
+use db_file::has_other_order;
+use desk_host::access::access_cause;
+use desk_host::naming::{Folder, LocalFolder};
+use desk_host::scratch::{Twin, make_twin, remove_twin};
+use desk_host::telling::tell_of;
+use desk_host::ways::{Way, way_to};
+use desk_line::{Database, Failure};
+use sqlite::{FileFrom, Start, Unknown};
+use sqlite_disk::Disk;
+use std::alloc::Global;
+use std::io::Write;
+
+// What is told of a file that can't be put in order, though it can be had.
+const UNWRITTEN: &str = "it can't be written: a full disk, or one that fails";
+
+/// A file that a line is about to open.
+#[derive(Clone, Copy)]
+pub struct Incoming<'p> {
+    /// Its path.
+    pub path: &'p str,
+    /// The way in which it would be read.
+    pub way: Way,
+    /// Whether the line takes a file of schema 1.
+    pub takes_old: bool,
+}
+
+/// Puts the file of a database in order, if its tables stand in another, and tells that. A file of schema 1
+/// is taken, or not (`takes_old`). Of files nothing is known.
+///
+/// # Errors
+///
+/// Why it can't be put in order, which is told.
+pub fn reorder_for(rt: &HostRuntime, database: &Database, takes_old: bool) -> Result<(), Failure> {
+    let Some(path) = database.path() else {
+        return Ok(());
+    };
+    if !has_other_order(rt, path) {
+        return Ok(());
+    }
+    let file = Incoming {
+        path,
+        way: way_to(rt, path, false),
+        takes_old,
+    };
+    let mut folder = LocalFolder::new(rt);
+    done_of(reorder(rt, &mut folder, file, Unknown, &mut rt.stderr()))
+}
+
+/// What came of it. The twin that was read, on whatever disk it is, is closed.
+pub fn done_of<D: Disk + Drop>(
+    reordered: (Result<(), Failure>, Option<Judged<D>>),
+) -> Result<(), Failure>
+    ensures { result ≡ reordered.0 }
+{
+    let (done, _) = reordered;
+    done
+}
+
+/// Puts a file in order, if its tables stand in another: a twin that lists them in a desk's own is made, read
+/// and removed, and if it is a desk's that the line takes, the file is put in the same order.
+/// That the file was put in order goes to `errors`, or why not; a fault there is passed over. Answered with
+/// it is the connection to the twin, or why that can't be read; nothing if there was no twin.
+///
+/// # Errors
+///
+/// Why the file can't be put in order. Nothing is asked of it then, but if it was that which failed.
+pub fn reorder<F: Start, P: Folder, E: Write>(
+    rt: &HostRuntime,
+    folder: &mut P,
+    file: Incoming<'_>,
+    start: F,
+    errors: &mut E,
+) -> (Result<(), Failure>, Option<Judged<FileFrom<F>>>)
+    ensures reordered { IsReorderedIf (image_at F.Start) file.entry.path.now file.entry.takes_old
+        file.entry.way result.0 result.1 (steps_of P.Folder folder.old folder.new) }
+    ensures told { IsReorderTold file.entry.path.now result.0 result.1
+        (bytes_written E.Write errors.old errors.new) }
+{
+    match file.way {
+        Way::Disordered => reorder_by_twin(rt, folder, file, start, errors),
+        Way::Itself | Way::Damaged | Way::Unsummed(_) => (Ok(()), None),
+    }
+}
+
+// Makes the twin of a file that is disordered, and puts the file in order by what that shows.
+fn reorder_by_twin<F: Start, P: Folder, E: Write>(
+    rt: &HostRuntime,
+    folder: &mut P,
+    file: Incoming<'_>,
+    start: F,
+    errors: &mut E,
+) -> (Result<(), Failure>, Option<Judged<FileFrom<F>>>)
+    ensures reordered { IsReordered (image_at F.Start) file.entry.path.now file.entry.takes_old
+        result.0 result.1 (steps_of P.Folder folder.old folder.new) }
+    ensures told { IsReorderTold file.entry.path.now result.0 result.1
+        (bytes_written E.Write errors.old errors.new) }
+{
+    let twin = match make_twin(rt.alloc(), folder, file.path, file.path, true, errors) {
+        Ok(twin) => twin,
+        Err(failure) => return (Err(failure), None),
+    };
+    let found = look_in(rt, &twin.path, start);
+    let (done, judged) = order_by_twin(rt, folder, file, &twin, found, errors);
+    (done, Some(judged))
+}
+
+// Removes the twin of a file, and puts the file in order, if the twin was read as a desk's that the line
+// takes.
+fn order_by_twin<D: Disk + Drop, P: Folder, E: Write>(
+    rt: &HostRuntime,
+    folder: &mut P,
+    file: Incoming<'_>,
+    twin: &Twin,
+    found: Found<D>,
+    errors: &mut E,
+) -> (Result<(), Failure>, Judged<D>)
+    ensures ordered { (image : Image) → IfOk found (λ it. IsReadAs image it.0 it.1)
+        → IfErr found (FailsToRead image) → AreTwins file.entry.path.now twin.now
+        → IsOrderedByTwin image file.entry.path.now file.entry.takes_old result.0 result.1
+        (steps_of P.Folder folder.old folder.new) }
+    ensures noted { OnOk result.0 (IsWrittenIfRoom (spec.reordered_line file.entry.path.now)
+        (bytes_written E.Write errors.old errors.new)) }
+    ensures told { OnErr result.0 (Tells (bytes_written E.Write errors.old errors.new)) }
+{
+    let (admitted, judged) = judge(rt, file, &twin.path, found, errors);
+    remove_twin(folder, twin);
+    match admitted {
+        Ok(()) => (order(rt, folder, file.path, errors), judged),
+        Err(failure) => (Err(failure), judged),
+    }
+}
+
+// Whether the twin of a file, at another path, was read as a desk's that the line takes; or tells why not.
+// The twin is still there.
+fn judge<D: Disk + Drop, E: Write>(
+    rt: &HostRuntime,
+    file: Incoming<'_>,
+    twin: &str,
+    found: Found<D>,
+    errors: &mut E,
+) -> (Result<(), Failure>, Judged<D>)
+    ensures admitted { (image : Image) → IfOk found (λ it. IsReadAs image it.0 it.1)
+        → IfErr found (FailsToRead image) → IsAdmitted image file.entry.takes_old result.0 result.1 }
+    ensures quiet { OnOk result.0 (E.contents errors.new ≡ E.contents errors.old) }
+    ensures told { OnErr result.0 (Tells (bytes_written E.Write errors.old errors.new)) }
+{
+    match found {
+        Ok((connection, read)) => {
+            if is_too_old(file.takes_old, read.is_old) {
+                tell(rt, twin, file.path, Failure::OldSchema, errors);
+                return (Err(Failure::OldSchema), Ok(connection));
+            }
+            (Ok(()), Ok(connection))
+        }
+        Err(unread) => {
+            tell(rt, twin, file.path, unread.failure, errors);
+            (Err(unread.failure), Err(unread))
+        }
+    }
+}
+
+// Puts a file in order, and tells that; or tells why not.
+fn order<P: Folder, E: Write>(
+    rt: &HostRuntime,
+    folder: &mut P,
+    path: &str,
+    errors: &mut E,
+) -> Result<(), Failure>
+    ensures ordered { IsOrderedOr path.now result (steps_of P.Folder folder.old folder.new) }
+    ensures noted { OnOk result (IsWrittenIfRoom (spec.reordered_line path.now)
+        (bytes_written E.Write errors.old errors.new)) }
+    ensures told { OnErr result (Tells (bytes_written E.Write errors.old errors.new)) }
+{
+    if !folder.order(path) {
+        let cause = access_cause(rt, path).unwrap_or(UNWRITTEN);
+        tell_of(rt.alloc(), path, cause, errors);
+        return Err(Failure::Store);
+    }
+    tell_reordered(rt.alloc(), path, errors);
+    Ok(())
+}
+
+// Whether a line doesn't take a file, since that is of schema 1.
+fn is_too_old(takes_old: bool, is_old: bool) -> bool
+    ensures old { result ≡ true → (takes_old ≡ false) × (is_old ≡ true) }
+    ensures taken { result ≡ false → takes_old ≡ false → is_old ≡ false }
+{
+    if takes_old {
+        return false;
+    }
+    is_old
+}
+
+// Tells that a file was put in order. A fault of the writer is passed over, and so is want of memory.
+fn tell_reordered<E: Write>(alloc: Global, path: &str, errors: &mut E)
+    ensures { IsWrittenIfRoom (spec.reordered_line path.now) (bytes_written E.Write errors.old errors.new) }
+{
+    tell_of(alloc, path, reordered_text(), errors);
+}
+
+// What is told of a file that was put in order.
+fn reordered_text() -> &'static str
+    ensures { result.now ≡ spec.reordered_text }
+{
+    "its tables are put in a desk's own order"
+}

@@ -1,0 +1,84 @@
+//! Why the files of a database were not opened.
+
+ghost use Rattle.std.specs.Prelude.{◌≡◌};
+ghost use Rattle.std.specs.Option.{IsSomeAnd};
+ghost use Rattle.desk_line.specs.Exits.{failure_word};
+ghost use Rattle.desk_tables.specs.OpenWords.{open_word};
+ghost use Rattle.desk_admin.specs.Unopened as spec;
+ghost use Rattle.desk_admin.specs.Unopened.{IsUnreadFor};
+
+use desk_line::Failure;
+use desk_tables::{FilesFault, OpenFault};
+use sqlite::FileFrom;
+use sqlite_disk::Disk;
+use std::alloc::AllocError;
+use std::snapshot::Snapshot;
+
+/// Why a database was not opened. What refused it is closed, and clauses alone read what it was.
+#[derive(Drop)]
+pub struct Unopened<D: Disk> {
+    /// The failure with which the line ends.
+    pub failure: Failure,
+    /// What refused the files, if files were asked for.
+    pub refused: Option<Snapshot<FilesFault<D>>>,
+}
+
+impl<D: Disk + Drop> Unopened<D> {
+    /// Files were refused. Their connection is closed, so that they can be looked at again.
+    pub fn of(refused: FilesFault<D>) -> Unopened<D>
+        ensures failure { result.failure ≡ spec.open_failure refused.fault }
+        ensures refused { IsSomeAnd result.refused (λ s. s.value ≡ refused) }
+    {
+        Unopened {
+            failure: open_failure(&refused.fault),
+            refused: Some(Snapshot::of(&refused)),
+        }
+    }
+
+    /// No files were asked for.
+    pub fn unread(fault: OpenFault) -> Unopened<D>
+        ensures { IsUnreadFor result fault }
+    {
+        Unopened {
+            failure: open_failure(&fault),
+            refused: None,
+        }
+    }
+}
+
+impl<D: Disk + Drop> From<AllocError> for Unopened<D> {
+    ghost use Rattle.desk_tables.specs.declared.opening.open.OpenFault.TheVariants.{OutOfMemory};
+    ghost use Rattle.desk_admin.specs.Unopened.{IsUnreadFor};
+
+    ghost from_gives = { λ _ it. IsUnreadFor it OutOfMemory };
+
+    fn from(_error: AllocError) -> Unopened<D> {
+        Unopened::unread(OpenFault::OutOfMemory)
+    }
+}
+
+/// Why files were not opened, where `F` stands for what they held.
+pub type Unread<F> = Unopened<FileFrom<F>>;
+
+/// What was opened over files, on whatever disk they are, or the failure alone.
+pub fn or_failure<D: Disk + Drop, T>(opened: Result<T, Unopened<D>>) -> Result<T, Failure>
+    ensures { result ≡ spec.or_failure opened }
+{
+    match opened {
+        Ok(it) => Ok(it),
+        Err(unread) => Err(unread.failure),
+    }
+}
+
+/// The failure with which the program ends if a database can't be opened: its word is that of `open_word`.
+pub fn open_failure(fault: &OpenFault) -> Failure
+    ensures failure { result ≡ spec.open_failure fault.now }
+    ensures word { failure_word result ≡ open_word fault.now }
+{
+    match fault {
+        OpenFault::OutOfMemory => Failure::Memory,
+        OpenFault::Store => Failure::Store,
+        OpenFault::NotADesk => Failure::NotADesk,
+        OpenFault::OldSchema => Failure::OldSchema,
+    }
+}

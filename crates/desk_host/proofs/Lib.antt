@@ -1,0 +1,4 @@
+pub mod TellLemmas
+pub mod NameLemmas
+mod OperatorLemmas
+mod ScratchLemmas

@@ -1,0 +1,20 @@
+-- What is told of a file of enrolments that can't be read.
+use Rattle.std.proofs.Common.{◌≡◌, inr, List, [], ◌∷◌, ℕ, Option, None, sym, subst}
+use Rattle.desk_wire.specs.Passage.{course}
+use Rattle.desk_program.specs.Serving.{Grows}
+use Rattle.desk_line.specs.declared.line.Enrolment.{Enrolment}
+use Rattle.desk_host.specs.Operators.{AreNewsAt, Asking, IsFileUnread, Stamped}
+use Rattle.desk_host.specs.declared.operators.Stamp.{Stamp}
+
+-- of a file that can't be read there are no news
+pub no_news : (path : List ℕ) (seen after stamp : Option Stamp) (old between new now : Option (List Asking))
+    (news : List Enrolment) → Grows old between (Stamped path stamp ∷ [])
+    → IsFileUnread path (course between new) → now ≡ new → after ≡ None → news ≡ []
+    → AreNewsAt path (course seen after) (course old now) news
+no_news path seen after stamp old between new now news stamped unread same unseen empty =
+    record {
+      stamp = stamp;
+      between = between;
+      stamped = stamped;
+      told = inr (inr (subst (λ s. IsFileUnread path (course between s)) (sym same) unread, unseen, empty));
+    }

@@ -1,0 +1,35 @@
+-- What is told, one line after the other.
+use Rattle.std.proofs.Common.{◌≡◌, ℕ, List, [], ◌++◌, take, Option, Result, Ok, Err, OnOk, IfErr, inl, inr, subst, sym}
+use Rattle.std.proofs.KnownBytes.{Appends-nil, Appends-trans}
+use Rattle.std.specs.Io.KnownBytes.{Appends}
+use Rattle.desk_ends.specs.Writing.{BreaksOff}
+use Rattle.desk_ends.specs.declared.writing.Cut.{Cut}
+use Rattle.desk_wire.specs.Passage.{Course, course}
+use Rattle.desk_host.specs.Telling.{IsWrittenIfRoom, Tells}
+
+-- nothing is told
+pub tells_nothing : (now : Option (List ℕ)) → Tells (course now now)
+tells_nothing now = record { text = []; told = Appends-nil now }
+
+-- one text after the other
+pub tells_both : {old between now : Option (List ℕ)} → Tells (course old between)
+    → Tells (course between now) → Tells (course old now)
+tells_both {old} {between} {now} first next = record {
+  text = first.text ++ next.text;
+  told = Appends-trans old between now first.text next.text first.told next.told;
+}
+
+-- a line is written, or broken off
+pub noted : {U E : Type 0} (line : List ℕ) (old now : Option (List ℕ)) (done : Result U (Cut E))
+    → OnOk done (Appends old now line) → IfErr done (λ cut. BreaksOff line old now cut.fault)
+    → IsWrittenIfRoom line (course old now)
+noted line old now (Ok u) whole off = inr (inl whole)
+noted line old now (Err cut) whole off = inr (inr (cut.fault, off))
+
+-- a line that is written, whole or in part, is told
+pub tells_noted : (line : List ℕ) (writes : Course (Option (List ℕ))) → IsWrittenIfRoom line writes
+    → Tells writes
+tells_noted line writes (inl same) =
+    subst (λ now. Tells (course writes.before now)) (sym same) (tells_nothing writes.before)
+tells_noted line writes (inr (inl whole)) = record { text = line; told = whole }
+tells_noted line writes (inr (inr (fault, off))) = record { text = take fault.sent line; told = off.written }

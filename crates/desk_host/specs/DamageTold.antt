@@ -1,0 +1,98 @@
+-- DamageTold: what is told of a damaged log, and which files are opened.
+use Rattle.std.specs.Prelude.{◌≡◌, ◌⊎◌, ℕ, Bool, true, false, if◌then◌else◌, List, ◌++◌, codes, decimal}
+use Rattle.std.specs.Prelude.{Option, None, Some, IfSome, Result, Ok, Err}
+use Rattle.std.specs.Io.KnownBytes.{Appends}
+use Rattle.std.specs.declared.io.Read as read
+use Rattle.std.specs.declared.io.Write as write
+use Rattle.desk_ends.specs.Writing.{BreaksOff}
+use Rattle.desk_ends.specs.declared.writing.Cut.{Cut}
+use Rattle.desk_wire.specs.Passage.{Course}
+use Rattle.desk_program.specs.Outside.{bytes_written}
+use Rattle.desk_line.specs.declared.failure.Failure.{Failure}
+use Rattle.desk_line.specs.declared.failure.Failure.TheVariants as failure
+use Rattle.desk_line.specs.declared.line.KeeperLine.{KeeperLine}
+use Rattle.desk_line.specs.declared.line.KeeperLine.TheVariants as keeper
+use Rattle.db_file.specs.Damage.{IsDamaged}
+use Rattle.db_file.specs.Reads.{IsUnjudged}
+use Rattle.desk_host.specs.Telling.{IsWrittenIfRoom, line_of}
+use Rattle.desk_host.specs.declared.logs.FoundLog.{FoundLog}
+use Rattle.desk_host.specs.declared.logs.FoundLog.TheVariants as found
+use Rattle.desk_host.specs.declared.damage.Look.{Look}
+use Rattle.desk_host.specs.declared.damage.Unlooked.{Unlooked}
+use Rattle.desk_host.specs.declared.damage.Unlooked.TheVariants as unlooked
+
+-- the line that tells the damage in the log of a file
+unfoldable pub damage_line : List ℕ → ℕ → ℕ → List ℕ
+damage_line path frame commits =
+    codes "uss_desk: " ++ (path ++ (codes ": its log is damaged at frame " ++ (decimal frame ++ (codes ": "
+    ++ (decimal commits ++ codes " commits from there on can't be read\n")))))
+
+-- a line is written, whole or up to the write that broke off
+abbrev pub IsWrittenUpTo : {E : Type 0} → List ℕ → Option (Cut E) → Course (Option (List ℕ)) → Type 0
+IsWrittenUpTo line None writes = Appends writes.before writes.after line
+IsWrittenUpTo line (Some cut) writes = BreaksOff line writes.before writes.after cut.fault
+
+-- a log is damaged, and that is told, up to the write that broke off
+pub record IsLossTold {E : Type 0} (path log : List ℕ) (cut : Option (Cut E))
+    (writes : Course (Option (List ℕ))) : Type 0 where
+  pub frame : ℕ
+  pub commits : ℕ
+  pub damaged : IsDamaged log frame commits
+  pub told : IsWrittenUpTo (damage_line path frame commits) cut writes
+
+-- a log is not damaged, and nothing is told
+abbrev pub IsUndamaged : List ℕ → Course (Option (List ℕ)) → Type 0
+IsUndamaged log writes =
+    ((frame commits : ℕ) → ¬ IsDamaged log frame commits) × (writes.after ≡ writes.before)
+
+-- A file with this log is admitted if the log is not damaged, or if the file is copied: then the loss is
+-- told. It is refused if the log is damaged and the file is not copied. If nothing is known of the log,
+-- nothing is told.
+abbrev pub IsLookedAt :
+    {E : Type 0} → Bool → List ℕ → List ℕ → Result (Look E) Unlooked → Course (Option (List ℕ)) → Type 0
+IsLookedAt copied path log (Ok look) writes =
+    ((look.is_admitted ≡ true) × (look.is_damaged ≡ false) × IsUndamaged log writes)
+    ⊎ ((look.is_admitted ≡ copied) × (look.is_damaged ≡ true) × IsLossTold path log look.cut writes)
+IsLookedAt copied path log (Err it) writes = writes.after ≡ writes.before
+
+-- why nothing is known of a log: memory ran out for the line that tells its damage, or it can't be read
+abbrev pub HasUnlookedCause : Option (List ℕ) → Unlooked → Type 0
+HasUnlookedCause log unlooked.OutOfMemory =
+    IfSome log (λ bytes. (frame commits : ℕ) × IsDamaged bytes frame commits)
+HasUnlookedCause log (unlooked.Unread fault) = IsUnjudged log fault
+
+-- whether a task is begun at a file, by what came of the look at its log, and whether that is damaged
+abbrev pub admission_of : {E : Type 0} → Result (Look E) Unlooked → Result Bool Failure
+admission_of (Ok look) = if look.is_admitted then Ok look.is_damaged else Err failure.DamagedLog
+admission_of (Err unlooked.OutOfMemory) = Err failure.Memory
+admission_of (Err (unlooked.Unread fault)) = Err failure.Store
+
+-- a line copies its file
+abbrev pub is_copy : KeeperLine → Bool
+is_copy (keeper.Check database) = false
+is_copy (keeper.Copy words) = true
+is_copy (keeper.Migrate database) = false
+is_copy (keeper.Replay words) = false
+
+-- what is told of a log that is there without its file
+abbrev pub alone_text : List ℕ
+alone_text = codes "its log is there without it: was it moved or removed while a desk ran?"
+
+-- a look at a log, of which this came
+pub record HasLooked (E : Type 0) (copied : Bool) (path log : List ℕ) (result : Result Bool Failure)
+    (writes : Course (Option (List ℕ))) : Type 0 where
+  pub look : Result (Look E) Unlooked
+  pub looked : IsLookedAt copied path log look writes
+  pub is : result ≡ admission_of look
+
+-- what comes of the log that was found: a file is refused whose log is there without it, and that is told;
+-- else a log is looked at, if there is one
+abbrev pub IsJudged :
+    {R E : Type 0} → read.Ghosts R → write.Ghosts E → Bool → List ℕ → FoundLog R → Result Bool Failure
+    → E → E → Type 0
+IsJudged r w copied path found.Alone result before now =
+    (result ≡ Err failure.Store) × IsWrittenIfRoom (line_of path alone_text) (bytes_written w before now)
+IsJudged r w copied path found.Nothing result before now =
+    (result ≡ Ok false) × (w.contents now ≡ w.contents before)
+IsJudged {R} {E} r w copied path (found.Log log) result before now =
+    IfSome (r.remaining log) (λ bytes. HasLooked E copied path bytes result (bytes_written w before now))

@@ -1,0 +1,11 @@
+-- Read first: Telling, Naming, FolderSteps, Scratch; the others stand each alone.
+pub mod Telling
+pub mod Naming
+pub mod FolderSteps
+pub mod Scratch
+pub mod Paths
+pub mod Access
+pub mod Operators
+pub mod FoundLogs
+pub mod DamageTold
+pub mod Ways

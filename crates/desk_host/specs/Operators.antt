@@ -1,0 +1,65 @@
+-- Operators: the file of enrolments that a keeper changes while a desk serves.
+use Rattle.std.specs.Prelude.{◌≡◌, ◌⊎◌, ⊤, ℕ, List, [], ◌∷◌, Option, None, Some, IsSome, option_map, string_bytes, Result, Ok, Err}
+use Rattle.desk_line.specs.Register.{enrolments_on, lines_of}
+use Rattle.desk_line.specs.declared.line.Enrolment.{Enrolment}
+use Rattle.desk_line.specs.declared.line.Line.{Line}
+use Rattle.desk_line.specs.declared.line.Line.TheVariants as line
+use Rattle.desk_wire.specs.Passage.{Course, course}
+use Rattle.desk_program.specs.Serving.{Grows}
+use Rattle.desk_host.specs.declared.operators.Stamp.{Stamp}
+use Rattle.desk_host.specs.declared.operators.Unread.{Unread}
+use Rattle.desk_host.specs.declared.operators.Unread.TheVariants.{Cause, Memory}
+
+-- the file of enrolments that a line names, if it names one
+abbrev pub operators_of : Line → Option (List ℕ)
+operators_of (line.Play words) = None
+operators_of (line.Serve words) = option_map string_bytes words.operators
+operators_of (line.Enrol words) = None
+
+-- what is asked of the file at a path: when it was changed last, and how long it is, or its text; none if
+-- that can't be told
+pub data Asking : Type 0 where
+  Stamped : List ℕ → Option Stamp → Asking
+  Read : List ℕ → Option (List ℕ) → Asking
+
+abbrev pub ok_of : {A E : Type 0} → Result A E → Option A
+ok_of (Ok it) = Some it
+ok_of (Err e) = None
+
+-- enrolments are those on the lines of the text that is read at a path
+pub record AreEnrolmentsRead (path : List ℕ) (files : Course (Option (List Asking)))
+    (enrolments : List Enrolment) : Type 0
+  where
+    pub stamp : Stamp
+    pub text : List ℕ
+    pub asked : Grows files.before files.after (Stamped path (Some stamp) ∷ Read path (Some text) ∷ [])
+    pub are : enrolments ≡ enrolments_on (lines_of text)
+
+-- the file can't be read
+abbrev pub IsFileUnread : List ℕ → Course (Option (List Asking)) → Type 0
+IsFileUnread path files = Grows files.before files.after (Stamped path None ∷ [])
+    ⊎ ((stamp : Stamp) × Grows files.before files.after (Stamped path (Some stamp) ∷ Read path None ∷ []))
+
+-- why nothing is read: memory ran out, or the file can't be read
+abbrev pub HasUnreadCause : List ℕ → Course (Option (List Asking)) → Unread → Type 0
+HasUnreadCause path files Memory = ⊤
+HasUnreadCause path files (Cause text) = IsFileUnread path files
+
+-- the news of a file: none if its stamp is the one that was seen; else those of its text, and its stamp is
+-- seen then; or it can't be read, and none is
+pub record AreNewsAt (path : List ℕ) (seen : Course (Option Stamp)) (files : Course (Option (List Asking)))
+    (news : List Enrolment) : Type 0
+  where
+    pub stamp : Option Stamp
+    pub between : Option (List Asking)
+    pub stamped : Grows files.before between (Stamped path stamp ∷ [])
+    pub told : (IsSome stamp × (stamp ≡ seen.before) × (seen.after ≡ seen.before) × (files.after ≡ between)
+        × (news ≡ []))
+        ⊎ ((AreEnrolmentsRead path (course between files.after) news × (seen.after ≡ stamp))
+        ⊎ (IsFileUnread path (course between files.after) × (seen.after ≡ None) × (news ≡ [])))
+
+-- of no file there are none
+abbrev pub AreNews :
+    Option (List ℕ) → Course (Option Stamp) → Course (Option (List Asking)) → List Enrolment → Type 0
+AreNews None seen files news = (news ≡ []) × (files.after ≡ files.before)
+AreNews (Some path) seen files news = AreNewsAt path seen files news

@@ -1,0 +1,21 @@
+-- Telling: what is told to the administrator on the standard error.
+use Rattle.std.specs.Prelude.{◌≡◌, ◌⊎◌, ℕ, List, ◌++◌, codes, Option}
+use Rattle.std.specs.Io.KnownBytes.{Appends}
+use Rattle.desk_ends.specs.Writing.{BreaksOff}
+use Rattle.desk_ends.specs.declared.writing.WriteFault.{WriteFault}
+use Rattle.desk_wire.specs.Passage.{Course}
+
+-- some text is told, of which nothing is said, and nothing else
+pub record Tells (writes : Course (Option (List ℕ))) : Type 0 where
+  pub text : List ℕ
+  pub told : Appends writes.before writes.after text
+
+-- the line that tells a text of a file
+unfoldable pub line_of : List ℕ → List ℕ → List ℕ
+line_of path text = codes "uss_desk: " ++ (path ++ (codes ": " ++ (text ++ codes "\n")))
+
+-- a line is written, whole or up to the write that broke off; or memory ran out for it
+abbrev pub IsWrittenIfRoom : List ℕ → Course (Option (List ℕ)) → Type 0
+IsWrittenIfRoom line writes =
+    (writes.after ≡ writes.before) ⊎ Appends writes.before writes.after line
+    ⊎ ((fault : WriteFault) × BreaksOff line writes.before writes.after fault)

@@ -1,0 +1,155 @@
+//! Why a file can't be had, as it is told: by what a look at its path found, and nothing of what its tables
+//! hold.
+
+ghost use Rattle.std.specs.Prelude.{◌≡◌};
+ghost use Rattle.desk_program.specs.Outside.{bytes_written};
+ghost use Rattle.desk_host.specs.Access as spec;
+ghost use Rattle.desk_host.specs.Telling.{Tells};
+ghost use Rattle.desk_host.specs.Naming.{Free, TakesIfNone};
+ghost use Rattle.desk_host.specs.FolderSteps.{steps_of};
+
+use crate::naming::{Folder, IN_USE, LocalFolder, READ_ONLY, TAKEN, is_no_path};
+use crate::probing::probe_access;
+use crate::state::{Denial, FileState, Missing, Start};
+use crate::telling::tell_of;
+use db_file::pages_without_sums;
+use std::alloc::Global;
+use std::io::Write;
+
+const NO_PATH: &str = "a name that SQLite reads otherwise than as a path";
+
+// What a file of anything else is, and what is no regular file.
+const NO_DATABASE: &str = "no SQLite database";
+
+/// Why there can be no new file at a path, if that is so: it is no path, or something is there.
+pub fn new_cause<P: Folder>(folder: &mut P, path: &str) -> Option<&'static str>
+    ensures { TakesIfNone (steps_of P.Folder folder.old folder.new) result (Free path.now) }
+{
+    if folder.is_free(path) {
+        return None;
+    }
+    Some(taken_text(is_no_path(path)))
+}
+
+// Why a path is not free.
+fn taken_text(is_no_path: bool) -> &'static str
+    ensures { result.now ≡ spec.taken_text is_no_path }
+{
+    if is_no_path { NO_PATH } else { TAKEN }
+}
+
+/// Tells why SQLite refuses the file at a path, by what a look at it found: of one that may be damaged, how
+/// many pages, if their sums tell.
+#[tactic(auto, using(crate::proofs::TellLemmas::tells_nothing))]
+pub fn tell_store<E: Write>(
+    rt: &HostRuntime,
+    path: &str,
+    name: &str,
+    state: FileState,
+    errors: &mut E,
+)
+    ensures { Tells (bytes_written E.Write errors.old errors.new) }
+{
+    match pages_of(rt, path, state) {
+        Some(count) => tell_pages(rt.alloc(), name, count, errors),
+        None => tell_of(rt.alloc(), name, cause_of(rt, path, state), errors),
+    }
+}
+
+// How many pages of a file that may be damaged have another sum than theirs, if some have.
+fn pages_of(rt: &HostRuntime, path: &str, state: FileState) -> Option<u64> {
+    if !may_be_damaged(state) {
+        return None;
+    }
+    pages_without_sums(rt, path).filter(|count| *count > 0)
+}
+
+// Whether the pages of a file may be damaged: all else that refuses it was looked at.
+fn may_be_damaged(state: FileState) -> bool
+    ensures { result ≡ spec.may_be_damaged state }
+{
+    matches!(state, FileState::Filled(Ok(Start::Database)))
+}
+
+// Tells that so many pages have another sum than theirs.
+#[tactic(auto, using(crate::proofs::TellLemmas::tells_nothing))]
+fn tell_pages<E: Write>(alloc: Global, path: &str, count: u64, errors: &mut E)
+    ensures { Tells (bytes_written E.Write errors.old errors.new) }
+{
+    let told = format!(in alloc;
+        "{count} pages without their sums, as sqlite3 leaves them, or damaged"
+    );
+    if let Ok(text) = told {
+        tell_of(alloc, path, &text, errors);
+    }
+}
+
+// Why SQLite refuses a file. Where there is none, one is made for a trial, which tells why it can't be.
+fn cause_of(rt: &HostRuntime, path: &str, state: FileState) -> &'static str {
+    let tried = match state {
+        FileState::Free => LocalFolder::new(rt).try_file(path),
+        _ => None,
+    };
+    tried.unwrap_or(refusal_text(state))
+}
+
+/// Why a file can't be had, whatever it holds.
+pub fn access_cause(rt: &HostRuntime, path: &str) -> Option<&'static str> {
+    probe_access(rt, path).map(denial_text)
+}
+
+// Why a file is refused, by what a look at its path found.
+fn refusal_text(state: FileState) -> &'static str
+    ensures { result.now ≡ spec.refusal_text state }
+{
+    match state {
+        FileState::NoPath => NO_PATH,
+        FileState::Missing(missing) => missing_text(missing),
+        FileState::DeadLink => "a link to no file",
+        FileState::Free => "it can't be made",
+        FileState::NotRegular => NO_DATABASE,
+        FileState::Empty => "an empty file",
+        FileState::Made(None) => "it can't be written: a full disk, or one that fails",
+        FileState::Made(Some(denial)) | FileState::Filled(Err(denial)) => denial_text(denial),
+        FileState::Filled(Ok(start)) => start_text(start),
+    }
+}
+
+// Why nothing is reached at a path.
+fn missing_text(missing: Missing) -> &'static str
+    ensures { result.now ≡ spec.missing_text missing }
+{
+    match missing {
+        Missing::NoFile => "no such file",
+        Missing::NoFolder => "no such folder",
+        Missing::NoRight => "no right to reach it",
+        Missing::Other => "it can't be reached",
+    }
+}
+
+// Why a file can't be had, whatever it holds.
+fn denial_text(denial: Denial) -> &'static str
+    ensures { result.now ≡ spec.denial_text denial }
+{
+    match denial {
+        Denial::NoReading => "no right to read it",
+        Denial::NoWriting => "no right to write it",
+        Denial::ReadOnly => READ_ONLY,
+        Denial::Busy => IN_USE,
+        Denial::HotJournal => "a journal of SQLite beside it: open it with sqlite3 first",
+        Denial::Unopened => "no right to its log or folder, a second name, or a disk that fails",
+    }
+}
+
+// Why a file that can be had is refused, by how it begins.
+fn start_text(start: Start) -> &'static str
+    ensures { result.now ≡ spec.start_text start }
+{
+    match start {
+        Start::Database => {
+            "a damaged page, the log of another file, rows that break a key, or a disk that fails"
+        }
+        Start::Other => NO_DATABASE,
+        Start::Unread => "it can't be read",
+    }
+}

@@ -1,0 +1,204 @@
+//! The log of a file, looked at before the file is opened.
+
+ghost use Rattle.std.specs.Prelude.{◌≡◌, ℕ, false, IfErr, IfOk, IfSome, List, length};
+ghost use Rattle.std.specs.Prelude.{string_bytes};
+ghost use Rattle.desk_program.specs.Outside.{bytes_written};
+ghost use Rattle.db_file.specs.Commits.{HasCommit};
+ghost use Rattle.db_file.specs.Damage.{IsDamaged};
+ghost use Rattle.desk_host.specs.DamageTold as spec;
+ghost use Rattle.desk_host.specs.DamageTold.{HasUnlookedCause, IsJudged, IsLookedAt, IsWrittenUpTo};
+
+use crate::logs::{FoundLog, find_log};
+use crate::telling::tell_of;
+use db_file::{LogFault, Verdict, commits_are_long, damaged_is_long, judge_log};
+use desk_ends::{Cut, write_whole};
+use desk_line::{Database, Failure, KeeperLine};
+use std::alloc::{AllocError, Global};
+use std::io::{Read, Write};
+
+// How many bytes a damaged log has at least.
+const LEAST_DAMAGED: u64 = 1_104;
+
+// How many a log with a commit has at least.
+const LEAST_WITH_A_COMMIT: u64 = 568;
+
+// What is told of a file that isn't there, and its log is.
+const LOG_ALONE: &str = "its log is there without it: was it moved or removed while a desk ran?";
+
+/// What came of a look at a log that tells its damage to a writer of this type.
+#[derive_where(Clone, Copy, Debug, PartialEq, Eq)]
+pub struct Look<E> {
+    /// Whether its file may be opened, or copied.
+    pub is_admitted: bool,
+    /// Whether it is damaged.
+    pub is_damaged: bool,
+    /// Where the line that tells its damage was broken off, if it was.
+    pub cut: Option<Cut<E>>,
+}
+
+/// Why nothing is known of a log.
+#[derive(Clone, Copy, Debug, PartialEq, Eq)]
+pub enum Unlooked {
+    /// Memory ran out for the line that tells its damage.
+    OutOfMemory,
+    /// It can't be read.
+    Unread(LogFault),
+}
+
+impl From<AllocError> for Unlooked {
+    ghost use Rattle.std.specs.Prelude.{◌≡◌};
+    ghost use Rattle.desk_host.specs.declared.damage.Unlooked.TheVariants.{OutOfMemory};
+
+    ghost from_gives = { λ _ it. it ≡ OutOfMemory };
+
+    fn from(_error: AllocError) -> Unlooked {
+        Unlooked::OutOfMemory
+    }
+}
+
+/// Refuses a file whose log is damaged, or is there without it, and tells why. If it is to be copied, a copy
+/// is made of what can be read, and the loss is told: then the log is damaged, which is the answer. A file
+/// that another program has open is not looked at: to open it tells that.
+///
+/// # Errors
+///
+/// `DamagedLog`; `Memory` if memory runs out; `Store` if the log can't be read, or is there without its file.
+pub fn look_before<E: Write>(
+    rt: &HostRuntime,
+    database: &Database,
+    is_copied: bool,
+    errors: &mut E,
+) -> Result<bool, Failure> {
+    let Some(path) = database.path() else {
+        return Ok(false);
+    };
+    let found = find_log(rt, path)?;
+    judge_found(rt.alloc(), path, is_copied, found, errors)
+}
+
+// Refuses a file whose log was found without it, or damaged, and tells why; or answers whether the log is
+// damaged of a file that is copied.
+fn judge_found<R: Read + Drop, E: Write>(
+    alloc: Global,
+    path: &str,
+    is_copied: bool,
+    found: FoundLog<R>,
+    errors: &mut E,
+) -> Result<bool, Failure>
+    ensures { IsJudged R.Read E.Write is_copied path.now found result errors.old errors.new }
+{
+    match found {
+        FoundLog::Alone => {
+            tell_of(alloc, path, LOG_ALONE, errors);
+            Err(Failure::Store)
+        }
+        FoundLog::Nothing => Ok(false),
+        FoundLog::Log(mut log) => {
+            admission_of(look_at_log(alloc, path, is_copied, &mut log, errors))
+        }
+    }
+}
+
+// Whether a task is begun at a file, by what came of the look at its log, and whether that is damaged.
+fn admission_of<E>(look: Result<Look<E>, Unlooked>) -> Result<bool, Failure>
+    ensures { result ≡ spec.admission_of look }
+{
+    match look {
+        Ok(look) if look.is_admitted => Ok(look.is_damaged),
+        Ok(_) => Err(Failure::DamagedLog),
+        Err(Unlooked::OutOfMemory) => Err(Failure::Memory),
+        Err(Unlooked::Unread(_)) => Err(Failure::Store),
+    }
+}
+
+/// Looks at the log of the file at a path, and tells its damage, if there is some. If the file is to be
+/// copied it is admitted all the same.
+///
+/// # Errors
+///
+/// As `Unlooked` says.
+pub fn look_at_log<R: Read, E: Write>(
+    alloc: Global,
+    path: &str,
+    is_copied: bool,
+    log: &mut R,
+    errors: &mut E,
+) -> Result<Look<E>, Unlooked>
+    ensures looked { IfSome (R.remaining log.old) (λ bytes. IsLookedAt is_copied path.now bytes result
+        (bytes_written E.Write errors.old errors.new)) }
+    ensures cause { IfErr result (HasUnlookedCause (R.remaining log.old)) }
+{
+    match judge_log(log) {
+        Ok(Verdict::Sound) => Ok(Look {
+            is_admitted: true,
+            is_damaged: false,
+            cut: None,
+        }),
+        Ok(Verdict::Damaged { frame, commits }) => {
+            let cut = tell_damage(alloc, path, frame, commits, errors)?;
+            Ok(Look {
+                is_admitted: is_copied,
+                is_damaged: true,
+                cut,
+            })
+        }
+        Err(fault) => Err(Unlooked::Unread(fault)),
+    }
+}
+
+// Tells that a log is damaged, and answers where that was broken off, if it was.
+fn tell_damage<E: Write>(
+    alloc: Global,
+    path: &str,
+    frame: u64,
+    commits: u64,
+    errors: &mut E,
+) -> Result<Option<Cut<E>>, AllocError>
+    ensures told { IfOk result (λ cut. IsWrittenUpTo (spec.damage_line path.now frame commits) cut
+        (bytes_written E.Write errors.old errors.new)) }
+    ensures untold { IfErr result (λ _. E.contents errors.new ≡ E.contents errors.old) }
+{
+    let line = damage_line(alloc, path, frame, commits)?;
+    match write_whole(errors, line.as_bytes()) {
+        Ok(()) => Ok(None),
+        Err(cut) => Ok(Some(cut)),
+    }
+}
+
+// The line that tells damage.
+#[tactic(auto, unfolding(crate::specs::DamageTold::damage_line))]
+fn damage_line(alloc: Global, path: &str, frame: u64, commits: u64) -> Result<String, AllocError>
+    ensures { IfOk result (λ line. string_bytes line ≡ spec.damage_line path.now frame commits) }
+{
+    format!(in alloc;
+        "uss_desk: {path}: its log is damaged at frame {frame}: \
+         {commits} commits from there on can't be read\n"
+    )
+}
+
+/// Whether a line copies its file.
+pub fn is_copy(line: &KeeperLine) -> bool
+    ensures { result ≡ spec.is_copy line.now }
+{
+    match line {
+        KeeperLine::Copy(_) => true,
+        KeeperLine::Check(_) | KeeperLine::Migrate(_) | KeeperLine::Replay(_) => false,
+    }
+}
+
+/// Whether a log of so many bytes may have a commit.
+pub(crate) fn may_have_commit(size: u64) -> bool
+    ensures { result ≡ false → (log : List ℕ) → length log ≡ size → ¬ HasCommit log }
+{
+    commits_are_long();
+    size >= LEAST_WITH_A_COMMIT
+}
+
+/// Whether a log of so many bytes may be damaged.
+pub(crate) fn may_be_damaged(size: u64) -> bool
+    ensures { result ≡ false → (log : List ℕ) → length log ≡ size
+        → (frame commits : ℕ) → ¬ IsDamaged log frame commits }
+{
+    damaged_is_long();
+    size >= LEAST_DAMAGED
+}

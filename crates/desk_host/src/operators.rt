@@ -1,0 +1,290 @@
+//! The file of enrolments that the keeper changes while a desk serves: lines `NAME CEILING`.
+
+ghost use Rattle.std.specs.Prelude.{◌≡◌, List, [], ◌∷◌, IfErr, IfOk, None, Option, option_map, string_bytes};
+ghost use Rattle.desk_line.specs.Lines.{AreEnrolments};
+ghost use Rattle.desk_wire.specs.Passage.{course};
+ghost use Rattle.desk_program.specs.Serving.{Grows};
+ghost use Rattle.desk_host.specs.Operators as spec;
+ghost use Rattle.desk_host.specs.Operators.{AreEnrolmentsRead, AreNews, Asking, HasUnreadCause, Read, Stamped, ok_of};
+
+use crate::telling::tell_of;
+use desk_line::{Enrolment, Failure, Line, enrolment_on, enrolments_on, lines_of};
+use desk_program::Register;
+use std::alloc::{AllocError, Global};
+use std::fs::{self, File};
+use std::io::{self, ErrorKind, Read};
+use std::time::SystemTime;
+
+/// The most bytes of the file: 1 MiB.
+const MAX_BYTES: u64 = 1_048_576;
+
+/// How many lines are told of each time that the file is read.
+const TOLD_LINES: u32 = 20;
+
+/// When a file was changed last, and how long it is.
+#[derive(Clone, Copy, PartialEq, Eq)]
+pub struct Stamp {
+    modified: Option<SystemTime>,
+    len: u64,
+}
+
+/// Why a file can't be read.
+#[derive(Drop)]
+pub enum Unread {
+    /// Memory ran out.
+    Memory,
+    /// Another cause, as it is told.
+    Cause(&'static str),
+}
+
+impl From<AllocError> for Unread {
+    ghost use Rattle.std.specs.Prelude.{◌≡◌};
+    ghost use Rattle.desk_host.specs.declared.operators.Unread.TheVariants.{Memory};
+
+    ghost from_gives = { λ _ it. it ≡ Memory };
+
+    fn from(_error: AllocError) -> Unread {
+        Unread::Memory
+    }
+}
+
+impl From<io::Error> for Unread {
+    fn from(error: io::Error) -> Unread {
+        match error.kind() {
+            ErrorKind::OutOfMemory => Unread::Memory,
+            ErrorKind::NotFound => Unread::Cause("no such file"),
+            ErrorKind::PermissionDenied => Unread::Cause("no right to read it"),
+            _ => Unread::Cause("it can't be read"),
+        }
+    }
+}
+
+/// The files of texts that a keeper changes while a desk serves.
+pub trait TextFiles {
+    /// What was asked of them, in its order, if it is known.
+    ghost asked: { Self → Option (List Asking) } = { λ _. None };
+
+    /// When the file at a path was changed last, and its length.
+    ///
+    /// # Errors
+    ///
+    /// As `Unread` says.
+    fn stamp(&mut self, path: &str) -> Result<Stamp, Unread>
+        ensures { Grows (asked self.old) (asked self.new) (Stamped path.now (ok_of result) ∷ []) };
+
+    /// The text of the file at a path. Bytes that are no text stand for themselves in no line that can be
+    /// read.
+    ///
+    /// # Errors
+    ///
+    /// As `Unread` says.
+    fn text(&mut self, alloc: Global, path: &str) -> Result<String, Unread>
+        ensures { Grows (asked self.old) (asked self.new)
+            (Read path.now (option_map string_bytes (ok_of result)) ∷ []) };
+}
+
+/// The files of the operating system, of which nothing is told.
+#[derive(Drop)]
+pub struct LocalFiles<'s> {
+    rt: &'s HostRuntime,
+}
+
+impl<'s> LocalFiles<'s> {
+    /// The files of this run.
+    pub fn new(rt: &'s HostRuntime) -> LocalFiles<'s> {
+        LocalFiles { rt }
+    }
+}
+
+impl<'s> TextFiles for LocalFiles<'s> {
+    fn stamp(&mut self, path: &str) -> Result<Stamp, Unread> {
+        stamp_of(self.rt, path)
+    }
+
+    fn text(&mut self, alloc: Global, path: &str) -> Result<String, Unread> {
+        read_text(self.rt, alloc, path)
+    }
+}
+
+/// A file of enrolments, or none. What can't be read of it is told on the standard error.
+#[derive(Drop)]
+pub struct OperatorsFile<'r, F: Drop> {
+    rt: &'r HostRuntime,
+    files: F,
+    path: Option<&'r str>,
+    // The file whose operators were told.
+    seen: Option<Stamp>,
+    // The file of whose lines it was told which can't be read.
+    checked: Option<Stamp>,
+    // Why the file could not be read, as it was told last.
+    told: Option<&'static str>,
+}
+
+/// The file of enrolments that a line names, read once, so that its keeper is told which lines can't be read.
+///
+/// # Errors
+///
+/// `Read` if the file can't be read, after a line that tells why; `Memory`.
+pub fn operators_of<'r, F: TextFiles + Drop>(
+    rt: &'r HostRuntime,
+    files: F,
+    line: &'r Line,
+) -> Result<OperatorsFile<'r, F>, Failure>
+    ensures { IfOk result (λ file. option_map (λ path. path.now) file.path ≡ spec.operators_of line.now) }
+{
+    let mut file = OperatorsFile {
+        rt,
+        files,
+        path: path_of(line),
+        seen: None,
+        checked: None,
+        told: None,
+    };
+    let Some(path) = file.path else {
+        return Ok(file);
+    };
+    match file.read_file(rt.alloc(), path) {
+        Ok(_) => Ok(file),
+        Err(Unread::Memory) => Err(Failure::Memory),
+        Err(Unread::Cause(cause)) => {
+            tell_of(rt.alloc(), path, cause, &mut rt.stderr());
+            Err(Failure::Read)
+        }
+    }
+}
+
+// The path of the file of enrolments that a line names, if it names one.
+fn path_of(line: &Line) -> Option<&str>
+    ensures { option_map (λ path. path.now) result ≡ spec.operators_of line.now }
+{
+    match line {
+        Line::Serve(words) => words.operators.as_deref(),
+        Line::Play(_) | Line::Enrol(_) => None,
+    }
+}
+
+impl<F: TextFiles + Drop> OperatorsFile<'_, F> {
+    // The operators of the file. Lines that can't be read are told once.
+    fn read_file(&mut self, alloc: Global, path: &str) -> Result<Vec<Enrolment>, Unread>
+        ensures small { IfOk result (λ enrolments. AreEnrolments enrolments.items) }
+        ensures read { IfOk result (λ enrolments. AreEnrolmentsRead path.now
+            (course (F.asked self.old.files) (F.asked self.new.files)) enrolments.items) }
+        ensures cause { IfErr result
+            (HasUnreadCause path.now (course (F.asked self.old.files) (F.asked self.new.files))) }
+        ensures path { self.new.path ≡ self.old.path }
+        ensures seen { self.new.seen ≡ self.old.seen }
+    {
+        let stamp = self.files.stamp(path)?;
+        let text = self.files.text(alloc, path)?;
+        let lines = lines_of(alloc, &text)?;
+        if self.checked != Some(stamp) {
+            self.checked = Some(stamp);
+            tell_lines(self.rt, path, &lines)?;
+        }
+        Ok(enrolments_on(alloc, &lines)?)
+    }
+
+    // Tells why the file can't be read, if that wasn't told.
+    fn tell_once(&mut self, path: &str, cause: &'static str)
+        ensures asked { F.asked self.new.files ≡ F.asked self.old.files }
+        ensures seen { self.new.seen ≡ self.old.seen }
+    {
+        if self.told != Some(cause) {
+            self.told = Some(cause);
+            tell_of(self.rt.alloc(), path, cause, &mut self.rt.stderr());
+        }
+    }
+}
+
+impl<F: TextFiles + Drop> Register for OperatorsFile<'_, F> {
+    #[tactic(auto, using(crate::proofs::OperatorLemmas::no_news))]
+    fn look(&mut self, alloc: Global) -> Result<Vec<Enrolment>, Failure>
+        ensures small { IfOk result (λ news. AreEnrolments news.items) }
+        ensures fault { IfErr result (λ f. f ≡ Failure.Memory) }
+        ensures news { IfOk result (λ news. AreNews (option_map (λ path. path.now) self.old.path)
+            (course self.old.seen self.new.seen) (course (F.asked self.old.files) (F.asked self.new.files))
+            news.items) }
+    {
+        let Some(path) = self.path else {
+            return Ok(Vec::new(alloc));
+        };
+        let stamp = self.files.stamp(path).ok();
+        if stamp.is_some() && stamp == self.seen {
+            return Ok(Vec::new(alloc));
+        }
+        self.seen = stamp;
+        match self.read_file(alloc, path) {
+            Ok(enrolments) => {
+                self.told = None;
+                Ok(enrolments)
+            }
+            Err(Unread::Memory) => Err(Failure::Memory),
+            Err(Unread::Cause(cause)) => {
+                self.seen = None;
+                self.tell_once(path, cause);
+                Ok(Vec::new(alloc))
+            }
+        }
+    }
+}
+
+// When the file at a path was changed last, and its length.
+fn stamp_of(rt: &HostRuntime, path: &str) -> Result<Stamp, Unread> {
+    let found = fs::metadata(rt, path)?;
+    if !found.is_file() {
+        return Err(Unread::Cause("no file"));
+    }
+    Ok(Stamp {
+        modified: found.modified().ok(),
+        len: found.len(),
+    })
+}
+
+// The text of the file at a path. Bytes that are no text stand for themselves in no line that can be read.
+fn read_text(rt: &HostRuntime, alloc: Global, path: &str) -> Result<String, Unread> {
+    let mut bytes = Vec::new(alloc);
+    let mut file = File::open(rt, path)?.take(MAX_BYTES + 1);
+    file.read_to_end(&mut bytes)?;
+    if bytes.len() as u64 > MAX_BYTES {
+        return Err(Unread::Cause("longer than 1,048,576 bytes"));
+    }
+    Ok(String::from_utf8_lossy(alloc, &bytes)?)
+}
+
+// Tells which lines of a file can't be read, the first of them one by one.
+fn tell_lines(rt: &HostRuntime, path: &str, lines: &[&str]) -> Result<(), AllocError> {
+    let mut unread = 0u32;
+    let mut number = 0u32;
+    for line in lines {
+        number = number.saturating_add(1);
+        if is_unread(line) {
+            unread = unread.saturating_add(1);
+            if unread <= TOLD_LINES {
+                tell_line(rt, path, number)?;
+            }
+        }
+    }
+    if unread > TOLD_LINES {
+        tell_more(rt, path, unread - TOLD_LINES)?;
+    }
+    Ok(())
+}
+
+// Whether a line is neither empty nor an enrolment.
+fn is_unread(line: &str) -> bool {
+    !line.is_empty() && enrolment_on(line).is_none()
+}
+
+fn tell_line(rt: &HostRuntime, path: &str, number: u32) -> Result<(), AllocError> {
+    let alloc = rt.alloc();
+    let text = format!(in alloc; "line {number} is not NAME CEILING, and passed over")?;
+    tell_of(alloc, path, &text, &mut rt.stderr());
+    Ok(())
+}
+
+fn tell_more(rt: &HostRuntime, path: &str, count: u32) -> Result<(), AllocError> {
+    let alloc = rt.alloc();
+    let text = format!(in alloc; "{count} more such lines")?;
+    tell_of(alloc, path, &text, &mut rt.stderr());
+    Ok(())
+}

@@ -1,0 +1,122 @@
+//! The twins of files of the operating system.
+
+use crate::access::access_cause;
+use crate::naming::{OWNER_ALONE, unmade_text};
+use db_file::{copy_bytes, copy_mended};
+use sqlite::Unknown;
+use sqlite_std_file::OpenError;
+use std::alloc::AllocError;
+use std::fs::{self, File, OpenOptions};
+use std::io::{self, ErrorKind};
+use std::os::unix::fs::OpenOptionsExt;
+
+/// Why a file has no twin.
+#[derive(Clone, Copy, Debug, PartialEq, Eq)]
+pub enum TwinFault {
+    /// Memory ran out.
+    OutOfMemory,
+    /// The file can't be had, for this cause.
+    Source(&'static str),
+    /// The twin can't be made, for this cause.
+    Twin(&'static str),
+}
+
+impl From<AllocError> for TwinFault {
+    fn from(_error: AllocError) -> TwinFault {
+        TwinFault::OutOfMemory
+    }
+}
+
+// What is told of a file that can't be read.
+const UNREAD: &str = "it can't be read";
+
+/// Makes the twin of a file, which no other program has meanwhile, where there is nothing: mended, or, with
+/// its log, as it is. The twin is its owner's alone. No log is left beside the file where
+/// there was none.
+///
+/// # Errors
+///
+/// As `TwinFault` says. What was made by then is left.
+pub fn write_twin(
+    rt: &HostRuntime,
+    source: &str,
+    twin: &str,
+    is_mended: bool,
+) -> Result<(), TwinFault> {
+    let real = fs::canonicalize(rt, source).map_err(|error| source_fault(&error))?;
+    let log = format!(in rt.alloc(); "{}-wal", real.as_str())?;
+    let is_alone =
+        matches!(fs::symlink_metadata(rt, log.as_str()), Err(error) if error.kind() == ErrorKind::NotFound);
+    match sqlite_std_file::open(rt, source, Unknown) {
+        Ok(_held) => {
+            if is_alone {
+                remove_empty(rt, &log);
+            }
+            if is_mended {
+                write_mended(rt, source, twin)
+            } else {
+                write_pair(rt, source, &log, twin)
+            }
+        }
+        Err(OpenError::OutOfMemory) => Err(TwinFault::OutOfMemory),
+        Err(_) => Err(TwinFault::Source(access_cause(rt, source).unwrap_or(UNREAD))),
+    }
+}
+
+// Removes a log that has nothing: one that was made when its file was held.
+fn remove_empty(rt: &HostRuntime, log: &str) {
+    if matches!(fs::symlink_metadata(rt, log), Ok(found) if found.is_file() && found.len() == 0) {
+        let _ = fs::remove_file(rt, log);
+    }
+}
+
+// Copies a file, mended. It is opened once, and closed after all else: its closing lets go
+// of it.
+fn write_mended(rt: &HostRuntime, source: &str, twin: &str) -> Result<(), TwinFault> {
+    let mut file = File::open(rt, source).map_err(|error| source_fault(&error))?;
+    let mut made = new_file(rt, twin)?;
+    copy_mended(&mut file, &mut made).map_err(|error| copy_fault(&error))
+}
+
+// Copies a file and its log. Both are closed after all else.
+fn write_pair(rt: &HostRuntime, source: &str, log: &str, twin: &str) -> Result<(), TwinFault> {
+    let twin_log = format!(in rt.alloc(); "{twin}-wal")?;
+    let mut file = File::open(rt, source).map_err(|error| source_fault(&error))?;
+    let mut changes = File::open(rt, log).map_err(|error| source_fault(&error))?;
+    let mut made = new_file(rt, twin)?;
+    copy_bytes(&mut file, &mut made).map_err(|error| copy_fault(&error))?;
+    let mut made_log = new_file(rt, &twin_log)?;
+    copy_bytes(&mut changes, &mut made_log).map_err(|error| copy_fault(&error))
+}
+
+// Makes a file where there is nothing, its owner's alone.
+fn new_file(rt: &HostRuntime, path: &str) -> Result<File, TwinFault> {
+    OpenOptions::new()
+        .write(true)
+        .create_new(true)
+        .mode(OWNER_ALONE)
+        .open(rt, path)
+        .map_err(|error| {
+            match error.kind() {
+                ErrorKind::OutOfMemory => TwinFault::OutOfMemory,
+                kind => TwinFault::Twin(unmade_text(kind)),
+            }
+        })
+}
+
+// Why a file can't be read.
+fn source_fault(error: &io::Error) -> TwinFault {
+    match error.kind() {
+        ErrorKind::OutOfMemory => TwinFault::OutOfMemory,
+        _ => TwinFault::Source(UNREAD),
+    }
+}
+
+// Why a file can't be copied.
+fn copy_fault(error: &io::Error) -> TwinFault {
+    match error.kind() {
+        ErrorKind::OutOfMemory => TwinFault::OutOfMemory,
+        ErrorKind::StorageFull | ErrorKind::QuotaExceeded => TwinFault::Twin("a full disk"),
+        _ => TwinFault::Twin("it can't be written, or what it is made of can't be read"),
+    }
+}

@@ -1,8 +1,0 @@
-use Rattle.uss_desk.proofs.keeping.tell_unread.Goals as goal
-
-pub returns : goal.returns
-returns g c = record {
-  between = _;
-  cause = c.tell_database.ensures;
-  fails = (c.conclude.ensures.status, c.conclude.ensures.told);
-}

@@ -1,8 +1,0 @@
-use Rattle.uss_desk.proofs.twins.refuse_as.Goals as goal
-
-pub returns : goal.returns
-returns g c = record {
-  between = g.E.Write.contents c.tell.new.errors;
-  cause = c.tell.ensures;
-  fails = (c.conclude.ensures.status, c.conclude.ensures.told);
-}
