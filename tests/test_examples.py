@@ -57,7 +57,7 @@ def test_plan_shown_by_a_later_run(room: pathlib.Path) -> None:
 
 @pytest.mark.quick
 def test_plan_read_by_sqlite3(room: pathlib.Path) -> None:
-    """The plan is in the table that docs/TABLES.md tells."""
+    """The plan is in the table that docs/tables.md tells."""
     planned(str(room / "desk.db"))
     ran = command(["sqlite3", str(room / "desk.db"), "SELECT operator, id, priority FROM plan"])
     assert ran[:2] == (0, b"alfa|11111111-1111-4111-8111-111111111111|10\n")

@@ -7,13 +7,18 @@ import shutil
 import subprocess
 import tempfile
 from collections.abc import Sequence
+from subprocess import PIPE
 from typing import NamedTuple
 
+from faults.in_each_call import ONE_MAPPING_EACH
 from faults.scenario import MOMENT, OPERATORS, READING
 from harness import program
+from harness.ports import until
 
 PROGRAM = str(program.PROGRAM)
 PATIENCE = 300
+# In which each allocation is one mmap.
+TUNED = {**os.environ, "GLIBC_TUNABLES": ONE_MAPPING_EACH}
 # With -f each line of strace begins with the number of a process.
 PROCESS = re.compile(r"^\d+ +", re.MULTILINE)
 WHOLE = "PRAGMA integrity_check; PRAGMA foreign_key_check;"
@@ -55,6 +60,38 @@ def run_traced(words: Sequence[str], given: bytes, options: Sequence[str]) -> Ra
         ran = finish(["strace", "-qq", "-o", str(trace), *options, PROGRAM, *words], given)
         lines = PROCESS.sub("", trace.read_text(errors="replace")).splitlines() if trace.exists() else []
     return ran._replace(trace=lines)
+
+
+def run_attached(words: Sequence[str], before: bytes, length: int, given: bytes, options: Sequence[str]) -> Ran:
+    """Runs the program, and traces it by strace with these options once it has answered what is asked before, by so
+    many bytes, and reads on; then it is given the rest. The trace has what it does from then on."""
+    with tempfile.TemporaryDirectory(prefix="faults-") as room:
+        with subprocess.Popen([PROGRAM, *words], stdin=PIPE, stdout=PIPE, stderr=PIPE, env=TUNED) as program:
+            assert program.stdin and program.stdout
+            program.stdin.write(before)
+            program.stdin.flush()
+            told = program.stdout.read(length)
+            until("a read of its input", lambda: reads_on(program.pid), pause=0.001)
+            line = ["strace", "-o", f"{room}/trace", *options, "-p", str(program.pid)]
+            with subprocess.Popen(line, stderr=PIPE) as tracer:
+                assert tracer.stderr and b"attached" in tracer.stderr.readline()
+                output, errors = communicate(program, given)
+        lines = pathlib.Path(room, "trace").read_text(errors="replace").splitlines()
+    return Ran(program.returncode, told + output, errors.decode(errors="replace"), lines)
+
+
+def communicate(program: subprocess.Popen[bytes], given: bytes) -> tuple[bytes, bytes]:
+    """What a program that is given this says until it ends, or until it is killed as patience ends."""
+    try:
+        return program.communicate(given, PATIENCE)
+    except subprocess.TimeoutExpired:
+        program.kill()
+        return program.communicate()
+
+
+def reads_on(number: int) -> bool:
+    """Whether the process of this number waits for its standard input."""
+    return pathlib.Path(f"/proc/{number}/syscall").read_text().startswith("0 0x0 ")
 
 
 def read_content(path: str) -> Ran:

@@ -33,9 +33,9 @@ def volume(lower: int, upper: int, start: int, end: int, footprint: str) -> str:
     return f'{{{ends},"volume":{{"altitude_lower":{lower},"altitude_upper":{upper},{footprint}}}}}'
 
 
-def put(operator: str, plan: str, priority: int, asked: str) -> bytes:
-    """A PUT of a planned flight over one volume."""
-    flight = f'"area":[{asked}],"uas_state":"Nominal","usage_state":"Planned"'
+def put(operator: str, plan: str, priority: int, asked: str, usage: str = "Planned") -> bytes:
+    """A PUT of a flight over one volume."""
+    flight = f'"area":[{asked}],"uas_state":"Nominal","usage_state":"{usage}"'
     levels = f'"astm_f3548_21":{{"priority":{priority}}},"basic_information":{{{flight}}}'
     body = f'{{"execution_style":"IfAllowed","flight_plan":{{{levels}}}}}'
     return request("PUT", f"/flight_plans/{plan}", operator, body)
@@ -63,7 +63,8 @@ def point(altitude: int, second: int, priority: int) -> str:
 
 def shown(plan: str, priority: int, area: str, conflict: str = "", state: str = "Planned") -> str:
     """A plan as a GET shows it: its one volume without its seconds is `area`, its window and its lines follow."""
-    lines = f'"flight_plan_id":"{plan}","flight_plan_status":"{state}","priority":{priority}'
+    status = {"InUse": "OkToFly"}.get(state, state)
+    lines = f'"flight_plan_id":"{plan}","flight_plan_status":"{status}","priority":{priority}'
     return f'{{"area":[{area}],{conflict}{lines},"uas_state":"Nominal","usage_state":"{state}"}}'
 
 

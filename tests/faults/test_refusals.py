@@ -1,8 +1,4 @@
-"""Growths of memory that are refused: one alone, or each from one on; in memory, over a new file, over a kept one.
-
-glibc is told to make each allocation by one mmap, and strace refuses the Nth mmap and the one by which malloc tries
-again. Growths that move a block by mremap are not reached.
-"""
+"""Growths of memory that are refused, of a sample: one alone, or each from one on; over a new file, over a kept one."""
 
 import functools
 import os
@@ -14,20 +10,15 @@ from typing import NamedTuple
 
 import pytest
 from faults.conftest import Note
-from faults.in_each_call import ONE_MAPPING_EACH
+from faults.growths import MAPPINGS, Refused, lost_500, mappings, refusing, was_refused
 from faults.judging import MEMORY, contents_after, first_of, kind_of, wrong_content, wrong_end
 from faults.lines import LINES
-from faults.program import Ran, play_words, run, run_traced
+from faults.program import play_words, run, run_traced
 from faults.scenario import ANSWERS, CONTENTS, ENROLLED, OPERATORS, READING, REQUESTS, STEPS
 from harness.rows import Rows
 
 pytestmark = [pytest.mark.proved, pytest.mark.slow]
 
-# strace stops the program at the calls that it traces, and at no other.
-EACH_A_MAPPING = ["-f", "--seccomp-bpf", "-E", f"GLIBC_TUNABLES={ONE_MAPPING_EACH}", "-e", "inject=brk:error=ENOMEM"]
-MAPPINGS = [*EACH_A_MAPPING, "-e", "trace=mmap,munmap,brk"]
-# Of the growths it tells only those that are refused.
-REFUSING = [*EACH_A_MAPPING, "-Z", "-e", "trace=mmap,brk"]
 KEPT = 6
 """How many requests make the content of the kept file, which are all of its plans."""
 SHARES = 16
@@ -46,7 +37,6 @@ class Target(NamedTuple):
     given: bytes
     answers: Sequence[bytes]
     operators: Sequence[str]
-    has_file: bool
     is_kept: bool
     step: int
     lasting_step: int
@@ -54,17 +44,9 @@ class Target(NamedTuple):
 
 READ = [STEPS[KEPT - 1][2], STEPS[KEPT - 1][3]]
 TARGETS = {
-    "in memory": Target(REQUESTS, ANSWERS, OPERATORS, False, False, 16, 5),
-    "over a new file": Target(REQUESTS, ANSWERS, OPERATORS, True, False, 67, 4),
-    "over a kept file": Target(READING, READ, [], True, True, 97, 4),
+    "over a new file": Target(REQUESTS, ANSWERS, OPERATORS, False, 67, 4),
+    "over a kept file": Target(READING, READ, [], True, 97, 4),
 }
-
-
-class Refused(NamedTuple):
-    """What came of one refusal."""
-
-    kind: str
-    complaint: str | None
 
 
 @pytest.fixture(scope="module")
@@ -77,10 +59,8 @@ def kept() -> Iterator[str]:
         yield path
 
 
-def words_in(target: Target, kept: str, room: str) -> tuple[list[str], str | None]:
-    """The line of a run in a folder of its own, and the path of its file or None."""
-    if not target.has_file:
-        return play_words(None, target.operators), None
+def words_in(target: Target, kept: str, room: str) -> tuple[list[str], str]:
+    """The line of a run in a folder of its own, and the path of its file."""
     path = str(pathlib.Path(room) / "desk.db")
     for end in ("", "-wal") if target.is_kept else ():
         if os.path.exists(f"{kept}{end}"):
@@ -96,38 +76,16 @@ def growths(name: str, kept: str) -> tuple[int, int]:
         return mappings(run_traced(words, TARGETS[name].given, MAPPINGS))
 
 
-def mappings(ran: Ran) -> tuple[int, int]:
-    """The numbers of the first and the last mapping of an undisturbed run that the program itself asks for."""
-    calls = [line.split("(")[0] for line in ran.trace]
-    loaded = calls.index("munmap") if "munmap" in calls else 0
-    return calls[:loaded].count("mmap") + 1, calls.count("mmap")
-
-
-def refusing(number: int, is_lasting: bool) -> list[str]:
-    """How strace refuses one growth, or that one and all later ones."""
-    when = f"{number}+" if is_lasting else f"{number}..{number + 1}"
-    return [*REFUSING, "-e", f"inject=mmap:error=ENOMEM:when={when}"]
-
-
 def refuse(target: Target, kept: str, number: int, is_lasting: bool) -> Refused:
     """A run to which one growth is refused, or that one and all later ones."""
     options = refusing(number, is_lasting)
     with tempfile.TemporaryDirectory(prefix="faults-") as room:
         words, path = words_in(target, kept, room)
         ran = run_traced(words, target.given, options)
-        was_refused = any(line.startswith("mmap(") and "INJECTED" in line for line in ran.trace)
-        complaint = wrong_end(ran, target.answers, MEMORY, was_refused)
-        if path is not None:
-            allowed = [CONTENTS[ENROLLED + KEPT]] if target.is_kept else contents_after(ran.output, 0)
-            complaint = first_of(complaint, wrong_content(path, allowed))
-    return Refused(kind_of(ran) if was_refused else "not refused", complaint)
-
-
-def lost_500(single: Refused, lasting: Refused) -> str | None:
-    """A growth whose refusal is answered by a 500 is so too if all later ones are refused: room for it is reserved."""
-    if single.kind == "ended broken" and lasting.kind != "ended broken":
-        return f"one refusal is answered by a 500, and with all later ones it {lasting.kind}"
-    return None
+        allowed = [CONTENTS[ENROLLED + KEPT]] if target.is_kept else contents_after(ran.output, 0)
+        ended = wrong_end(ran, target.answers, MEMORY, was_refused(ran))
+        complaint = first_of(ended, wrong_content(path, allowed))
+    return Refused(kind_of(ran) if was_refused(ran) else "not refused", complaint)
 
 
 def sample(first: int, last: int, target: Target, is_every: bool) -> list[tuple[int, bool]]:

@@ -48,10 +48,10 @@ def is_listening(port: int) -> bool:
         return False
 
 
-def until(what: str, condition: Callable[[], object], patience: float = PATIENCE) -> None:
-    """Waits until a condition holds."""
+def until(what: str, condition: Callable[[], object], patience: float = PATIENCE, pause: float = 0.05) -> None:
+    """Waits until a condition holds, which is looked at after each pause."""
     end = time.monotonic() + patience
     while not condition():
         if time.monotonic() > end:
             raise TimeoutError(f"{what} took more than {patience} s")
-        time.sleep(0.05)
+        time.sleep(pause)

@@ -1,4 +1,4 @@
-"""What is planned: by the SQL of docs/TABLES.md over a copy, and by tools/planned_now over the
+"""What is planned: by the SQL of docs/tables.md over a copy, and by tools/planned_now over the
 copy and at a port."""
 
 from __future__ import annotations
@@ -69,7 +69,7 @@ def unread(words: Sequence[str]) -> tuple[int, bytes]:
 def over_a_copy(rows: Rows, copy: pathlib.Path) -> None:
     """By planned_now and by the SQL over a copy."""
     rows.equal("planned_now over a copy", TABLE, run([*LOOK, "--db", copy]))
-    query = blocks(section(page("TABLES.md"), "## What is planned"), "sql")[0]
+    query = blocks(section(page("tables.md"), "## What is planned"), "sql")[0]
     text = query.replace("CAST(strftime('%s', 'now') AS INTEGER)", str(NOW))
     rows.equal("the SQL over a copy", ROWS, run(["sqlite3", copy, text]))
     rows.equal("how many there are", "2|5\n", count_of(copy))

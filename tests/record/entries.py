@@ -1,4 +1,4 @@
-"""Records as docs/RECORD.md has them, written from that document alone, of the answers that the program gives."""
+"""Records as docs/journal-format.md has them, written from it alone, of the answers that the program gives."""
 
 from __future__ import annotations
 

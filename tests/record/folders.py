@@ -1,4 +1,4 @@
-"""A folder of records and the desk's file beside it: what both hold, as docs/RECORD.md and sqlite3 have it."""
+"""A folder of records and the desk's file beside it: what both hold, as docs/journal-format.md and sqlite3 have it."""
 
 from __future__ import annotations
 
