@@ -1,4 +1,4 @@
-"""A desk's file of many plans, written by Python's SQLite, without sums on its pages: rows as docs/TABLES.md has them.
+"""A desk's file of many plans, written by Python's SQLite, without sums on its pages: rows as docs/tables.md has them.
 
 A plan is Planned or closed, with priority 10. A footprint is a list of cells, of which no four are a larger one, or the
 strip of crowds.py.
