@@ -123,7 +123,7 @@ def free_time(rows: Rows, setting: Setting, page: Page) -> None:
     page.until("the free times", lambda: page.value("#times", "data-state") == "free")
     rows.equal("carol: one free time", 1, len(page.all(".free-times li")))
     rows.holds("carol: found by few requests", puts_told(page) < 30)
-    rows.equal("carol: shown in the bar of time", 1, len(page.all(".free-span")))
+    page.until("the free time in the bar of time", lambda: len(page.all(".free-span")) == 1)
     page.click(".free-times button")
     page.until("the flight is moved", lambda: bool(page.drafts()[0]["start"] != start))
     rows.equal("carol: to where it is free", [end], [one["start"] for one in page.drafts()])

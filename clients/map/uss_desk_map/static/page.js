@@ -60,7 +60,7 @@ async function setting() {
 function listenAll() {
   listen(["plans", "chosen", "moment", "drafts"], drawPlans);
   listen(["plans", "chosen", "moment", "drafts", "busy", "messages"], () => drawTable(byId("plans")));
-  listen(["plans", "chosen", "moment", "draft", "drafts", "reasons"], drawTime);
+  listen(["plans", "chosen", "moment", "draft", "drafts", "cover", "reasons"], drawTime);
   listen(["plans", "chosen", "moment", "draft", "drafts", "cover"], drawAltitude);
   listen(["chosen", "drafts", "draft", "cover", "plans", "drawing"], drawDraft);
   listen(["chosen", "reasons"], drawReasons);
