@@ -1,5 +1,5 @@
 -- The rows of `volume2` with all their columns are those of volumes and those of covers.
-use Rattle.std.proofs.Common.{◌≡◌, ◌<◌, ◌+◌, ℕ, List, [], ◌∷◌, length, map, arith, refl, sym, ap, ap₂, subst, ◌∙◌, true}
+use Rattle.std.proofs.Common.{◌≡◌, ◌<◌, ◌+◌, ℕ, List, [], ◌∷◌, length, map, arith, refl, ap, ap₂, subst, ◌∙◌, true}
 use Rattle.std.specs.Ordering.{is_lt}
 use Rattle.std.specs.List.Sorted.{IsSorted}
 use Rattle.std.proofs.lemmas.List.{get_or-map, length-map}
@@ -10,7 +10,7 @@ use Rattle.sqlite_keyed.proofs.ListLemmas.{map-map}
 use Rattle.desk_sql.specs.declared.opening.finding.TablesPresent.{TablesPresent}
 use Rattle.desk_sql.specs.Rows.{by_cells, columns, cover_columns, tables_at, Lists}
 use Rattle.desk_sql.specs.Schema.{has_table, is_packed, tree_of}
-use Rattle.desk_sql.specs.Volumes.{ArePartsOf, ListVolumes, cover_part, volume_part, volume_table_in}
+use Rattle.desk_sql.specs.Volumes.{ListVolumes, cover_part, volume_part, volume_table_in}
 
 abbrev key : List ℕ
 key = 0 ∷ 1 ∷ 2 ∷ []
@@ -58,11 +58,10 @@ module _ (made : TablesPresent) (db : Trees) where
 
   -- rows with all columns are told as the rows of the tables
   pub parts_listed : has_table made (volume_table_in (is_packed made)) ≡ true
-      → (rows volumes covers : List Row) → Lists key (map (columns 9) stored) rows
-      → ArePartsOf rows volumes covers → ListVolumes (tables_at made db) volumes covers
-  parts_listed there rows volumes covers lists parts = record {
-    volumes_listed = subst (λ wanted. Lists key wanted volumes) (volumes_at there)
-        (subst (Lists key (map (columns 8) stored)) (sym parts.volumes_are) (volumes_of stored rows lists));
-    covers_listed = subst (λ wanted. Lists key wanted covers) (covers_at there)
-        (subst (Lists key (map cover_columns stored)) (sym parts.covers_are) (covers_of stored rows lists));
+      → (rows : List Row) → Lists key (map (columns 9) stored) rows → ListVolumes (tables_at made db) rows
+  parts_listed there rows lists = record {
+    volumes_listed = subst (λ wanted. Lists key wanted (map volume_part rows)) (volumes_at there)
+        (volumes_of stored rows lists);
+    covers_listed = subst (λ wanted. Lists key wanted (map cover_part rows)) (covers_at there)
+        (covers_of stored rows lists);
   }

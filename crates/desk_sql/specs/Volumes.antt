@@ -1,5 +1,5 @@
 -- The rows of `volume2` as an opening reads them: each once, with all its columns.
-use Rattle.std.specs.Prelude.{◌≡◌, Bool, if◌then◌else◌, List, [], ◌∷◌, map}
+use Rattle.std.specs.Prelude.{Bool, if◌then◌else◌, List, [], ◌∷◌, map}
 use Rattle.std.specs.List.{range_with_len}
 use Rattle.sqlite.specs.Order.{Row, column}
 use Rattle.desk_sql.specs.declared.opening.numbers.DeskTable.{DeskTable}
@@ -18,12 +18,8 @@ volume_part row = map (column row) (range_with_len 0 8)
 abbrev pub cover_part : Row → Row
 cover_part row = map (column row) (0 ∷ 1 ∷ 2 ∷ 8 ∷ [])
 
--- the two parts of each of some rows, in their order
-pub record ArePartsOf (rows volumes covers : List Row) : Type 0 where
-  pub volumes_are : volumes ≡ map volume_part rows
-  pub covers_are : covers ≡ map cover_part rows
-
--- all rows of volumes, and all covers, each by the columns of the key
-pub record ListVolumes (t : Tables) (volumes covers : List Row) : Type 0 where
-  pub volumes_listed : Lists (0 ∷ 1 ∷ 2 ∷ []) t.volumes volumes
-  pub covers_listed : Lists (0 ∷ 1 ∷ 2 ∷ []) t.covers covers
+-- rows with all columns are, without `canon`, those of volumes, and with the key and `canon` alone the covers;
+-- both by the columns of the key
+pub record ListVolumes (t : Tables) (rows : List Row) : Type 0 where
+  pub volumes_listed : Lists (0 ∷ 1 ∷ 2 ∷ []) t.volumes (map volume_part rows)
+  pub covers_listed : Lists (0 ∷ 1 ∷ 2 ∷ []) t.covers (map cover_part rows)

@@ -22,5 +22,5 @@ pub use reading::plans::plan_spans;
 pub use reading::queries::{own_plans, plan_of, volumes_of};
 pub use reading::rivals::{SpanQuery, rival_spans};
 pub use reading::taking::RowSink;
-pub use reading::volumes::{VolumeRows, volume_rows};
+pub use reading::volumes::each_volume;
 pub use reading::whole::{Whole, all_rows, each_row};

@@ -1,5 +1,5 @@
 -- A content from operators and plans that were read, and from rows of spans that were held against the plans.
-use Rattle.std.proofs.Common.{◌≡◌, ◌≢◌, List, [], ◌∷◌, ◌∙◌, sym, ap, subst, arith, IsTrue, Result, Ok, Err, IfOk, IfErr, OnOk}
+use Rattle.std.proofs.Common.{◌≡◌, ◌≢◌, Bool, List, [], ◌∷◌, ◌∙◌, map, sym, subst, arith, IsTrue, Result, Ok, Err, IfOk, IfErr, OnOk}
 use Rattle.std.specs.List.{AllByRecursion}
 use Rattle.sqlite_trees.specs.declared.store.Store.{Ghosts}
 use Rattle.std.specs.Result.{IsErrAnd}
@@ -14,15 +14,17 @@ use Rattle.desk_sql.specs.Effects.{IsOpenIfClean}
 use Rattle.desk_sql.specs.Finding.{Holds}
 use Rattle.desk_sql.specs.Frames.{OnlyReads}
 use Rattle.desk_sql.specs.Rows.{Lists, Tables, tables_at}
+use Rattle.desk_sql.specs.Volumes.{cover_part}
 use Rattle.desk_store.specs.Content.{IsContent}
 use Rattle.desk_store.specs.World.{Filed, Listed, World}
 use Rattle.desk_tables.specs.declared.opening.open.OpenFault.{OpenFault}
 use Rattle.desk_tables.specs.declared.opening.open.OpenFault.TheVariants.{NotADesk, OldSchema, Store}
 use Rattle.desk_tables.specs.Moving.{AreNoOldContent, AreOldParts, AreSortedOld, HasNoNewRows, IsOldArea, IsOldContent, IsOldContentOf}
-use Rattle.desk_tables.specs.Opening.{AreAllRows, AreHeads, AreNoContent, AreParts, AreRows, AreSortedByKey, AreSortedHeads, BlamesReading, HasNewRows, IsContentOf}
+use Rattle.desk_tables.specs.Opening.{AreAllRows, AreNoContent, AreParts, AreRows, AreSortedByKey, AreSortedHeads, BlamesReading, HasNewRows, IsContentOf}
 use Rattle.desk_tables.specs.OpeningSteps.{IsRead}
-use Rattle.desk_tables.specs.Tables.{AreSpanRows, cover_rows}
+use Rattle.desk_tables.specs.Tables.{AreSpanRows}
 use Rattle.desk_tables.proofs.AssemblyLemmas.{agreed, assembled, world_of}
+use Rattle.desk_tables.proofs.CoverLemmas.{covers_are}
 use Rattle.desk_tables.proofs.KeyOrderLemmas.{are_old_rows, are_old_tables, are_rows, are_tables, heads_are, old_heads_are}
 use Rattle.desk_tables.proofs.OpeningLemmas.{no_old_rows}
 
@@ -34,11 +36,12 @@ pub of_plans : (P : List Filed → Type 0) (ps qs rs : List Filed) → P ps → 
 of_plans P ps qs rs are one two = subst P (sym (two ∙ one)) are
 
 -- tables whose rows but for spans are no content's, with whatever spans, have none
-pub none_of_heads : (t heads : Tables) → AreSortedHeads t heads
-    → ((w : World) (rows : List Row) → IsContent w → AreAllRows (with_spans heads rows) w → ⊥)
+pub none_of_heads : (t heads : Tables) (covered : Bool) → AreSortedHeads t heads covered
+    → ((w : World) (rows : List Row) → IsContent w → AreRows (with_spans heads rows) w → IsTrue covered → ⊥)
     → AreNoContent t
-none_of_heads t heads lists none w h are =
-    none w are.spans.0 h (heads_are t heads w h are lists are.spans.0 are.spans.1)
+none_of_heads t heads covered lists none w h are =
+    let found = heads_are t heads covered w h are lists are.spans.0 are.spans.1 in
+    none w are.spans.0 h found.0 found.1
 
 -- the same of schema 1
 pub none_of_old_heads : (t heads : Tables) → AreSortedOld t heads
@@ -47,14 +50,28 @@ pub none_of_old_heads : (t heads : Tables) → AreSortedOld t heads
 none_of_old_heads t heads lists none w old are = none w are.spans.0 old
     (old_heads_are t heads w old.content are lists are.spans.0 are.spans.1)
 
-sorted_with : (t heads : Tables) (rows : List Row) → AreSortedHeads t heads
-    → Lists (0 ∷ 1 ∷ 2 ∷ 3 ∷ []) t.spans rows → AreSortedByKey t (with_spans heads rows)
-sorted_with t heads rows lists spans = record {
+-- and with the covers of rows of `volume2`
+abbrev with_covers : Tables → List Row → List Row → Tables
+with_covers t rows whole = record t { spans = rows; covers = map cover_part whole }
+
+sorted_with : (t heads : Tables) (covered : Bool) (rows : List Row) (lists : AreSortedHeads t heads covered)
+    → Lists (0 ∷ 1 ∷ 2 ∷ 3 ∷ []) t.spans rows → AreSortedByKey t (with_covers heads rows lists.whole)
+sorted_with t heads covered rows lists spans = record {
   operator_part = lists.operator_part;
   plan_part = lists.plan_part;
-  volume_part = lists.volume_part;
-  cover_part = lists.cover_part;
+  volume_part = subst (Lists (0 ∷ 1 ∷ 2 ∷ []) t.volumes) (sym lists.compared.volumes_are)
+      lists.listed.volumes_listed;
+  cover_part = lists.listed.covers_listed;
   span_part = spans;
+}
+
+but_covers : (heads : Tables) (rows whole : List Row) (w : World) → AreRows (with_covers heads rows whole) w
+    → AreRows (with_spans heads rows) w
+but_covers heads rows whole w are = record {
+  operator_part = are.operator_part;
+  plan_part = are.plan_part;
+  volume_part = are.volume_part;
+  span_part = are.span_part;
 }
 
 -- the world of these operators and plans
@@ -169,11 +186,27 @@ module _ (one_shape : (one other : Shape) → HasValidParts one → HasValidPart
     plans_spans rows w h rows_are =
         (agreed one_shape (with_spans heads rows) ls ps are.operators are.plans w h rows_are).spans
 
+  -- covers that are those of their volumes are those of the plans
+  covered_with : (t : Tables) (rows : List Row) (w : World) → IsContent w → AreRows (with_spans heads rows) w
+      → (covered : Bool) → IsTrue covered → (lists : AreSortedHeads t heads covered)
+      → AreAllRows (with_covers heads rows lists.whole) w
+  covered_with t rows w h are covered agree lists = record {
+    rows = record {
+      operator_part = are.operator_part;
+      plan_part = are.plan_part;
+      volume_part = are.volume_part;
+      span_part = are.span_part;
+    };
+    covers = covers_are one_shape w.plans h.rows lists.whole
+        (sym lists.compared.volumes_are ∙ are.volume_part) (lists.compared.agreed.0 agree);
+  }
+
   -- tables of schema 2 are read so
-  pub content_held : AreHeads heads ls ps → {S V : Type 0} (g : Ghosts S) (made : TablesPresent)
+  pub content_held : AreParts heads ls ps → (covered : Bool) → IsTrue covered
+      → {S V : Type 0} (g : Ghosts S) (made : TablesPresent)
       (a b : Held S) (world : V → World) (Checked : List Row → Type 0) (r : Result V OpenFault)
       → Holds g a (HasNewRows made)
-      → (HasCleanDisk (state g b) → AreSortedHeads (tables_at made (state g a).now.trees) heads)
+      → (HasCleanDisk (state g b) → AreSortedHeads (tables_at made (state g a).now.trees) heads covered)
       → (HasCleanDisk (state g b) → IsTrue (state g a).is_open) → OnlyReads g a b
       → (HasCleanDisk (state g b) → (rows : List Row)
       × Lists (0 ∷ 1 ∷ 2 ∷ 3 ∷ []) (tables_at made (state g a).now.trees).spans rows × Checked rows)
@@ -182,20 +215,23 @@ module _ (one_shape : (one other : Shape) → HasValidParts one → HasValidPart
       → IfErr r (λ e. e ≡ NotADesk → (rows : List Row) → Checked rows → ¬ AreSpanRows ps rows)
       → IfErr r (λ e. (e ≢ Store) × (e ≢ OldSchema))
       → IsRead g a b r made (λ t v. IsContentOf t (world v)) AreNoContent
-  content_held are g made a b world Checked r new sorted opened reads =
+  content_held are covered agree g made a b world Checked r new sorted opened reads =
       let t = tables_at made (state g a).now.trees in
       spans_held g made a b world ls ps t.spans IsContentOf AreNoContent
       (λ clean rows lists spans w is.
-      let content = parts_with are.parts rows spans w is in
-      let covers : heads.covers ≡ cover_rows w.plans = are.covers ∙ ap cover_rows (sym is.1) in
+      let content = parts_with are rows spans w is in
+      let heads_listed = sorted clean in
       record {
         content = content.0;
-        tables = are_tables t (with_spans heads rows) w
+        tables = are_tables t (with_covers heads rows heads_listed.whole) w
             (no_old_rows t (new (omega (arith, reads.doubt, clean)) (opened clean)))
-            (sorted_with t heads rows (sorted clean) lists) (record { rows = content.1; covers = covers });
+            (sorted_with t heads covered rows heads_listed lists)
+            (covered_with t rows w content.0 content.1 covered agree heads_listed);
       })
-      (λ clean rows lists off w h there. off (plans_spans are.parts rows w h
-      (are_rows t (with_spans heads rows) w h there (sorted_with t heads rows (sorted clean) lists)).rows))
+      (λ clean rows lists off w h there. let heads_listed = sorted clean in
+      off (plans_spans are rows w h (but_covers heads rows heads_listed.whole w
+      (are_rows t (with_covers heads rows heads_listed.whole) w h there
+      (sorted_with t heads covered rows heads_listed lists)).rows)))
       Checked r opened reads
 
   -- and so are those of schema 1

@@ -1,6 +1,6 @@
 -- The rows of a content ascend by the columns of each table's key, so that read in that order they are
 -- one list.
-use Rattle.std.proofs.Common.{◌≡◌, ℕ, pos, suc, ◌+◌, ◌<◌, Bool, true, false, MatchBool, List, [], ◌∷◌, ◌++◌, drop, map, refl, sym, ap, subst, ◌∙◌, arith, Less, Equal, IsPermutation}
+use Rattle.std.proofs.Common.{◌≡◌, ℕ, pos, suc, ◌+◌, ◌<◌, Bool, true, false, MatchBool, List, [], ◌∷◌, ◌++◌, drop, map, refl, sym, ap, subst, ◌∙◌, arith, Less, Equal, IsPermutation, IsTrue}
 use Rattle.std.specs.List.{AllByRecursion, AllPairs}
 use Rattle.std.specs.List.Sorted.{IsStrictlySortedBy}
 use Rattle.std.specs.Ordering.{ordering_then}
@@ -17,12 +17,14 @@ use Rattle.s2_cover.specs.Ranges.{IsSpan, IsApart}
 use Rattle.volume4d.specs.Volume.{Block}
 use Rattle.desk_rules.specs.Plan.{is_live}
 use Rattle.desk_sql.specs.Rows.{Tables, Lists, by_cells}
+use Rattle.desk_sql.specs.Volumes.{cover_part, volume_part}
 use Rattle.desk_store.specs.World.{Filed, Listed, World, text_cmp, listed_cmp, filed_cmp}
 use Rattle.desk_store.proofs.lemmas.Order.{all_weaker, all_append}
 use Rattle.desk_tables.specs.Tables.{id_text, row_of_operator, operator_rows, row_of_plan, plan_rows, row_of_volume, rows_from, volume_rows_from, volume_rows, row_of_cover, cover_rows, row_of_span, AreSpanRowsFrom, ArePlanSpanRows, AreSpanRows, HasNoOldRows, AreTables}
 use Rattle.desk_store.specs.Content.{IsPlan, IsContent}
 use Rattle.desk_tables.specs.Opening.{AreRows, AreAllRows, AreSortedByKey, AreSortedHeads}
 use Rattle.desk_tables.specs.Moving.{AreOldTables, AreSortedOld, HasNoNewRows}
+use Rattle.desk_tables.proofs.CoverLemmas.{have_covers}
 use Rattle.desk_tables.proofs.IdLemmas.{text_order, then_then}
 use Rattle.desk_tables.proofs.RowLemmas.{after_key, after_place, placed, placed_rows}
 use Rattle.desk_tables.proofs.FilterLemmas.{ArePlans}
@@ -299,22 +301,28 @@ are_rows t rows w h are lists = record {
       (covers_up w.plans h.rows h.world.plans) are.covers lists.cover_part;
 }
 
--- so it is of the tables but for spans, with any that are the content's
-pub heads_are : (t heads : Tables) (w : World) → IsContent w → AreTables t w → AreSortedHeads t heads
-    → (rows : List Row) → AreSpanRows w.plans rows → AreAllRows (record heads { spans = rows }) w
-heads_are t heads w h are lists rows spans = record {
-  rows = record {
-    operator_part = in_order (0 ∷ []) (operator_rows w) t.operators heads.operators
-        (operators_up w.operators h.world.operators) are.operators lists.operator_part;
-    plan_part = in_order (0 ∷ 1 ∷ []) (plan_rows w.plans) t.plans heads.plans
-        (plans_up w.plans h.rows h.world.plans) are.plans lists.plan_part;
-    volume_part = in_order (0 ∷ 1 ∷ 2 ∷ []) (volume_rows w.plans) t.volumes heads.volumes
-        (volumes_up w.plans h.rows h.world.plans) are.volumes lists.volume_part;
-    span_part = spans;
-  };
-  covers = in_order (0 ∷ 1 ∷ 2 ∷ []) (cover_rows w.plans) t.covers heads.covers
-      (covers_up w.plans h.rows h.world.plans) are.covers lists.cover_part;
-}
+-- so it is of the tables but for spans, with any that are the content's, and each cover is that of its volume
+pub heads_are : (t heads : Tables) (covered : Bool) (w : World) → IsContent w → AreTables t w
+    → AreSortedHeads t heads covered → (rows : List Row) → AreSpanRows w.plans rows
+    → AreRows (record heads { spans = rows }) w × IsTrue covered
+heads_are t heads covered w h are lists rows spans =
+    let key : List ℕ = 0 ∷ 1 ∷ 2 ∷ [] in
+    let volumes : map volume_part lists.whole ≡ volume_rows w.plans = in_order key (volume_rows w.plans)
+    t.volumes (map volume_part lists.whole) (volumes_up w.plans h.rows h.world.plans) are.volumes
+    lists.listed.volumes_listed in
+    let covers : map cover_part lists.whole ≡ cover_rows w.plans = in_order key (cover_rows w.plans)
+    t.covers (map cover_part lists.whole) (covers_up w.plans h.rows h.world.plans) are.covers
+    lists.listed.covers_listed in (
+      record {
+        operator_part = in_order (0 ∷ []) (operator_rows w) t.operators heads.operators
+            (operators_up w.operators h.world.operators) are.operators lists.operator_part;
+        plan_part = in_order (0 ∷ 1 ∷ []) (plan_rows w.plans) t.plans heads.plans
+            (plans_up w.plans h.rows h.world.plans) are.plans lists.plan_part;
+        volume_part = lists.compared.volumes_are ∙ volumes;
+        span_part = spans;
+      },
+      lists.compared.agreed.1 (have_covers w.plans h.rows lists.whole volumes covers),
+    )
 
 -- so it is of tables of schema 1, with the rows of spans that are read
 pub are_old_rows : (t heads : Tables) (rows : List Row) (w : World) → IsContent w → AreOldTables t w

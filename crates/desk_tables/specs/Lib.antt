@@ -12,6 +12,7 @@ pub mod SpanChecks
 pub mod SpansHeld
 pub mod Known
 pub mod Records
+pub mod Covers
 pub mod Opening
 pub mod OpenWords
 pub mod Moving

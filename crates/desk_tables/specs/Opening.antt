@@ -22,6 +22,7 @@ use Rattle.desk_sql.specs.declared.opening.finding.TablesPresent.{TablesPresent}
 use Rattle.desk_sql.specs.declared.opening.finding.TablesPresent.TheVariants.{All, Packed}
 use Rattle.desk_sql.specs.Rows.{IsDesk, IsMadeTo, Tables, Lists, tables_of, tables_at, has_old_rows}
 use Rattle.desk_sql.specs.Refusals.{HasDiskFailed, IsMisnumbered}
+use Rattle.desk_sql.specs.Volumes.{ListVolumes}
 use Rattle.desk_sql.specs.Effects.{ShowsAsBefore}
 use Rattle.desk_store.specs.World.{Filed, Listed, World, IsListed, text_cmp, listed_cmp, filed_cmp, rows_by}
 use Rattle.desk_tables.specs.Tables.{row_of_operator, operator_rows, plan_rows, volume_rows, cover_rows, AreSpanRows}
@@ -31,6 +32,7 @@ use Rattle.desk_tables.specs.declared.opening.exact.RowFault.{RowFault}
 use Rattle.desk_tables.specs.declared.opening.exact.RowFault.TheVariants as row
 use Rattle.desk_tables.specs.declared.opening.open.OpenFault.{OpenFault}
 use Rattle.desk_tables.specs.declared.opening.open.OpenFault.TheVariants.{OutOfMemory, Store, NotADesk, OldSchema}
+use Rattle.desk_tables.specs.Covers.{AreCompared}
 use Rattle.desk_tables.specs.Records.{IsOperator, IsFiled}
 use Rattle.desk_tables.specs.Store.{IsStanding}
 
@@ -116,12 +118,14 @@ pub record AreSortedByKey (t rows : Tables) : Type 0 where
   pub cover_part : Lists (0 ∷ 1 ∷ 2 ∷ []) t.covers rows.covers
   pub span_part : Lists (0 ∷ 1 ∷ 2 ∷ 3 ∷ []) t.spans rows.spans
 
--- the tables but for spans, each put in the order of its key
-pub record AreSortedHeads (t rows : Tables) : Type 0 where
+-- the tables but for spans, each put in the order of its key, without the covers; and whether each of these
+-- is that of the volume in its row
+pub record AreSortedHeads (t rows : Tables) (covered : Bool) : Type 0 where
   pub operator_part : Lists (0 ∷ []) t.operators rows.operators
   pub plan_part : Lists (0 ∷ 1 ∷ []) t.plans rows.plans
-  pub volume_part : Lists (0 ∷ 1 ∷ 2 ∷ []) t.volumes rows.volumes
-  pub cover_part : Lists (0 ∷ 1 ∷ 2 ∷ []) t.covers rows.covers
+  pub whole : List Row
+  pub listed : ListVolumes t whole
+  pub compared : AreCompared rows.volumes covered whole
 
 -- operators by name, plans by operator and id, and each operator's plans few
 pub record AreListedInOrder (ls : List Listed) (ps : List Filed) : Type 0 where
@@ -134,11 +138,6 @@ pub record AreParts (t : Tables) (ls : List Listed) (ps : List Filed) : Type 0 w
   pub operators : AreOperatorRows ls t.operators
   pub plans : ArePlanRows ps t.plans t.volumes
   pub order : AreListedInOrder ls ps
-
--- and their covers
-pub record AreHeads (t : Tables) (ls : List Listed) (ps : List Filed) : Type 0 where
-  pub parts : AreParts t ls ps
-  pub covers : t.covers ≡ cover_rows ps
 
 -- ---- what a store begins with
 

@@ -21,13 +21,12 @@ use sqlite_value::value::ValueRef;
 use std::alloc::{AllocError, AllocFailed, Global};
 use std::marker::Model;
 
-/// The rows of the tables, each by the columns of its key; those of `volume2` in two parts.
+/// The rows of the tables, each by the columns of its key; those of `volume2` without their covers.
 #[derive(Drop)]
 pub(crate) struct TableRows {
     pub operators: Vec<Row>,
     pub plans: Vec<Row>,
     pub volumes: Vec<Row>,
-    pub covers: Vec<Row>,
     pub spans: Vec<Row>,
 }
 
@@ -43,7 +42,7 @@ impl Model for TableRows {
       old_volumes = [];
       old_spans = [];
       volumes = t.volumes.items;
-      covers = t.covers.items;
+      covers = [];
       spans = t.spans.items;
     } };
 }

@@ -1,89 +1,143 @@
-//! Whether rows are the covers of plans.
+//! The rows of `volume2`, taken one at a time. The cover in each is compared with that of the volume in it, and
+//! is not kept.
 
-ghost use Rattle.std.specs.Prelude.{◌≡◌, ◌≢◌, ◌↔◌, ◌++◌, List, IsTrue, IfOk, MatchOption};
+ghost use Rattle.std.specs.Prelude.{◌≡◌, ◌≢◌, ◌↔◌, ◌++◌, [], ◌∷◌, List, map, IsTrue, IfOk, IfErr, OnOk};
 ghost use Rattle.sqlite_value.specs.declared.value.Value.TheVariants.{Blob};
+ghost use Rattle.sqlite_value.specs.Value.{owned};
 ghost use Rattle.sqlite_value.specs.Order.{Row as Columns, column};
-ghost use Rattle.desk_tables.specs.Tables.{id_text, row_of_cover, cover_rows, area_covers};
+ghost use Rattle.sqlite.specs.State.{HasCleanDisk};
+ghost use Rattle.sqlite.specs.Held.{state};
+ghost use Rattle.desk_sql.specs.Effects.{IsReady, StaysOpen};
+ghost use Rattle.desk_sql.specs.Frames.{OnlyReads};
+ghost use Rattle.desk_sql.specs.Rows.{IsMadeTo, tables_at};
+ghost use Rattle.desk_sql.specs.Volumes.{ListVolumes};
+ghost use Rattle.desk_tables.specs.Covers.{AreCompared, HasCoverOf, HasItsCover};
+ghost use Rattle.desk_tables.specs.Opening.{BlamesReading};
 
 use crate::canon::canon_of;
-use crate::opening::exact::{FiledPlan, is_count_at, is_keyed};
-use sqlite::Row;
+use crate::opening::open::OpenFault;
+use crate::opening::spans::fault_of;
+use crate::reading::values::volume_in;
+use desk_sql::{RowSink, TablesPresent, each_volume};
+use desk_store::StoreFault;
+use sqlite::{Connection, Error, Row};
+use sqlite_exec::work::FromRow;
+use sqlite_trees::store::Alter;
+use sqlite_value::row;
 use sqlite_value::value::ValueRef;
 use std::alloc::{AllocError, Global};
 use volume4d::Volume;
+use volume4d::laws::one_shape;
 
-// How many columns the row of a cover has: the volume's key and the bytes.
-const COVER_WIDTH: usize = 4;
-
-/// Whether rows, by operator, id and place, are the covers of the plans' volumes.
-///
-/// # Errors
-///
-/// `AllocError` if memory runs out.
-pub(crate) fn covers_agree(
+/// Rows with all columns of `volume2`, by its key. Each is kept without its cover.
+#[derive(Drop)]
+pub(crate) struct CoverCheck {
     alloc: Global,
-    plans: &[FiledPlan],
-    rows: &[Row],
-) -> Result<bool, AllocError>
-    ensures { IfOk result (λ agree. IsTrue agree ↔ (rows.now ≡ cover_rows plans.now)) }
-{
-    let mut others = plans;
-    let mut left = rows;
-    'plan: while let Some((plan, later)) = others.split_first() {
-        let Some(more) = after_covers(alloc, plan, left)? else {
-            return Ok(false);
-        };
-        others = later;
-        left = more;
-    }
-    Ok(left.is_empty())
+    pub volumes: Vec<Row>,
+    /// Whether each row so far has the cover of its volume.
+    pub agree: bool,
+    // the values of a row under way, whose buffers serve for all
+    values: row::Row,
 }
 
-// The rows after the covers of a plan's volumes, or none if they do not begin so.
-fn after_covers<'r>(
-    alloc: Global,
-    plan: &FiledPlan,
-    rows: &'r [Row],
-) -> Result<Option<&'r [Row]>, AllocError>
-    ensures { IfOk result (λ found. MatchOption found
-        ((rest : List Columns) → rows.now ≢ area_covers plan.now ++ rest)
-        (λ rest. rows.now ≡ area_covers plan.now ++ rest.now)) }
-{
-    let mut buffer = [0u8; 36];
-    let id = plan.row.id.encode(&mut buffer);
-    let mut rest = rows;
-    for (place, volume) in plan.row.area.volumes().iter().enumerate() {
-        let Some((row, more)) = rest.split_first() else {
-            return Ok(None);
-        };
-        if !is_cover(alloc, plan, id, place, volume, row)? {
-            return Ok(None);
+impl CoverCheck {
+    /// Of no row yet.
+    pub(crate) fn new(alloc: Global) -> CoverCheck
+        ensures { AreCompared result.volumes.items result.agree [] }
+    {
+        CoverCheck {
+            alloc,
+            volumes: Vec::new(alloc),
+            agree: true,
+            values: row::Row::new(alloc),
         }
-        rest = more;
     }
-    Ok(Some(rest))
+
+    // Takes the next row.
+    fn add(&mut self, row: &Row) -> Result<(), AllocError>
+        ensures { OnOk result ((rows : List Columns)
+            → AreCompared self.old.volumes.items self.old.agree rows
+            → AreCompared self.new.volumes.items self.new.agree (rows ++ row.now ∷ [])) }
+    {
+        let volume = columns_of(self.alloc, &mut self.values, row, &[0, 1, 2, 3, 4, 5, 6, 7])?;
+        self.volumes.push(volume)?;
+        self.agree = agree_with(self.alloc, self.agree, row)?;
+        Ok(())
+    }
 }
 
-// Whether a row is the cover of the volume at a place.
-fn is_cover(
+impl RowSink for CoverCheck {
+    ghost use Rattle.std.specs.Prelude.{◌≡◌, ⊤};
+    ghost use Rattle.sqlite.specs.declared.error.Error.TheVariants.{SqliteFailure};
+    ghost use Rattle.sqlite.specs.declared.error.ErrorCode.TheVariants.{OutOfMemory};
+    ghost use Rattle.desk_tables.specs.Covers.{AreCompared};
+
+    ghost has_taken = { λ c rows. AreCompared c.volumes.items c.agree rows };
+
+    ghost keeps = { λ first now. ⊤ };
+
+    ghost refuses = { λ taken row e. e ≡ SqliteFailure OutOfMemory };
+
+    fn take(&mut self, row: &Row) -> Result<(), Error> {
+        self.add(row)?;
+        Ok(())
+    }
+}
+
+// A row of these columns of a row.
+fn columns_of(
     alloc: Global,
-    plan: &FiledPlan,
-    id: &str,
-    place: usize,
-    volume: &Volume,
+    values: &mut row::Row,
     row: &Row,
-) -> Result<bool, AllocError>
-    requires id { id.now ≡ id_text plan.now.row.id }
-    ensures { IfOk result (λ is. IsTrue is ↔ (row.now ≡ row_of_cover plan.now place volume.now)) }
+    places: &[usize],
+) -> Result<Row, AllocError>
+    ensures { IfOk result (λ part. part ≡ map (column row.now) places.now) }
 {
-    if !is_keyed(row, plan.operator.as_str(), id, COVER_WIDTH) {
+    values.clear();
+    for place in places {
+        values.push(value_at(row, *place))?;
+    }
+    Row::from_row(alloc, values)
+}
+
+// The value in a column, and NULL past the last.
+fn value_at(row: &Row, at: usize) -> ValueRef<'_>
+    ensures { owned result ≡ column row.now at }
+{
+    match row.get_ref(at) {
+        Ok(value) => value,
+        Err(_) => ValueRef::Null,
+    }
+}
+
+// Whether rows that have their covers, or that don't, and a row after them all have them.
+fn agree_with(alloc: Global, agree: bool, row: &Row) -> Result<bool, AllocError>
+    ensures { IfOk result (λ all. IsTrue all ↔ (IsTrue agree × HasItsCover row.now)) }
+{
+    if !agree {
         return Ok(false);
     }
-    if !is_count_at(row, 2, place as u64) {
-        return Ok(false);
+    is_covered(alloc, row)
+}
+
+// Whether a row with all columns of `volume2` has a volume, and the cover of that.
+fn is_covered(alloc: Global, row: &Row) -> Result<bool, AllocError>
+    ensures { IfOk result (λ is. IsTrue is ↔ HasItsCover row.now) }
+{
+    one_shape();
+    match volume_in(alloc, row, 3) {
+        Ok(volume) => has_cover_of(alloc, row, &volume),
+        Err(StoreFault::OutOfMemory) => Err(AllocError),
+        Err(StoreFault::Store) => Ok(false),
     }
+}
+
+// Whether such a row has the cover of a volume.
+fn has_cover_of(alloc: Global, row: &Row, volume: &Volume) -> Result<bool, AllocError>
+    ensures { IfOk result (λ has. IsTrue has ↔ HasCoverOf volume.now row.now) }
+{
     let canon = canon_of(alloc, volume)?;
-    Ok(are_bytes_at(row, 3, &canon))
+    Ok(are_bytes_at(row, 8, &canon))
 }
 
 // Whether a column has these bytes.
@@ -93,5 +147,32 @@ fn are_bytes_at(row: &Row, at: usize, bytes: &[u8]) -> bool
     match row.get_ref(at) {
         Ok(ValueRef::Blob(found)) => found == bytes,
         _ => false,
+    }
+}
+
+/// Takes all rows of `volume2`, so far as it is made, one at a time by its key.
+///
+/// # Errors
+///
+/// `OutOfMemory` if memory runs out, or if there are 2 ^ 64 - 1 rows. `Store` if SQLite refuses for another
+/// cause.
+pub(crate) fn take_volumes<S: Alter>(
+    connection: &mut Connection<S>,
+    made: TablesPresent,
+    check: &mut CoverCheck,
+) -> Result<(), OpenFault>
+    requires ready { IsReady S.Store connection.old (IsMadeTo made) }
+    requires fresh { AreCompared check.old.volumes.items check.old.agree [] }
+    ensures value { HasCleanDisk (state S.Store connection.new) → OnOk result ((rows : List Columns)
+        × ListVolumes (tables_at made (state S.Store connection.old).now.trees) rows
+        × AreCompared check.new.volumes.items check.new.agree rows) }
+    ensures live { OnOk result (StaysOpen S.Store connection.old connection.new) }
+    ensures fault { IfErr result (λ e. (e ≢ OpenFault.NotADesk) × (e ≢ OpenFault.OldSchema)) }
+    ensures cause { IfErr result (BlamesReading S.Store connection.old connection.new) }
+    ensures reads { OnlyReads S.Store connection.old connection.new }
+{
+    match each_volume(connection, made, check) {
+        Ok(()) => Ok(()),
+        Err(e) => Err(fault_of(e)),
     }
 }

@@ -15,10 +15,10 @@ ghost use Rattle.desk_tables.specs.CutShort.{IsCompletedAs, MayBecome};
 ghost use Rattle.desk_tables.specs.Known.{Knows};
 ghost use Rattle.desk_tables.specs.Writable.{HaveFewRows};
 ghost use Rattle.desk_tables.specs.SpanBounds.{IsKnownRow, Keeps};
-ghost use Rattle.desk_tables.specs.Opening.{AreAllRows, IsContentOf, AreNoContent};
+ghost use Rattle.desk_tables.specs.Opening.{IsContentOf, AreNoContent};
 ghost use Rattle.desk_tables.specs.Tables.{AreSpanRows, volume_rows};
 ghost use Rattle.desk_tables.specs.SpansHeld.{AreHeld};
-ghost use Rattle.desk_tables.specs.Opening.{AreHeads, AreListedInOrder, AreParts, AreRows, AreSortedHeads};
+ghost use Rattle.desk_tables.specs.Opening.{AreListedInOrder, AreParts, AreRows, AreSortedHeads};
 ghost use Rattle.desk_tables.specs.Opening.{BeginsWith, HasRowsOld, HasNewRows};
 ghost use Rattle.desk_tables.specs.Opening.{ShowsNoDesk, ShowsOldRows};
 ghost use Rattle.desk_tables.specs.Opening.{BlamesReading, BlamesDatabase};
@@ -30,15 +30,13 @@ use crate::known::{Known, live_among, roll_of};
 use crate::opening::content::{
     Content, TableRows, are_shared, keys_ascend, names_ascend, operators_in, plans_in,
 };
-use crate::opening::covers::covers_agree;
+use crate::opening::covers::{CoverCheck, take_volumes};
 use crate::opening::exact::FiledPlan;
 use crate::opening::open::OpenFault;
 use crate::opening::ordering::ordered_in;
 use crate::opening::spans::{SpanCheck, take_spans};
 use crate::span_bounds::SpanBounds;
-use desk_sql::{
-    TablesPresent, Whole, all_rows, complete_tables, find_tables, has_old_rows, volume_rows,
-};
+use desk_sql::{TablesPresent, Whole, all_rows, complete_tables, find_tables, has_old_rows};
 use operator_index::ListedOperator;
 use s2_cover::laws::one_list_of_ranges;
 use sqlite::{Connection, Row};
@@ -201,8 +199,8 @@ pub(crate) fn content_found<S: Alter>(
     ensures live { OnOk result (IsOpenIfClean S.Store connection.new) }
 {
     one_shape();
-    let heads = heads_in(alloc, connection, made)?;
-    let (operators, plans) = parts_of(alloc, &heads)?;
+    let (heads, covered) = heads_in(alloc, connection, made)?;
+    let (operators, plans) = parts_of(alloc, &heads, covered)?;
     let mut check = SpanCheck::new(alloc, plans);
     take_spans(connection, Whole::Spans, made, &mut check)?;
     content_with(alloc, operators, check)
@@ -228,20 +226,22 @@ pub(crate) fn uncovered_parts(
     Ok((operators, plans))
 }
 
-// The operators and plans of rows that are those of a content, but for those of spans.
+// The operators and plans of rows that are those of a content, but for those of spans, if the covers are those
+// of the volumes.
 fn parts_of(
     alloc: Global,
     heads: &TableRows,
+    covered: bool,
 ) -> Result<(Vec<ListedOperator>, Vec<FiledPlan>), OpenFault>
-    ensures value { IfOk result (λ found. AreHeads heads.now found.0.items found.1.items) }
+    ensures value { IfOk result (λ found. AreParts heads.now found.0.items found.1.items) }
+    ensures agree { OnOk result (IsTrue covered) }
     ensures few { IfOk result (λ found. length (volume_rows found.1.items) < 2 ^ 63) }
     ensures none { IfErr result (λ e. e ≡ OpenFault.NotADesk → (w : World) (spans : List Values)
-        → IsContent w → ¬ AreAllRows (record heads.now { spans = spans }) w) }
+        → IsContent w → AreRows (record heads.now { spans = spans }) w → ¬ IsTrue covered) }
     ensures fault { IfErr result (λ e. (e ≢ OpenFault.Store) × (e ≢ OpenFault.OldSchema)) }
 {
-    one_shape();
     let (operators, plans) = uncovered_parts(alloc, heads)?;
-    if !covers_agree(alloc, &plans, &heads.covers)? {
+    if !covered {
         return Err(OpenFault::NotADesk);
     }
     Ok((operators, plans))
@@ -297,16 +297,16 @@ pub(crate) fn content_with(
 }
 
 /// The rows of the tables of schema 2 but for spans, each by the columns of its key; of those that aren't
-/// made none.
+/// made none. Rows of `volume2` come without their covers, and with them whether each had that of its volume.
 #[tactic(auto, using(crate::proofs::FrameLemmas::reads_then, crate::proofs::OpeningLemmas::part_on))]
 pub(crate) fn heads_in<S: Alter>(
     alloc: Global,
     connection: &mut Connection<S>,
     made: TablesPresent,
-) -> Result<TableRows, OpenFault>
+) -> Result<(TableRows, bool), OpenFault>
     requires part { ShowsOperators S.Store connection.old made }
-    ensures value { HasCleanDisk (state S.Store connection.new) →
-        IfOk result (AreSortedHeads (tables_at made (state S.Store connection.old).now.trees)) }
+    ensures value { HasCleanDisk (state S.Store connection.new) → IfOk result (λ found.
+        AreSortedHeads (tables_at made (state S.Store connection.old).now.trees) found.0 found.1) }
     ensures open { WasOpen S.Store connection.old connection.new result }
     ensures live { OnOk result (IsOpenIfClean S.Store connection.new) }
     ensures fault { IfErr result (λ e. (e ≢ OpenFault.NotADesk) × (e ≢ OpenFault.OldSchema)) }
@@ -315,15 +315,16 @@ pub(crate) fn heads_in<S: Alter>(
 {
     let operators = all_rows(alloc, connection, Whole::Operators, made)?;
     let plans = all_rows(alloc, connection, Whole::Plans, made)?;
-    let rows = volume_rows(alloc, connection, made)?;
+    let mut check = CoverCheck::new(alloc);
+    take_volumes(connection, made, &mut check)?;
     let spans = Vec::new(alloc);
-    Ok(TableRows {
+    let heads = TableRows {
         operators,
         plans,
-        volumes: rows.volumes,
-        covers: rows.covers,
+        volumes: check.volumes,
         spans,
-    })
+    };
+    Ok((heads, check.agree))
 }
 
 /// Span bounds, with that of the span of a row.

@@ -288,7 +288,7 @@ pub(crate) fn are_new_empty<S: Alter>(
 }
 
 /// The rows of schema 1's tables but for spans, each by the columns of its key; of those that aren't made
-/// none. The covers are none.
+/// none.
 #[tactic(auto, using(crate::proofs::FrameLemmas::reads_then, crate::proofs::OpeningLemmas::part_on))]
 pub(crate) fn old_heads_in<S: Alter>(
     alloc: Global,
@@ -307,13 +307,11 @@ pub(crate) fn old_heads_in<S: Alter>(
     let operators = all_rows(alloc, connection, Whole::Operators, made)?;
     let plans = all_rows(alloc, connection, Whole::Plans, made)?;
     let volumes = all_rows(alloc, connection, Whole::OldVolumes, made)?;
-    let covers = Vec::new(alloc);
     let spans = Vec::new(alloc);
     Ok(TableRows {
         operators,
         plans,
         volumes,
-        covers,
         spans,
     })
 }

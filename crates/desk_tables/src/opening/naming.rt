@@ -15,7 +15,6 @@ use crate::opening::connecting::connect_there;
 use crate::opening::content::{
     TableRows, are_shared, keys_ascend, names_ascend, operators_in, plans_in,
 };
-use crate::opening::covers::covers_agree;
 use crate::opening::exact::{FiledPlan, PLAN_WIDTH, RowFault, is_keyed, operator_in};
 use crate::opening::finding::{heads_in, tables_found};
 use crate::opening::moving::{are_new_empty, are_old, old_heads_in};
@@ -135,7 +134,7 @@ fn new_fault<S: Alter>(
     requires part { ShowsOperators S.Store connection.old made }
     ensures { OnlyReads S.Store connection.old connection.new }
 {
-    let Ok(heads) = heads_in(alloc, connection, made) else {
+    let Ok((heads, covered)) = heads_in(alloc, connection, made) else {
         return None;
     };
     let plans = match plans_of(alloc, &heads, PartFault::Volume) {
@@ -144,7 +143,7 @@ fn new_fault<S: Alter>(
     };
     let mut check = SpanCheck::new(alloc, plans);
     match take_spans(connection, Whole::Spans, made, &mut check) {
-        Ok(()) => fault_of_spans(alloc, check, &heads.covers),
+        Ok(()) => fault_of_spans(check, covered),
         Err(_) => None,
     }
 }
@@ -192,16 +191,17 @@ fn old_part<S: Alter>(
     }
 }
 
-// The spans, which were held against the plans, or the covers.
-fn fault_of_spans(alloc: Global, mut check: SpanCheck, covers: &[Row]) -> Option<PartFault> {
+// The spans, which were held against the plans, or the covers, of which it is known whether they agree.
+fn fault_of_spans(mut check: SpanCheck, covered: bool) -> Option<PartFault> {
     match check.agrees() {
         Ok(true) => {}
         Ok(false) => return Some(PartFault::Span),
         Err(_) => return None,
     }
-    match covers_agree(alloc, &check.plans, covers) {
-        Ok(false) => Some(PartFault::Cover),
-        _ => None,
+    if covered {
+        None
+    } else {
+        Some(PartFault::Cover)
     }
 }
 

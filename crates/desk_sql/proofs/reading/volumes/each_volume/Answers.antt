@@ -1,0 +1,62 @@
+use Rattle.std.proofs.Common.{◌≡◌, List, [], arith, sym, ◌∙◌, ap, true}
+use Rattle.sqlite.specs.Held.{state}
+use Rattle.sqlite.specs.Order.{Row}
+use Rattle.sqlite.specs.State.{HasCleanDisk, Shown}
+use Rattle.desk_sql.specs.Finding.{Holds}
+use Rattle.desk_sql.specs.Rows.{tables_at}
+use Rattle.desk_sql.specs.Schema.{HasTable, has_table, is_packed}
+use Rattle.desk_sql.specs.Volumes.{ListVolumes, volume_table_in}
+use Rattle.desk_sql.proofs.AskLemmas.{all_selected}
+use Rattle.desk_sql.proofs.HandLemmas.{cut_short_of}
+use Rattle.desk_sql.proofs.ReadLemmas.{was_open}
+use Rattle.desk_sql.proofs.SchemaLemmas.{has_made}
+use Rattle.desk_sql.proofs.TakingLemmas.{if_handed}
+use Rattle.desk_sql.proofs.VolumeLemmas.{parts_listed}
+use Rattle.desk_sql.proofs.reading.volumes.each_volume.Goals as goal
+
+pub hand_rows-requires-clause-ready : goal.hand_rows-requires-clause-ready
+hand_rows-requires-clause-ready g c = record {
+  settled = c.requires.ready.settled;
+  shown = λ clean live.
+      let packed = is_packed c.args.made in
+      let db = (state g.S.Store c.args.connection.now).now in
+      let there : has_table c.args.made (volume_table_in packed) ≡ true =
+      ap (has_table c.args.made) (sym (c.volume_table.ensures ∙ ap volume_table_in c.is_packed.ensures))
+      ∙ sym c.has.ensures ∙ c.if-has.true in
+      (c.volumes_text.ensures packed).sure db
+      (has_made c.args.made (volume_table_in packed) db there
+      (c.requires.ready.shown clean live).schema);
+}
+
+pub returns-then-has-clause-answers : goal.returns-then-has-clause-answers
+returns-then-has-clause-answers g c =
+    let old = c.args.connection.now in
+    let new = c.hand_rows.new.connection in
+    let packed = is_packed c.args.made in
+    let table = volume_table_in packed in
+    let trees = (state g.S.Store old).now.trees in
+    let sql = c.volumes_text.result.now in
+    let IsAnswer : List Row → Type 0 = ListVolumes (tables_at c.args.made trees) in
+    let there : has_table c.args.made table ≡ true =
+    ap (has_table c.args.made) (sym (c.volume_table.ensures ∙ ap volume_table_in c.is_packed.ensures))
+    ∙ sym c.has.ensures ∙ c.if-has.true in
+    let start : HasCleanDisk (state g.S.Store new) → HasCleanDisk (state g.S.Store old) = λ clean.
+    omega (arith, clean, c.hand_rows.ensures.answers.reads.doubt) in
+    let are : (rows : List Row) → HasTable table (state g.S.Store old).now
+    → Shown sql [] (state g.S.Store old) (state g.S.Store new) rows → IsAnswer rows = λ rows has shown.
+    parts_listed c.args.made trees there rows
+    (all_selected _ _ _ _ (c.volumes_text.ensures packed) (state g.S.Store old) (state g.S.Store new) rows has
+    shown) in
+    let holds : Holds g.S.Store old (HasTable table) = λ clean live.
+    has_made c.args.made table (state g.S.Store old).now there (c.requires.ready.shown clean live).schema in
+    record {
+      value = λ clean. if_handed g.S.Store old new sql [] (HasTable table) IsAnswer
+          (g.T.RowSink.has_taken c.hand_rows.new.taker) holds (start clean) are c.hand_rows.result
+          (c.hand_rows.ensures.answers.value clean);
+      cause = λ clean live. cut_short_of g.S.Store old new
+          (Shown sql [] (state g.S.Store old) (state g.S.Store new)) IsAnswer g.T.RowSink.refuses
+          (λ rows shown. are rows
+          (holds (start clean) (was_open _ _ (state g.S.Store old) (state g.S.Store new) rows shown)) shown)
+          c.hand_rows.result (c.hand_rows.ensures.answers.cause clean live);
+      reads = c.hand_rows.ensures.answers.reads;
+    }
