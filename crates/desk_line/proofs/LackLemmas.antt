@@ -1,4 +1,4 @@
--- Why words are no task, from what their readers lack.
+-- Why words are no line, from what their readers lack.
 use Rattle.std.proofs.Common.{◌≡◌, ℕ, List, [], ◌∷◌, Option, Some, None, Result, Ok, Err, get_or, length, map, sym, subst, ◌<◌, ◌+◌, ◌++◌, take, zero, suc, ap, ap₂, ◌∙◌, refl, arith, IfErr, ◌≢◌, ◌⊎◌, inl, inr, true}
 use Rattle.std.specs.Result.{IsErrAnd}
 use Rattle.clap.specs.Walk.{Text}

@@ -18,28 +18,22 @@ use Rattle.clap.specs.declared.builder.action.ArgAction.TheVariants.{Append, Set
 use Rattle.clap.specs.declared.builder.value_parser.ValueParser.TheVariants.{Signed}
 use Rattle.desk_rules.specs.Limits.{max_spans}
 use Rattle.desk_rules.specs.Name.{is_operator_name}
+use Rattle.desk_rules.specs.Terms.{no_terms}
 use Rattle.desk_rules.specs.declared.terms.Terms.{Terms}
 use Rattle.volume4d.specs.VolumeLimits.{max_second}
 use Rattle.desk_line.specs.Equal.{ArePermittedBy, priority_in}
-use Rattle.desk_line.specs.Lines.{IsCellLine, IsKeeperLine, IsLine, IsPlay, IsReplay, IsServe, IsTask}
-use Rattle.desk_line.specs.Lines.{file_of, max_connections, max_port}
+use Rattle.desk_line.specs.Lines.{IsLine, file_of, max_connections, max_port}
 use Rattle.desk_line.specs.Lines.{min_connections, min_port, min_spans, named_file}
-use Rattle.desk_line.specs.declared.line.CellLine.{CellLine}
-use Rattle.desk_line.specs.declared.line.CellLine.TheVariants as cells
 use Rattle.desk_line.specs.declared.line.Copying.{Copying as CopyWords}
 use Rattle.desk_line.specs.declared.line.Cover.{Cover as CoverWords}
-use Rattle.desk_line.specs.declared.line.Database.{Database}
+use Rattle.desk_line.specs.declared.line.DeskArgs.{DeskArgs}
 use Rattle.desk_line.specs.declared.line.Enrol.{Enrol as EnrolWords}
 use Rattle.desk_line.specs.declared.line.Enrolment.{Enrolment}
-use Rattle.desk_line.specs.declared.line.KeeperLine.{KeeperLine}
-use Rattle.desk_line.specs.declared.line.KeeperLine.TheVariants as keeper
 use Rattle.desk_line.specs.declared.line.Line.{Line}
 use Rattle.desk_line.specs.declared.line.Line.TheVariants as line
 use Rattle.desk_line.specs.declared.line.Play.{Play as PlayWords}
 use Rattle.desk_line.specs.declared.line.Replaying.{Replaying as ReplayWords}
 use Rattle.desk_line.specs.declared.line.Serve.{Serve as ServeWords}
-use Rattle.desk_line.specs.declared.line.Task.{Task}
-use Rattle.desk_line.specs.declared.line.Task.TheVariants as task
 use Rattle.desk_line.specs.declared.line.WordsFault.{WordsFault}
 use Rattle.desk_line.specs.declared.line.WordsFault.TheVariants as fault
 
@@ -61,20 +55,8 @@ needed rule = record rule { required = true }
 abbrev pub number_between : ℕ → ℤ → Rule → Rule
 number_between least most rule = record rule { parser = Some (Signed (pos least) most) }
 
--- one of any number of values
-abbrev pub values : Text → Rule
-values id = record (value id) { action = Some Append }
-
--- `--NAME`, with no value
-abbrev pub flag : Text → Text → Rule
-flag id name = record (new_rule id) { long = Some name; action = Some SetTrue }
-
 abbrev pub database : Rule
 database = option (codes "database") (codes "db")
-
--- the file that `copy` makes
-abbrev pub new_file : Rule
-new_file = needed (option (codes "to") (codes "to"))
 
 abbrev pub moment : Rule
 moment = needed (number_between 0 max_second (option (codes "moment") (codes "at")))
@@ -101,15 +83,9 @@ operators = option (codes "operators") (codes "operators")
 abbrev pub record_folder : Rule
 record_folder = option (codes "record") (codes "record")
 
--- the last second that is played
-abbrev pub until : Rule
-until = number_between 0 max_second (option (codes "until") (codes "until"))
-
+-- any number of them
 abbrev pub enrolments : Rule
-enrolments = values (codes "enrolments")
-
-abbrev pub token : Rule
-token = needed (value (codes "token"))
+enrolments = record (value (codes "enrolments")) { action = Some Append }
 
 -- a number of 8 bits, and one of 32
 abbrev pub small : Text → Rule
@@ -118,45 +94,13 @@ small id = number_between 0 (pos 255) (needed (value id))
 abbrev pub coordinate : Text → Rule
 coordinate id = number_between 0 (pos 4294967295) (needed (value id))
 
+-- it has no value
 abbrev pub picture : Rule
-picture = flag (codes "picture") (codes "svg")
+picture = record (new_rule (codes "picture")) { long = Some (codes "svg"); action = Some SetTrue }
 
-abbrev pub words_of_play : List Rule
-words_of_play = database ∷ moment ∷ equal ∷ spans ∷ record_folder ∷ enrolments ∷ []
-
-abbrev pub words_of_token : List Rule
-words_of_token = token ∷ []
-
-abbrev pub words_of_serve : List Rule
-words_of_serve =
-    database ∷ port ∷ connections ∷ equal ∷ spans ∷ operators ∷ record_folder ∷ enrolments ∷ []
-
-abbrev pub words_of_cover : List Rule
-words_of_cover =
-    small (codes "FACE")
-    ∷ coordinate (codes "I_MIN")
-    ∷ coordinate (codes "I_MAX")
-    ∷ coordinate (codes "J_MIN")
-    ∷ coordinate (codes "J_MAX")
-    ∷ small (codes "LEVEL")
-    ∷ picture
-    ∷ []
-
-abbrev pub words_of_enrol : List Rule
-words_of_enrol =
-    needed database ∷ record_folder ∷ needed (value (codes "NAME")) ∷ needed (value (codes "CEILING")) ∷ []
-
-abbrev pub words_of_migrate : List Rule
-words_of_migrate = needed database ∷ []
-
-abbrev pub words_of_check : List Rule
-words_of_check = needed database ∷ []
-
-abbrev pub words_of_copy : List Rule
-words_of_copy = needed database ∷ new_file ∷ []
-
-abbrev pub words_of_replay : List Rule
-words_of_replay = needed database ∷ until ∷ []
+-- the last second that is played
+abbrev pub until : Rule
+until = number_between 0 max_second (option (codes "until") (codes "until"))
 
 -- a line: its first word, and its further words
 abbrev pub line_shape : Text → List Rule → Shape
@@ -165,15 +109,19 @@ line_shape name rules = record (new_shape name) { rules = rules }
 -- the lines that the program takes
 abbrev pub line_shapes : List Shape
 line_shapes =
-    line_shape (codes "play") words_of_play
-    ∷ line_shape (codes "token") words_of_token
-    ∷ line_shape (codes "serve") words_of_serve
-    ∷ line_shape (codes "cover") words_of_cover
-    ∷ line_shape (codes "enrol") words_of_enrol
-    ∷ line_shape (codes "migrate") words_of_migrate
-    ∷ line_shape (codes "check") words_of_check
-    ∷ line_shape (codes "copy") words_of_copy
-    ∷ line_shape (codes "replay") words_of_replay
+    line_shape (codes "play") (database ∷ moment ∷ equal ∷ spans ∷ record_folder ∷ enrolments ∷ [])
+    ∷ line_shape (codes "token") (needed (value (codes "token")) ∷ [])
+    ∷ line_shape (codes "serve") (database ∷ port ∷ connections ∷ equal ∷ spans ∷ operators
+    ∷ record_folder ∷ enrolments ∷ [])
+    ∷ line_shape (codes "cover") (small (codes "FACE") ∷ coordinate (codes "I_MIN")
+    ∷ coordinate (codes "I_MAX") ∷ coordinate (codes "J_MIN") ∷ coordinate (codes "J_MAX")
+    ∷ small (codes "LEVEL") ∷ picture ∷ [])
+    ∷ line_shape (codes "enrol") (needed database ∷ record_folder ∷ needed (value (codes "NAME"))
+    ∷ needed (value (codes "CEILING")) ∷ [])
+    ∷ line_shape (codes "migrate") (needed database ∷ [])
+    ∷ line_shape (codes "check") (needed database ∷ [])
+    ∷ line_shape (codes "copy") (needed database ∷ needed (option (codes "to") (codes "to")) ∷ [])
+    ∷ line_shape (codes "replay") (needed database ∷ until ∷ [])
     ∷ []
 
 -- a program that takes no line: `--version` and `--help` are answered
@@ -256,21 +204,34 @@ enrolment_given rows =
 
 -- ---- the lines
 
+-- the desk of `play` or of `serve`, with this file of enrolments
+pub record IsDeskGiven (rows : List Row) (file : Option Text) (desk : DeskArgs) : Type 0 where
+  pub database : file_of desk.database ≡ file_given rows
+  pub terms : AreTermsOf rows desk.terms
+  pub enrolments : AreEnrolmentsGiven desk.enrolments.items rows
+  pub operators : option_map string_bytes desk.operators ≡ file
+  pub folder : option_map string_bytes desk.folder ≡ first_of (codes "record") rows
+
+-- the desk of `enrol`, at which nothing is set
+pub record IsBareDeskGiven (rows : List Row) (desk : DeskArgs) : Type 0 where
+  pub database : file_of desk.database ≡ file_given rows
+  pub terms : desk.terms ≡ no_terms
+  pub enrolments : desk.enrolments.items ≡ []
+  pub operators : desk.operators ≡ None
+  pub folder : option_map string_bytes desk.folder ≡ first_of (codes "record") rows
+
 pub record IsPlayGiven (rows : List Row) (play : PlayWords) : Type 0 where
-  pub database : file_of play.database ≡ file_given rows
+  pub desk : IsDeskGiven rows None play.desk
   pub moment : IsSecondGiven (codes "moment") rows play.moment.second
-  pub terms : AreTermsOf rows play.terms
-  pub enrolments : AreEnrolmentsGiven play.enrolments.items rows
-  pub folder : option_map string_bytes play.folder ≡ first_of (codes "record") rows
 
 pub record IsServeGiven (rows : List Row) (serve : ServeWords) : Type 0 where
-  pub database : file_of serve.database ≡ file_given rows
+  pub desk : IsDeskGiven rows (first_of (codes "operators") rows) serve.desk
   pub port : IsNumberGiven (codes "port") rows serve.port
   pub connections : IsNumberGiven (codes "connections") rows serve.connections
-  pub terms : AreTermsOf rows serve.terms
-  pub enrolments : AreEnrolmentsGiven serve.enrolments.items rows
-  pub operators : option_map string_bytes serve.operators ≡ first_of (codes "operators") rows
-  pub folder : option_map string_bytes serve.folder ≡ first_of (codes "record") rows
+
+pub record IsEnrolGiven (rows : List Row) (enrol : EnrolWords) : Type 0 where
+  pub desk : IsBareDeskGiven rows enrol.desk
+  pub enrolment : enrolment_given rows ≡ Some enrol.enrolment
 
 pub record IsCoverGiven (rows : List Row) (cover : CoverWords) : Type 0 where
   pub face : IsNumberGiven (codes "FACE") rows cover.face
@@ -280,11 +241,6 @@ pub record IsCoverGiven (rows : List Row) (cover : CoverWords) : Type 0 where
   pub j_max : IsNumberGiven (codes "J_MAX") rows cover.j_max
   pub level : IsNumberGiven (codes "LEVEL") rows cover.level
   pub picture : is_given (codes "picture") rows ≡ cover.is_picture
-
-pub record IsEnrolGiven (rows : List Row) (enrol : EnrolWords) : Type 0 where
-  pub database : file_of enrol.database ≡ file_given rows
-  pub enrolment : enrolment_given rows ≡ Some enrol.enrolment
-  pub folder : option_map string_bytes enrol.folder ≡ first_of (codes "record") rows
 
 abbrev pub IsTextGiven : List Row → Text → Type 0
 IsTextGiven rows text = first_of (codes "token") rows ≡ Some text
@@ -298,80 +254,40 @@ pub record IsReplayGiven (rows : List Row) (replay : ReplayWords) : Type 0 where
   pub until : IsNumberOrNone (codes "until") rows replay.until
 
 -- the first word of a line
-abbrev pub cells_name : CellLine → Text
-cells_name (cells.Token text) = codes "token"
-cells_name (cells.Cover cover) = codes "cover"
-
 abbrev pub name_of : Line → Text
+name_of (line.Token token) = codes "token"
+name_of (line.Cover cover) = codes "cover"
 name_of (line.Play play) = codes "play"
 name_of (line.Serve serve) = codes "serve"
 name_of (line.Enrol enrol) = codes "enrol"
-
-abbrev pub keeper_name : KeeperLine → Text
-keeper_name (keeper.Check place) = codes "check"
-keeper_name (keeper.Copy copy) = codes "copy"
-keeper_name (keeper.Migrate place) = codes "migrate"
-keeper_name (keeper.Replay replay) = codes "replay"
-
-abbrev pub word_of : Task → Text
-word_of (task.Print it) = cells_name it
-word_of (task.Run it) = name_of it
-word_of (task.Keep it) = keeper_name it
+name_of (line.Check file) = codes "check"
+name_of (line.Copy copy) = codes "copy"
+name_of (line.Migrate file) = codes "migrate"
+name_of (line.Replay replay) = codes "replay"
 
 -- each field of a line has the value that was given
-abbrev pub HasCellsGiven : List Row → CellLine → Type 0
-HasCellsGiven rows (cells.Token text) = IsTextGiven rows (string_bytes text)
-HasCellsGiven rows (cells.Cover cover) = IsCoverGiven rows cover
-
 abbrev pub HasGiven : List Row → Line → Type 0
+HasGiven rows (line.Token token) = IsTextGiven rows (string_bytes token)
+HasGiven rows (line.Cover cover) = IsCoverGiven rows cover
 HasGiven rows (line.Play play) = IsPlayGiven rows play
 HasGiven rows (line.Serve serve) = IsServeGiven rows serve
 HasGiven rows (line.Enrol enrol) = IsEnrolGiven rows enrol
+HasGiven rows (line.Check file) = file_of file ≡ file_given rows
+HasGiven rows (line.Copy copy) = IsCopyGiven rows copy
+HasGiven rows (line.Migrate file) = file_of file ≡ file_given rows
+HasGiven rows (line.Replay replay) = IsReplayGiven rows replay
 
-abbrev pub IsDatabaseGiven : List Row → Database → Type 0
-IsDatabaseGiven rows database = file_of database ≡ file_given rows
-
-abbrev pub HasKeeperGiven : List Row → KeeperLine → Type 0
-HasKeeperGiven rows (keeper.Check place) = IsDatabaseGiven rows place
-HasKeeperGiven rows (keeper.Copy copy) = IsCopyGiven rows copy
-HasKeeperGiven rows (keeper.Migrate place) = IsDatabaseGiven rows place
-HasKeeperGiven rows (keeper.Replay replay) = IsReplayGiven rows replay
-
-abbrev pub HasTaskGiven : List Row → Task → Type 0
-HasTaskGiven rows (task.Print it) = HasCellsGiven rows it
-HasTaskGiven rows (task.Run it) = HasGiven rows it
-HasTaskGiven rows (task.Keep it) = HasKeeperGiven rows it
-
--- one with its numbers in range
-abbrev pub IsPlayOf : List Row → PlayWords → Type 0
-IsPlayOf rows play = IsPlay play × IsPlayGiven rows play
-
-abbrev pub IsServeOf : List Row → ServeWords → Type 0
-IsServeOf rows serve = IsServe serve × IsServeGiven rows serve
-
-abbrev pub IsReplayOf : List Row → ReplayWords → Type 0
-IsReplayOf rows replay = IsReplay replay × IsReplayGiven rows replay
-
--- the line or the task of a name
+-- the line of a name, with its numbers in range
 abbrev pub IsLineOf : Text → List Row → Line → Type 0
 IsLineOf name rows it = IsLine it × (name_of it ≡ name) × HasGiven rows it
 
-abbrev pub IsCellLineOf : Text → List Row → CellLine → Type 0
-IsCellLineOf name rows it = IsCellLine it × (cells_name it ≡ name) × HasCellsGiven rows it
-
-abbrev pub IsKeeperLineOf : Text → List Row → KeeperLine → Type 0
-IsKeeperLineOf name rows it = IsKeeperLine it × (keeper_name it ≡ name) × HasKeeperGiven rows it
-
-abbrev pub IsTaskOf : Text → List Row → Task → Type 0
-IsTaskOf name rows it = IsTask it × (word_of it ≡ name) × HasTaskGiven rows it
-
--- the task that these words are, the first of them the program's own name
-pub record IsGiven (words : List Text) (task : Task) : Type 0 where
+-- the line that these words are, the first of them the program's own name
+pub record IsGiven (words : List Text) (it : Line) : Type 0 where
   pub rows : List Row
-  pub found : subcommand_of program words ≡ Some (word_of task, rows)
-  pub values : HasTaskGiven rows task
+  pub found : subcommand_of program words ≡ Some (name_of it, rows)
+  pub values : HasGiven rows it
 
--- ---- why words are no task
+-- ---- why words are no line
 
 -- a `Value` that is refused: there is none that was given. It is the only fault but want of memory
 abbrev pub Lacks : {A B : Type 0} → (B → Type 0) → Result A WordsFault → Type 0
@@ -386,8 +302,8 @@ IsUntaken words fault.OutOfMemory = ⊤
 IsUntaken words (fault.Words error) = (takes program words ≢ true) × (kind_of error ≢ kind.OutOfMemory)
 IsUntaken words fault.Value = ⊥
 
--- `clap` doesn't take them; or, if it does, they are no task whose numbers are in range
+-- `clap` doesn't take them; or, if it does, they are no line whose numbers are in range
 abbrev pub AreWordsRefused : List Text → WordsFault → Type 0
 AreWordsRefused words fault.OutOfMemory = ⊤
 AreWordsRefused words (fault.Words error) = IsUntaken words (fault.Words error)
-AreWordsRefused words fault.Value = (it : Task) → IsTask it → IsGiven words it → ⊥
+AreWordsRefused words fault.Value = (it : Line) → IsLine it → IsGiven words it → ⊥

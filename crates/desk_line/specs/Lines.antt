@@ -4,22 +4,19 @@ use Rattle.std.specs.Prelude.{string_bytes}
 use Rattle.std.specs.Int.{IsInRange}
 use Rattle.desk_rules.specs.Limits.{max_priority}
 use Rattle.desk_ends.specs.Moments.{IsMoment}
+use Rattle.desk_line.specs.declared.line.Action.{Action}
+use Rattle.desk_line.specs.declared.line.Action.TheVariants as action
+use Rattle.desk_line.specs.declared.line.Cover.{Cover as CoverWords}
 use Rattle.desk_line.specs.declared.line.Database.{Database}
 use Rattle.desk_line.specs.declared.line.Database.TheVariants.{InMemory, File}
-use Rattle.desk_line.specs.declared.line.CellLine.{CellLine}
-use Rattle.desk_line.specs.declared.line.CellLine.TheVariants.{Token, Cover}
-use Rattle.desk_line.specs.declared.line.Cover.{Cover as CoverWords}
+use Rattle.desk_line.specs.declared.line.DeskArgs.{DeskArgs}
 use Rattle.desk_line.specs.declared.line.Enrol.{Enrol as EnrolWords}
 use Rattle.desk_line.specs.declared.line.Enrolment.{Enrolment}
-use Rattle.desk_line.specs.declared.line.KeeperLine.{KeeperLine}
-use Rattle.desk_line.specs.declared.line.KeeperLine.TheVariants.{Check, Copy, Migrate, Replay}
 use Rattle.desk_line.specs.declared.line.Line.{Line}
-use Rattle.desk_line.specs.declared.line.Line.TheVariants.{Play, Serve, Enrol}
+use Rattle.desk_line.specs.declared.line.Line.TheVariants.{Cover, Play, Serve, Enrol, Replay}
 use Rattle.desk_line.specs.declared.line.Play.{Play as PlayWords}
 use Rattle.desk_line.specs.declared.line.Replaying.{Replaying as ReplayWords}
 use Rattle.desk_line.specs.declared.line.Serve.{Serve as ServeWords}
-use Rattle.desk_line.specs.declared.line.Task.{Task}
-use Rattle.desk_line.specs.declared.line.Task.TheVariants.{Print, Run, Keep}
 
 abbrev pub min_port : ℕ
 min_port = 1
@@ -51,17 +48,17 @@ named_file (Some word) = if bytes_eq word (codes ":memory:") then None else Some
 abbrev pub AreEnrolments : List Enrolment → Type 0
 AreEnrolments enrolments = All (λ e. e.ceiling ≤ max_priority) enrolments
 
--- the words of `play`
+-- the numbers of `play`
 abbrev pub IsPlay : PlayWords → Type 0
-IsPlay play = AreEnrolments play.enrolments.items
+IsPlay play = AreEnrolments play.desk.enrolments.items
 
--- the words of `serve`
+-- the numbers of `serve`
 pub record IsServe (serve : ServeWords) : Type 0 where
   pub port : IsInRange min_port max_port serve.port
   pub connections : IsInRange min_connections max_connections serve.connections
-  pub enrolments : AreEnrolments serve.enrolments.items
+  pub enrolments : AreEnrolments serve.desk.enrolments.items
 
--- the words of `enrol`
+-- the numbers of `enrol`
 abbrev pub IsEnrol : EnrolWords → Type 0
 IsEnrol enrol = enrol.enrolment.ceiling ≤ max_priority
 
@@ -72,7 +69,7 @@ max_small = 255
 abbrev pub max_coordinate : ℕ
 max_coordinate = 4294967295
 
--- the words of `cover`
+-- the numbers of `cover`
 pub record IsCover (cover : CoverWords) : Type 0 where
   pub face : cover.face ≤ max_small
   pub i_min : cover.i_min ≤ max_coordinate
@@ -85,39 +82,26 @@ pub record IsCover (cover : CoverWords) : Type 0 where
 abbrev pub IsLastSecond : Option ℕ → Type 0
 IsLastSecond until = IfSome until (λ n. IsMoment (pos n))
 
--- the words of `replay`
+-- the numbers of `replay`
 abbrev pub IsReplay : ReplayWords → Type 0
 IsReplay replay = IsLastSecond replay.until
 
 -- each number of a line is in its range
-abbrev pub IsCellLine : CellLine → Type 0
-IsCellLine (Token token) = ⊤
-IsCellLine (Cover cover) = IsCover cover
-
 abbrev pub IsLine : Line → Type 0
+IsLine (Cover cover) = IsCover cover
 IsLine (Play play) = IsPlay play
 IsLine (Serve serve) = IsServe serve
 IsLine (Enrol enrol) = IsEnrol enrol
+IsLine (Replay replay) = IsReplay replay
+IsLine _ = ⊤
 
-abbrev pub IsKeeperLine : KeeperLine → Type 0
-IsKeeperLine (Check database) = ⊤
-IsKeeperLine (Copy copy) = ⊤
-IsKeeperLine (Migrate database) = ⊤
-IsKeeperLine (Replay replay) = IsReplay replay
+-- the line of a command at a desk, and its desk
+abbrev pub line_of : Action → Line
+line_of (action.Play play) = Play play.now
+line_of (action.Serve serve) = Serve serve.now
+line_of (action.Enrol enrol) = Enrol enrol.now
 
-abbrev pub IsTask : Task → Type 0
-IsTask (Print line) = IsCellLine line
-IsTask (Run line) = IsLine line
-IsTask (Keep line) = IsKeeperLine line
-
--- the database of a line at a desk, and of one by which a keeper does something
-abbrev pub database_of : Line → Database
-database_of (Play play) = play.database
-database_of (Serve serve) = serve.database
-database_of (Enrol enrol) = enrol.database
-
-abbrev pub database_kept : KeeperLine → Database
-database_kept (Check database) = database
-database_kept (Copy copy) = copy.database
-database_kept (Migrate database) = database
-database_kept (Replay replay) = replay.database
+abbrev pub desk_of : Action → DeskArgs
+desk_of (action.Play play) = play.now.desk
+desk_of (action.Serve serve) = serve.now.desk
+desk_of (action.Enrol enrol) = enrol.now.desk

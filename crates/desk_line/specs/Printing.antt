@@ -1,4 +1,4 @@
--- Printing: what the lines print that need no desk.
+-- Printing: what `token` and `cover` print.
 use Rattle.std.specs.Prelude.{◌≡◌, ◌⊎◌, ◌≤◌, ℕ, ◌<◌, Bool, true, false, ⊤, List, [], ◌∷◌, ◌++◌, length}
 use Rattle.std.specs.Prelude.{codes, decimal, Option, Result, Ok, Err, string_bytes}
 use Rattle.std.specs.Io.KnownBytes.{Appends}
@@ -13,9 +13,9 @@ use Rattle.s2_cover.specs.declared.spans.Span.{Span}
 use Rattle.volume4d.specs.VolumeLimits.{max_cover}
 use Rattle.desk_line.specs.declared.failure.Failure.{Failure}
 use Rattle.desk_line.specs.declared.failure.Failure.TheVariants as failure
-use Rattle.desk_line.specs.declared.line.CellLine.{CellLine}
-use Rattle.desk_line.specs.declared.line.CellLine.TheVariants as cells
 use Rattle.desk_line.specs.declared.line.Cover.{Cover as CoverWords}
+use Rattle.desk_line.specs.declared.line.Line.{Line}
+use Rattle.desk_line.specs.declared.line.Line.TheVariants as line
 use Rattle.desk_line.specs.Exits.{EndsWith, Ending}
 use Rattle.desk_line.specs.Written.{HasBegun}
 
@@ -72,24 +72,31 @@ IsRectTold picture (Ok rect) (Err f) = (f ≡ failure.TooManyCells) × IsLong (r
 IsRectTold true (Ok rect) (Ok text) = ⊤
 IsRectTold false (Ok rect) (Ok text) = IsCoverText (rect_leaves rect) text
 
+-- a line that is printed
+abbrev pub IsPrinting : Line → Type 0
+IsPrinting (line.Token token) = ⊤
+IsPrinting (line.Cover words) = ⊤
+IsPrinting _ = ⊥
+
 -- what is told of a line
-abbrev pub IsTold : CellLine → Result (List ℕ) Failure → Type 0
-IsTold (cells.Token token) told = told ≡ told_of_token (read_token (string_bytes token))
-IsTold (cells.Cover words) told = IsRectTold words.is_picture (rect_or_fault (rect_parts words)) told
+abbrev pub IsTold : Line → Result (List ℕ) Failure → Type 0
+IsTold (line.Token token) told = told ≡ told_of_token (read_token (string_bytes token))
+IsTold (line.Cover words) told = IsRectTold words.is_picture (rect_or_fault (rect_parts words)) told
+IsTold _ told = ⊥
 
 -- memory ran out and nothing is printed, or a write failed after a beginning of what is told
-abbrev pub IsPrintingGivenUp : CellLine → Failure → Option (List ℕ) → Option (List ℕ) → Type 0
+abbrev pub IsPrintingGivenUp : Line → Failure → Option (List ℕ) → Option (List ℕ) → Type 0
 IsPrintingGivenUp line f out now = ((f ≡ failure.Memory) × (now ≡ out))
     ⊎ ((f ≡ failure.Write) × ((text : List ℕ) × IsTold line (Ok text) × HasBegun text out now))
 
 -- what came of a line: what is told of it is printed, or it has a failure and nothing is printed, or it is
 -- given up
-abbrev pub IsShown : CellLine → Result ⊤ Failure → Option (List ℕ) → Option (List ℕ) → Type 0
+abbrev pub IsShown : Line → Result ⊤ Failure → Option (List ℕ) → Option (List ℕ) → Type 0
 IsShown line (Ok done) out now = (text : List ℕ) × IsTold line (Ok text) × Appends out now text
 IsShown line (Err f) out now = IsPrintingGivenUp line f out now ⊎ (IsTold line (Err f) × (now ≡ out))
 
 -- what a line prints, and how it ends
-pub record IsPrinted (line : CellLine) (end : Ending) (out now : Option (List ℕ)) : Type 0 where
+pub record IsPrinted (line : Line) (end : Ending) (out now : Option (List ℕ)) : Type 0 where
   pub done : Result ⊤ Failure
   pub ends : EndsWith done end
   pub shown : IsShown line done out now

@@ -14,8 +14,8 @@ mod reporting;
 
 pub use failure::{Exit, Failure, conclude};
 pub use line::{
-    CellLine, Copying, Cover, Database, Enrol, Enrolment, KeeperLine, Line, Play, Replaying, Serve,
-    Task, WordsFault, read_words,
+    Action, Copying, Cover, Database, DeskArgs, Enrol, Enrolment, Line, Play, Replaying, Serve,
+    WordsFault, read_words,
 };
 pub use malformed::malformed_word;
 pub use printed::print_line;

@@ -10,23 +10,18 @@ ghost use Rattle.clap.specs.Simple.{subcommand_of, subcommand_rows_of};
 ghost use Rattle.clap.specs.Walk.{first_of, rows_of};
 ghost use Rattle.desk_rules.specs.Limits.{max_priority, max_spans};
 ghost use Rattle.desk_ends.specs.Moments.{IsMoment};
-ghost use Rattle.desk_line.specs.Copies.{SameLine};
+ghost use Rattle.desk_line.specs.Copies.{SameDesk};
 ghost use Rattle.desk_line.specs.Equal.{ArePermittedBy};
 ghost use Rattle.desk_line.specs.Grammar as spec;
-ghost use Rattle.desk_line.specs.Grammar.{AreTermsOf, IsMostOf, IsNumberOrNone};
-ghost use Rattle.desk_line.specs.Grammar.{AreEnrolmentsGiven, HasCellsGiven, HasGiven, HasKeeperGiven};
-ghost use Rattle.desk_line.specs.Grammar.{HasTaskGiven, IsCellLineOf, IsCopyGiven, IsCoverGiven, IsEnrolGiven};
-ghost use Rattle.desk_line.specs.Grammar.{IsGiven, IsKeeperLineOf, IsLineOf, cells_name, keeper_name};
-ghost use Rattle.desk_line.specs.Grammar.{AreWordsRefused, IsNumberGiven, IsPlayGiven, IsPlayOf, IsSecondGiven};
-ghost use Rattle.desk_line.specs.Grammar.{IsReplayGiven, IsReplayOf};
-ghost use Rattle.desk_line.specs.Grammar.{IsServeGiven, IsServeOf, IsTaskOf, IsTextGiven, IsUntaken, Lacks};
-ghost use Rattle.desk_line.specs.Grammar.{enrolment_given, enrolment_in, file_given, name_of};
-ghost use Rattle.desk_line.specs.Grammar.{program, word_of};
-ghost use Rattle.desk_line.specs.Lines.{AreEnrolments, IsCellLine, IsCover, IsEnrol, IsKeeperLine, IsLastSecond};
-ghost use Rattle.desk_line.specs.Lines.{IsLine, IsPlay, IsReplay, IsServe, IsTask};
-ghost use Rattle.desk_line.specs.Lines as lines;
-ghost use Rattle.desk_line.specs.Lines.{file_of, max_connections, max_port, min_connections, min_port, min_spans};
-ghost use Rattle.desk_line.specs.Lines.{named_file};
+ghost use Rattle.desk_line.specs.Grammar.{AreEnrolmentsGiven, AreTermsOf, AreWordsRefused, HasGiven};
+ghost use Rattle.desk_line.specs.Grammar.{IsBareDeskGiven, IsCopyGiven, IsCoverGiven, IsDeskGiven};
+ghost use Rattle.desk_line.specs.Grammar.{IsEnrolGiven, IsGiven, IsLineOf, IsMostOf, IsNumberGiven};
+ghost use Rattle.desk_line.specs.Grammar.{IsNumberOrNone, IsPlayGiven, IsReplayGiven, IsSecondGiven};
+ghost use Rattle.desk_line.specs.Grammar.{IsServeGiven, IsTextGiven, IsUntaken};
+ghost use Rattle.desk_line.specs.Grammar.{Lacks, enrolment_given, enrolment_in, file_given, name_of, program};
+ghost use Rattle.desk_line.specs.Lines.{AreEnrolments, IsCover, IsEnrol, IsLastSecond, IsLine, IsPlay};
+ghost use Rattle.desk_line.specs.Lines.{IsReplay, IsServe, desk_of, file_of, max_connections, max_port};
+ghost use Rattle.desk_line.specs.Lines.{min_connections, min_port, min_spans, named_file};
 ghost use Rattle.desk_line.specs.declared.line.Cover.{Cover as CoverWords};
 ghost use Rattle.desk_line.specs.declared.line.WordsFault.TheVariants as fault;
 
@@ -47,40 +42,19 @@ const IN_MEMORY: &str = ":memory:";
 /// The most connections that are served.
 pub(crate) const MAX_CONNECTIONS: u32 = 1_000_000;
 
-/// What the program is asked for, by what that needs.
+/// What the program is asked for: one command, with its arguments.
 #[derive(Debug, Drop)]
-pub enum Task {
-    /// A line that needs no desk.
-    Print(CellLine),
-    /// A line at a desk.
-    Run(Line),
-    /// What a keeper does to a database.
-    Keep(KeeperLine),
-}
-
-/// A line that tells of cells.
-#[derive(Debug, Drop)]
-pub enum CellLine {
+pub enum Line {
     /// `token`: tells the cell of this text.
     Token(String),
     /// `cover`: tells the cells of a rectangle.
     Cover(Cover),
-}
-
-/// A line that is carried out at a desk.
-#[derive(Clone, Debug, Drop)]
-pub enum Line {
     /// `play`: enrols the names, and answers the requests of the standard input.
     Play(Play),
     /// `serve`: enrols the names, and answers one request a connection.
     Serve(Serve),
     /// `enrol`: enrols one operator.
     Enrol(Enrol),
-}
-
-/// A line by which a keeper looks at a database, or makes another of it.
-#[derive(Debug, Drop)]
-pub enum KeeperLine {
     /// `check`: tells what a database holds.
     Check(Database),
     /// `copy`: makes a new file of what a database holds.
@@ -89,6 +63,39 @@ pub enum KeeperLine {
     Migrate(Database),
     /// `replay`: plays the record of the standard input, and compares each answer with the recorded one.
     Replay(Replaying),
+}
+
+/// What a command does at its desk once that is open.
+#[derive(Clone, Copy)]
+pub enum Action<'a> {
+    /// Answers the requests of the standard input.
+    Play(&'a Play),
+    /// Answers one request a connection.
+    Serve(&'a Serve),
+    /// Enrols one operator.
+    Enrol(&'a Enrol),
+}
+
+impl<'a> Action<'a> {
+    /// The desk that the command opens.
+    pub fn desk(self) -> &'a DeskArgs
+        ensures { result.now ≡ desk_of self.entry }
+    {
+        match self {
+            Action::Play(play) => &play.desk,
+            Action::Serve(serve) => &serve.desk,
+            Action::Enrol(enrol) => &enrol.desk,
+        }
+    }
+}
+
+/// Where operators and plans are kept.
+#[derive(Clone, Debug, Drop)]
+pub enum Database {
+    /// In memory: they are gone when the program ends.
+    InMemory,
+    /// In the SQLite database of this path.
+    File(String),
 }
 
 impl Database {
@@ -103,89 +110,66 @@ impl Database {
     }
 }
 
-impl Line {
-    /// Where its operators and plans are kept.
-    pub fn database(&self) -> &Database
-        ensures { result.now ≡ lines.database_of self.now }
-    {
-        match self {
-            Line::Play(words) => &words.database,
-            Line::Serve(words) => &words.database,
-            Line::Enrol(words) => &words.database,
-        }
-    }
-
-    /// The same line.
-    ///
-    /// # Errors
-    ///
-    /// `AllocError` if memory runs out.
-    pub fn copy(&self) -> Result<Line, AllocError>
-        ensures { IfOk result (SameLine self.now) }
-    {
-        self.clone()
-    }
-}
-
-impl KeeperLine {
-    /// What is looked at, or copied, or moved, or played at.
-    pub fn database(&self) -> &Database
-        ensures { result.now ≡ lines.database_kept self.now }
-    {
-        match self {
-            KeeperLine::Check(database) | KeeperLine::Migrate(database) => database,
-            KeeperLine::Copy(words) => &words.database,
-            KeeperLine::Replay(words) => &words.database,
-        }
-    }
-}
-
-/// Where operators and plans are kept.
+/// Which desk a command opens, and what is set there before it begins.
 #[derive(Clone, Debug, Drop)]
-pub enum Database {
-    /// In memory: they are gone when the program ends.
-    InMemory,
-    /// In the SQLite database of this path.
-    File(String),
-}
-
-/// The words of `play`.
-#[derive(Clone, Debug, Drop)]
-pub struct Play {
+pub struct DeskArgs {
     /// Where operators and plans are kept.
     pub database: Database,
-    /// The moment of all requests.
-    pub moment: Moment,
     /// The terms of the desk: the priorities of which plans may overlap, and the most spans of an operator's
-    /// live plans, 1 to 5,000,000.
+    /// live plans, 1 to 5,000,000. `enrol` has none.
     pub terms: Terms,
-    /// The operators, in the order given; a name may be there twice.
-    pub enrolments: Vec<Enrolment>,
-    /// The path of the folder in which each request and its answer are recorded, if there is one.
-    pub folder: Option<String>,
-}
-
-/// The words of `serve`.
-#[derive(Clone, Debug, Drop)]
-pub struct Serve {
-    /// Where operators and plans are kept.
-    pub database: Database,
-    /// The port of 127.0.0.1 that is listened at, 1 to 65,535.
-    pub port: u16,
-    /// How many connections are served, 1 to 1,000,000.
-    pub connections: u32,
-    /// The terms of the desk: the priorities of which plans may overlap, and the most spans of an operator's
-    /// live plans, 1 to 5,000,000.
-    pub terms: Terms,
-    /// The operators, in the order given; a name may be there twice.
+    /// The operators, in the order given; a name may be there twice. `enrol` has none.
     pub enrolments: Vec<Enrolment>,
     /// The path of the file of enrolments that the keeper changes while the desk serves, if there is one.
+    /// `serve` alone has one.
     pub operators: Option<String>,
     /// The path of the folder in which each request and its answer are recorded, if there is one.
     pub folder: Option<String>,
 }
 
-/// The words of `cover`: the parts of a rectangle of leaves, of which nothing is known yet.
+impl DeskArgs {
+    /// The same arguments.
+    ///
+    /// # Errors
+    ///
+    /// `AllocError` if memory runs out.
+    pub fn copy(&self) -> Result<DeskArgs, AllocError>
+        ensures { IfOk result (SameDesk self.now) }
+    {
+        self.clone()
+    }
+}
+
+/// The arguments of `play`.
+#[derive(Debug, Drop)]
+pub struct Play {
+    /// The desk that is opened.
+    pub desk: DeskArgs,
+    /// The moment of all requests.
+    pub moment: Moment,
+}
+
+/// The arguments of `serve`.
+#[derive(Debug, Drop)]
+pub struct Serve {
+    /// The desk that is opened.
+    pub desk: DeskArgs,
+    /// The port of 127.0.0.1 that is listened at, 1 to 65,535.
+    pub port: u16,
+    /// How many connections are served, 1 to 1,000,000.
+    pub connections: u32,
+}
+
+/// The arguments of `enrol`.
+#[derive(Debug, Drop)]
+pub struct Enrol {
+    /// The desk at which the operator is enrolled.
+    pub desk: DeskArgs,
+    /// The operator and its ceiling.
+    pub enrolment: Enrolment,
+}
+
+/// The arguments of `cover`: the parts of a rectangle of leaves, of which nothing is known yet.
 #[derive(Clone, Copy, Debug)]
 pub struct Cover {
     /// The face, 0 to 5.
@@ -204,18 +188,7 @@ pub struct Cover {
     pub is_picture: bool,
 }
 
-/// The words of `enrol`.
-#[derive(Clone, Debug, Drop)]
-pub struct Enrol {
-    /// Where the operator is enrolled.
-    pub database: Database,
-    /// The operator and its ceiling.
-    pub enrolment: Enrolment,
-    /// The path of the folder of the desk's records, if there is one.
-    pub folder: Option<String>,
-}
-
-/// The words of `copy`.
+/// The arguments of `copy`.
 #[derive(Debug, Drop)]
 pub struct Copying {
     /// What is copied.
@@ -224,7 +197,7 @@ pub struct Copying {
     pub to: String,
 }
 
-/// The words of `replay`.
+/// The arguments of `replay`.
 #[derive(Debug, Drop)]
 pub struct Replaying {
     /// Where operators and plans are kept.
@@ -293,24 +266,24 @@ impl From<clap::Error> for WordsFault {
 /// # Errors
 ///
 /// `OutOfMemory` if a growth was refused; else `Words` if `clap` doesn't take them, as if a number is out of
-/// range; else `Value` if they are no task.
-pub fn read_words(alloc: Global, words: Vec<String>) -> Result<Task, WordsFault>
-    ensures valid { IfOk result IsTask }
+/// range; else `Value` if they are no line.
+pub fn read_words(alloc: Global, words: Vec<String>) -> Result<Line, WordsFault>
+    ensures valid { IfOk result IsLine }
     ensures given { IfOk result (IsGiven (map string_bytes words.items)) }
     ensures refused { IfErr result (AreWordsRefused (map string_bytes words.items)) }
 {
     read_slice(alloc, &words)
 }
 
-// The task of words.
-fn read_slice(alloc: Global, words: &[String]) -> Result<Task, WordsFault>
-    ensures valid { IfOk result IsTask }
+// The line of words.
+fn read_slice(alloc: Global, words: &[String]) -> Result<Line, WordsFault>
+    ensures valid { IfOk result IsLine }
     ensures given { IfOk result (IsGiven (map string_bytes words.now)) }
     ensures refused { IfErr result (AreWordsRefused (map string_bytes words.now)) }
 {
     let matches = matches_of(alloc, words)?;
     match matches.subcommand() {
-        Some((name, given)) => read_task(alloc, name, given),
+        Some((name, given)) => read_line(alloc, name, given),
         None => Err(WordsFault::Value),
     }
 }
@@ -328,54 +301,7 @@ pub(crate) fn matches_of(alloc: Global, words: &[String]) -> Result<ArgMatches<'
     Ok(make_command(alloc)?.try_get_matches_from(words)?)
 }
 
-// The task of this name, by the values that were given.
-fn read_task(alloc: Global, name: &str, given: &ArgMatches<'_>) -> Result<Task, WordsFault>
-    ensures valid { IfOk result IsTask }
-    ensures name { IfOk result (λ task. word_of task ≡ name.now) }
-    ensures given { IfOk result (HasTaskGiven (rows_of (found_of given.now))) }
-    ensures lacks { Lacks (IsTaskOf name.now (rows_of (found_of given.now))) result }
-{
-    match name {
-        "token" | "cover" => Ok(Task::Print(read_cells(alloc, name, given)?)),
-        "play" | "serve" | "enrol" => Ok(Task::Run(read_line(alloc, name, given)?)),
-        _ => Ok(Task::Keep(read_keeper(alloc, name, given)?)),
-    }
-}
-
-// The line of this name that needs no desk, by the values that were given.
-fn read_cells(alloc: Global, name: &str, given: &ArgMatches<'_>) -> Result<CellLine, WordsFault>
-    ensures valid { IfOk result IsCellLine }
-    ensures name { IfOk result (λ line. cells_name line ≡ name.now) }
-    ensures given { IfOk result (HasCellsGiven (rows_of (found_of given.now))) }
-    ensures lacks { Lacks (IsCellLineOf name.now (rows_of (found_of given.now))) result }
-{
-    match name {
-        "token" => Ok(CellLine::Token(read_token(alloc, given)?)),
-        "cover" => match read_cover(given) {
-            Some(cover) => Ok(CellLine::Cover(cover)),
-            None => Err(WordsFault::Value),
-        },
-        _ => Err(WordsFault::Value),
-    }
-}
-
-// The line of this name by which a keeper does something, by the values that were given.
-fn read_keeper(alloc: Global, name: &str, given: &ArgMatches<'_>) -> Result<KeeperLine, WordsFault>
-    ensures valid { IfOk result IsKeeperLine }
-    ensures name { IfOk result (λ line. keeper_name line ≡ name.now) }
-    ensures given { IfOk result (HasKeeperGiven (rows_of (found_of given.now))) }
-    ensures lacks { Lacks (IsKeeperLineOf name.now (rows_of (found_of given.now))) result }
-{
-    match name {
-        "check" => Ok(KeeperLine::Check(read_database(alloc, given)?)),
-        "copy" => Ok(KeeperLine::Copy(read_copy(alloc, given)?)),
-        "migrate" => Ok(KeeperLine::Migrate(read_database(alloc, given)?)),
-        "replay" => Ok(KeeperLine::Replay(read_replay(alloc, given)?)),
-        _ => Err(WordsFault::Value),
-    }
-}
-
-// The line at a desk of this name, by the values that were given.
+// The line of this name, by the values that were given.
 fn read_line(alloc: Global, name: &str, given: &ArgMatches<'_>) -> Result<Line, WordsFault>
     ensures valid { IfOk result IsLine }
     ensures name { IfOk result (λ line. name_of line ≡ name.now) }
@@ -383,27 +309,54 @@ fn read_line(alloc: Global, name: &str, given: &ArgMatches<'_>) -> Result<Line, 
     ensures lacks { Lacks (IsLineOf name.now (rows_of (found_of given.now))) result }
 {
     match name {
+        "token" => Ok(Line::Token(read_token(alloc, given)?)),
+        "cover" => match read_cover(given) {
+            Some(cover) => Ok(Line::Cover(cover)),
+            None => Err(WordsFault::Value),
+        },
         "play" => Ok(Line::Play(read_play(alloc, given)?)),
         "serve" => Ok(Line::Serve(read_serve(alloc, given)?)),
         "enrol" => Ok(Line::Enrol(read_enrol(alloc, given)?)),
+        "check" => Ok(Line::Check(read_database(alloc, given)?)),
+        "copy" => Ok(Line::Copy(read_copy(alloc, given)?)),
+        "migrate" => Ok(Line::Migrate(read_database(alloc, given)?)),
+        "replay" => Ok(Line::Replay(read_replay(alloc, given)?)),
         _ => Err(WordsFault::Value),
     }
 }
 
-// The words of `play`.
+// The arguments of `play`.
 fn read_play(alloc: Global, given: &ArgMatches<'_>) -> Result<Play, WordsFault>
     ensures valid { IfOk result IsPlay }
     ensures given { IfOk result (IsPlayGiven (rows_of (found_of given.now))) }
-    ensures lacks { Lacks (IsPlayOf (rows_of (found_of given.now))) result }
+    ensures lacks { Lacks (IsPlayGiven (rows_of (found_of given.now))) result }
 {
     let Some(moment) = read_moment(given) else {
         return Err(WordsFault::Value);
     };
     Ok(Play {
-        database: read_database(alloc, given)?,
+        desk: read_desk(alloc, given, None)?,
         moment,
+    })
+}
+
+// The desk of `play` or `serve`, with the file of enrolments of this path.
+fn read_desk(
+    alloc: Global,
+    given: &ArgMatches<'_>,
+    operators: Option<&str>,
+) -> Result<DeskArgs, WordsFault>
+    ensures small { IfOk result (λ desk. AreEnrolments desk.enrolments.items) }
+    ensures given { IfOk result (IsDeskGiven (rows_of (found_of given.now))
+        (option_map (λ path. path.now) operators.entry)) }
+    ensures lacks { Lacks (IsDeskGiven (rows_of (found_of given.now))
+        (option_map (λ path. path.now) operators.entry)) result }
+{
+    Ok(DeskArgs {
+        database: read_database(alloc, given)?,
         terms: read_terms(alloc, given)?,
         enrolments: read_enrolments(alloc, given)?,
+        operators: owned_text(alloc, operators)?,
         folder: read_folder(alloc, given)?,
     })
 }
@@ -438,11 +391,12 @@ fn read_token(alloc: Global, given: &ArgMatches<'_>) -> Result<String, WordsFaul
     }
 }
 
-// The words of `serve`.
+// The arguments of `serve`.
 fn read_serve(alloc: Global, given: &ArgMatches<'_>) -> Result<Serve, WordsFault>
     ensures valid { IfOk result IsServe }
     ensures given { IfOk result (IsServeGiven (rows_of (found_of given.now))) }
-    ensures lacks { Lacks (IsServeOf (rows_of (found_of given.now))) result }
+    ensures lacks { Lacks (λ serve. IsServe serve
+        × IsServeGiven (rows_of (found_of given.now)) serve) result }
 {
     let Some(port) = read_port(given) else {
         return Err(WordsFault::Value);
@@ -451,13 +405,9 @@ fn read_serve(alloc: Global, given: &ArgMatches<'_>) -> Result<Serve, WordsFault
         return Err(WordsFault::Value);
     };
     Ok(Serve {
-        database: read_database(alloc, given)?,
+        desk: read_desk(alloc, given, text_of(given, "operators"))?,
         port,
         connections,
-        terms: read_terms(alloc, given)?,
-        enrolments: read_enrolments(alloc, given)?,
-        operators: read_operators(alloc, given)?,
-        folder: read_folder(alloc, given)?,
     })
 }
 
@@ -492,14 +442,6 @@ fn read_connections(given: &ArgMatches<'_>) -> Option<u32>
     Some(connections)
 }
 
-// The path of the file of enrolments, if one is named.
-fn read_operators(alloc: Global, given: &ArgMatches<'_>) -> Result<Option<String>, AllocError>
-    ensures { IfOk result (λ operators. option_map string_bytes operators
-        ≡ first_of (codes "operators") (rows_of (found_of given.now))) }
-{
-    owned_text(alloc, text_of(given, "operators"))
-}
-
 // The path of the folder of records, if one is named.
 fn read_folder(alloc: Global, given: &ArgMatches<'_>) -> Result<Option<String>, AllocError>
     ensures { IfOk result (λ folder. option_map string_bytes folder
@@ -519,7 +461,7 @@ fn owned_text(alloc: Global, text: Option<&str>) -> Result<Option<String>, Alloc
     }
 }
 
-// The words of `cover`.
+// The arguments of `cover`.
 fn read_cover(given: &ArgMatches<'_>) -> Option<Cover>
     ensures valid { IfSome result IsCover }
     ensures given { IfSome result (IsCoverGiven (rows_of (found_of given.now))) }
@@ -571,7 +513,7 @@ fn is_given(given: &ArgMatches<'_>, id: &str) -> bool
     given.get_one(id).unwrap_or(false)
 }
 
-// The words of `enrol`.
+// The arguments of `enrol`.
 fn read_enrol(alloc: Global, given: &ArgMatches<'_>) -> Result<Enrol, WordsFault>
     ensures valid { IfOk result IsEnrol }
     ensures given { IfOk result (IsEnrolGiven (rows_of (found_of given.now))) }
@@ -581,13 +523,25 @@ fn read_enrol(alloc: Global, given: &ArgMatches<'_>) -> Result<Enrol, WordsFault
         return Err(WordsFault::Value);
     };
     Ok(Enrol {
-        database: read_database(alloc, given)?,
+        desk: read_bare_desk(alloc, given)?,
         enrolment,
+    })
+}
+
+// The desk of `enrol`, at which nothing is set.
+fn read_bare_desk(alloc: Global, given: &ArgMatches<'_>) -> Result<DeskArgs, AllocError>
+    ensures { IfOk result (IsBareDeskGiven (rows_of (found_of given.now))) }
+{
+    Ok(DeskArgs {
+        database: read_database(alloc, given)?,
+        terms: Terms::none(),
+        enrolments: Vec::new(alloc),
+        operators: None,
         folder: read_folder(alloc, given)?,
     })
 }
 
-// The words of `copy`.
+// The arguments of `copy`.
 fn read_copy(alloc: Global, given: &ArgMatches<'_>) -> Result<Copying, WordsFault>
     ensures given { IfOk result (IsCopyGiven (rows_of (found_of given.now))) }
     ensures lacks { Lacks (IsCopyGiven (rows_of (found_of given.now))) result }
@@ -601,11 +555,12 @@ fn read_copy(alloc: Global, given: &ArgMatches<'_>) -> Result<Copying, WordsFaul
     })
 }
 
-// The words of `replay`.
+// The arguments of `replay`.
 fn read_replay(alloc: Global, given: &ArgMatches<'_>) -> Result<Replaying, WordsFault>
     ensures valid { IfOk result IsReplay }
     ensures given { IfOk result (IsReplayGiven (rows_of (found_of given.now))) }
-    ensures lacks { Lacks (IsReplayOf (rows_of (found_of given.now))) result }
+    ensures lacks { Lacks (λ replay. IsReplay replay
+        × IsReplayGiven (rows_of (found_of given.now)) replay) result }
 {
     let Some(until) = read_until(given) else {
         return Err(WordsFault::Value);

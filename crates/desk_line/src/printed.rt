@@ -9,13 +9,13 @@ ghost use Rattle.s2_cover.specs.Rectangles.{rect_or_fault};
 ghost use Rattle.s2_cover.specs.declared.spans.Span.{Span};
 ghost use Rattle.desk_line.specs.Exits.{ending};
 ghost use Rattle.desk_line.specs.Printing as spec;
-ghost use Rattle.desk_line.specs.Printing.{IsCoverText, IsPrinted, IsRectTold, IsShown, IsTold};
+ghost use Rattle.desk_line.specs.Printing.{IsCoverText, IsPrinted, IsPrinting, IsRectTold, IsShown, IsTold};
 ghost use Rattle.desk_line.specs.Printing.{rect_parts, told_of_token};
 ghost use Rattle.desk_line.specs.Written.{HasBegun};
 ghost use Rattle.desk_line.specs.declared.failure.Failure.TheVariants.{Memory, Write};
 
 use crate::failure::{Exit, Failure, conclude};
-use crate::line::{CellLine, Cover as CoverWords};
+use crate::line::{Cover as CoverWords, Line};
 use crate::picture::picture_of;
 use desk_ends::write_whole;
 use s2_cellid::CellId;
@@ -25,14 +25,15 @@ use std::alloc::{AllocError, Global};
 use std::io::Write;
 use volume4d::MAX_COVER;
 
-/// Prints what a line of `token` or `cover` asks for, and answers how it ended. The word of a failure goes
+/// Prints what a `token` or a `cover` asks for, and answers how it ended. The word of a failure goes
 /// to `errors`; a fault there is passed over.
 pub fn print_line<W: Write, E: Write>(
     alloc: Global,
-    line: &CellLine,
+    line: &Line,
     output: &mut W,
     errors: &mut E,
 ) -> Exit<E>
+    requires { IsPrinting line.now }
     ensures { IsPrinted line.now (ending result (E.contents errors.old) (E.contents errors.new))
         (W.contents output.old) (W.contents output.new) }
 {
@@ -40,7 +41,8 @@ pub fn print_line<W: Write, E: Write>(
 }
 
 // Prints the text of a line.
-fn print_text<W: Write>(alloc: Global, line: &CellLine, output: &mut W) -> Result<(), Failure>
+fn print_text<W: Write>(alloc: Global, line: &Line, output: &mut W) -> Result<(), Failure>
+    requires { IsPrinting line.now }
     ensures { IsShown line.now result (W.contents output.old) (W.contents output.new) }
 {
     let text = text_of(alloc, line)?;
@@ -59,13 +61,15 @@ fn write_text<W: Write>(output: &mut W, text: &str) -> Result<(), Failure>
 }
 
 // The text that a line prints.
-fn text_of(alloc: Global, line: &CellLine) -> Result<String, Failure>
+fn text_of(alloc: Global, line: &Line) -> Result<String, Failure>
+    requires { IsPrinting line.now }
     ensures ok { IfOk result (λ text. IsTold line.now (Ok (string_bytes text))) }
     ensures err { IfErr result (λ f. (f ≡ Memory) ⊎ IsTold line.now (Err f)) }
 {
     match line {
-        CellLine::Token(token) => token_text(alloc, token),
-        CellLine::Cover(words) => cover_text(alloc, words),
+        Line::Token(token) => token_text(alloc, token),
+        Line::Cover(words) => cover_text(alloc, words),
+        _ => unreachable!(),
     }
 }
 
