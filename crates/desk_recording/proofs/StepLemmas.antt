@@ -47,10 +47,10 @@ ends_with (Some n) text is = ap (λ t. option_map Ended t) is
 -- news are noted, or aren't
 records_news : (noted now : Option Noted) (news : List Enrolment)
     → NotesOnDisk noted now true (λ n. with_news n news) → AreEnrolments news
-    → IfSome noted (λ n. true ≡ true → AreNamed news)
+    → IfSome noted (λ n. AreNamed news)
     → RecordsNews (recorded_by false noted) (recorded_by false now) news
 records_news None now news is small named = tt
-records_news (Some n) now news is small named = (small, named refl, ap (λ v. recorded_by false v) is)
+records_news (Some n) now news is small named = (small, named, ap (λ v. recorded_by false v) is)
 
 cut_news : (noted now : Option Noted) (news : List Enrolment)
     → NotesOnDisk noted now false (λ n. with_news n news)
@@ -108,22 +108,21 @@ cut_request (Some n) now moment request (inr is) = inr (record {
 })
 
 -- an answer is noted, or isn't
-records_answer : (noted now : Option Noted) (is_broken is_kept is_answered : Bool) (answer : List ℕ)
-    → Notes noted now is_kept (λ n. with_answer n answer)
-    → (is_kept ≡ true → (is_broken ≡ false) × (is_answered ≡ true))
-    → RecordsAnswer (recorded_by is_broken noted) (recorded_by (not is_kept) now) (Some answer)
-    is_answered
-records_answer None now is_broken is_kept is_answered answer is may = tt
-records_answer (Some n) now false true is_answered answer is may = inl (record {
+records_answer : (noted now : Option Noted) (was_lost is_lost is_answered : Bool) (answer : List ℕ)
+    → Notes noted now (not is_lost) (λ n. with_answer n answer)
+    → (is_lost ≡ false → (was_lost ≡ false) × (is_answered ≡ true))
+    → RecordsAnswer (recorded_by was_lost noted) (recorded_by is_lost now) (Some answer) is_answered
+records_answer None now was_lost is_lost is_answered answer is may = tt
+records_answer (Some n) now false false is_answered answer is may = inl (record {
   whole = (may refl).1;
   answer = answer;
   known = refl;
   added = ap (λ v. recorded_by false v) is;
 })
-records_answer (Some n) now false false is_answered answer is may = inr (ends_with now n.text is)
-records_answer (Some n) now true true is_answered answer is may =
+records_answer (Some n) now false true is_answered answer is may = inr (ends_with now n.text is)
+records_answer (Some n) now true false is_answered answer is may =
     let none = (may refl).0 in cc
-records_answer (Some n) now true false is_answered answer is may = ends_with now n.text is
+records_answer (Some n) now true true is_answered answer is may = ends_with now n.text is
 
 -- ---- what a port tells
 
@@ -139,7 +138,7 @@ is_open (Some steps) (Some n) = tt
 pub brings_news : (old new : Option (List Step)) (noted now : Option Noted) (news : List Enrolment)
     → AddsStep old new (Enrolled news) → NotesOnDisk noted now true (λ n. with_news n news)
     → AreEnrolments news
-    → IfSome noted (λ n. true ≡ true → AreNamed news)
+    → IfSome noted (λ n. AreNamed news)
     → BringsNews (traffic_of old (recorded_by false noted)) (traffic_of new (recorded_by false now)) news
 brings_news None new noted now news is noting small named =
     subst (λ s. BringsNews (traffic_of None (recorded_by false noted)) (traffic_of s (recorded_by false now))
@@ -230,16 +229,16 @@ kept_or_lost : (old new : Option (List Step)) (parting : Parting) (writes : Cour
 kept_or_lost old new parting writes (inl kept) = inl kept.0
 kept_or_lost old new parting writes (inr lost) = inr lost.0
 
-module _ (old new : Option (List Step)) (noted now : Option Noted) (is_broken is_kept : Bool)
+module _ (old new : Option (List Step)) (noted now : Option Noted) (was_lost is_lost : Bool)
     (parting : Parting) (answer : List ℕ) (out sent : Option (List ℕ)) where
   pub closes_so : SendsKept (course old new) parting (course out sent) → parting.sent ≡ Some answer
-      → Notes noted now is_kept (λ n. with_answer n answer)
-      → (is_kept ≡ true → (is_broken ≡ false) × (parting.outcome.is_answered ≡ true))
-      → Closes (traffic_of old (recorded_by is_broken noted))
-      (traffic_of new (recorded_by (not is_kept) now)) parting
+      → Notes noted now (not is_lost) (λ n. with_answer n answer)
+      → (is_lost ≡ false → (was_lost ≡ false) × (parting.outcome.is_answered ≡ true))
+      → Closes (traffic_of old (recorded_by was_lost noted))
+      (traffic_of new (recorded_by is_lost now)) parting
   closes_so sends said noting may =
-      closes old new (recorded_by is_broken noted) (recorded_by (not is_kept) now) parting
+      closes old new (recorded_by was_lost noted) (recorded_by is_lost now) parting
       (kept_or_lost old new parting (course out sent) sends)
-      (subst (λ s. RecordsAnswer (recorded_by is_broken noted) (recorded_by (not is_kept) now) s
+      (subst (λ s. RecordsAnswer (recorded_by was_lost noted) (recorded_by is_lost now) s
       parting.outcome.is_answered) (sym said)
-      (records_answer noted now is_broken is_kept parting.outcome.is_answered answer noting may))
+      (records_answer noted now was_lost is_lost parting.outcome.is_answered answer noting may))

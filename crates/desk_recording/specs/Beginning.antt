@@ -1,4 +1,4 @@
--- Beginning: the entries with which a record begins (docs/RECORD.md).
+-- Beginning: the entries with which a record begins (docs/journal-format.md).
 use Rattle.std.specs.Prelude.{ℕ, zero, suc, List, [], ◌∷◌, ◌++◌, map, option_to_list, if◌then◌else◌}
 use Rattle.desk_rules.specs.Permission.{is_permitted}
 use Rattle.desk_rules.specs.declared.terms.Terms.{Terms}

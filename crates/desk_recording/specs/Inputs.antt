@@ -1,7 +1,8 @@
 -- Inputs: the requests of an input, handed out one after the other so that they are recorded, and how a line
 -- of `play` ends whose requests they are.
-use Rattle.std.specs.Prelude.{◌≡◌, ⊤, ℕ, List, Bool, true, false, Option, Some, None, IfSome, Result, Ok, Err}
-use Rattle.std.specs.Io.KnownBytes.{IsAtEnd}
+use Rattle.std.specs.Prelude.{◌≡◌, ◌⊎◌, ⊤, ℕ, List, Bool, true, false, Option, Some, None, IfSome, Result, Ok, Err}
+use Rattle.std.specs.Option.{IsSomeAnd, option_map}
+use Rattle.std.specs.Io.KnownBytes.{Appends, IsAtEnd}
 use Rattle.std.specs.declared.io.Write as write
 use Rattle.desk_store.specs.declared.store.PlanStore as store
 use Rattle.desk_store.specs.StoreFaults.{IsHonest}
@@ -9,6 +10,7 @@ use Rattle.desk_store.specs.StoreFrames.{Remembers}
 use Rattle.desk_store.specs.World.{World}
 use Rattle.desk_run.specs.DeskFrames.{FindsOnly}
 use Rattle.desk_run.specs.DeskWorld.{DeskWorld, Parts, world_of}
+use Rattle.desk_ends.specs.Writing.{BreaksOff}
 use Rattle.desk_wire.specs.Passage.{Course, course}
 use Rattle.desk_wire.specs.Streams.{IsCut}
 use Rattle.desk_line.specs.declared.failure.Exit.{Exit}
@@ -21,17 +23,41 @@ use Rattle.desk_program.specs.Outside.{ended}
 use Rattle.desk_program.specs.PortPlays.{IsInputKept, IsInputPlayed}
 use Rattle.desk_program.specs.Serving.{Traffic}
 use Rattle.desk_recording.specs.Telling.{told_of}
+use Rattle.desk_recording.specs.declared.inputs.InputEnd.{InputEnd}
+use Rattle.desk_recording.specs.declared.inputs.InputEnd.TheVariants.{AtEnd, CutShort, Unread, OutOfMemory, Unframed, Unwritten}
 use Rattle.desk_recording.specs.declared.inputs.InputPort.{InputPort}
 use Rattle.desk_recording.specs.declared.port.RecordedPort.{RecordedPort}
 use Rattle.desk_recording.specs.declared.record.Record.{Ghosts}
 
--- why an input hands out no request: it is at its end; the place of the next request is not known; it ends
--- inside one; or a read failed, or memory ran out
-abbrev pub HandsOutNone : Bool → Option (List ℕ) → Result ⊤ Failure → Type 0
-HandsOutNone unframed left (Ok done) = (unframed ≡ false) × IsAtEnd left
-HandsOutNone unframed left (Err failure.Unframed) = unframed ≡ true
-HandsOutNone unframed left (Err failure.CutShort) = IfSome left IsCut
-HandsOutNone unframed left (Err _) = ⊤
+-- why an input hands out no request: it is at its end; it ends inside one; the place of the next request is
+-- not known; or a read failed, or memory ran out
+abbrev pub HandsOutNone : {R W : Type 0} → Bool → Option (List ℕ) → InputEnd R W → Type 0
+HandsOutNone unframed left AtEnd = (unframed ≡ false) × IsAtEnd left
+HandsOutNone unframed left CutShort = (unframed ≡ false) × IfSome left IsCut
+HandsOutNone unframed left (Unread unread) = unframed ≡ false
+HandsOutNone unframed left OutOfMemory = unframed ≡ false
+HandsOutNone unframed left Unframed = unframed ≡ true
+HandsOutNone unframed left (Unwritten cut) = ⊥
+
+-- how a line ends by why an input hands out no more
+abbrev pub told_as : {R W : Type 0} → InputEnd R W → Result ⊤ Failure
+told_as AtEnd = Ok (tt {0})
+told_as CutShort = Err failure.CutShort
+told_as (Unread unread) = Err failure.Read
+told_as OutOfMemory = Err failure.Memory
+told_as Unframed = Err failure.Unframed
+told_as (Unwritten cut) = Err failure.Write
+
+-- an input ends since its output broke off inside an answer
+abbrev pub IsUnwritten : {R W : Type 0} → List ℕ → Course (Option (List ℕ)) → InputEnd R W → Type 0
+IsUnwritten answer writes (Unwritten cut) = BreaksOff answer writes.before writes.after cut.fault
+IsUnwritten answer writes _ = ⊥
+
+-- an answer is written, and the input has ended if it had; or it breaks off, and so the input ends
+abbrev pub EndsInput : {R W : Type 0} → List ℕ → Course (Option (List ℕ)) → Option (InputEnd R W)
+    → Option (InputEnd R W) → Type 0
+EndsInput answer writes old new = (Appends writes.before writes.after answer × (new ≡ old))
+    ⊎ IsSomeAnd new (IsUnwritten answer writes)
 
 -- how a line ends: as the input or the output did, if one did; else by why no more was played; or at as many
 -- requests as one line answers
@@ -52,10 +78,10 @@ pub record InputOutside : Type 0 where
 
 -- by the port before and after, and by the error writer
 abbrev pub input_outside :
-    {R W K E : Type 0} → Ghosts K → write.Ghosts E → RecordedPort (InputPort R W) K
+    {R W K F E : Type 0} → Ghosts K F → write.Ghosts E → RecordedPort (InputPort R W) K
     → RecordedPort (InputPort R W) K → Exit E → E → E → InputOutside
 input_outside k e old new exit before now = record {
-  stopped = new.port.ended;
+  stopped = option_map told_as new.port.ended;
   unframed = new.port.is_unframed;
   port = course (told_of k old) (told_of k new);
   end = ended e exit before now;

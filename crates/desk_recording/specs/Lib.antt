@@ -1,6 +1,7 @@
 pub mod Beginning
 pub mod Inputs
 pub mod Played
+pub mod Receiving
 pub mod RecordWrites
 pub mod Recording
 pub mod Recovering

@@ -1,4 +1,4 @@
--- Played: what a record says that a desk wrote at a port, played again (docs/RECORD.md).
+-- Played: what a record says that a desk wrote at a port, played again (docs/journal-format.md).
 use Rattle.std.specs.Prelude.{◌≡◌, ◌≢◌, ◌≤◌, ◌⊎◌, length, ℕ, ℤ, nat_abs, List, [], ◌∷◌, ◌++◌, All, map, Option, None, Some, IsSome, Ok}
 use Rattle.desk_record.specs.Record.{EntryParts, entries}
 use Rattle.desk_reading.specs.Requests.{asked}

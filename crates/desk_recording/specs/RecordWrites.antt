@@ -3,6 +3,8 @@ use Rattle.std.specs.Prelude.{◌≡◌, ⊤, ℕ, Bool, true, false, List, [], 
 use Rattle.desk_line.specs.declared.line.Enrolment.{Enrolment}
 use Rattle.desk_record.specs.Record.{EntryParts, entries, entry}
 use Rattle.desk_program.specs.Recorded.{Noted, answer_entry, operator_entry, request_entry}
+use Rattle.desk_recording.specs.declared.journal.Unwritten.{Unwritten}
+use Rattle.desk_recording.specs.declared.journal.Unwritten.TheVariants.{Journal, OutOfMemory}
 
 -- bytes are appended; all that was appended is on the disk; or what was asked is not done
 pub data Write : Type 0 where
@@ -18,6 +20,11 @@ FollowsWrites old new more = new ≡ option_map (λ writes. writes ++ more) old
 abbrev pub MakesWrite : Option (List Write) → Option (List Write) → Bool → Write → Type 0
 MakesWrite old new true write = FollowsWrites old new (write ∷ [])
 MakesWrite old new false write = FollowsWrites old new (Failed ∷ [])
+
+-- the journal itself failed
+abbrev pub IsOfJournal : {F : Type 0} → Unwritten F → Type 0
+IsOfJournal OutOfMemory = ⊥
+IsOfJournal (Journal fault) = ⊤
 
 -- an entry is appended, and all is on the disk; an entry is appended
 abbrev pub kept_writes : EntryParts → List Write

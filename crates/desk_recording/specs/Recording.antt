@@ -1,16 +1,16 @@
 -- Recording: what a record is asked to keep, in its order, and what a port tells whose connections are kept.
-use Rattle.std.specs.Prelude.{◌≡◌, ◌<◌, ◌⊎◌, ⊤, ℕ, ℤ, length, Bool, true, false, List, [], ◌∷◌, ◌++◌, Option, None, Some, option_map}
+use Rattle.std.specs.Prelude.{◌≡◌, ◌⊎◌, ⊤, ℕ, ℤ, Bool, true, false, List, [], ◌∷◌, ◌++◌, Option, None, Some, option_map}
 use Rattle.std.specs.Option.{IsSomeAnd}
 use Rattle.desk_line.specs.declared.line.Enrolment.{Enrolment}
 use Rattle.desk_ends.specs.Writing.{BreaksOff}
 use Rattle.desk_ends.specs.declared.writing.WriteFault.{WriteFault}
 use Rattle.desk_wire.specs.Passage.{Course, course}
 use Rattle.desk_wire.specs.RefusalTexts.{server_error_text}
-use Rattle.desk_wire.specs.OneRequest.{IsTaken}
 use Rattle.desk_wire.specs.declared.response.ServerError.TheVariants.{Store}
 use Rattle.desk_program.specs.Recorded.{Noted, Recorded}
 use Rattle.desk_program.specs.Serving.{Arrival, Closes, Parting, TakesArrival, Traffic, arrived, parted, untold}
 use Rattle.desk_recording.specs.declared.record.Parted.{Parted}
+use Rattle.desk_recording.specs.Receiving.{IsReceived}
 use Rattle.std.specs.Io.KnownBytes.{Appends}
 
 -- a step: operators are enrolled; a request is taken at a moment (no bytes stand for a connection of which no
@@ -109,9 +109,9 @@ pub record IsClosedBy (steps : Course (Option (List Step))) (parting : Parting) 
   pub sends : SendsKept steps parting (course client.sent now)
   pub closes : Closes port.before port.after (parted client.unread now parting.outcome)
 
--- the bytes that are kept as a request are those of one that a client sent
-pub record IsTakenFrom (moment : ℤ) (request : List ℕ) (left : Option (List ℕ)) (port : Course Traffic) :
-    Type 0 where
+-- the bytes that are kept as a request are those of one that a client sent; or none, where it sent none whole
+pub record IsTakenFrom (moment : ℤ) (request : List ℕ) (failed : Bool) (left : Option (List ℕ))
+    (port : Course Traffic) : Type 0 where
   pub sent : Option (List ℕ)
   pub takes : TakesArrival port.before port.after (arrived moment sent)
-  pub whole : 0 < length request → IsTaken sent left request
+  pub received : IsReceived failed sent left request

@@ -16,6 +16,8 @@ use Rattle.desk_program.specs.Enrolling.{AreListedSoFar, on_terms, with_operator
 use Rattle.desk_program.specs.Serving.{Parting, parted}
 use Rattle.desk_program.specs.declared.port.Outcome.{Outcome}
 use Rattle.desk_replay.specs.Replaying.{last_moment}
+use Rattle.desk_recording.specs.declared.recovering.Unrecovered.{Unrecovered}
+use Rattle.desk_recording.specs.declared.recovering.Unrecovered.TheVariants.{OutOfMemory, Store, Clock, Unkept}
 use Rattle.desk_recording.specs.Recording.{Answered, Asked, Lost, Step}
 use Rattle.desk_recording.specs.Tail.{UnansweredParts}
 
@@ -41,6 +43,17 @@ whole_outcome = record { is_whole = true; is_answered = true }
 -- an answer that goes to no client
 abbrev pub told_again : List ℕ → Parting
 told_again answer = parted (Some []) (Some answer) whole_outcome
+
+-- the failure that is told where what is left undone is not done; and how that ends
+abbrev pub failure_of : {R : Type 0} → Unrecovered R → Failure
+failure_of OutOfMemory = failure.Memory
+failure_of Store = failure.Store
+failure_of Clock = failure.Clock
+failure_of (Unkept lost) = failure.Broken
+
+abbrev pub ended_as : {R : Type 0} → Result ⊤ (Unrecovered R) → Result ⊤ Failure
+ended_as (Ok done) = Ok done
+ended_as (Err why) = Err (failure_of why)
 
 -- the moment of a request that is left undone: its second
 abbrev pub moment_of : UnansweredParts → ℤ

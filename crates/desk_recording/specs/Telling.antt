@@ -1,6 +1,9 @@
 -- Telling: what a port tells whose connections are kept, by its record.
-use Rattle.std.specs.Prelude.{Bool, true, false, Option, Some, option_map}
+use Rattle.std.specs.Prelude.{⊤, Bool, true, false, Option, Some, option_map, Result, Ok, Err}
+use Rattle.std.specs.Option.{is_some}
 use Rattle.std.specs.Io.Cursor.{cursor_remaining}
+use Rattle.desk_line.specs.declared.failure.Failure.{Failure}
+use Rattle.desk_line.specs.declared.failure.Failure.TheVariants.{Broken, Network}
 use Rattle.desk_program.specs.Recorded.{Ended, Noted, Open, Recorded}
 use Rattle.desk_program.specs.declared.port.Outcome.{Outcome}
 use Rattle.desk_program.specs.Serving.{Parting, Traffic, parted}
@@ -19,12 +22,23 @@ abbrev pub recorded_by : Bool → Option Noted → Option Recorded
 recorded_by is_broken noted = option_map (λ n. recorded_as is_broken n) noted
 
 -- what a port tells, by its record and by whether it is broken
-abbrev pub told_by : {R : Type 0} → Ghosts R → R → Bool → Traffic
+abbrev pub told_by : {R F : Type 0} → Ghosts R F → R → Bool → Traffic
 told_by g keeper is_broken =
     traffic_of (g.steps keeper) (recorded_by is_broken (g.noted keeper))
 
-abbrev pub told_of : {P R : Type 0} → Ghosts R → RecordedPort P R → Traffic
-told_of g port = told_by g port.keeper port.is_broken
+abbrev pub told_of : {P R F : Type 0} → Ghosts R F → RecordedPort P R → Traffic
+told_of g port = told_by g port.keeper (is_some port.broken)
+
+-- a failure of the port below: it keeps nothing itself, so what it can't keep is no loss of this record
+abbrev pub failure_below : Failure → Failure
+failure_below Broken = Network
+failure_below f = f
+
+-- how a connection was closed, by whether something is lost, and by how the port below closed it
+abbrev pub closed_as : Bool → Result ⊤ Failure → Result ⊤ Failure
+closed_as true closed = Err Broken
+closed_as false (Ok done) = Ok done
+closed_as false (Err f) = Err (failure_below f)
 
 -- a connection as it is closed, by the request that was kept of it and the answer that is held
 abbrev pub parted_in : {I O : Type 0} → Given I → Held O → Outcome → Parting

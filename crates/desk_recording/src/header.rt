@@ -1,13 +1,13 @@
 //! The beginning of a record.
 
-ghost use Rattle.std.specs.Prelude.{◌≡◌, ◌++◌, true, map, option_to_list, IfOk, OnOk};
+ghost use Rattle.std.specs.Prelude.{◌≡◌, ◌++◌, map, option_to_list, IfOk, OnOk};
 ghost use Rattle.desk_record.specs.Record.{entries};
 ghost use Rattle.desk_recording.specs.Beginning.{header, header_writes, permitted_below, permitted_if};
 ghost use Rattle.desk_recording.specs.Beginning.{spans_entry};
 ghost use Rattle.desk_program.specs.Recorded.{operator_entry};
 ghost use Rattle.desk_recording.specs.RecordWrites.{FollowsWrites};
 
-use crate::journal::Journal;
+use crate::journal::{Journal, Unwritten, append_to, sync_to};
 use desk_line::Enrolment;
 use desk_record::{Kind, write_entry};
 use desk_rules::decide::MAX_PRIORITY;
@@ -18,22 +18,25 @@ use std::alloc::{AllocError, Global};
 /// The version of the format.
 const VERSION: &[u8] = b"1";
 
-/// Begins a record of this number (in its folder), of a desk on these terms with these operators, and
-/// answers whether all of its beginning is on the disk.
+/// Begins a record of this number (in its folder), of a desk on these terms with these operators: all of its
+/// beginning is on the disk.
+///
+/// # Errors
+///
+/// As `Unwritten` says.
 pub fn begin_record<J: Journal>(
     alloc: Global,
     journal: &mut J,
     number: u64,
     terms: &Terms,
     operators: &[Enrolment],
-) -> bool
-    ensures { result ≡ true → FollowsWrites (J.writes journal.old) (J.writes journal.new)
-        (header_writes number terms.now operators.now) }
+) -> Result<(), Unwritten<J::Fault>>
+    ensures { OnOk result (FollowsWrites (J.writes journal.old) (J.writes journal.new)
+        (header_writes number terms.now operators.now)) }
 {
-    match header_text(alloc, number, terms, operators) {
-        Ok(text) => journal.append(&text) && journal.sync(),
-        Err(_) => false,
-    }
+    let text = header_text(alloc, number, terms, operators)?;
+    append_to(journal, &text)?;
+    sync_to(journal)
 }
 
 // The entries with which a record begins.

@@ -1,27 +1,60 @@
 //! The requests of an input, handed out one after the other as connections of a port, so that they are
 //! recorded.
 
-ghost use Rattle.std.specs.Prelude.{◌≡◌, ⊤, Err, IfErr, IfOk, IsSome, Ok, OnErr, OnOk, Some, not};
-ghost use Rattle.std.specs.Option.{IsSomeAnd};
+ghost use Rattle.std.specs.Prelude.{◌≡◌, [], false, Err, IfErr, IfOk, IfSome, IsOkAnd, IsSome, None, Ok, OnErr, OnOk, Some, not};
+ghost use Rattle.std.specs.Option.{IsSomeAnd, option_map};
 ghost use Rattle.std.specs.Io.Cursor.{cursor_inner, cursor_remaining};
 ghost use Rattle.desk_wire.specs.OneRequest.{IsTaken};
-ghost use Rattle.desk_line.specs.Lines.{IsPlay};
+ghost use Rattle.desk_wire.specs.Passage.{course};
+ghost use Rattle.desk_line.specs.Lines.{AreEnrolments, IsPlay};
 ghost use Rattle.desk_program.specs.Recorded.{IsOpen};
-ghost use Rattle.desk_program.specs.Serving.{Closes, Denies, IsDenied, IsFresh, TakesArrival, arrived, parted, untold};
+ghost use Rattle.desk_program.specs.Serving.{BringsNews, Closes, Denies, IsDenied, IsFresh, Listens, TakesArrival, arrived, parted, untold};
 ghost use Rattle.desk_recording.specs.Inputs as spec;
-ghost use Rattle.desk_recording.specs.Inputs.{HandsOutNone, IsUnrecorded, PlaysRecorded, input_outside};
-ghost use Rattle.desk_recording.specs.Recording.{Sends};
+ghost use Rattle.desk_recording.specs.Inputs.{EndsInput, HandsOutNone, IsUnrecorded, PlaysRecorded, input_outside};
 
 use crate::port::RecordedPort;
+use crate::receiving::{Unread, Unreceived, receive};
 use crate::record::Record;
-use desk_ends::{Moment, write_whole};
+use desk_ends::{Cut, Moment, write_whole};
 use desk_line::{Enrolment, Exit, Failure, Play, conclude};
 use desk_program::{Connection, Outcome, Port, play_port};
 use desk_run::Desk;
 use desk_store::PlanStore;
-use desk_wire::receive_request;
 use std::alloc::Global;
 use std::io::{Cursor, Read, Write};
+
+/// Why an input hands out no more requests.
+#[derive_where(Clone, Copy)]
+pub(crate) enum InputEnd<R, W> {
+    /// It is at its end.
+    AtEnd,
+    /// It ends inside a request.
+    CutShort,
+    /// It could not be read.
+    Unread(Unread<R>),
+    /// Memory ran out for a request.
+    OutOfMemory,
+    /// The place of the next request is not known.
+    Unframed,
+    /// Its output could not be written.
+    Unwritten(Cut<W>),
+}
+
+impl<R, W> InputEnd<R, W> {
+    // How a line ends by it.
+    fn told(self) -> Result<(), Failure>
+        ensures { result ≡ spec.told_as self }
+    {
+        match self {
+            InputEnd::AtEnd => Ok(()),
+            InputEnd::CutShort => Err(Failure::CutShort),
+            InputEnd::Unread(_) => Err(Failure::Read),
+            InputEnd::OutOfMemory => Err(Failure::Memory),
+            InputEnd::Unframed => Err(Failure::Unframed),
+            InputEnd::Unwritten(_) => Err(Failure::Write),
+        }
+    }
+}
 
 /// A port whose connections are the requests of an input, one after the other, all at one moment. Their
 /// answers go to an output.
@@ -33,7 +66,7 @@ pub struct InputPort<R: Drop, W: Drop> {
     // Whether the place of the next request is not known.
     is_unframed: bool,
     // How the input ended, or the output, if one did.
-    ended: Option<Result<(), Failure>>,
+    ended: Option<InputEnd<R, W>>,
 }
 
 impl<R: Read + Drop, W: Write + Drop> InputPort<R, W> {
@@ -42,6 +75,8 @@ impl<R: Read + Drop, W: Write + Drop> InputPort<R, W> {
         ensures input { result.input ≡ input }
         ensures output { result.output ≡ output }
         ensures moment { result.moment ≡ moment }
+        ensures framed { result.is_unframed ≡ false }
+        ensures begun { result.ended ≡ None }
     {
         InputPort {
             input,
@@ -54,10 +89,10 @@ impl<R: Read + Drop, W: Write + Drop> InputPort<R, W> {
 
     // How a line ends after which no more is played.
     fn ending(&self, done: Result<(), Failure>) -> Result<(), Failure>
-        ensures { result ≡ spec.ended_by self.now.ended self.now.is_unframed done }
+        ensures { result ≡ spec.ended_by (option_map spec.told_as self.now.ended) self.now.is_unframed done }
     {
         match (self.ended, done) {
-            (Some(ended), _) => ended,
+            (Some(ended), _) => ended.told(),
             (None, Err(failure)) => Err(failure),
             (None, Ok(())) if self.is_unframed => Err(Failure::Unframed),
             (None, Ok(())) => Err(Failure::Limit),
@@ -70,11 +105,23 @@ impl<R: Read + Drop, W: Write + Drop> Port for InputPort<R, W> {
 
     type Output = Vec<u8>;
 
-    fn listen(&mut self, _number: u16) -> Result<(), Failure> {
+    fn listen(&mut self, _number: u16) -> Result<(), Failure>
+        ensures listens { Listens untold untold _number }
+        ensures fault { IfErr result IsDenied }
+        ensures ok { result ≡ Ok (tt {0}) }
+        ensures ended { self.new.ended ≡ self.old.ended }
+    {
         Ok(())
     }
 
-    fn news(&mut self, alloc: Global) -> Result<Vec<Enrolment>, Failure> {
+    fn news(&mut self, alloc: Global) -> Result<Vec<Enrolment>, Failure>
+        ensures small { IfOk result (λ news. AreEnrolments news.items) }
+        ensures brings { IfOk result (λ news. BringsNews untold untold news.items) }
+        ensures same { OnErr result (Denies untold untold) }
+        ensures fault { IfErr result IsDenied }
+        ensures none { IsOkAnd result (λ news. news.items ≡ []) }
+        ensures ended { self.new.ended ≡ self.old.ended }
+    {
         Ok(Vec::new(alloc))
     }
 
@@ -87,7 +134,9 @@ impl<R: Read + Drop, W: Write + Drop> Port for InputPort<R, W> {
         ensures given { IfOk result (λ c. (c.moment ≡ self.old.moment)
             × IsTaken (R.remaining self.old.input) (R.remaining self.new.input)
             (cursor_inner c.input).items) }
-        ensures ended { result ≡ Err Failure.Network → IsSome self.new.ended }
+        ensures ended { IfErr result (λ f. (f ≡ Failure.Network) × IsSome self.new.ended) }
+        ensures cause { self.old.ended ≡ None → IfSome self.new.ended (HandsOutNone self.old.is_unframed
+            (R.remaining self.old.input)) }
     {
         if self.ended.is_some() {
             return Err(Failure::Network);
@@ -116,34 +165,37 @@ impl<R: Read + Drop, W: Write + Drop> Port for InputPort<R, W> {
         ensures recorded { OnOk result (IsOpen untold.recorded) }
         ensures fault { IfErr result IsDenied }
         ensures ok { result ≡ Ok (tt {0}) }
-        ensures sent { Sends output.items (W.contents self.old.output) (W.contents self.new.output) }
+        ensures sent { EndsInput output.items (course (W.contents self.old.output)
+            (W.contents self.new.output)) self.old.ended self.new.ended }
         ensures framed { self.new.is_unframed ≡ not outcome.is_whole }
     {
         self.is_unframed = !outcome.is_whole;
-        if write_whole(&mut self.output, &output).is_err() {
-            self.ended = Some(Err(Failure::Write));
+        if let Err(cut) = write_whole(&mut self.output, &output) {
+            self.ended = Some(InputEnd::Unwritten(cut));
         }
         Ok(())
     }
 }
 
 // The next request of an input, or how the input ended.
-fn next_of<R: Read>(
+fn next_of<R: Read, W>(
     alloc: Global,
     is_unframed: bool,
     input: &mut R,
-) -> Result<Vec<u8>, Result<(), Failure>>
+) -> Result<Vec<u8>, InputEnd<R, W>>
     ensures taken { IfOk result (λ request.
         IsTaken (R.remaining input.old) (R.remaining input.new) request.items) }
     ensures stopped { IfErr result (HandsOutNone is_unframed (R.remaining input.old)) }
 {
     if is_unframed {
-        return Err(Err(Failure::Unframed));
+        return Err(InputEnd::Unframed);
     }
-    match receive_request(alloc, input) {
-        Ok(request) if request.is_empty() => Err(Ok(())),
+    match receive(alloc, input) {
+        Ok(request) if request.is_empty() => Err(InputEnd::AtEnd),
         Ok(request) => Ok(request),
-        Err(fault) => Err(Err(Failure::from(fault))),
+        Err(Unreceived::CutShort) => Err(InputEnd::CutShort),
+        Err(Unreceived::Unread(unread)) => Err(InputEnd::Unread(unread)),
+        Err(Unreceived::OutOfMemory) => Err(InputEnd::OutOfMemory),
     }
 }
 

@@ -1,27 +1,30 @@
 //! A port whose connections are recorded.
 
-ghost use Rattle.std.specs.Prelude.{◌≡◌, ◌<◌, false, true, if◌then◌else◌, length};
-ghost use Rattle.std.specs.Prelude.{Err, Some, IfErr, IfOk, OnErr, OnOk};
+ghost use Rattle.std.specs.Prelude.{◌≡◌, ◌⊎◌, false, true};
+ghost use Rattle.std.specs.Prelude.{Err, None, Some, IfErr, IfOk, IsSome, OnErr, OnOk};
+ghost use Rattle.std.specs.Option.{IsNone, is_none, is_some};
 ghost use Rattle.std.specs.Io.Cursor.{cursor_inner, cursor_remaining};
 ghost use Rattle.desk_wire.specs.Passage.{course};
 ghost use Rattle.desk_wire.specs.RefusalTexts.{server_error_text};
-ghost use Rattle.desk_wire.specs.OneRequest.{IsTaken};
 ghost use Rattle.desk_wire.specs.declared.response.ServerError.TheVariants.{Store};
 ghost use Rattle.desk_line.specs.Lines.{AreEnrolments};
 ghost use Rattle.desk_program.specs.Recorded.{IsOpen, with_answer};
 ghost use Rattle.desk_program.specs.Serving.{BringsNews, Closes, Denies, IsDenied, IsFresh, Listens};
 ghost use Rattle.desk_program.specs.Serving.{TakesArrival, arrived};
-ghost use Rattle.desk_recording.specs.Recording.{AddsStep, Answered, IsClosedBy, IsTakenFrom, Notes, Sends};
+ghost use Rattle.desk_recording.specs.Recording.{AddsIf, AddsStep, Answered, IsClosedBy, IsTakenFrom, Notes, Sends};
 ghost use Rattle.desk_recording.specs.Recording.{SendsKept, client_of, parting_of};
+ghost use Rattle.desk_recording.specs.Receiving.{IsReceived};
+ghost use Rattle.desk_recording.specs.Telling as spec;
 ghost use Rattle.desk_recording.specs.Telling.{parted_in, told_of};
 
-use crate::record::{Parted, Record};
+use crate::receiving::{Unread, Unreceived, receive};
+use crate::record::{Parted, Record, RecordFault};
 use crate::streams::{Given, Held};
-use desk_ends::{ServeFault, write_whole};
+use desk_ends::write_whole;
 use desk_line::{Enrolment, Failure};
 use desk_program::{Connection, Outcome, Port};
-use desk_wire::{ServerError, receive_request};
-use std::alloc::Global;
+use desk_wire::ServerError;
+use std::alloc::{AllocError, Global};
 use std::io::{Cursor, Read, Write};
 
 // What comes of a request that was read and isn't answered.
@@ -30,13 +33,23 @@ const UNANSWERED: Outcome = Outcome {
     is_answered: false,
 };
 
+/// Why no connection is taken any more from a port whose record is of this type.
+#[derive_where(Clone, Copy)]
+pub(crate) enum Loss<R> {
+    /// The record failed to keep something.
+    Unkept(RecordFault<R>),
+    /// A request was not answered whole.
+    Unanswered,
+}
+
 /// A port whose requests are kept on the disk before they are served, and whose answers are kept before they
 /// are sent. Once something can't be kept, no connection is taken any more.
 #[derive(Drop)]
 pub struct RecordedPort<P: Drop, R: Drop> {
     pub(crate) port: P,
     keeper: R,
-    is_broken: bool,
+    // What can't be kept, if so.
+    broken: Option<Loss<R>>,
 }
 
 impl<P: Port + Drop, R: Record + Drop> RecordedPort<P, R> {
@@ -44,11 +57,12 @@ impl<P: Port + Drop, R: Record + Drop> RecordedPort<P, R> {
     pub fn new(port: P, keeper: R) -> RecordedPort<P, R>
         ensures port { result.port ≡ port }
         ensures keeper { result.keeper ≡ keeper }
+        ensures whole { result.broken ≡ None }
     {
         RecordedPort {
             port,
             keeper,
-            is_broken: false,
+            broken: None,
         }
     }
 }
@@ -64,6 +78,7 @@ impl<P: Port + Drop, R: Record + Drop> Port for RecordedPort<P, R> {
         ensures listens { Listens (told_of R.Record self.old) (told_of R.Record self.new) number }
         ensures asked { Listens (P.traffic self.old.port) (P.traffic self.new.port) number }
         ensures fault { IfErr result IsDenied }
+        ensures kept { self.new.broken ≡ self.old.broken }
     {
         self.port.listen(number)
     }
@@ -77,17 +92,23 @@ impl<P: Port + Drop, R: Record + Drop> Port for RecordedPort<P, R> {
         ensures fault { IfErr result IsDenied }
         ensures asked { IfOk result (λ news.
             BringsNews (P.traffic self.old.port) (P.traffic self.new.port) news.items) }
-        ensures broken { self.old.is_broken ≡ true → result ≡ Err Failure.Broken }
+        ensures broken { IsSome self.old.broken → result ≡ Err Failure.Broken }
+        ensures cause { result ≡ Err Failure.Broken → IsSome self.new.broken }
+        ensures lost { self.new.broken ≡ Some Loss.Unanswered → self.old.broken ≡ Some Loss.Unanswered }
     {
-        if self.is_broken {
+        if self.broken.is_some() {
             return Err(Failure::Broken);
         }
-        let news = self.port.news(alloc)?;
-        if self.keeper.keep_news(&news) {
-            Ok(news)
-        } else {
-            self.is_broken = true;
-            Err(Failure::Broken)
+        let news = match self.port.news(alloc) {
+            Ok(news) => news,
+            Err(failure) => return Err(failure_below(failure)),
+        };
+        match self.keeper.keep_news(&news) {
+            Ok(()) => Ok(news),
+            Err(fault) => {
+                self.broken = Some(Loss::Unkept(RecordFault::by(fault)));
+                Err(Failure::Broken)
+            }
         }
     }
 
@@ -102,36 +123,45 @@ impl<P: Port + Drop, R: Record + Drop> Port for RecordedPort<P, R> {
         ensures same { OnErr result (Denies (told_of R.Record self.old) (told_of R.Record self.new)) }
         ensures fault { IfErr result IsDenied }
         ensures client { IfOk result (λ c. IsTakenFrom c.moment.second (cursor_inner c.input.request).items
-            (P.Input.remaining c.input.client) (course (P.traffic self.old.port) (P.traffic self.new.port))) }
+            (is_some c.input.unread) (P.Input.remaining c.input.client)
+            (course (P.traffic self.old.port) (P.traffic self.new.port))) }
         ensures waits { IfOk result (λ c.
             IsFresh (P.traffic self.old.port) (P.Output.contents c.output.to)) }
-        ensures broken { self.old.is_broken ≡ true → result ≡ Err Failure.Broken }
+        ensures broken { IsSome self.old.broken → result ≡ Err Failure.Broken }
+        ensures cause { result ≡ Err Failure.Broken → IsSome self.new.broken }
+        ensures lost { self.new.broken ≡ Some Loss.Unanswered → self.old.broken ≡ Some Loss.Unanswered }
     {
-        if self.is_broken {
+        if self.broken.is_some() {
             return Err(Failure::Broken);
         }
-        let mut taken = self.port.take(alloc)?;
-        let Ok(request) = request_of(alloc, &mut taken.input) else {
+        let mut taken = match self.port.take(alloc) {
+            Ok(taken) => taken,
+            Err(failure) => return Err(failure_below(failure)),
+        };
+        let Ok(received) = request_of(alloc, &mut taken.input) else {
             let _ = self.port.close(taken.input, taken.output, UNANSWERED);
             return Err(Failure::Memory);
         };
-        if self.keeper.keep_request(taken.moment, &request) {
-            return Ok(Connection {
+        match self.keeper.keep_request(taken.moment, &received.request) {
+            Ok(()) => Ok(Connection {
                 moment: taken.moment,
                 input: Given {
-                    request: Cursor::new(request),
+                    request: Cursor::new(received.request),
+                    unread: received.unread,
                     client: taken.input,
                 },
                 output: Held {
                     answer: Vec::new(alloc),
                     to: taken.output,
                 },
-            });
+            }),
+            Err(fault) => {
+                self.broken = Some(Loss::Unkept(RecordFault::by(fault)));
+                refuse(&mut taken.output);
+                let _ = self.port.close(taken.input, taken.output, UNANSWERED);
+                Err(Failure::Broken)
+            }
         }
-        self.is_broken = true;
-        refuse(&mut taken.output);
-        let _ = self.port.close(taken.input, taken.output, UNANSWERED);
-        Err(Failure::Broken)
     }
 
     #[tactic(auto, using(crate::proofs::StepLemmas::closes_so, crate::proofs::StepLemmas::is_open))]
@@ -145,72 +175,136 @@ impl<P: Port + Drop, R: Record + Drop> Port for RecordedPort<P, R> {
             (parted_in input output outcome) }
         ensures recorded { OnOk result (IsOpen (told_of R.Record self.new).recorded) }
         ensures fault { IfErr result IsDenied }
-        ensures told { self.new.is_broken ≡ true → result ≡ Err Failure.Broken }
+        ensures told { IsSome self.new.broken → result ≡ Err Failure.Broken }
+        ensures cause { result ≡ Err Failure.Broken → IsSome self.new.broken }
+        ensures lost { self.new.broken ≡ Some Loss.Unanswered
+            → (self.old.broken ≡ Some Loss.Unanswered) ⊎ (outcome.is_answered ≡ false) }
         ensures kept { IsClosedBy (course (R.steps self.old.keeper) (R.steps self.new.keeper))
             (parted_in input output outcome) (client_of (P.Input.remaining input.client)
             (P.Output.contents output.to)) (course (P.traffic self.old.port) (P.traffic self.new.port)) }
-        ensures broken { self.new.is_broken ≡ false → (self.old.is_broken ≡ false) × AddsStep
+        ensures broken { IsNone self.new.broken → IsNone self.old.broken × AddsStep
             (R.steps self.old.keeper) (R.steps self.new.keeper) (Answered (parted_in input output outcome)) }
     {
-        let Given { request, client } = input;
+        let Given {
+            request,
+            client,
+            ..
+        } = input;
         let Held { answer, mut to } = output;
         let connection = Parted {
             unread: unread_of(&request),
             sent: &answer,
             outcome,
         };
-        let is_kept = send_kept(&mut self.keeper, self.is_broken, connection, &mut to);
-        self.is_broken = !is_kept;
+        self.broken = send_kept(&mut self.keeper, self.broken, connection, &mut to);
         let closed = self.port.close(client, to, outcome);
-        closed_if(is_kept, closed)
+        closed_as(self.broken.is_some(), closed)
     }
 }
 
-// How a connection was closed, by whether its answer is kept.
-fn closed_if(is_kept: bool, closed: Result<(), Failure>) -> Result<(), Failure>
-    ensures { result ≡ (if is_kept then closed else Err Failure.Broken) }
+// A failure of the port below. That port keeps nothing itself.
+fn failure_below(failure: Failure) -> Failure
+    ensures { result ≡ spec.failure_below failure }
 {
-    if !is_kept {
+    match failure {
+        Failure::Broken => Failure::Network,
+        _ => failure,
+    }
+}
+
+// How a connection was closed, by whether something is lost.
+fn closed_as(is_lost: bool, closed: Result<(), Failure>) -> Result<(), Failure>
+    ensures { result ≡ spec.closed_as is_lost closed }
+{
+    if is_lost {
         return Err(Failure::Broken);
     }
-    closed
+    match closed {
+        Ok(()) => Ok(()),
+        Err(failure) => Err(failure_below(failure)),
+    }
 }
 
 // Keeps the answer of a connection, if it is whole and nothing was lost before, and then sends it; or else
-// tells the client that the desk failed. Whether it is kept.
+// tells the client that the desk failed. What is lost, if so.
 fn send_kept<R: Record, W: Write>(
     keeper: &mut R,
-    is_broken: bool,
+    broken: Option<Loss<R>>,
     connection: Parted<'_>,
     client: &mut W,
-) -> bool
+) -> Option<Loss<R>>
     ensures sends { SendsKept (course (R.steps keeper.old) (R.steps keeper.new)) (parting_of connection.entry)
         (course (W.contents client.old) (W.contents client.new)) }
-    ensures kept { result ≡ true →
+    ensures kept { IsNone result →
         AddsStep (R.steps keeper.old) (R.steps keeper.new) (Answered (parting_of connection.entry)) }
-    ensures noted { Notes (R.noted keeper.old) (R.noted keeper.new) result
+    ensures noted { Notes (R.noted keeper.old) (R.noted keeper.new) (is_none result)
         (λ n. with_answer n connection.entry.sent.now) }
-    ensures whole { result ≡ true → (is_broken ≡ false) × (connection.entry.outcome.is_answered ≡ true) }
+    ensures whole { IsNone result → IsNone broken × (connection.entry.outcome.is_answered ≡ true) }
+    ensures lost { result ≡ Some Loss.Unanswered
+        → (broken ≡ Some Loss.Unanswered) ⊎ (connection.entry.outcome.is_answered ≡ false) }
 {
-    let is_answered = !is_broken && connection.outcome.is_answered;
-    let is_kept = is_answered && keeper.keep_answer(connection);
-    if is_kept {
+    let lost = keep_or_lose(keeper, broken, connection);
+    if lost.is_none() {
         send(client, connection.sent);
     } else {
         keeper.lose_answer(connection);
         refuse(client);
     }
-    is_kept
+    lost
+}
+
+// Keeps the answer of a connection, if it is whole and nothing was lost before. What is lost, if so.
+fn keep_or_lose<R: Record>(
+    keeper: &mut R,
+    broken: Option<Loss<R>>,
+    connection: Parted<'_>,
+) -> Option<Loss<R>>
+    ensures steps { AddsIf (R.steps keeper.old) (R.steps keeper.new) (is_none result)
+        (Answered (parting_of connection.entry)) }
+    ensures noted { Notes (R.noted keeper.old) (R.noted keeper.new) (is_none result)
+        (λ n. with_answer n connection.entry.sent.now) }
+    ensures whole { IsNone result → IsNone broken × (connection.entry.outcome.is_answered ≡ true) }
+    ensures lost { result ≡ Some Loss.Unanswered
+        → (broken ≡ Some Loss.Unanswered) ⊎ (connection.entry.outcome.is_answered ≡ false) }
+{
+    if broken.is_some() {
+        return broken;
+    }
+    if !connection.outcome.is_answered {
+        return Some(Loss::Unanswered);
+    }
+    match keeper.keep_answer(connection) {
+        Ok(()) => None,
+        Err(fault) => Some(Loss::Unkept(RecordFault::by(fault))),
+    }
+}
+
+// What a client sent: its request, or no bytes, and why they could not be read, if so.
+#[derive(Drop)]
+struct Received<R> {
+    request: Vec<u8>,
+    unread: Option<Unread<R>>,
 }
 
 // The request that a client sends: none, if it doesn't come whole.
-fn request_of<R: Read>(alloc: Global, client: &mut R) -> Result<Vec<u8>, ServeFault>
-    ensures { IfOk result (λ request. 0 < length request.items
-        → IsTaken (R.remaining client.old) (R.remaining client.new) request.items) }
+fn request_of<R: Read>(alloc: Global, client: &mut R) -> Result<Received<R>, AllocError>
+    ensures { IfOk result (λ received. IsReceived (is_some received.unread) (R.remaining client.old)
+        (R.remaining client.new) received.request.items) }
 {
-    match receive_request(alloc, client) {
-        Err(ServeFault::CutShort | ServeFault::Read) => Ok(Vec::new(alloc)),
-        received => received,
+    match receive(alloc, client) {
+        Ok(request) => Ok(Received {
+            request,
+            unread: None,
+        }),
+        Err(Unreceived::CutShort) => Ok(Received {
+            request: Vec::new(alloc),
+            unread: None,
+        }),
+        Err(Unreceived::Unread(unread)) => Ok(Received {
+            request: Vec::new(alloc),
+            unread: Some(unread),
+        }),
+        Err(Unreceived::OutOfMemory) => Err(AllocError),
     }
 }
 

@@ -4,16 +4,17 @@ ghost use Rattle.std.specs.Prelude.{◌≡◌, ◌≤◌, ◌⊎◌, IsTrue, IfE
 ghost use Rattle.desk_rules.specs.Limits.{max_priority};
 ghost use Rattle.desk_store.specs.StoreFaults.{IsHonest};
 ghost use Rattle.desk_store.specs.StoreFrames.{Remembers};
+ghost use Rattle.desk_run.specs.CallFaults.{IsBreakdown};
 ghost use Rattle.desk_run.specs.DeskWorld.{world_of};
 ghost use Rattle.desk_wire.specs.Passage.{course};
+ghost use Rattle.desk_line.specs.Exits.{enrolment_failure};
 ghost use Rattle.desk_line.specs.Lines.{AreEnrolments};
-ghost use Rattle.desk_replay.specs.Replaying.{IsOwn};
 ghost use Rattle.desk_recording.specs.Recording.{AddsStep, Answered, Lost, parting_of};
 ghost use Rattle.desk_recording.specs.Recovering as spec;
-ghost use Rattle.desk_recording.specs.Recovering.{AsksAgain, AsksAgainIfAny, Recovers, told_again, undone};
+ghost use Rattle.desk_recording.specs.Recovering.{AsksAgain, AsksAgainIfAny, Recovers, ended_as, told_again, undone};
 ghost use Rattle.desk_recording.specs.Tail.{unanswered_in, unanswered_shown};
 
-use crate::record::{Parted, Record};
+use crate::record::{Parted, Record, RecordFault};
 use crate::tail::Unanswered;
 use desk_ends::Moment;
 use desk_line::{Enrolment, Failure};
@@ -22,10 +23,39 @@ use desk_replay::{ReplayFault, answer_one};
 use desk_rules::decide::MAX_PRIORITY;
 use desk_rules::operator::Operator;
 use desk_rules::terms::Terms;
-use desk_run::Desk;
+use desk_run::{Desk, DeskFault};
 use desk_store::PlanStore;
 use std::alloc::{AllocError, Global};
 use volume4d::MAX_SECOND;
+
+/// Why what a record of this type left undone is not done.
+#[derive_where(Clone, Copy)]
+pub enum Unrecovered<R> {
+    /// Memory ran out at the desk.
+    OutOfMemory,
+    /// The desk's store failed.
+    Store,
+    /// The second of the request is no moment.
+    Clock,
+    /// The record failed to keep the request, or its answer.
+    Unkept(RecordFault<R>),
+}
+
+impl<R> From<Unrecovered<R>> for Failure {
+    ghost use Rattle.std.specs.Prelude.{◌≡◌};
+    ghost use Rattle.desk_recording.specs.Recovering.{failure_of};
+
+    ghost from_gives = { λ why failure. failure ≡ failure_of why };
+
+    fn from(why: Unrecovered<R>) -> Failure {
+        match why {
+            Unrecovered::OutOfMemory => Failure::Memory,
+            Unrecovered::Store => Failure::Store,
+            Unrecovered::Clock => Failure::Clock,
+            Unrecovered::Unkept(_) => Failure::Broken,
+        }
+    }
+}
 
 /// Those of the enrolments whose operators are not on a roll, in their order, under ceilings of at most
 /// 1,000.
@@ -74,8 +104,7 @@ fn is_listed(roll: &[Enrolment], operator: &Operator) -> bool
 ///
 /// # Errors
 ///
-/// `Memory` or `Store` by the desk, `Broken` if the request or its answer can't be kept, `Clock` if its
-/// second is no moment. What is left then is what the clause says: a request that was not answered changed
+/// As `Unrecovered` says. What is left then is what the clause says: a request that was not answered changed
 /// nothing.
 #[tactic(auto, using(crate::proofs::RecoveringLemmas::recovers, crate::proofs::RecoveringLemmas::unlisted))]
 pub fn recover<S: PlanStore, R: Record>(
@@ -85,18 +114,28 @@ pub fn recover<S: PlanStore, R: Record>(
     missing: &[Enrolment],
     asked: Option<Unanswered>,
     keeper: &mut R,
-) -> Result<(), Failure>
+) -> Result<(), Unrecovered<R>>
     requires { AreEnrolments missing.now }
     ensures recovers { Recovers (IsHonest (S.doubt desk.new.store))
         (undone terms.now missing.now (unanswered_in asked))
         (course (world_of S.content desk.old) (world_of S.content desk.new))
-        (course (R.steps keeper.old) (R.steps keeper.new)) result }
+        (course (R.steps keeper.old) (R.steps keeper.new)) (ended_as result) }
     ensures remembered { Remembers S.doubt S.faults S.is_shielded desk.old.store desk.new.store }
 {
     if let Err(fault) = set_up(desk, terms, missing) {
-        return Err(Failure::from(fault));
+        return Err(unlisted(fault));
     }
     ask_if_any(alloc, desk, asked, keeper)
+}
+
+// Why an operator could not be listed.
+fn unlisted<R>(fault: DeskFault) -> Unrecovered<R>
+    ensures { IsBreakdown fault → spec.failure_of result ≡ enrolment_failure fault }
+{
+    match fault {
+        DeskFault::OutOfMemory => Unrecovered::OutOfMemory,
+        _ => Unrecovered::Store,
+    }
 }
 
 // Asks the request again that is unanswered, if there is one.
@@ -105,10 +144,10 @@ fn ask_if_any<S: PlanStore, R: Record>(
     desk: &mut Desk<S>,
     asked: Option<Unanswered>,
     keeper: &mut R,
-) -> Result<(), Failure>
+) -> Result<(), Unrecovered<R>>
     ensures asks { AsksAgainIfAny (IsHonest (S.doubt desk.new.store)) (unanswered_in asked)
         (course (world_of S.content desk.old) (world_of S.content desk.new))
-        (course (R.steps keeper.old) (R.steps keeper.new)) result }
+        (course (R.steps keeper.old) (R.steps keeper.new)) (ended_as result) }
     ensures remembered { Remembers S.doubt S.faults S.is_shielded desk.old.store desk.new.store }
 {
     match asked {
@@ -124,45 +163,47 @@ fn ask_again<S: PlanStore, R: Record>(
     desk: &mut Desk<S>,
     asked: Unanswered,
     keeper: &mut R,
-) -> Result<(), Failure>
+) -> Result<(), Unrecovered<R>>
     ensures asks { AsksAgain (IsHonest (S.doubt desk.new.store)) (unanswered_shown asked)
         (course (world_of S.content desk.old) (world_of S.content desk.new))
-        (course (R.steps keeper.old) (R.steps keeper.new)) result }
+        (course (R.steps keeper.old) (R.steps keeper.new)) (ended_as result) }
     ensures remembered { Remembers S.doubt S.faults S.is_shielded desk.old.store desk.new.store }
 {
     let Unanswered { second, request } = asked;
     if second > MAX_SECOND as u64 {
-        return Err(Failure::Clock);
+        return Err(Unrecovered::Clock);
     }
     let moment = Moment {
         second: second as i64,
     };
     let sent = (moment, request);
-    if !keeper.keep_request(sent.0, &sent.1) {
-        return Err(Failure::Broken);
+    if let Err(fault) = keeper.keep_request(sent.0, &sent.1) {
+        return Err(Unrecovered::Unkept(RecordFault::by(fault)));
     }
     match answer_one(alloc, desk, &sent) {
         Ok(answer) => keep_again(keeper, &answer),
         Err(fault) => {
             keeper.lose_answer(told_again(b""));
-            Err(failure_of(fault))
+            Err(unanswered_by(fault))
         }
     }
 }
 
 // Keeps an answer that goes to no client.
-fn keep_again<R: Record>(keeper: &mut R, answer: &[u8]) -> Result<(), Failure>
+fn keep_again<R: Record>(keeper: &mut R, answer: &[u8]) -> Result<(), Unrecovered<R>>
     ensures ok { OnOk result
         (AddsStep (R.steps keeper.old) (R.steps keeper.new) (Answered (told_again answer.now))) }
-    ensures err { IfErr result (λ f. (f ≡ Failure.Broken)
+    ensures err { IfErr result (λ why. (spec.failure_of why ≡ Failure.Broken)
         × AddsStep (R.steps keeper.old) (R.steps keeper.new) (Lost (told_again answer.now))) }
 {
     let connection = told_again(answer);
-    if keeper.keep_answer(connection) {
-        return Ok(());
+    match keeper.keep_answer(connection) {
+        Ok(()) => Ok(()),
+        Err(fault) => {
+            keeper.lose_answer(connection);
+            Err(Unrecovered::Unkept(RecordFault::by(fault)))
+        }
     }
-    keeper.lose_answer(connection);
-    Err(Failure::Broken)
 }
 
 // An answer that goes to no client.
@@ -179,12 +220,12 @@ fn told_again(answer: &[u8]) -> Parted<'_>
     }
 }
 
-// Why the desk failed.
-fn failure_of(fault: ReplayFault) -> Failure
-    ensures { IsOwn fault → (result ≡ Failure.Memory) ⊎ (result ≡ Failure.Store) }
+// Why the desk did not answer.
+fn unanswered_by<R>(fault: ReplayFault) -> Unrecovered<R>
+    ensures { (spec.failure_of result ≡ Failure.Memory) ⊎ (spec.failure_of result ≡ Failure.Store) }
 {
     match fault {
-        ReplayFault::OutOfMemory => Failure::Memory,
-        _ => Failure::Store,
+        ReplayFault::OutOfMemory => Unrecovered::OutOfMemory,
+        _ => Unrecovered::Store,
     }
 }

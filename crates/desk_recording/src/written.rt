@@ -1,6 +1,7 @@
 //! A record that is written to a journal.
 
-ghost use Rattle.std.specs.Prelude.{◌≡◌, true, map, nat_abs, [], ◌∷◌, None, IfOk, IfSome};
+ghost use Rattle.std.specs.Prelude.{◌≡◌, map, nat_abs, [], ◌∷◌, None, IfOk, IfSome, OnOk};
+ghost use Rattle.std.specs.Result.{is_ok};
 ghost use Rattle.desk_record.specs.Record.{entries, entry};
 ghost use Rattle.desk_program.specs.Recorded.{AreNamed, operator_entry, with_answer, with_news, with_request};
 ghost use Rattle.desk_recording.specs.Recording.{AddsIf, Answered, Asked, Enrolled, Notes, NotesOnDisk};
@@ -9,7 +10,7 @@ ghost use Rattle.desk_recording.specs.RecordWrites.{Appended, AppendsKnown, Foll
 ghost use Rattle.desk_recording.specs.RecordWrites.{appended_writes};
 ghost use Rattle.desk_recording.specs.RecordWrites.{news_writes, noted_in, request_writes};
 
-use crate::journal::Journal;
+use crate::journal::{Journal, Unwritten, append_to, sync_to};
 use crate::record::{Parted, Record};
 use desk_ends::Moment;
 use desk_line::Enrolment;
@@ -37,51 +38,54 @@ impl<J: Journal + Drop> WrittenRecord<J> {
         }
     }
 
-    /// Has all that was kept on the disk, and answers whether that was done.
-    pub fn sync(&mut self) -> bool
-        ensures { MakesWrite (J.writes self.old.journal) (J.writes self.new.journal) result Synced }
+    /// Has all that was kept on the disk.
+    ///
+    /// # Errors
+    ///
+    /// The journal's own.
+    pub fn sync(&mut self) -> Result<(), J::Fault>
+        ensures { MakesWrite (J.writes self.old.journal) (J.writes self.new.journal) (is_ok result) Synced }
     {
         self.journal.sync()
     }
 
-    // Appends an entry, and answers whether that was done.
+    // Appends an entry.
     #[tactic(auto, using(crate::proofs::WritingLemmas::extends_none))]
-    fn append(&mut self, kind: Kind, number: u64, bytes: &[u8]) -> bool
-        ensures done { result ≡ true → FollowsWrites (J.writes self.old.journal) (J.writes self.new.journal)
-            (appended_writes (record { kind = kind; number = number; bytes = bytes.now })) }
-        ensures text { AppendsKnown (J.writes self.old.journal) (J.writes self.new.journal) result
+    fn append(&mut self, kind: Kind, number: u64, bytes: &[u8]) -> Result<(), Unwritten<J::Fault>>
+        ensures done { OnOk result (FollowsWrites (J.writes self.old.journal) (J.writes self.new.journal)
+            (appended_writes (record { kind = kind; number = number; bytes = bytes.now }))) }
+        ensures text { AppendsKnown (J.writes self.old.journal) (J.writes self.new.journal) (is_ok result)
             (entry (record { kind = kind; number = number; bytes = bytes.now })) }
         ensures second { self.new.second ≡ self.old.second }
     {
         let mut text = Vec::new(self.alloc);
-        write_entry(&mut text, kind, number, bytes).is_ok() && append_text(&mut self.journal, &text)
+        write_entry(&mut text, kind, number, bytes)?;
+        append_text(&mut self.journal, &text)
     }
 
-    // Appends the entries of operators that are enrolled, and answers whether that was done.
+    // Appends the entries of operators that are enrolled.
     #[tactic(auto, using(crate::proofs::WritingLemmas::extends_none))]
-    fn append_news(&mut self, news: &[Enrolment]) -> bool
-        ensures done { result ≡ true → FollowsWrites (J.writes self.old.journal) (J.writes self.new.journal)
-            (Appended (entries (map operator_entry news.now)) ∷ []) }
-        ensures text { AppendsKnown (J.writes self.old.journal) (J.writes self.new.journal) result
+    fn append_news(&mut self, news: &[Enrolment]) -> Result<(), Unwritten<J::Fault>>
+        ensures done { OnOk result (FollowsWrites (J.writes self.old.journal) (J.writes self.new.journal)
+            (Appended (entries (map operator_entry news.now)) ∷ [])) }
+        ensures text { AppendsKnown (J.writes self.old.journal) (J.writes self.new.journal) (is_ok result)
             (entries (map operator_entry news.now)) }
-        ensures named { result ≡ true → AreNamed news.now }
+        ensures named { OnOk result (AreNamed news.now) }
         ensures second { self.new.second ≡ self.old.second }
     {
-        match news_text(self.alloc, news) {
-            Ok(text) => append_text(&mut self.journal, &text),
-            Err(_) => false,
-        }
+        let text = news_text(self.alloc, news)?;
+        append_text(&mut self.journal, &text)
     }
 }
 
-// Appends a text, and answers whether that was done.
+// Appends a text.
 #[tactic(auto, using(crate::proofs::WritingLemmas::extends_by))]
-fn append_text<J: Journal>(journal: &mut J, text: &[u8]) -> bool
-    ensures done { result ≡ true →
-        FollowsWrites (J.writes journal.old) (J.writes journal.new) (Appended text.now ∷ []) }
-    ensures text { AppendsKnown (J.writes journal.old) (J.writes journal.new) result text.now }
+fn append_text<J: Journal>(journal: &mut J, text: &[u8]) -> Result<(), Unwritten<J::Fault>>
+    ensures done { OnOk result
+        (FollowsWrites (J.writes journal.old) (J.writes journal.new) (Appended text.now ∷ [])) }
+    ensures text { AppendsKnown (J.writes journal.old) (J.writes journal.new) (is_ok result) text.now }
 {
-    journal.append(text)
+    append_to(journal, text)
 }
 
 // The entries of operators that are enrolled.
@@ -102,44 +106,55 @@ fn news_text(alloc: Global, news: &[Enrolment]) -> Result<Vec<u8>, AllocError>
 }
 
 impl<J: Journal + Drop> Record for WrittenRecord<J> {
+    type Fault = Unwritten<J::Fault>;
+
     ghost noted = { λ s. noted_in s.second (J.writes s.journal) };
 
-    fn keep_news(&mut self, news: &[Enrolment]) -> bool
-        ensures steps { AddsIf None None result (Enrolled news.now) }
+    fn keep_news(&mut self, news: &[Enrolment]) -> Result<(), Unwritten<J::Fault>>
+        ensures steps { AddsIf None None (is_ok result) (Enrolled news.now) }
         ensures noted { NotesOnDisk (noted_in self.old.second (J.writes self.old.journal))
-            (noted_in self.new.second (J.writes self.new.journal)) result (λ n. with_news n news.now) }
+            (noted_in self.new.second (J.writes self.new.journal)) (is_ok result)
+            (λ n. with_news n news.now) }
         ensures named { IfSome (noted_in self.old.second (J.writes self.old.journal))
-            (λ _. result ≡ true → AreNamed news.now) }
-        ensures writes { result ≡ true → FollowsWrites (J.writes self.old.journal) (J.writes self.new.journal)
-            (news_writes news.now) }
+            (λ _. OnOk result (AreNamed news.now)) }
+        ensures writes { OnOk result (FollowsWrites (J.writes self.old.journal) (J.writes self.new.journal)
+            (news_writes news.now)) }
     {
-        news.is_empty() || (self.append_news(news) && self.journal.sync())
+        if news.is_empty() {
+            return Ok(());
+        }
+        self.append_news(news)?;
+        sync_to(&mut self.journal)
     }
 
-    fn keep_request(&mut self, moment: Moment, bytes: &[u8]) -> bool
-        ensures steps { AddsIf None None result (Asked moment.second bytes.now) }
+    fn keep_request(&mut self, moment: Moment, bytes: &[u8]) -> Result<(), Unwritten<J::Fault>>
+        ensures steps { AddsIf None None (is_ok result) (Asked moment.second bytes.now) }
         ensures noted { NotesOnDisk (noted_in self.old.second (J.writes self.old.journal))
-            (noted_in self.new.second (J.writes self.new.journal)) result
+            (noted_in self.new.second (J.writes self.new.journal)) (is_ok result)
             (λ n. with_request n moment.second bytes.now) }
-        ensures writes { result ≡ true → FollowsWrites (J.writes self.old.journal) (J.writes self.new.journal)
-            (request_writes (nat_abs moment.second) bytes.now) }
+        ensures writes { OnOk result (FollowsWrites (J.writes self.old.journal) (J.writes self.new.journal)
+            (request_writes (nat_abs moment.second) bytes.now)) }
     {
         if bytes.is_empty() {
-            return true;
+            return Ok(());
         }
         self.second = moment.second.unsigned_abs();
-        self.append(Kind::Request, self.second, bytes) && self.journal.sync()
+        self.append(Kind::Request, self.second, bytes)?;
+        sync_to(&mut self.journal)
     }
 
-    fn keep_answer(&mut self, connection: Parted<'_>) -> bool
-        ensures steps { AddsIf None None result (Answered (parting_of connection.entry)) }
+    fn keep_answer(&mut self, connection: Parted<'_>) -> Result<(), Unwritten<J::Fault>>
+        ensures steps { AddsIf None None (is_ok result) (Answered (parting_of connection.entry)) }
         ensures noted { Notes (noted_in self.old.second (J.writes self.old.journal))
-            (noted_in self.new.second (J.writes self.new.journal)) result
+            (noted_in self.new.second (J.writes self.new.journal)) (is_ok result)
             (λ n. with_answer n connection.entry.sent.now) }
-        ensures writes { result ≡ true → FollowsWrites (J.writes self.old.journal) (J.writes self.new.journal)
-            (answer_writes self.old.second connection.entry.sent.now) }
+        ensures writes { OnOk result (FollowsWrites (J.writes self.old.journal) (J.writes self.new.journal)
+            (answer_writes self.old.second connection.entry.sent.now)) }
     {
-        connection.sent.is_empty() || self.append(Kind::Answer, self.second, connection.sent)
+        if connection.sent.is_empty() {
+            return Ok(());
+        }
+        self.append(Kind::Answer, self.second, connection.sent)
     }
 
     fn lose_answer(&mut self, _connection: Parted<'_>) {}

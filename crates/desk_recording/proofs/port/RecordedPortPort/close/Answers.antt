@@ -1,13 +1,15 @@
 use Rattle.std.proofs.Common.{refl}
+use Rattle.std.specs.Option.{is_some}
 use Rattle.desk_recording.proofs.StepLemmas.{closes_so}
 use Rattle.desk_recording.proofs.port.RecordedPortPort.close.Goals as goal
 
 pub returns-clause-closed : goal.returns-clause-closed
 returns-clause-closed g c =
     let old = c.args.self.now.keeper in
-    let new = c.send_kept-is_kept.new.keeper in
-    let kept = rw (c.unread_of.ensures, c.deref.ensures.value) at c.send_kept-is_kept.ensures in
+    let new = c.send_kept-self.new.keeper in
+    let kept = rw (c.unread_of.ensures, c.deref.ensures.value) at c.send_kept-self.ensures in
     closes_so (g.R.Record.steps old) (g.R.Record.steps new) (g.R.Record.noted old) (g.R.Record.noted new)
-    c.args.self.now.is_broken c.send_kept-is_kept.result _ _ (g.P.Output.Write.contents c.args.output.to)
-    (g.P.Output.Write.contents c.send_kept-is_kept.new.client)
+    (is_some c.args.self.now.broken) (is_some c.send_kept-self.result) _ _
+    (g.P.Output.Write.contents c.args.output.to)
+    (g.P.Output.Write.contents c.send_kept-self.new.client)
     kept.sends refl kept.noted kept.whole

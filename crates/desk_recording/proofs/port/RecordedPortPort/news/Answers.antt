@@ -1,24 +1,24 @@
-use Rattle.std.proofs.Common.{true, subst, sym}
+use Rattle.std.proofs.Common.{true, subst}
 use Rattle.desk_program.specs.Serving.{BringsNews, Denies}
 use Rattle.desk_recording.specs.Telling.{told_by}
 use Rattle.desk_recording.proofs.StepLemmas.{brings_news, no_news}
 use Rattle.desk_recording.proofs.port.RecordedPortPort.news.Goals as goal
 
-pub returns-then-keep_news-clause-brings : goal.returns-then-keep_news-clause-brings
-returns-then-keep_news-clause-brings g c =
+pub returns-in-Ok-keep_news-clause-brings : goal.returns-in-Ok-keep_news-clause-brings
+returns-in-Ok-keep_news-clause-brings g c =
     let old = c.args.self.now.keeper in
     let new = c.keep_news.new.self in
-    subst (λ b. BringsNews (told_by g.R.Record old b) (told_by g.R.Record new b) c.in_ok-news.news.items)
-    (sym c.if-self.false)
+    subst (λ b. BringsNews (told_by g.R.Record old b) (told_by g.R.Record new b) c.in-Ok.news.items)
+    c.if-is_some.ensures
     (brings_news (g.R.Record.steps old) (g.R.Record.steps new) (g.R.Record.noted old) (g.R.Record.noted new)
-    c.in_ok-news.news.items (rw c.deref.ensures.value at c.if-keep_news.ensures.steps)
-    (rw c.deref.ensures.value at c.if-keep_news.ensures.noted) c.in_ok-news.ensures.small
-    (rw c.deref.ensures.value at c.if-keep_news.ensures.named))
+    c.in-Ok.news.items (rw c.deref.ensures.value at c.in-Ok-keep_news.ensures.steps)
+    (rw c.deref.ensures.value at c.in-Ok-keep_news.ensures.noted) c.in-Ok.ensures.small
+    (rw c.deref.ensures.value at c.in-Ok-keep_news.ensures.named))
 
-pub returns-else-keep_news-clause-same : goal.returns-else-keep_news-clause-same
-returns-else-keep_news-clause-same g c =
+pub returns-in-Err-keep_news-clause-same : goal.returns-in-Err-keep_news-clause-same
+returns-in-Err-keep_news-clause-same g c =
     let old = c.args.self.now.keeper in
     let new = c.keep_news.new.self in
-    subst (λ b. Denies (told_by g.R.Record old b) (told_by g.R.Record new true)) (sym c.if-self.false)
+    subst (λ b. Denies (told_by g.R.Record old b) (told_by g.R.Record new true)) c.if-is_some.ensures
     (no_news (g.R.Record.steps old) (g.R.Record.steps new) (g.R.Record.noted old) (g.R.Record.noted new)
-    c.deref.result.now c.if-keep_news.ensures.steps c.if-keep_news.ensures.noted)
+    c.deref.result.now c.in-Err-keep_news.ensures.steps c.in-Err-keep_news.ensures.noted)

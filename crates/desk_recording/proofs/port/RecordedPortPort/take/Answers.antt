@@ -1,29 +1,29 @@
-use Rattle.std.proofs.Common.{Some, subst, sym, true}
+use Rattle.std.proofs.Common.{Some, subst, true}
 use Rattle.desk_program.specs.Serving.{Denies, TakesArrival, arrived}
 use Rattle.desk_recording.specs.Telling.{told_by}
 use Rattle.desk_recording.proofs.StepLemmas.{none_taken, takes_one}
 use Rattle.desk_recording.proofs.port.RecordedPortPort.take.Goals as goal
 
-pub returns-then-keep_request-clause-taken : goal.returns-then-keep_request-clause-taken
-returns-then-keep_request-clause-taken g c =
+pub returns-in-Ok-keep_request-clause-taken : goal.returns-in-Ok-keep_request-clause-taken
+returns-in-Ok-keep_request-clause-taken g c =
     let old = c.args.self.now.keeper in
     let new = c.keep_request.new.self in
-    let moment = c.in_ok-taken.taken.moment in
-    let request = c.in-Ok.request.items in
+    let moment = c.in-Ok.taken.moment in
+    let request = c.in-Ok-request_of.received.request.items in
     rw (c.new.ensures.position, c.new.ensures.inner)
     (subst (λ b. TakesArrival (told_by g.R.Record old b) (told_by g.R.Record new b)
-    (arrived moment.second (Some request))) (sym c.if-self.false)
+    (arrived moment.second (Some request))) c.if-is_some.ensures
     (takes_one (g.R.Record.steps old) (g.R.Record.steps new) (g.R.Record.noted old) (g.R.Record.noted new)
-    moment.second request (rw c.deref.ensures.value at c.if-keep_request.ensures.steps)
-    (rw c.deref.ensures.value at c.if-keep_request.ensures.noted)
+    moment.second request (rw c.deref.ensures.value at c.in-Ok-keep_request.ensures.steps)
+    (rw c.deref.ensures.value at c.in-Ok-keep_request.ensures.noted)
     moment.in_range
-    (λ some. (c.in-Ok.ensures some).whole)))
+    (λ some. (c.in-Ok-request_of.ensures.whole some).whole)))
 
-pub returns-clause-same : goal.returns-clause-same
-returns-clause-same g c =
+pub returns-in-Err-keep_request-clause-same : goal.returns-in-Err-keep_request-clause-same
+returns-in-Err-keep_request-clause-same g c =
     let old = c.args.self.now.keeper in
     let new = c.keep_request.new.self in
-    subst (λ b. Denies (told_by g.R.Record old b) (told_by g.R.Record new true)) (sym c.if-self.false)
+    subst (λ b. Denies (told_by g.R.Record old b) (told_by g.R.Record new true)) c.if-is_some.ensures
     (none_taken (g.R.Record.steps old) (g.R.Record.steps new) (g.R.Record.noted old) (g.R.Record.noted new)
-    c.in_ok-taken.taken.moment.second c.deref.result.now c.if-keep_request.ensures.steps
-    c.if-keep_request.ensures.noted)
+    c.in-Ok.taken.moment.second c.deref.result.now c.in-Err-keep_request.ensures.steps
+    c.in-Err-keep_request.ensures.noted)

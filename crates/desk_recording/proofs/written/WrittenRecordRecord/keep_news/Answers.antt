@@ -1,13 +1,14 @@
 use Rattle.std.proofs.Common.{refl, map}
+use Rattle.std.specs.Result.{is_ok}
 use Rattle.desk_record.specs.Record.{entries}
 use Rattle.desk_program.specs.Recorded.{operator_entry, with_news}
 use Rattle.desk_recording.proofs.WritingLemmas.{notes_synced}
 use Rattle.desk_recording.proofs.written.WrittenRecordRecord.keep_news.Goals as goal
 
-pub returns-then-append_news-clause-noted : goal.returns-then-append_news-clause-noted
-returns-then-append_news-clause-noted g c =
+pub returns-clause-noted : goal.returns-clause-noted
+returns-clause-noted g c =
     notes_synced c.args.self.now.second c.append_news.new.self.second
     (g.J.Journal.writes c.args.self.now.journal) (entries (map operator_entry c.args.news.now))
     (λ n. with_news n c.args.news.now) (λ text. rw c.append_news.ensures.second refl)
-    (g.J.Journal.writes c.append_news.new.self.journal) (g.J.Journal.writes c.sync.new.self) c.sync.result
-    c.if-append_news.ensures.text c.sync.ensures
+    (g.J.Journal.writes c.append_news.new.self.journal) (g.J.Journal.writes c.sync_to.new.journal)
+    (is_ok c.sync_to.result) c.in_ok-append_news.ensures.text c.sync_to.ensures.done

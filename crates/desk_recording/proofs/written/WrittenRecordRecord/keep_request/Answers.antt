@@ -1,4 +1,5 @@
 use Rattle.std.proofs.Common.{◌≡◌, ◌∙◌, ◌++◌, ap, nat_abs, subst, sym, true}
+use Rattle.std.specs.Result.{is_ok}
 use Rattle.desk_ends.proofs.lemmas.Moment.{same_moment}
 use Rattle.desk_record.specs.Record.{entry}
 use Rattle.desk_program.specs.Recorded.{request_entry, with_request}
@@ -6,8 +7,8 @@ use Rattle.desk_recording.specs.RecordWrites.{AppendsKnown}
 use Rattle.desk_recording.proofs.WritingLemmas.{notes_synced, request_noted}
 use Rattle.desk_recording.proofs.written.WrittenRecordRecord.keep_request.Goals as goal
 
-pub returns-then-append-clause-noted : goal.returns-then-append-clause-noted
-returns-then-append-clause-noted g c =
+pub returns-clause-noted : goal.returns-clause-noted
+returns-clause-noted g c =
     let before = g.J.Journal.writes c.args.self.now.journal in
     let mid = g.J.Journal.writes c.append.new.self.journal in
     let bytes = c.args.bytes.now in
@@ -19,7 +20,8 @@ returns-then-append-clause-noted g c =
     (λ n. with_request n c.args.moment.second bytes)
     (λ old. request_noted (record { text = old; second = c.args.self.now.second }) c.args.moment.second bytes
     c.if-is_empty.ensures ∙ ap (λ s. record { text = old ++ text; second = s })
-    (sym (c.append.ensures.second ∙ second))) mid (g.J.Journal.writes c.sync.new.self) c.sync.result
+    (sym (c.append.ensures.second ∙ second))) mid (g.J.Journal.writes c.sync_to.new.journal)
+    (is_ok c.sync_to.result)
     (subst (λ s. AppendsKnown before mid true (entry (request_entry s bytes))) second
-    c.if-append.ensures.text)
-    c.sync.ensures
+    c.in_ok-append.ensures.text)
+    c.sync_to.ensures.done

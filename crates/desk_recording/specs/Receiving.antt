@@ -1,0 +1,22 @@
+-- Receiving: the request of a client, and why none came whole.
+use Rattle.std.specs.Prelude.{◌≡◌, ◌<◌, ◌⊎◌, ⊤, ℕ, Bool, true, List, [], length, Option, IfSome}
+use Rattle.std.specs.Io.KnownBytes.{IsAtEnd}
+use Rattle.desk_wire.specs.OneRequest.{IsTaken}
+use Rattle.desk_wire.specs.Streams.{IsCut}
+use Rattle.desk_recording.specs.declared.receiving.Unreceived.{Unreceived}
+use Rattle.desk_recording.specs.declared.receiving.Unreceived.TheVariants.{CutShort, Unread, OutOfMemory}
+
+-- why no whole request came: the client ended inside it; or a read failed, or memory ran out
+abbrev pub IsStoppedBy : {R : Type 0} → Type 0 → Unreceived R → Type 0
+IsStoppedBy cut CutShort = cut
+IsStoppedBy cut (Unread unread) = ⊤
+IsStoppedBy cut OutOfMemory = ⊤
+
+-- a client sent no whole request: it had ended, or ends inside one; or a read of it failed
+abbrev pub SentNone : Bool → Option (List ℕ) → Type 0
+SentNone failed sent = IsAtEnd sent ⊎ IfSome sent IsCut ⊎ (failed ≡ true)
+
+-- the bytes that are kept as a client's request: one that it sent, or none, where it sent none whole
+pub record IsReceived (failed : Bool) (sent left : Option (List ℕ)) (request : List ℕ) : Type 0 where
+  pub whole : 0 < length request → IsTaken sent left request
+  pub none : request ≡ [] → SentNone failed sent

@@ -1,0 +1,52 @@
+//! The request of a client, and why none came whole.
+
+ghost use Rattle.std.specs.Prelude.{◌≡◌, ◌<◌, [], length, IfErr, IfOk, IfSome};
+ghost use Rattle.std.specs.Io.KnownBytes.{IsAtEnd};
+ghost use Rattle.desk_wire.specs.OneRequest.{IsTaken};
+ghost use Rattle.desk_wire.specs.Streams.{IsCut};
+ghost use Rattle.desk_recording.specs.Receiving.{IsStoppedBy};
+
+use desk_ends::ServeFault;
+use desk_wire::receive_request;
+use std::alloc::Global;
+use std::io::Read;
+use std::marker::PhantomData;
+
+/// That a read of a client of this type failed, or that a request of it took more than 200,000 reads. Only
+/// `receive` makes one.
+#[derive_where(Clone, Copy)]
+pub(crate) struct Unread<R> {
+    client: PhantomData<R>,
+}
+
+/// Why no whole request of a client was received.
+#[derive_where(Clone, Copy)]
+pub(crate) enum Unreceived<R> {
+    /// Its bytes end inside the request.
+    CutShort,
+    /// They could not be read.
+    Unread(Unread<R>),
+    /// Memory ran out.
+    OutOfMemory,
+}
+
+/// Reads one request of a client, and leaves the rest unread: its bytes, or none if the client has ended.
+///
+/// # Errors
+///
+/// As `Unreceived` says.
+pub(crate) fn receive<R: Read>(alloc: Global, client: &mut R) -> Result<Vec<u8>, Unreceived<R>>
+    ensures taken { IfOk result (λ request. 0 < length request.items
+        → IsTaken (R.remaining client.old) (R.remaining client.new) request.items) }
+    ensures end { IfOk result (λ request. request.items ≡ [] → IsAtEnd (R.remaining client.old)) }
+    ensures fault { IfErr result (IsStoppedBy (IfSome (R.remaining client.old) IsCut)) }
+{
+    match receive_request(alloc, client) {
+        Ok(request) => Ok(request),
+        Err(ServeFault::CutShort) => Err(Unreceived::CutShort),
+        Err(ServeFault::OutOfMemory) => Err(Unreceived::OutOfMemory),
+        Err(ServeFault::Read | ServeFault::Write(_)) => Err(Unreceived::Unread(Unread {
+            client: PhantomData,
+        })),
+    }
+}
