@@ -41,7 +41,7 @@ found_enrolled before e end out w found down only (inr is) = inl is
 pub not_played : (H : Type 0) (play : PlayWords) (end : Ending) (old out : Option (List ℕ))
     (w after : DeskWorld) (fault : DeskFault) (f : Failure) → f ≡ enrolment_failure fault
     → IsDeskBreakdown fault → EndsWith {A = ⊤} (Err f) end
-    → AreListedSoFar H play.enrolments.items (on_terms w play.terms) after
+    → AreListedSoFar H play.desk.enrolments.items (on_terms w play.desk.terms) after
     → IsNotPlayed H play end (passed old old out out) w after
 not_played H play end old out w after fault f is down ends listed = record {
   ends = broken_down fault f end is down ends;

@@ -371,7 +371,7 @@ found_served xs last w after before found only (inr p) =
 module _ {A S : Type 0} (g : Ghosts S) (done : Result A Failure) (serve : ServeWords) (w : DeskWorld) where
   pub port_kept : (begun left : Parts S) → IsHonest (g.doubt left.store)
       → (IsHonest (g.doubt left.store)
-      → world_of g.content begun ≡ with_operators (on_terms w serve.terms) serve.enrolments.items)
+      → world_of g.content begun ≡ with_operators (on_terms w serve.desk.terms) serve.desk.enrolments.items)
       → ((found : Option World) → g.may_leave begun.store found
       → found ≡ Some (world_of g.content begun).content)
       → (old mid new : Traffic) → Listens old mid serve.port
@@ -395,7 +395,7 @@ module _ {A S : Type 0} (g : Ghosts S) (done : Result A Failure) (serve : ServeW
   -- the operators are listed, and no connection is taken
   pub unserved_kept : (desk : Parts S) → IsHonest (g.doubt desk.store)
       → (IsHonest (g.doubt desk.store)
-      → world_of g.content desk ≡ with_operators (on_terms w serve.terms) serve.enrolments.items)
+      → world_of g.content desk ≡ with_operators (on_terms w serve.desk.terms) serve.desk.enrolments.items)
       → ((found : Option World) → g.may_leave desk.store found
       → found ≡ Some (world_of g.content desk).content)
       → (f : Failure) (old new : Traffic) → IsErrAnd done (λ e. e ≡ f) → IsDenied f
@@ -411,7 +411,7 @@ module _ {A S : Type 0} (g : Ghosts S) (done : Result A Failure) (serve : ServeW
 
 module _ (H : Type 0) (play : PlayWords) (end : Ending) (ended : PlayEnd) (answered : ℕ)
     (q : Passage) (w begun after : DeskWorld) (ends : EndsWith (done_unless (failure_after ended)) end)
-    (listed : H → begun ≡ with_operators (on_terms w play.terms) play.enrolments.items)
+    (listed : H → begun ≡ with_operators (on_terms w play.desk.terms) play.desk.enrolments.items)
     (played : HasPlayed H ended answered q begun play.moment.second after) where
   pub run_kept : H → (found : Option World)
       → IsKept ended (told_in_play ended answered) q begun play.moment.second after found

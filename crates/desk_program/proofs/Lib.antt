@@ -4,3 +4,4 @@ mod KeepingLemmas
 mod BegunLemmas
 mod EndLemmas
 mod CauseLemmas
+mod PortGivenLemmas

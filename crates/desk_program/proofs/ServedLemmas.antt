@@ -307,8 +307,8 @@ last_stops H (Err e) f then is was (Some news) w after h = subst (λ v. EndsAtNe
 -- the operators are listed, and no connection is taken
 pub unserved : {A : Type 0} (H : Type 0) (done : Result A Failure) (f : Failure) (serve : ServeWords)
     (old new : Traffic) (w after : DeskWorld) → IsErrAnd done (λ e. e ≡ f)
-    → IsDenied f → Listens old new serve.port → (H → after ≡ with_operators (on_terms w serve.terms)
-    serve.enrolments.items)
+    → IsDenied f → Listens old new serve.port → (H → after ≡ with_operators (on_terms w serve.desk.terms)
+    serve.desk.enrolments.items)
     → IsAtPort H done serve (course old new) w after
 unserved H done f serve old new w after is denied listens listed = inl (record {
   begun = after;

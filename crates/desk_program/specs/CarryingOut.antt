@@ -27,6 +27,7 @@ IsCarriedOut H (line.Serve serve) o w after =
 IsCarriedOut H (line.Enrol enrol) o w after =
     (o.port.after ≡ o.port.before) × (o.bytes.reads.after ≡ o.bytes.reads.before)
     × IsEnrolled H enrol.enrolment o.end o.bytes.writes w after
+IsCarriedOut H _ o w after = ⊥
 
 -- a line is carried out at a desk, and what may be found then; if it ended with `store`, that has its cause
 pub record CarriesOut {S : Type 0} (g : Ghosts S) (line : Line) (o : Outside) (old new : Parts S) : Type 0
@@ -41,8 +42,8 @@ pub record CarriesOut {S : Type 0} (g : Ghosts S) (line : Line) (o : Outside) (o
 -- a line that takes no connection, and its numbers are in their ranges
 abbrev pub IsPortless : Line → Type 0
 IsPortless (line.Play play) = IsPlay play
-IsPortless (line.Serve serve) = ⊥
 IsPortless (line.Enrol enrol) = IsEnrol enrol
+IsPortless _ = ⊥
 
 -- a line that takes no connection is carried out at a desk, and ends with this status: whether the line of
 -- its failure was broken off isn't told

@@ -58,9 +58,9 @@ abbrev pub IsPlayKept :
 IsPlayKept H play end p w after found =
     ((run : IsPlayed H play end p w after)
     × IsKept run.ended (told_in_play run.ended run.answered) p
-    (with_operators (on_terms w play.terms) play.enrolments.items) play.moment.second after found)
+    (with_operators (on_terms w play.desk.terms) play.desk.enrolments.items) play.moment.second after found)
     ⊎ (IsNotPlayed H play end p w after
-    × AreKeptSoFar H play.enrolments.items (on_terms w play.terms) after found)
+    × AreKeptSoFar H play.desk.enrolments.items (on_terms w play.desk.terms) after found)
 
 -- the request of a connection left a world as it was, its answer was a 500 or is not whole, and what is
 -- found is what this request would leave there
@@ -103,7 +103,7 @@ IsPortKept H done serve port w after found =
     ((begun : HasBegunServing H done serve port w after)
     × IsFoundServed begun.taken.exchanges begun.taken.last after found)
     ⊎ (IsNotBegun H done serve port w after
-    × AreKeptSoFar H serve.enrolments.items (on_terms w serve.terms) after found)
+    × AreKeptSoFar H serve.desk.enrolments.items (on_terms w serve.desk.terms) after found)
 
 -- a line of `serve` is carried out, and that is what is found
 pub record IsServeKept (H : Type 0) (serve : ServeWords) (end : Ending) (port : Course Traffic)
@@ -117,3 +117,4 @@ abbrev pub IsLineKept : Type 0 → Line → Outside → DeskWorld → DeskWorld 
 IsLineKept H (line.Play play) o w after found = IsPlayKept H play o.end o.bytes w after found
 IsLineKept H (line.Enrol enrol) o w after found = FindsEnrolled enrol.enrolment o.end o.bytes.writes w found
 IsLineKept H (line.Serve serve) o w after found = IsServeKept H serve o.end o.port w after found
+IsLineKept H _ o w after found = ⊥

@@ -11,3 +11,5 @@ pub mod Recorded
 pub mod CarryingOut
 pub mod MovedLine
 pub mod Looking
+pub mod PortTurns
+pub mod PortGiven

@@ -25,13 +25,13 @@ pub record IsPlayed (H : Type 0) (play : PlayWords) (end : Ending) (p : Passage)
   pub answered : ℕ
   pub ends : EndsWith (done_unless (failure_after ended)) end
   pub played : H → HasPlayed H ended answered p
-      (with_operators (on_terms w play.terms) play.enrolments.items) play.moment.second after
+      (with_operators (on_terms w play.desk.terms) play.desk.enrolments.items) play.moment.second after
 
 -- an operator could not be listed: those before it are, and nothing is read or written
 pub record IsNotPlayed (H : Type 0) (play : PlayWords) (end : Ending) (p : Passage) (w after : DeskWorld) :
     Type 0 where
   pub ends : IsBrokenDown end
-  pub listed : AreListedSoFar H play.enrolments.items (on_terms w play.terms) after
+  pub listed : AreListedSoFar H play.desk.enrolments.items (on_terms w play.desk.terms) after
   pub unread : p.reads.after ≡ p.reads.before
   pub unwritten : p.writes.after ≡ p.writes.before
 

@@ -16,7 +16,7 @@ use Rattle.desk_program.specs.Serving.{AreTaken, Traffic}
 pub record AreInputsTaken {A : Type 0} (H : Type 0) (done : Result A Failure) (play : PlayWords)
     (port : Course Traffic) (w after : DeskWorld) : Type 0 where
   pub begun : DeskWorld
-  pub listed : H → begun ≡ with_operators (on_terms w play.terms) play.enrolments.items
+  pub listed : H → begun ≡ with_operators (on_terms w play.desk.terms) play.desk.enrolments.items
   pub taken : AreTaken H done max_answered port begun after
 
 -- an operator could not be listed: those before it are, and no request is taken
@@ -24,7 +24,7 @@ pub record AreNoneTaken {A : Type 0} (H : Type 0) (done : Result A Failure) (pla
     (port : Course Traffic) (w after : DeskWorld) : Type 0 where
   pub broken : IsErrAnd done IsLineBreakdown
   pub untaken : port.after ≡ port.before
-  pub listed : AreListedSoFar H play.enrolments.items (on_terms w play.terms) after
+  pub listed : AreListedSoFar H play.desk.enrolments.items (on_terms w play.desk.terms) after
 
 abbrev pub IsInputPlayed :
     {A : Type 0} → Type 0 → Result A Failure → PlayWords → Course Traffic → DeskWorld → DeskWorld → Type 0
@@ -39,4 +39,4 @@ IsInputKept H done play port w after found =
     ((begun : AreInputsTaken H done play port w after)
     × IsFoundServed begun.taken.exchanges begun.taken.last after found)
     ⊎ (AreNoneTaken H done play port w after
-    × AreKeptSoFar H play.enrolments.items (on_terms w play.terms) after found)
+    × AreKeptSoFar H play.desk.enrolments.items (on_terms w play.desk.terms) after found)

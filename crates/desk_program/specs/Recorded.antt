@@ -1,4 +1,4 @@
--- Recorded: what a port has written down of its news and of its connections (docs/RECORD.md).
+-- Recorded: what a port has written down of its news and of its connections (docs/journal-format.md).
 use Rattle.std.specs.Prelude.{◌≡◌, ◌<◌, ◌⊎◌, ⊤, ℕ, ℤ, nat_abs, length, map, List, [], ◌∷◌, ◌++◌, Bool, true, Option, Some, None, IsTrue}
 use Rattle.std.specs.List.{AllByRecursion}
 use Rattle.desk_rules.specs.Name.{is_operator_name}

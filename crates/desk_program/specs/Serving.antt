@@ -227,7 +227,7 @@ pub record AreTaken {A : Type 0} (H : Type 0) (done : Result A Failure) (count :
 pub record HasBegunServing {A : Type 0} (H : Type 0) (done : Result A Failure) (serve : ServeWords)
     (port : Course Traffic) (w after : DeskWorld) : Type 0 where
   pub begun : DeskWorld
-  pub listed : H → begun ≡ with_operators (on_terms w serve.terms) serve.enrolments.items
+  pub listed : H → begun ≡ with_operators (on_terms w serve.desk.terms) serve.desk.enrolments.items
   pub listening : Traffic
   pub listens : Listens port.before listening serve.port
   pub taken : AreTaken H done serve.connections (course listening port.after) begun after
@@ -237,7 +237,7 @@ pub record IsNotBegun {A : Type 0} (H : Type 0) (done : Result A Failure) (serve
     (port : Course Traffic) (w after : DeskWorld) : Type 0 where
   pub broken : IsErrAnd done IsLineBreakdown
   pub untaken : port.after ≡ port.before
-  pub listed : AreListedSoFar H serve.enrolments.items (on_terms w serve.terms) after
+  pub listed : AreListedSoFar H serve.desk.enrolments.items (on_terms w serve.desk.terms) after
 
 abbrev pub IsAtPort :
     {A : Type 0} → Type 0 → Result A Failure → ServeWords → Course Traffic → DeskWorld → DeskWorld → Type 0

@@ -2,6 +2,7 @@
 //! requests of an input, and one request a connection at a port; and what it prints of plans that were moved.
 #![tactic(auto)]
 
+pub mod laws;
 mod local;
 mod looking;
 mod moving;

@@ -60,7 +60,7 @@ pub fn play<S: PlanStore, R: Read, W: Write, E: Write>(
     ensures remembered { Remembers S.doubt S.faults S.is_shielded desk.old.store desk.new.store }
     ensures cause { HasCause S.PlanStore desk.old desk.new (ended E.Write result errors.old errors.new) }
 {
-    if let Err(fault) = set_up(desk, &line.terms, &line.enrolments) {
+    if let Err(fault) = set_up(desk, &line.desk.terms, &line.desk.enrolments) {
         return conclude(errors, Err(Failure::from(fault)));
     }
     let played = play_all(alloc, desk, line.moment, input, output);

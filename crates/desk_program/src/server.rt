@@ -77,7 +77,7 @@ fn serve_line<S: PlanStore, P: Port, W: Write>(
     ensures remembered { Remembers S.doubt S.faults S.is_shielded desk.old.store desk.new.store }
     ensures cause { IsEndCounted result (S.faults desk.old.store) (S.faults desk.new.store) }
 {
-    set_up(desk, &line.terms, &line.enrolments)?;
+    set_up(desk, &line.desk.terms, &line.desk.enrolments)?;
     listen(alloc, port, line.port, output)?;
     serve_connections(alloc, port, line.connections, desk)
 }
@@ -139,7 +139,7 @@ pub fn play_port<S: PlanStore, P: Port>(
     ensures remembered { Remembers S.doubt S.faults S.is_shielded desk.old.store desk.new.store }
     ensures cause { IsEndCounted result (S.faults desk.old.store) (S.faults desk.new.store) }
 {
-    set_up(desk, &play.terms, &play.enrolments)?;
+    set_up(desk, &play.desk.terms, &play.desk.enrolments)?;
     serve_connections(alloc, port, MAX_ANSWERED, desk)
 }
 

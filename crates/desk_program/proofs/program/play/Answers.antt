@@ -22,7 +22,7 @@ returns-in-Err-clause-played g c =
     inr (not_played honest c.args.line.now end (g.R.Read.remaining c.args.input.now)
     (g.W.Write.contents c.args.output.now) w after c.in-Err.fault c.from.result c.from.ensures
     c.in-Err.ensures.fault (c.conclude.ensures.status, c.conclude.ensures.told)
-    (subst (λ es. AreListedSoFar honest es (on_terms w c.args.line.now.terms) after)
+    (subst (λ es. AreListedSoFar honest es (on_terms w c.args.line.now.desk.terms) after)
     c.deref.ensures.value c.in-Err.ensures.listed))
 
 pub returns-in-Err-clause-kept : goal.returns-in-Err-clause-kept
@@ -36,9 +36,9 @@ returns-in-Err-clause-kept g c = λ p settled found may.
       not_played honest c.args.line.now end (g.R.Read.remaining c.args.input.now)
           (g.W.Write.contents c.args.output.now) w after c.in-Err.fault c.from.result c.from.ensures
           c.in-Err.ensures.fault (c.conclude.ensures.status, c.conclude.ensures.told)
-          (subst (λ es. AreListedSoFar honest es (on_terms w c.args.line.now.terms) after)
+          (subst (λ es. AreListedSoFar honest es (on_terms w c.args.line.now.desk.terms) after)
           c.deref.ensures.value c.in-Err.ensures.listed),
-      subst (λ es. AreKeptSoFar honest es (on_terms w c.args.line.now.terms) after found)
+      subst (λ es. AreKeptSoFar honest es (on_terms w c.args.line.now.desk.terms) after found)
           c.deref.ensures.value (c.in-Err.ensures.kept p settled found may),
     )
 
@@ -49,7 +49,7 @@ returns-clause-played g c =
     let bytes = passage g.R.Read g.W.Write c.args.input.now c.play_all-played.new.input c.args.output.now
     c.play_all-played.new.output in
     let w = world_of g.S.PlanStore.content c.args.desk.now in
-    let begun = on_terms w c.args.line.now.terms in
+    let begun = on_terms w c.args.line.now.desk.terms in
     let after = world_of g.S.PlanStore.content c.play_all-played.new.desk in
     inl (record {
       ended = played.ended;
@@ -79,7 +79,7 @@ returns-clause-kept g c = λ p settled found may.
     (subst (λ d. EndsWith d end) c.done_after.ensures
     (c.conclude-2.ensures.status, c.conclude-2.ensures.told))
     (λ h. c.in_default.ensures.listed (was_honest c.play_all-played.ensures.remembered.doubt h)
-    ∙ ap (with_operators (on_terms w c.args.line.now.terms)) c.deref.ensures.value)
+    ∙ ap (with_operators (on_terms w c.args.line.now.desk.terms)) c.deref.ensures.value)
     c.play_all-played.ensures.played p found
     (c.play_all-played.ensures.kept p (c.in_default.ensures.kept before settled) found may)
 

@@ -12,7 +12,7 @@ returns-clause-played g c =
     inl (record {
       begun = world_of g.S.PlanStore.content c.set_up.new.desk;
       listed = λ h. c.in_ok-set_up.ensures.listed (was_honest c.serve_connections.ensures.remembered.doubt h)
-          ∙ ap (with_operators (on_terms w c.args.play.now.terms)) c.deref.ensures.value;
+          ∙ ap (with_operators (on_terms w c.args.play.now.desk.terms)) c.deref.ensures.value;
       taken = c.serve_connections.ensures.kept.taken;
     })
 
@@ -28,7 +28,7 @@ returns-clause-kept g c = λ p settled found may.
         begun = begun;
         listed = λ h.
             c.in_ok-set_up.ensures.listed (was_honest c.serve_connections.ensures.remembered.doubt h)
-            ∙ ap (with_operators (on_terms w c.args.play.now.terms)) c.deref.ensures.value;
+            ∙ ap (with_operators (on_terms w c.args.play.now.desk.terms)) c.deref.ensures.value;
         taken = kept.taken;
       },
       found_served kept.taken.exchanges kept.taken.last begun after

@@ -28,7 +28,7 @@ returns-in_err-listen-clause-served g c =
     c.in_err-listen.ensures.fault c.in_err-listen.ensures.listens
     (λ h. c.in_ok-set_up.ensures.listed h
     ∙ ap (with_operators (on_terms (world_of g.S.PlanStore.content c.args.desk.now)
-    c.args.line.now.terms)) c.deref.ensures.value)
+    c.args.line.now.desk.terms)) c.deref.ensures.value)
 
 pub returns-clause-served : goal.returns-clause-served
 returns-clause-served g c =
@@ -37,7 +37,7 @@ returns-clause-served g c =
     inl (record {
       begun = begun;
       listed = λ h. c.in_ok-set_up.ensures.listed (was_honest c.serve_connections.ensures.remembered.doubt h)
-          ∙ ap (with_operators (on_terms w c.args.line.now.terms)) c.deref.ensures.value;
+          ∙ ap (with_operators (on_terms w c.args.line.now.desk.terms)) c.deref.ensures.value;
       listening = _;
       listens = c.in_ok-listen.ensures.listens;
       taken = c.serve_connections.ensures.kept.taken;
@@ -49,7 +49,7 @@ returns-in_err-listen-clause-kept g c = λ p settled.
     (world_of g.S.PlanStore.content c.args.desk.now) c.set_up.new.desk p
     (λ h. c.in_ok-set_up.ensures.listed h
     ∙ ap (with_operators (on_terms (world_of g.S.PlanStore.content c.args.desk.now)
-    c.args.line.now.terms)) c.deref.ensures.value) (c.in_ok-set_up.ensures.kept p settled)
+    c.args.line.now.desk.terms)) c.deref.ensures.value) (c.in_ok-set_up.ensures.kept p settled)
     c.in_err-listen.field-0.0 _ _ c.from_residual-in_err-listen.ensures.1 c.in_err-listen.ensures.fault
     c.in_err-listen.ensures.listens
 
@@ -60,7 +60,7 @@ returns-clause-kept g c = λ p settled.
     (world_of g.S.PlanStore.content c.args.desk.now) c.set_up.new.desk c.serve_connections.new.desk p
     (λ h. c.in_ok-set_up.ensures.listed (was_honest c.serve_connections.ensures.remembered.doubt h)
     ∙ ap (with_operators (on_terms (world_of g.S.PlanStore.content c.args.desk.now)
-    c.args.line.now.terms)) c.deref.ensures.value) (c.in_ok-set_up.ensures.kept listed settled)
+    c.args.line.now.desk.terms)) c.deref.ensures.value) (c.in_ok-set_up.ensures.kept listed settled)
     _ _ _ c.in_ok-listen.ensures.listens c.serve_connections.ensures.kept
 
 -- why it ends with a store that failed

@@ -1,0 +1,48 @@
+-- The headline, of what the clients of a port were sent.
+use Rattle.std.specs.Prelude.{◌≡◌, ◌≢◌, ⊤, ℕ, true, List, ◌++◌, All, map, Option, Some, IsSome, option_to_list, Result}
+use Rattle.std.specs.List.{slice_get}
+use Rattle.desk_store.specs.StoreFaults.{IsHonest}
+use Rattle.desk_run.specs.DeskWorld.{DeskWorld}
+use Rattle.desk_run.specs.Sides.{OwnAlike}
+use Rattle.desk_wire.specs.AllAnswers.{Sent}
+use Rattle.desk_wire.specs.Headline.{LookAlike, sender}
+use Rattle.desk_wire.specs.Passage.{Course}
+use Rattle.desk_line.specs.declared.failure.Failure.{Failure}
+use Rattle.desk_line.specs.declared.line.Enrolment.{Enrolment}
+use Rattle.desk_line.specs.declared.line.Play.{Play as PlayWords}
+use Rattle.desk_line.specs.declared.line.Serve.{Serve as ServeWords}
+use Rattle.desk_program.specs.PortPlays.{AreInputsTaken}
+use Rattle.desk_program.specs.PortTurns.{AreTurns, HasTurns, Turn, caller, sent_in, world_met}
+use Rattle.desk_program.specs.Serving.{AreTaken, HasBegunServing, Traffic}
+
+-- the request of a turn is this one, with its moment, and its answer was sent whole
+pub record IsWhole (t : Turn) (r : Sent) : Type 0 where
+  pub sent : sent_in t ≡ Some r
+  pub answered : t.parting.outcome.is_answered ≡ true
+
+-- of the connections that were taken at a port that tells what it closes, if the store is honest. In their
+-- turns the clients were sent the answers of a run over their requests, each at its moment, with the
+-- operators of the news listed where they came (`first`). So one request, sent at one moment in two runs at
+-- worlds that look alike to its operator, was given equal bytes where both answers are whole (`decided`); and
+-- an operator that sent none and is in no news owns what it did (`quiet`). The same of a line of `serve`, and
+-- of a line of `play` whose requests come from a port, from the world on in which the desk has begun
+pub record PortGiven : Type 0 where
+  pub first : (doubt count : ℕ) (done : Result ⊤ Failure) (port : Course Traffic) (w after : DeskWorld)
+      → AreTaken (IsHonest doubt) done count port w after → IsHonest doubt → IsSome port.before.closed
+      → HasTurns port w after
+  pub decided : (p q : Course Traffic) (v w v_after w_after : DeskWorld) (ts us : List Turn)
+      (m n : Option (List Enrolment)) (i j : ℕ) (t u : Turn) (r : Sent)
+      → AreTurns p v v_after ts m → AreTurns q w w_after us n
+      → slice_get ts i ≡ Some t → slice_get us j ≡ Some u → IsWhole t r → IsWhole u r
+      → LookAlike (sender r) (world_met v ts i t) (world_met w us j u) → t.parting.sent ≡ u.parting.sent
+  pub quiet : (port : Course Traffic) (w after : DeskWorld) (turns : List Turn)
+      (last : Option (List Enrolment)) (operator : List ℕ) → AreTurns port w after turns last
+      → All (λ t. caller t ≢ Some operator) turns
+      → All (All (λ e. e.operator ≢ operator)) (map (λ t. t.news) turns ++ option_to_list last)
+      → OwnAlike operator after w
+  pub served : (doubt : ℕ) (done : Result ⊤ Failure) (serve : ServeWords) (port : Course Traffic)
+      (w after : DeskWorld) (h : HasBegunServing (IsHonest doubt) done serve port w after) → IsHonest doubt
+      → IsSome port.before.closed → HasTurns port h.begun after
+  pub played : (doubt : ℕ) (done : Result ⊤ Failure) (play : PlayWords) (port : Course Traffic)
+      (w after : DeskWorld) (h : AreInputsTaken (IsHonest doubt) done play port w after) → IsHonest doubt
+      → IsSome port.before.closed → HasTurns port h.begun after
