@@ -10,8 +10,6 @@ use Rattle.desk_wire.specs.Passage.{Course}
 use Rattle.desk_program.specs.Outside.{bytes_written}
 use Rattle.desk_line.specs.declared.failure.Failure.{Failure}
 use Rattle.desk_line.specs.declared.failure.Failure.TheVariants as failure
-use Rattle.desk_line.specs.declared.line.KeeperLine.{KeeperLine}
-use Rattle.desk_line.specs.declared.line.KeeperLine.TheVariants as keeper
 use Rattle.db_file.specs.Damage.{IsDamaged}
 use Rattle.db_file.specs.Reads.{IsUnjudged}
 use Rattle.desk_host.specs.Telling.{IsWrittenIfRoom, line_of}
@@ -61,18 +59,11 @@ HasUnlookedCause log unlooked.OutOfMemory =
     IfSome log (λ bytes. (frame commits : ℕ) × IsDamaged bytes frame commits)
 HasUnlookedCause log (unlooked.Unread fault) = IsUnjudged log fault
 
--- whether a task is begun at a file, by what came of the look at its log, and whether that is damaged
+-- whether a command is begun at a file, by what came of the look at its log, and whether that is damaged
 abbrev pub admission_of : {E : Type 0} → Result (Look E) Unlooked → Result Bool Failure
 admission_of (Ok look) = if look.is_admitted then Ok look.is_damaged else Err failure.DamagedLog
 admission_of (Err unlooked.OutOfMemory) = Err failure.Memory
 admission_of (Err (unlooked.Unread fault)) = Err failure.Store
-
--- a line copies its file
-abbrev pub is_copy : KeeperLine → Bool
-is_copy (keeper.Check database) = false
-is_copy (keeper.Copy words) = true
-is_copy (keeper.Migrate database) = false
-is_copy (keeper.Replay words) = false
 
 -- what is told of a log that is there without its file
 abbrev pub alone_text : List ℕ

@@ -1,5 +1,6 @@
 -- Read first: Telling, Naming, FolderSteps, Scratch; the others stand each alone.
 pub mod Telling
+pub mod Causes
 pub mod Naming
 pub mod FolderSteps
 pub mod Scratch

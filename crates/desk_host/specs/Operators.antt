@@ -1,20 +1,12 @@
 -- Operators: the file of enrolments that a keeper changes while a desk serves.
-use Rattle.std.specs.Prelude.{◌≡◌, ◌⊎◌, ⊤, ℕ, List, [], ◌∷◌, Option, None, Some, IsSome, option_map, string_bytes, Result, Ok, Err}
+use Rattle.std.specs.Prelude.{◌≡◌, ◌⊎◌, ⊤, ℕ, List, [], ◌∷◌, Option, None, Some, IsSome, Result, Ok, Err}
 use Rattle.desk_line.specs.Register.{enrolments_on, lines_of}
 use Rattle.desk_line.specs.declared.line.Enrolment.{Enrolment}
-use Rattle.desk_line.specs.declared.line.Line.{Line}
-use Rattle.desk_line.specs.declared.line.Line.TheVariants as line
 use Rattle.desk_wire.specs.Passage.{Course, course}
 use Rattle.desk_program.specs.Serving.{Grows}
 use Rattle.desk_host.specs.declared.operators.Stamp.{Stamp}
 use Rattle.desk_host.specs.declared.operators.Unread.{Unread}
 use Rattle.desk_host.specs.declared.operators.Unread.TheVariants.{Cause, Memory}
-
--- the file of enrolments that a line names, if it names one
-abbrev pub operators_of : Line → Option (List ℕ)
-operators_of (line.Play words) = None
-operators_of (line.Serve words) = option_map string_bytes words.operators
-operators_of (line.Enrol words) = None
 
 -- what is asked of the file at a path: when it was changed last, and how long it is, or its text; none if
 -- that can't be told

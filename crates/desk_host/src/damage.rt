@@ -12,7 +12,7 @@ use crate::logs::{FoundLog, find_log};
 use crate::telling::tell_of;
 use db_file::{LogFault, Verdict, commits_are_long, damaged_is_long, judge_log};
 use desk_ends::{Cut, write_whole};
-use desk_line::{Database, Failure, KeeperLine};
+use desk_line::{Database, Failure};
 use std::alloc::{AllocError, Global};
 use std::io::{Read, Write};
 
@@ -99,7 +99,7 @@ fn judge_found<R: Read + Drop, E: Write>(
     }
 }
 
-// Whether a task is begun at a file, by what came of the look at its log, and whether that is damaged.
+// Whether a command is begun at a file, by what came of the look at its log, and whether that is damaged.
 fn admission_of<E>(look: Result<Look<E>, Unlooked>) -> Result<bool, Failure>
     ensures { result ≡ spec.admission_of look }
 {
@@ -174,16 +174,6 @@ fn damage_line(alloc: Global, path: &str, frame: u64, commits: u64) -> Result<St
         "uss_desk: {path}: its log is damaged at frame {frame}: \
          {commits} commits from there on can't be read\n"
     )
-}
-
-/// Whether a line copies its file.
-pub fn is_copy(line: &KeeperLine) -> bool
-    ensures { result ≡ spec.is_copy line.now }
-{
-    match line {
-        KeeperLine::Copy(_) => true,
-        KeeperLine::Check(_) | KeeperLine::Migrate(_) | KeeperLine::Replay(_) => false,
-    }
 }
 
 /// Whether a log of so many bytes may have a commit.

@@ -24,12 +24,22 @@ pub enum Unkept {
 }
 
 impl From<AllocError> for Unkept {
+    ghost use Rattle.std.specs.Prelude.{◌≡◌};
+    ghost use Rattle.desk_host.specs.declared.folders.Unkept.TheVariants.{Memory};
+
+    ghost from_gives = { λ _ it. it ≡ Memory };
+
     fn from(_error: AllocError) -> Unkept {
         Unkept::Memory
     }
 }
 
 impl From<TailFault> for Unkept {
+    ghost use Rattle.std.specs.Prelude.{◌≡◌};
+    ghost use Rattle.desk_host.specs.Causes.{unkept_tail, unkept_text};
+
+    ghost from_gives = { λ fault it. unkept_text it ≡ unkept_tail fault };
+
     fn from(fault: TailFault) -> Unkept {
         match fault {
             TailFault::OutOfMemory => Unkept::Memory,
@@ -40,6 +50,12 @@ impl From<TailFault> for Unkept {
 }
 
 impl From<io::Error> for Unkept {
+    ghost use Rattle.std.specs.Prelude.{◌≡◌};
+    ghost use Rattle.std.specs.IoError.{error_kind};
+    ghost use Rattle.desk_host.specs.Causes.{unkept_by, unkept_text};
+
+    ghost from_gives = { λ error it. unkept_text it ≡ unkept_by (error_kind error) };
+
     fn from(error: io::Error) -> Unkept {
         match error.kind() {
             ErrorKind::OutOfMemory => Unkept::Memory,

@@ -1,5 +1,5 @@
-//! Where the log of a file lies, and whether it has to be judged: asked of the operating system before the file
-//! is opened.
+//! Where the WAL of a file is, and whether it has to be judged. The operating system is asked before the file is
+//! opened.
 
 ghost use Rattle.std.specs.Prelude.{◌≡◌};
 ghost use Rattle.desk_host.specs.FoundLogs as spec;

@@ -4,11 +4,10 @@ ghost use Rattle.std.specs.Prelude.{◌≡◌, List, [], ◌∷◌, IfErr, IfOk,
 ghost use Rattle.desk_line.specs.Lines.{AreEnrolments};
 ghost use Rattle.desk_wire.specs.Passage.{course};
 ghost use Rattle.desk_program.specs.Serving.{Grows};
-ghost use Rattle.desk_host.specs.Operators as spec;
 ghost use Rattle.desk_host.specs.Operators.{AreEnrolmentsRead, AreNews, Asking, HasUnreadCause, Read, Stamped, ok_of};
 
 use crate::telling::tell_of;
-use desk_line::{Enrolment, Failure, Line, enrolment_on, enrolments_on, lines_of};
+use desk_line::{Enrolment, Failure, enrolment_on, enrolments_on, lines_of};
 use desk_program::Register;
 use std::alloc::{AllocError, Global};
 use std::fs::{self, File};
@@ -49,6 +48,12 @@ impl From<AllocError> for Unread {
 }
 
 impl From<io::Error> for Unread {
+    ghost use Rattle.std.specs.Prelude.{◌≡◌};
+    ghost use Rattle.std.specs.IoError.{error_kind};
+    ghost use Rattle.desk_host.specs.Causes.{unread_by, unread_text};
+
+    ghost from_gives = { λ error it. unread_text it ≡ unread_by (error_kind error) };
+
     fn from(error: io::Error) -> Unread {
         match error.kind() {
             ErrorKind::OutOfMemory => Unread::Memory,
@@ -120,7 +125,8 @@ pub struct OperatorsFile<'r, F: Drop> {
     told: Option<&'static str>,
 }
 
-/// The file of enrolments that a line names, read once, so that its keeper is told which lines can't be read.
+/// The file of enrolments at a path, if there is one, read once, so that its keeper is told which lines can't be
+/// read.
 ///
 /// # Errors
 ///
@@ -128,19 +134,20 @@ pub struct OperatorsFile<'r, F: Drop> {
 pub fn operators_of<'r, F: TextFiles + Drop>(
     rt: &'r HostRuntime,
     files: F,
-    line: &'r Line,
+    path: Option<&'r str>,
 ) -> Result<OperatorsFile<'r, F>, Failure>
-    ensures { IfOk result (λ file. option_map (λ path. path.now) file.path ≡ spec.operators_of line.now) }
+    ensures { IfOk result (λ file.
+        option_map (λ path. path.now) file.path ≡ option_map (λ path. path.now) path.entry) }
 {
     let mut file = OperatorsFile {
         rt,
         files,
-        path: path_of(line),
+        path,
         seen: None,
         checked: None,
         told: None,
     };
-    let Some(path) = file.path else {
+    let Some(path) = path else {
         return Ok(file);
     };
     match file.read_file(rt.alloc(), path) {
@@ -150,16 +157,6 @@ pub fn operators_of<'r, F: TextFiles + Drop>(
             tell_of(rt.alloc(), path, cause, &mut rt.stderr());
             Err(Failure::Read)
         }
-    }
-}
-
-// The path of the file of enrolments that a line names, if it names one.
-fn path_of(line: &Line) -> Option<&str>
-    ensures { option_map (λ path. path.now) result ≡ spec.operators_of line.now }
-{
-    match line {
-        Line::Serve(words) => words.operators.as_deref(),
-        Line::Play(_) | Line::Enrol(_) => None,
     }
 }
 

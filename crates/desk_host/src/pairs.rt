@@ -22,6 +22,11 @@ pub enum TwinFault {
 }
 
 impl From<AllocError> for TwinFault {
+    ghost use Rattle.std.specs.Prelude.{◌≡◌};
+    ghost use Rattle.desk_host.specs.declared.pairs.TwinFault.TheVariants.{OutOfMemory};
+
+    ghost from_gives = { λ _ fault. fault ≡ OutOfMemory };
+
     fn from(_error: AllocError) -> TwinFault {
         TwinFault::OutOfMemory
     }

@@ -1,5 +1,5 @@
-//! What is asked of the operating system of a file that can't be had. Each question is asked once, and only if
-//! the answers before it leave the cause open: an opening as SQLite's makes a log beside a file that has none.
+//! What is asked of the operating system about a file that can't be had. Each question is asked once, and only
+//! if the answers before it leave the cause open: an opening as SQLite's makes a WAL beside a file without one.
 
 ghost use Rattle.std.specs.Prelude.{◌≡◌};
 ghost use Rattle.desk_host.specs.Access as spec;
@@ -42,7 +42,8 @@ fn probe_start(rt: &HostRuntime, path: &str) -> Result<Start, Denial> {
     }
 }
 
-// Why a file can't be had, by how it was opened for reading, by an opening for writing, and by one as SQLite's.
+// Why a file can't be had: by how it was opened for reading, then by an opening for writing, then by one as
+// SQLite's.
 fn denial_beside(rt: &HostRuntime, path: &str, unread: Option<io::Error>) -> Option<Denial> {
     if let Some(denial) = unread.and_then(|error| reading_denial(error.kind())) {
         return Some(denial);

@@ -1,4 +1,4 @@
-//! What a look at a path can find, and what each answer of the operating system says of that. Nothing is asked
+//! What a look at a path can find, and what each answer of the operating system says of it. Nothing is asked
 //! here.
 
 ghost use Rattle.std.specs.Prelude.{◌≡◌};
