@@ -1,26 +1,28 @@
 -- What was opened over a database says of that, and what comes of a desk over files whose reads are tested.
-use Rattle.std.proofs.Common.{◌≡◌, ℕ, Option, None, Some, Result, Ok, Err, IfOk, IfErr, Bool, IsTrue, inl, inr, refl, sym, ◌∙◌, subst}
+use Rattle.std.proofs.Common.{◌≡◌, ◌≤◌, ℕ, Option, None, Some, Result, Ok, Err, IfOk, IfErr, Bool, IsTrue, inl, inr, refl, sym, ◌∙◌, subst, arith}
 use Rattle.sqlite_trees.specs.View.{doubt}
 use Rattle.sqlite_trees.specs.declared.store.Store.{Ghosts}
 use Rattle.sqlite_disk.specs.declared.Disk as disk
 use Rattle.sqlite_disk.specs.Events.{replay}
 use Rattle.sqlite_wal.specs.Reads.{AreClean}
 use Rattle.sqlite_store.specs.declared.store.FileStore.{FileStore}
-use Rattle.sqlite.specs.Files.{file_state}
+use Rattle.sqlite.specs.Files.{file_state, over_files}
 use Rattle.sqlite.specs.Closing.{IsCopied}
 use Rattle.sqlite.proofs.Shield.{shield_means}
+use Rattle.desk_rules.specs.Terms.{no_terms}
 use Rattle.desk_run.specs.DeskWorld.{Parts}
 use Rattle.desk_tables.specs.Store.{Shown}
 use Rattle.desk_line.specs.declared.failure.Failure.{Failure}
 use Rattle.desk_line.specs.Exits.{Ending}
 use Rattle.desk_line.specs.declared.line.Database.{Database}
 use Rattle.desk_tables.specs.Closing.{IsLeftUnclosed}
+use Rattle.desk_tables.specs.LyingDisk.{IsGuarded}
 use Rattle.uss_desk.specs.FilesLeft.{IsClosed, IsEnded}
 use Rattle.uss_desk.specs.Guarding.{IsPastOf, IsTrueOrCollided, Past}
 use Rattle.std.specs.Option.{IsSomeAnd}
 use Rattle.desk_admin.specs.declared.unopened.Unopened.{Unopened}
 use Rattle.uss_desk.specs.declared.watching.Closed.{Closed}
-use Rattle.uss_desk.specs.OpenedLines.{AreReadsTested, StaysGuarded}
+use Rattle.uss_desk.specs.OpenedLines.{AreReadsTested, RemembersDesk, StaysGuarded}
 
 -- a flag that is up leaves no doubt
 no_doubt : (clean : Bool) → IsTrue clean → doubt clean ≡ 0
@@ -50,6 +52,21 @@ stays_guarded past is (Ok desk) (Some left) tested shield =
     λ honest. true_or_collided past is.fair is.clean left (shield (tested honest))
 stays_guarded past is (Ok desk) None tested shield = shield
 stays_guarded past is (Err failure) left tested shield = tt
+
+none_left : {a b : ℕ} → a ≤ b → b ≡ 0 → a ≡ 0
+none_left below none = omega (arith, below, none)
+
+-- a desk each later read of which is tested is one still, after calls that keep what is known of its disk
+stays_tested : {D : Type 0} {g : disk.Ghosts D} (old new : Parts (Shown (FileStore D g)))
+    → RemembersDesk over_files old new → IsGuarded old.store.held → IsGuarded new.store.held
+stays_tested old new kept tested clean = kept.shield (tested (none_left kept.doubt clean))
+
+-- and so is one that was made anew of its store
+pub tested_anew : {D : Type 0} {g : disk.Ghosts D} (old new made : Parts (Shown (FileStore D g)))
+    → RemembersDesk over_files old new → made ≡ record { store = new.store; terms = no_terms }
+    → IsGuarded old.store.held → IsGuarded made.store.held
+tested_anew old new made kept same tested =
+    subst (λ desk. IsGuarded desk.store.held) (sym same) (stays_tested old new kept tested)
 
 -- what follows of what holds of a value, if there is one
 pub ok_then : {A B : Type 0} {P Q : A → Type 0} (r : Result A B) → IfOk r P → ((a : A) → P a → Q a)

@@ -1,30 +1,41 @@
--- LineRecord: what the record of a line begins with.
-use Rattle.std.specs.Prelude.{List, [], ◌∷◌, ◌==◌, ℕ, Option, None, Some, codes, if◌then◌else◌, option_map, string_bytes}
-use Rattle.desk_rules.specs.Terms.{no_terms}
-use Rattle.desk_rules.specs.declared.terms.Terms.{Terms}
-use Rattle.desk_line.specs.declared.line.Enrolment.{Enrolment}
+-- LineRecord: what a folder of records says before the next one is begun.
+use Rattle.std.specs.Prelude.{◌≡◌, ◌+◌, ◌^◌, [], ◌==◌, ℕ, Bool, true, false, List, Option, None, Some, Result, Ok, Err, codes, if◌then◌else◌, nat_lt}
+use Rattle.desk_line.specs.declared.failure.Failure.{Failure}
+use Rattle.desk_line.specs.declared.failure.Failure.TheVariants as failure
 use Rattle.desk_line.specs.declared.line.Line.{Line}
 use Rattle.desk_line.specs.declared.line.Line.TheVariants as line
+use Rattle.desk_host.specs.declared.folders.FoundRecord.{FoundRecord}
+use Rattle.desk_host.specs.declared.folders.Unkept.{Unkept}
+use Rattle.desk_host.specs.declared.folders.Unkept.TheVariants as unkept
+use Rattle.desk_recording.specs.declared.tail.Tail.{Tail}
 use Rattle.desk_recording.specs.declared.tail.TailEnd.{TailEnd}
 use Rattle.desk_recording.specs.declared.tail.TailEnd.TheVariants.{End, Short, Damaged}
 
--- the folder in which a line records what it does, if it names one
-abbrev pub folder_of : Line → Option (List ℕ)
-folder_of (line.Play words) = option_map string_bytes words.folder
-folder_of (line.Serve words) = option_map string_bytes words.folder
-folder_of (line.Enrol words) = option_map string_bytes words.folder
+-- the number of a folder's last record and how many bytes that has, each 0 if there is none
+abbrev pub extent_of : Option FoundRecord → ℕ × ℕ
+extent_of None = (0, 0)
+extent_of (Some found) = (found.number, found.len)
 
--- the terms on which the desk of a line plans
-abbrev pub terms_of : Line → Terms
-terms_of (line.Play words) = words.terms
-terms_of (line.Serve words) = words.terms
-terms_of (line.Enrol words) = no_terms
+-- what came of something that is done in the folder: why it wasn't, once that is told
+abbrev pub failure_of : {V : Type 0} → Result V Unkept → Result V Failure
+failure_of (Ok v) = Ok v
+failure_of (Err unkept.Memory) = Err failure.Memory
+failure_of (Err (unkept.Cause cause)) = Err failure.Write
 
--- the operators that a line enrols first
-abbrev pub enrolled_by : Line → List Enrolment
-enrolled_by (line.Play words) = words.enrolments.items
-enrolled_by (line.Serve words) = words.enrolments.items
-enrolled_by (line.Enrol words) = words.enrolment ∷ []
+-- a desk in memory goes on from no record: `play` alone begins one, in a folder that has none
+abbrev pub BeginsAlone : {V : Type 0} → Line → Bool → Result (Option V) Failure → Type 0
+BeginsAlone (line.Play words) false result = result ≡ Ok None
+BeginsAlone (line.Play words) true result = result ≡ Err failure.Write
+BeginsAlone _ _ result = result ≡ Err failure.Store
+
+-- a record leaves nothing to do: it is whole, no operator stands behind its last request, and that is
+-- answered
+abbrev pub LeavesNothing : Tail → TailEnd → Type 0
+LeavesNothing tail ended = (ended ≡ End) × (tail.asked ≡ None) × (tail.operators.items ≡ [])
+
+-- the number of the record after this one, if there is a number left
+abbrev pub next_number : ℕ → Result ℕ Failure
+next_number number = if nat_lt (number + 1) (2 ^ 64) then Ok (number + 1) else Err failure.Write
 
 -- why nothing goes on from a last record, by the number in its name, that of its first entry, if that is
 -- whole, and what stands behind its last whole entry

@@ -10,6 +10,7 @@ use Rattle.sqlite.specs.State.{HasCleanDisk}
 use Rattle.sqlite.specs.Held.{state}
 use Rattle.desk_store.specs.World.{World}
 use Rattle.desk_store.specs.StoreFaults.{IsHonest}
+use Rattle.desk_store.specs.StoreFrames.{Remembers}
 use Rattle.desk_store.specs.Crashes.{LeavesOnly}
 use Rattle.desk_run.specs.DeskWorld.{Parts}
 use Rattle.desk_tables.specs.Store.{Shown}
@@ -58,6 +59,11 @@ pub record IsLineRun {S : Type 0} (g : Ghosts S) (opened : Result (Parts (Shown 
   pub done : IfOk opened (IsDoneAt g line o left)
   pub kept : IfOk opened (IsKeptAt g line o left)
   pub undone : IfErr opened (IsUnopened o left)
+
+-- what is known of a desk's disk and of its faults is not lost
+abbrev pub RemembersDesk : {S : Type 0} → Ghosts S → Parts (Shown S) → Parts (Shown S) → Type 0
+RemembersDesk g old new = Remembers (λ s. doubt (state g s.held).is_clean) (λ s. s.faults)
+    (λ s. (state g s.held).IsShielded) old.store new.store
 
 -- each later read of the desk that was opened is tested, if its disk has returned what was written so far
 abbrev pub AreReadsTested :

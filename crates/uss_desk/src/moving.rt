@@ -1,15 +1,15 @@
 //! The plans of a database of schema 1 moved to schema 2.
 
-ghost use Rattle.std.specs.Prelude.{◌≡◌, OnOk};
+ghost use Rattle.std.specs.Prelude.{◌≡◌};
 ghost use Rattle.desk_program.specs.Outside.{bytes_written, ended};
-ghost use Rattle.desk_host.specs.Telling.{Tells};
 ghost use Rattle.desk_admin.specs.Unopened.{or_failure};
 ghost use Rattle.uss_desk.specs.OpenedLines.{IsMoveTold};
 
 use crate::closing::{close_after, status_closed};
 use crate::opening::{FileDesk, MovedDesk, open_old};
-use desk_admin::causes::tell_database;
+use crate::refusals::tell_refusal;
 use desk_admin::reordering::reorder_for;
+use desk_host::damage::look_before;
 use desk_host::paths::{Paths, paths_at};
 use desk_line::{Database, Exit, Failure, conclude};
 use desk_program::print_migrated;
@@ -22,32 +22,17 @@ use std::io::Write;
 ///
 /// # Errors
 ///
-/// `Memory` if memory runs out before the database is opened; why its file can't be put in order.
-pub fn migrate_here(rt: &HostRuntime, alloc: Global, database: &Database) -> Result<u8, Failure> {
+/// Why its log refuses it; `Memory` if memory runs out before the database is opened; why its file can't be
+/// put in order.
+pub fn migrate_here(rt: &HostRuntime, database: &Database) -> Result<u8, Failure> {
+    let mut errors = rt.stderr();
+    look_before(rt, database, false, &mut errors)?;
     let paths = paths_at(rt, database)?;
     reorder_for(rt, database, true)?;
-    let mut errors = rt.stderr();
     let moved = open_old(rt, database, Unknown, paths);
-    tell_unmoved(rt, database, &moved, &mut errors);
-    let (exit, desk) = tell_moved(alloc, moved, &mut rt.stdout(), &mut errors);
+    tell_refusal(rt, database, false, &moved, &mut errors);
+    let (exit, desk) = tell_moved(rt.alloc(), moved, &mut rt.stdout(), &mut errors);
     Ok(status_closed(close_after(exit.status, desk, &mut errors)))
-}
-
-/// Tells why no plans of a database were moved, if none were.
-#[tactic(auto, using(desk_host::proofs::TellLemmas::tells_nothing))]
-pub fn tell_unmoved<F: Start, N: Paths + Drop, E: Write>(
-    rt: &HostRuntime,
-    database: &Database,
-    moved: &MovedDesk<F, N>,
-    errors: &mut E,
-)
-    ensures tells { Tells (bytes_written E.Write errors.old errors.new) }
-    ensures silent { OnOk moved.now (E.contents errors.new ≡ E.contents errors.old) }
-{
-    match moved {
-        Ok(_) => {}
-        Err(unread) => tell_database(rt, database, unread.failure, errors),
-    }
 }
 
 /// Prints how many plans were moved, or the word of why none were, and answers how that ended and the desk

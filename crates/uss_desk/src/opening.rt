@@ -1,11 +1,10 @@
-//! What a line is carried out at: a desk over the database that it names, or why that can't be opened.
+//! What a command is carried out at: a desk over the database that it names, or why that can't be opened.
 
 ghost use Rattle.std.specs.Prelude.{◌≡◌, IfErr, IfOk};
 ghost use Rattle.sqlite_wal.specs.Files.{image_at};
-ghost use Rattle.desk_line.specs.Lines.{database_of};
-ghost use Rattle.uss_desk.specs.OpenedFor as spec;
+ghost use Rattle.desk_rules.specs.Terms.{no_terms};
 ghost use Rattle.uss_desk.specs.OpenedFor.{IsBlank, IsMemory, IsMovedAt, IsMovedIn, IsOpenedAt, IsOpenedIn};
-ghost use Rattle.uss_desk.specs.Rolls.{HasNotedAt, HasNotedDesk};
+ghost use Rattle.uss_desk.specs.Rolls.{HasNoted, HasNotedAt, HasNotedDesk};
 
 use crate::rolls::Roll;
 use crate::watching::Watched;
@@ -13,8 +12,7 @@ use db_file::Ram;
 use desk_admin::unopened::{Unopened, Unread, open_failure};
 use desk_host::naming::make_private;
 use desk_host::paths::{NoPaths, Paths};
-use desk_host::telling::tell_unenrolled;
-use desk_line::{Database, Failure, Line};
+use desk_line::{Database, Failure};
 use desk_run::Desk;
 use desk_tables::{OpenFault, SqliteStore};
 use sqlite::{FileFrom, FileStore, Start};
@@ -48,37 +46,11 @@ pub type FoundDesk<F, N> = Result<FileDesk<F, N>, Unread<F>>;
 /// A desk over files and how many plans were moved to it from schema 1, or why there is none.
 pub type MovedDesk<F, N> = Result<(FileDesk<F, N>, u32), Unread<F>>;
 
-/// Opens the desk of a line; `start` stands for what the files that it names held, and `paths` are theirs.
-/// The operators that a desk over files has then are noted in `roll`.
-pub fn open_for<F: Start, N: Paths + Drop>(
-    rt: &HostRuntime,
-    line: &Line,
-    start: F,
-    paths: N,
-    roll: &mut Roll,
-) -> OpenedDesk<F, N>
-    ensures opened { IsOpenedAt (image_at F.Start) (database_of line.now) result }
-    ensures noted { HasNotedAt result roll.new }
-{
-    open_database(rt, line.database(), enrols_none(line), start, paths, roll)
-}
-
-// Whether a line names no operator, so that its desk may have none.
-fn enrols_none(line: &Line) -> bool {
-    match line {
-        Line::Play(words) => words.enrolments.is_empty(),
-        Line::Serve(words) => words.enrolments.is_empty() && words.operators.is_none(),
-        Line::Enrol(_) => false,
-    }
-}
-
-/// Opens the desk over a database; `start` stands for what its files held, and `paths` are theirs. If it is
-/// to be told that no operator is enrolled (`is_told`), it is. The operators that a desk over files has then
-/// are noted in `roll`.
+/// Opens the desk over a database; `start` stands for what its files held, and `paths` are theirs. The
+/// operators that a desk over files has then are noted in `roll`.
 pub fn open_database<F: Start, N: Paths + Drop>(
     rt: &HostRuntime,
     database: &Database,
-    is_told: bool,
     start: F,
     paths: N,
     roll: &mut Roll,
@@ -87,13 +59,8 @@ pub fn open_database<F: Start, N: Paths + Drop>(
     ensures noted { HasNotedAt result roll.new }
 {
     match database {
-        Database::InMemory => {
-            if is_told {
-                tell_unenrolled(rt, None);
-            }
-            Opened::Memory(open_in_memory(rt.alloc()))
-        }
-        Database::File(path) => { Opened::Files(open_file(rt, path, is_told, start, paths, roll)) },
+        Database::InMemory => Opened::Memory(open_in_memory(rt.alloc())),
+        Database::File(path) => Opened::Files(open_file(rt, path, start, paths, roll)),
     }
 }
 
@@ -113,8 +80,8 @@ pub fn open_in_memory(alloc: Global) -> Result<MemoryDesk, Failure>
 }
 
 /// The desk over the database in the files at a path; `start` stands for what the files held, and `paths` are
-/// theirs. A file that is made is its owner's alone. If it is to be told that no operator is enrolled
-/// (`is_told`), it is. The operators that the desk has then are noted in `roll`.
+/// theirs. A file that is made is its owner's alone. The operators that the desk has then are noted in
+/// `roll`.
 ///
 /// # Errors
 ///
@@ -122,7 +89,6 @@ pub fn open_in_memory(alloc: Global) -> Result<MemoryDesk, Failure>
 pub fn open_file<F: Start, N: Paths + Drop>(
     rt: &HostRuntime,
     path: &str,
-    is_told: bool,
     start: F,
     mut paths: N,
     roll: &mut Roll,
@@ -134,15 +100,26 @@ pub fn open_file<F: Start, N: Paths + Drop>(
     paths.hold();
     match SqliteStore::open_from(rt, path, start) {
         Ok(store) => {
-            if is_told && !store.has_begun_enrolled() {
-                tell_unenrolled(rt, Some(path));
-            }
             roll.note(&store);
             paths.hold();
             Ok(Desk::new(Watched::over(store, paths)))
         }
         Err(refused) => Err(Unopened::of(refused)),
     }
+}
+
+/// A desk at the same store, as one that was just opened: on no terms, and the operators that it has are
+/// noted in `roll`.
+pub fn opened_anew<D: Disk + Drop, N: Paths + Drop>(
+    desk: DeskAt<D, N>,
+    roll: &mut Roll,
+) -> DeskAt<D, N>
+    ensures same { result ≡ record { store = desk.store; terms = no_terms } }
+    ensures noted { HasNoted result.store roll.new }
+{
+    let store = desk.into_store();
+    store.note(roll);
+    Desk::new(store)
 }
 
 /// The desk over a database that may be of schema 1, and how many plans were moved; `start` stands for what

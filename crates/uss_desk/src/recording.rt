@@ -1,33 +1,34 @@
-//! The record of a line: begun before the line serves, once what the last one left undone is done. No clause
-//! tells what the operating system did.
+//! The folder of a desk's records: what the last one left undone is done at the desk that is open, and then
+//! the next one is begun. No clause tells what the operating system did.
 
-ghost use Rattle.std.specs.Prelude.{◌≡◌, ◌++◌, IfOk, option_map};
+ghost use Rattle.std.specs.Prelude.{◌≡◌, ◌++◌, ◌↔◌, IfOk, IsTrue, Ok, option_map};
+ghost use Rattle.std.specs.Option.{is_some};
+ghost use Rattle.sqlite.specs.Files.{over_files};
+ghost use Rattle.desk_line.specs.Lines.{line_of};
 ghost use Rattle.uss_desk.specs.LineRecord as spec;
-ghost use Rattle.uss_desk.specs.LineRecord.{enrolled_by};
+ghost use Rattle.uss_desk.specs.LineRecord.{BeginsAlone, LeavesNothing};
+ghost use Rattle.uss_desk.specs.OpenedLines.{AreReadsTested, RemembersDesk};
 
 use crate::closing::close_after;
-use crate::opening::{DeskAt, open_file};
+use crate::opening::{DeskAt, opened_anew};
 use crate::rolls::Roll;
 use crate::watching::Closed;
-use desk_admin::causes::tell;
-use desk_admin::unopened::or_failure;
 use desk_ends::Moment;
 use desk_host::folders::{
     FoundRecord, Unkept, last_record, make_part, move_rest, name_part, tail_of,
 };
 use desk_host::naming::IN_USE;
-use desk_host::paths::{Paths, paths_at};
+use desk_host::paths::Paths;
 use desk_host::telling::tell_of;
-use desk_line::{Enrolment, Exit, Failure, Line};
+use desk_line::{Action, DeskArgs, Enrolment, Exit, Failure};
 use desk_recording::{
     Journal, Parted, Record, Tail, TailEnd, WrittenRecord, begin_record, missing_of, recover,
 };
 use desk_rules::terms::Terms;
-use sqlite::Unknown;
 use sqlite_disk::Disk;
 use std::alloc::AllocError;
 use std::fs::{self, File};
-use std::io::Write;
+use std::io::{self, Write};
 use std::time::SystemTime;
 
 /// The file of a record. That it can't be written is told on the standard error, once.
@@ -39,153 +40,150 @@ pub struct LocalJournal<'s> {
     is_told: bool,
 }
 
+/// An error of the file of a record, which is told.
+#[derive(Drop)]
+pub struct FileError {
+    error: io::Error,
+}
+
 impl LocalJournal<'_> {
-    // Tells that the record can't be written, if that is so and wasn't told.
-    fn tell_unless(&mut self, is_done: bool) -> bool {
-        if !is_done && !self.is_told {
+    // Tells that the record can't be written, if that is so and wasn't told, and hands the error on.
+    fn hand_on(&mut self, done: io::Result<()>) -> Result<(), FileError> {
+        let Err(error) = done else {
+            return Ok(());
+        };
+        if !self.is_told {
             self.is_told = true;
             let text = "the record can't be written";
             tell_of(self.rt.alloc(), self.folder, text, &mut self.rt.stderr());
         }
-        is_done
+        Err(FileError { error })
     }
 }
 
 impl Journal for LocalJournal<'_> {
-    fn append(&mut self, bytes: &[u8]) -> bool {
-        let is_done = self.file.write_all(bytes).is_ok();
-        self.tell_unless(is_done)
+    type Fault = FileError;
+
+    fn append(&mut self, bytes: &[u8]) -> Result<(), FileError> {
+        let done = self.file.write_all(bytes);
+        self.hand_on(done)
     }
 
-    fn sync(&mut self) -> bool {
-        let is_done = self.file.sync_data().is_ok();
-        self.tell_unless(is_done)
+    fn sync(&mut self) -> Result<(), FileError> {
+        let done = self.file.sync_data();
+        self.hand_on(done)
     }
 }
 
 /// What keeps the requests and the answers of a line.
 pub type LocalRecord<'s> = WrittenRecord<LocalJournal<'s>>;
 
-/// The folder of a line's records.
-#[derive(Clone, Copy)]
+/// The folder of a desk's records, as it is found before the desk is opened.
+#[derive(Drop)]
 pub struct RecordFolder<'s> {
+    rt: &'s HostRuntime,
     path: &'s str,
     // the number of its last record, or 0, and how many bytes that has
-    last: u64,
+    number: u64,
     len: u64,
+    // whether that was tested once the desk was open, so that no other desk of this file writes here
+    is_held: bool,
+    // what the last record left undone, until it is done
+    undone: Option<Undone<'s>>,
 }
 
-// What the last record of a folder left undone: what it says as it ends, and what stands behind that.
+// What the last record of a folder left undone at a file: what it says as it ends, and what stands behind
+// that.
 #[derive(Drop)]
 struct Undone<'s> {
-    folder: &'s str,
+    file: &'s str,
     record: FoundRecord,
     tail: Tail,
     ended: TailEnd,
 }
 
-/// The folder in which a line records what it does, if it names one, once what its last record left undone is
-/// done.
+/// The folder in which a command records what it does, if it names one. Its desk is not opened yet.
 ///
 /// # Errors
 ///
-/// `Store` if the line's database is in memory, if its file is gone, or can't be opened or closed; `Write` if
-/// the folder can't be read or written; `Broken` if a request can't be kept; `Memory`; `Clock`. Why is told.
-pub fn recover_for<'s>(
+/// `Store` if the database is in memory, or its file is gone; `Write` if the folder can't be read, or nothing
+/// goes on from its last record; `Memory`. Why is told.
+pub fn folder_for<'s>(
     rt: &'s HostRuntime,
-    line: &'s Line,
+    words: &'s DeskArgs,
+    action: Action<'_>,
 ) -> Result<Option<RecordFolder<'s>>, Failure> {
-    let Some(path) = folder_of(line) else {
+    let Some(path) = words.folder.as_deref() else {
         return Ok(None);
     };
     let last = told(rt, path, last_record(rt, path))?;
-    let Some(file) = line.database().path() else {
-        return Ok(Some(begin_alone(rt, line, path, last)?));
+    let (number, len) = extent_of(&last);
+    let undone = match words.database.path() {
+        Some(file) => undone_at(rt, path, file, last)?,
+        None => alone(rt, path, action, last.is_some())?,
     };
-    match last {
-        None => Ok(Some(no_record(path))),
-        Some(record) => Ok(Some(go_on(rt, line, path, file, record)?)),
-    }
-}
-
-// A folder that has no record yet.
-fn no_record(path: &str) -> RecordFolder<'_> {
-    RecordFolder {
+    Ok(Some(RecordFolder {
+        rt,
         path,
-        last: 0,
-        len: 0,
-    }
+        number,
+        len,
+        is_held: false,
+        undone,
+    }))
 }
 
-// The folder of a line at a desk in memory, which goes on from no record.
-fn begin_alone<'s>(
-    rt: &HostRuntime,
-    line: &Line,
-    path: &'s str,
-    last: Option<FoundRecord>,
-) -> Result<RecordFolder<'s>, Failure> {
-    match (line, last) {
-        (Line::Play(_), None) => Ok(no_record(path)),
-        (Line::Play(_), Some(_)) => told(rt, path, Err(Unkept::Cause("records of another desk"))),
-        _ => Err(store_failure(rt, path, "a record needs a database in a file")),
-    }
-}
-
-// The folder that a line names, if it names one.
-fn folder_of(line: &Line) -> Option<&str>
-    ensures { option_map (λ path. path.now) result ≡ spec.folder_of line.now }
+// The number of a folder's last record and how many bytes that has, each 0 if there is none.
+fn extent_of(last: &Option<FoundRecord>) -> (u64, u64)
+    ensures { result ≡ spec.extent_of last.now }
 {
-    match line {
-        Line::Play(words) => words.folder.as_deref(),
-        Line::Serve(words) => words.folder.as_deref(),
-        Line::Enrol(words) => words.folder.as_deref(),
+    match last {
+        Some(record) => (record.number, record.len),
+        None => (0, 0),
     }
 }
 
-// The value, or the failure once its cause is told.
-fn told<T: Drop>(rt: &HostRuntime, folder: &str, done: Result<T, Unkept>) -> Result<T, Failure> {
-    match done {
-        Ok(value) => Ok(value),
-        Err(Unkept::Memory) => Err(Failure::Memory),
-        Err(Unkept::Cause(cause)) => {
-            tell_of(rt.alloc(), folder, cause, &mut rt.stderr());
-            Err(Failure::Write)
+// What is undone at a desk in memory, which goes on from no record: nothing.
+fn alone<'s>(
+    rt: &HostRuntime,
+    folder: &str,
+    action: Action<'_>,
+    has_records: bool,
+) -> Result<Option<Undone<'s>>, Failure>
+    ensures { BeginsAlone (line_of action.entry) has_records result }
+{
+    match action {
+        Action::Play(_) if has_records => {
+            told(rt, folder, Err(Unkept::Cause("records of another desk")))
         }
+        Action::Play(_) => Ok(None),
+        _ => Err(store_failure(rt, folder, "a record needs a database in a file")),
     }
 }
 
-// The failure of a database, once its cause is told.
-fn store_failure(rt: &HostRuntime, path: &str, cause: &str) -> Failure {
-    tell_of(rt.alloc(), path, cause, &mut rt.stderr());
-    Failure::Store
-}
-
-// Does what the last record left undone, if it left something, and answers which is the last one then.
-fn go_on<'s>(
-    rt: &'s HostRuntime,
-    line: &Line,
-    folder: &'s str,
-    file: &str,
-    record: FoundRecord,
-) -> Result<RecordFolder<'s>, Failure> {
+// What the last record of a folder left undone at the desk's file, if there is a record, and it left
+// something.
+fn undone_at<'s>(
+    rt: &HostRuntime,
+    folder: &str,
+    file: &'s str,
+    last: Option<FoundRecord>,
+) -> Result<Option<Undone<'s>>, Failure> {
+    let Some(record) = last else {
+        return Ok(None);
+    };
     if !matches!(fs::exists(rt, file), Ok(true)) {
         return Err(store_failure(rt, file, "no such file, and there are records of it"));
     }
     let (tail, ended) = told(rt, folder, read_last(rt, &record))?;
-    if ended == TailEnd::End && tail.asked.is_none() && tail.operators.is_empty() {
-        return Ok(RecordFolder {
-            path: folder,
-            last: record.number,
-            len: record.len,
-        });
+    if leaves_nothing(&tail, ended) {
+        return Ok(None);
     }
-    let undone = Undone {
-        folder,
+    Ok(Some(Undone {
+        file,
         record,
         tail,
         ended,
-    };
-    recover_at(rt, line, file, undone)
+    }))
 }
 
 // What the last record of a folder says as it ends.
@@ -210,27 +208,183 @@ fn cause_of_tail(number: u64, begun: Option<u64>, ended: TailEnd) -> Option<&'st
     }
 }
 
-// Opens the desk, does there what a record left undone, and closes it.
-fn recover_at<'s>(
-    rt: &'s HostRuntime,
-    line: &Line,
-    file: &str,
-    undone: Undone<'s>,
-) -> Result<RecordFolder<'s>, Failure> {
-    let paths = paths_at(rt, line.database())?;
-    let mut roll = Roll::new(true);
-    let mut desk = match or_failure(open_file(rt, file, false, Unknown, paths, &mut roll)) {
-        Ok(desk) => desk,
-        Err(failure) => {
-            tell(rt, file, file, failure, &mut rt.stderr());
-            return Err(failure);
+// Whether a record leaves nothing to do: it is whole, no operator stands behind its last request, and that is
+// answered.
+fn leaves_nothing(tail: &Tail, ended: TailEnd) -> bool
+    ensures { IsTrue result ↔ LeavesNothing tail.now ended }
+{
+    ended == TailEnd::End && tail.asked.is_none() && tail.operators.is_empty()
+}
+
+// The value, or the failure once its cause is told.
+fn told<T: Drop>(rt: &HostRuntime, folder: &str, done: Result<T, Unkept>) -> Result<T, Failure>
+    ensures { result ≡ spec.failure_of done }
+{
+    match done {
+        Ok(value) => Ok(value),
+        Err(Unkept::Memory) => Err(Failure::Memory),
+        Err(Unkept::Cause(cause)) => {
+            tell_of(rt.alloc(), folder, cause, &mut rt.stderr());
+            Err(Failure::Write)
         }
-    };
-    let done = recover_desk(rt, undone, roll, &mut desk);
-    if !is_closed(close_after(1, Some(desk), &mut rt.stderr())) {
-        return Err(store_failure(rt, file, "it can't be closed"));
     }
-    done
+}
+
+// The failure of a database, once its cause is told.
+fn store_failure(rt: &HostRuntime, path: &str, cause: &str) -> Failure
+    ensures { result ≡ Failure.Store }
+{
+    tell_of(rt.alloc(), path, cause, &mut rt.stderr());
+    Failure::Store
+}
+
+impl<'s> RecordFolder<'s> {
+    /// Whether its last record left something undone.
+    pub fn has_undone(&self) -> bool
+        ensures { result ≡ is_some self.now.undone }
+    {
+        self.undone.is_some()
+    }
+
+    /// The desk that was opened over files, as one that was just opened, once what the last record left
+    /// undone is done there. If that can't be done it is closed. The operators that it has are noted in
+    /// `roll`.
+    ///
+    /// # Errors
+    ///
+    /// `Write` if the folder can't be read or written, or has another last record than it had; `Store` by the
+    /// desk, or if that can't be closed; `Broken` if a request can't be kept; `Memory`; `Clock`. Why is told.
+    pub fn finish<D: Disk + Drop, N: Paths + Drop>(
+        &mut self,
+        mut desk: DeskAt<D, N>,
+        roll: &mut Roll,
+    ) -> Result<DeskAt<D, N>, Failure>
+        ensures tested { AreReadsTested (Ok desk) → AreReadsTested result }
+    {
+        let Some(undone) = self.undone.take() else {
+            return Ok(desk);
+        };
+        let file = undone.file;
+        match self.recover(undone, &mut desk, roll) {
+            Ok(()) => Ok(opened_anew(desk, roll)),
+            Err(failure) => Err(failure_closed(self.rt, file, desk, failure)),
+        }
+    }
+
+    // Does at a desk what the last record left undone.
+    fn recover<D: Disk + Drop, N: Paths + Drop>(
+        &mut self,
+        undone: Undone<'_>,
+        desk: &mut DeskAt<D, N>,
+        roll: &mut Roll,
+    ) -> Result<(), Failure>
+        ensures { RemembersDesk over_files desk.old desk.new }
+    {
+        self.hold()?;
+        let (rt, path) = (self.rt, self.path);
+        let Undone {
+            record,
+            tail,
+            ended,
+            ..
+        } = undone;
+        if ended == TailEnd::Short {
+            told(rt, path, move_rest(rt, &record, tail.size))?;
+        }
+        let Some(operators) = roll.take() else {
+            return Err(Failure::Memory);
+        };
+        let missing = missing_of(rt.alloc(), &operators, &tail.operators)?;
+        let number = next_number(rt, path, self.number)?;
+        let mut keeper = AskedRecord {
+            rt,
+            folder: path,
+            number,
+            terms: tail.terms,
+            operators: joined(operators, &missing)?,
+            record: None,
+        };
+        let (terms, asked) = (tail.terms, tail.asked);
+        let is_asked = asked.is_some();
+        recover(rt.alloc(), desk, &terms, &missing, asked, &mut keeper)?;
+        if is_asked {
+            self.number = number;
+        }
+        Ok(())
+    }
+
+    // Tests that the last record is still the last one and as long as it was, if that wasn't tested yet. The
+    // desk is open, so that no other desk of its file goes on from it.
+    fn hold(&mut self) -> Result<(), Failure> {
+        if self.is_held {
+            return Ok(());
+        }
+        let (rt, path) = (self.rt, self.path);
+        let (number, len) = extent_of(&told(rt, path, last_record(rt, path))?);
+        if number != self.number || len != self.len {
+            tell_of(rt.alloc(), path, IN_USE, &mut rt.stderr());
+            return Err(Failure::Write);
+        }
+        self.is_held = true;
+        Ok(())
+    }
+
+    /// The record of a command, if its desk is open.
+    ///
+    /// # Errors
+    ///
+    /// As `begin`.
+    pub fn begin_if(
+        self,
+        is_open: bool,
+        terms: &Terms,
+        enrolments: &[Enrolment],
+        roll: Roll,
+    ) -> Result<Option<LocalRecord<'s>>, Failure> {
+        if !is_open {
+            return Ok(None);
+        }
+        Ok(Some(self.begin(terms, enrolments, roll)?))
+    }
+
+    /// Begins the record of a command at its open desk, which plans on these terms then and has the operators
+    /// of the roll, before the command enrols its own.
+    ///
+    /// # Errors
+    ///
+    /// `Write` if the folder can't be written, or has another last record than it had; `Memory`; `Clock`. Why
+    /// is told.
+    fn begin(
+        mut self,
+        terms: &Terms,
+        enrolments: &[Enrolment],
+        mut roll: Roll,
+    ) -> Result<LocalRecord<'s>, Failure> {
+        self.hold()?;
+        let (rt, path) = (self.rt, self.path);
+        let Some(operators) = roll.take() else {
+            return Err(Failure::Memory);
+        };
+        let number = next_number(rt, path, self.number)?;
+        let operators = joined(operators, enrolments)?;
+        let journal = begin_part(rt, path, number, terms, &operators)?;
+        let second = second_now(rt)?;
+        told(rt, path, name_part(rt, path, number, second))?;
+        Ok(WrittenRecord::new(rt.alloc(), journal))
+    }
+}
+
+// A failure at a desk over the file at a path, once the desk is closed; or that this can't be done.
+fn failure_closed<D: Disk + Drop, N: Paths + Drop>(
+    rt: &HostRuntime,
+    file: &str,
+    desk: DeskAt<D, N>,
+    failure: Failure,
+) -> Failure {
+    if is_closed(close_after(1, Some(desk), &mut rt.stderr())) {
+        return failure;
+    }
+    store_failure(rt, file, "it can't be closed")
 }
 
 // Whether a desk was closed, on whatever disk it was.
@@ -241,70 +395,10 @@ fn is_closed<D: Disk + Drop, E>(ended: (Exit<E>, Option<Closed<D>>)) -> bool {
     }
 }
 
-// Does at a desk what a record left undone, and answers which record is the last one then.
-fn recover_desk<'s, D: Disk + Drop, N: Paths + Drop>(
-    rt: &'s HostRuntime,
-    undone: Undone<'s>,
-    roll: Roll,
-    desk: &mut DeskAt<D, N>,
-) -> Result<RecordFolder<'s>, Failure> {
-    let Undone {
-        folder,
-        record,
-        tail,
-        ended,
-    } = undone;
-    let Tail {
-        terms,
-        operators,
-        asked,
-        size,
-        ..
-    } = tail;
-    is_last(rt, folder, record.number, record.len)?;
-    if ended == TailEnd::Short {
-        told(rt, folder, move_rest(rt, &record, size))?;
-    }
-    let Some(roll) = roll.into_operators() else {
-        return Err(Failure::Memory);
-    };
-    let missing = missing_of(rt.alloc(), &roll, &operators)?;
-    let mut keeper = AskedRecord {
-        rt,
-        folder,
-        number: next_number(rt, folder, record.number)?,
-        terms,
-        operators: joined(roll, &missing)?,
-        record: None,
-    };
-    recover(rt.alloc(), desk, &terms, &missing, asked, &mut keeper)?;
-    last_of(rt, folder)
-}
-
-// That a record is still the last one of its folder, and as long as it was.
-fn is_last(rt: &HostRuntime, folder: &str, number: u64, len: u64) -> Result<(), Failure> {
-    let last = last_of(rt, folder)?;
-    if last.last == number && last.len == len {
-        return Ok(());
-    }
-    tell_of(rt.alloc(), folder, IN_USE, &mut rt.stderr());
-    Err(Failure::Write)
-}
-
-// The folder, with its last record as it is now.
-fn last_of<'s>(rt: &HostRuntime, path: &'s str) -> Result<RecordFolder<'s>, Failure> {
-    match told(rt, path, last_record(rt, path))? {
-        Some(record) => Ok(RecordFolder {
-            path,
-            last: record.number,
-            len: record.len,
-        }),
-        None => Ok(no_record(path)),
-    }
-}
-
 // The number of the record after this one.
-fn next_number(rt: &HostRuntime, folder: &str, number: u64) -> Result<u64, Failure> {
+fn next_number(rt: &HostRuntime, folder: &str, number: u64) -> Result<u64, Failure>
+    ensures { result ≡ spec.next_number number }
+{
     match number.checked_add(1) {
         Some(next) => Ok(next),
         None => told(rt, folder, Err(Unkept::Cause("no number is left"))),
@@ -312,60 +406,11 @@ fn next_number(rt: &HostRuntime, folder: &str, number: u64) -> Result<u64, Failu
 }
 
 // Operators, and others behind them.
-fn joined(
-    mut operators: Vec<Enrolment>,
-    others: &[Enrolment],
-) -> Result<Vec<Enrolment>, AllocError> {
+fn joined(mut operators: Vec<Enrolment>, others: &[Enrolment]) -> Result<Vec<Enrolment>, AllocError>
+    ensures { IfOk result (λ all. all.items ≡ operators.items ++ others.now) }
+{
     operators.extend_from_slice(others)?;
     Ok(operators)
-}
-
-// The terms on which the desk of a line plans.
-fn terms_of(line: &Line) -> Terms
-    ensures { result ≡ spec.terms_of line.now }
-{
-    match line {
-        Line::Play(words) => words.terms,
-        Line::Serve(words) => words.terms,
-        Line::Enrol(_) => Terms::none(),
-    }
-}
-
-// The operators of a desk, and behind them those that a line enrols first.
-fn operators_with(line: &Line, mut operators: Vec<Enrolment>) -> Result<Vec<Enrolment>, AllocError>
-    ensures { IfOk result (λ all. all.items ≡ operators.items ++ enrolled_by line.now) }
-{
-    match line {
-        Line::Play(words) => operators.extend_from_slice(&words.enrolments)?,
-        Line::Serve(words) => operators.extend_from_slice(&words.enrolments)?,
-        Line::Enrol(words) => operators.push(words.enrolment)?,
-    }
-    Ok(operators)
-}
-
-/// Begins the record of a line at the desk that was opened for it, which has these operators, before the line
-/// enrols any.
-///
-/// # Errors
-///
-/// `Write` if the folder can't be written, or has another last record than it had; `Memory`; `Clock`. Why is
-/// told.
-pub fn begin_for<'s>(
-    rt: &'s HostRuntime,
-    folder: RecordFolder<'s>,
-    line: &Line,
-    roll: Roll,
-) -> Result<LocalRecord<'s>, Failure> {
-    is_last(rt, folder.path, folder.last, folder.len)?;
-    let Some(operators) = roll.into_operators() else {
-        return Err(Failure::Memory);
-    };
-    let number = next_number(rt, folder.path, folder.last)?;
-    let operators = operators_with(line, operators)?;
-    let journal = begin_part(rt, folder.path, number, &terms_of(line), &operators)?;
-    let second = second_now(rt)?;
-    told(rt, folder.path, name_part(rt, folder.path, number, second))?;
-    Ok(WrittenRecord::new(rt.alloc(), journal))
 }
 
 // Makes the file of a new record, with its beginning.
@@ -382,10 +427,9 @@ fn begin_part<'s>(
         file: told(rt, folder, make_part(rt, folder, number))?,
         is_told: false,
     };
-    if begin_record(rt.alloc(), &mut journal, number, terms, operators) {
-        Ok(journal)
-    } else {
-        Err(Failure::Write)
+    match begin_record(rt.alloc(), &mut journal, number, terms, operators) {
+        Ok(()) => Ok(journal),
+        Err(_) => Err(Failure::Write),
     }
 }
 
@@ -399,6 +443,10 @@ fn second_now(rt: &HostRuntime) -> Result<u64, Failure> {
         Err(_) => Err(Failure::Clock),
     }
 }
+
+// That a request that is asked again, or its answer, is not recorded. Why is told.
+#[derive(Drop)]
+struct Unrecorded;
 
 // The record of a request that is asked again: it gets its name once the request is in it.
 #[derive(Drop)]
@@ -422,7 +470,7 @@ impl<'s> AskedRecord<'s> {
             &self.operators,
         )?;
         let mut record = WrittenRecord::new(self.rt.alloc(), journal);
-        if !record.keep_request(moment, bytes) {
+        if record.keep_request(moment, bytes).is_err() {
             return Err(Failure::Write);
         }
         let second = second_now(self.rt)?;
@@ -436,20 +484,28 @@ impl<'s> AskedRecord<'s> {
 }
 
 impl Record for AskedRecord<'_> {
-    fn keep_news(&mut self, _news: &[Enrolment]) -> bool {
-        false
+    type Fault = Unrecorded;
+
+    fn keep_news(&mut self, _news: &[Enrolment]) -> Result<(), Unrecorded> {
+        Err(Unrecorded)
     }
 
-    fn keep_request(&mut self, moment: Moment, bytes: &[u8]) -> bool {
+    fn keep_request(&mut self, moment: Moment, bytes: &[u8]) -> Result<(), Unrecorded> {
         self.record = self.begin(moment, bytes).ok();
-        self.record.is_some()
+        match self.record {
+            Some(_) => Ok(()),
+            None => Err(Unrecorded),
+        }
     }
 
-    fn keep_answer(&mut self, connection: Parted<'_>) -> bool {
-        match &mut self.record {
-            Some(record) => record.keep_answer(connection) && record.sync(),
-            None => false,
+    fn keep_answer(&mut self, connection: Parted<'_>) -> Result<(), Unrecorded> {
+        let Some(record) = &mut self.record else {
+            return Err(Unrecorded);
+        };
+        if record.keep_answer(connection).is_ok() && record.sync().is_ok() {
+            return Ok(());
         }
+        Err(Unrecorded)
     }
 
     fn lose_answer(&mut self, _connection: Parted<'_>) {}

@@ -1,22 +1,23 @@
-//! Why the files of a database were refused, told before a line ends for it.
+//! Why the files of a database were refused, told before a command ends for it.
 
 ghost use Rattle.std.specs.Prelude.{◌≡◌, OnOk};
 ghost use Rattle.desk_program.specs.Outside.{bytes_written};
 ghost use Rattle.desk_host.specs.Telling.{Tells};
 
-use crate::opening::FoundDesk;
-use desk_admin::causes::tell_made;
-use desk_host::paths::Paths;
+use desk_admin::causes::{tell_database, tell_made};
+use desk_admin::unopened::Unread;
 use desk_line::Database;
 use sqlite::Start;
 use std::io::Write;
 
-/// Tells why the files of a database, which are made where there are none, can't be opened, if they can't.
+/// Tells why the files of a database can't be opened, if they can't: those that are made where there are none
+/// (`is_made`), or that have to be there.
 #[tactic(auto, using(desk_host::proofs::TellLemmas::tells_nothing))]
-pub fn tell_refusal<F: Start, N: Paths + Drop, E: Write>(
+pub fn tell_refusal<T, F: Start, E: Write>(
     rt: &HostRuntime,
     database: &Database,
-    opened: &FoundDesk<F, N>,
+    is_made: bool,
+    opened: &Result<T, Unread<F>>,
     errors: &mut E,
 )
     ensures tells { Tells (bytes_written E.Write errors.old errors.new) }
@@ -24,6 +25,7 @@ pub fn tell_refusal<F: Start, N: Paths + Drop, E: Write>(
 {
     match opened {
         Ok(_) => {}
-        Err(unread) => tell_made(rt, database, unread.failure, errors),
+        Err(unread) if is_made => tell_made(rt, database, unread.failure, errors),
+        Err(unread) => tell_database(rt, database, unread.failure, errors),
     }
 }

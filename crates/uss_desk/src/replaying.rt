@@ -12,6 +12,7 @@ use crate::opening::{DeskAt, Opened, open_database};
 use crate::refusals::tell_refusal;
 use crate::rolls::Roll;
 use desk_admin::unopened::or_failure;
+use desk_host::damage::look_before;
 use desk_host::paths::{Paths, paths_at};
 use desk_line::{Exit, Failure, Replaying};
 use desk_replay::replay_opened;
@@ -25,33 +26,27 @@ use std::io::{BufReader, Read, Write};
 ///
 /// # Errors
 ///
-/// `Memory` if memory runs out before the database is opened.
-pub fn replay_here(rt: &HostRuntime, alloc: Global, words: &Replaying) -> Result<u8, Failure> {
-    let Ok(mut input) = BufReader::new(alloc, rt.stdin()) else {
+/// Why the log of its file refuses that; `Memory` if memory runs out before the database is opened.
+pub fn replay_here(rt: &HostRuntime, words: &Replaying) -> Result<u8, Failure> {
+    let (mut output, mut errors) = (rt.stdout(), rt.stderr());
+    look_before(rt, &words.database, false, &mut errors)?;
+    let Ok(mut input) = BufReader::new(rt.alloc(), rt.stdin()) else {
         return Err(Failure::Memory);
     };
-    let mut output = rt.stdout();
-    let mut errors = rt.stderr();
     let paths = paths_at(rt, &words.database)?;
-    let mut roll = Roll::new(false);
-    match open_database(rt, &words.database, false, Unknown, paths, &mut roll) {
+    let (alloc, until) = (rt.alloc(), words.until);
+    let mut roll = Roll::new(alloc, &words.database, false);
+    match open_database(rt, &words.database, Unknown, paths, &mut roll) {
         Opened::Memory(desk) => {
-            let (exit, _) = replay_line(
-                alloc,
-                words.until,
-                desk,
-                &mut input,
-                &mut output,
-                &mut errors,
-            );
+            let (exit, _) = replay_line(alloc, until, desk, &mut input, &mut output, &mut errors);
             Ok(exit.status)
         }
         Opened::Files(found) => {
-            tell_refusal(rt, &words.database, &found, &mut errors);
+            tell_refusal(rt, &words.database, true, &found, &mut errors);
             let desk = or_failure(found);
             let (exit, desk) = replay_line(
                 alloc,
-                words.until,
+                until,
                 desk,
                 &mut input,
                 &mut output,

@@ -1,38 +1,35 @@
-//! The operators that a desk over files has as it is opened, with which its record begins.
+//! The operators that a desk has as it is opened, with which its record begins.
 
-ghost use Rattle.std.specs.Prelude.{◌≡◌, [], IfOk, IfSome, map};
+ghost use Rattle.std.specs.Prelude.{◌≡◌, ◌↔◌, [], IfOk, IfSome, IsTrue, map};
+ghost use Rattle.std.specs.Option.{IsSomeAnd};
 ghost use Rattle.sqlite.specs.Files.{file_state};
 ghost use Rattle.sqlite.specs.State.{HasCleanDisk};
 ghost use Rattle.uss_desk.specs.Rolls.{AreOperatorsOf, HasNoted, as_listed};
 
-use desk_line::Enrolment;
+use desk_line::{Database, Enrolment};
 use desk_tables::{ListedOperator, SqliteStore};
 use sqlite::FileStore;
 use sqlite_disk::Disk;
 use std::alloc::{AllocError, Global};
 
-/// The operators that a desk over files has as it is opened, if they are wanted.
+/// The operators that a desk has as its record begins, if they are wanted.
 #[derive(Drop)]
 pub struct Roll {
     is_wanted: bool,
+    // whether it is known that the desk has no operator
+    is_empty: bool,
     operators: Option<Vec<Enrolment>>,
 }
 
 impl Roll {
-    /// A roll that is filled in if it is wanted.
-    pub fn new(is_wanted: bool) -> Roll {
-        Roll {
-            is_wanted,
-            operators: None,
-        }
-    }
-
-    /// The roll of a desk that has no operator.
-    pub fn empty(alloc: Global) -> Roll
+    /// The roll of a desk over this database: none has an operator in memory, and of files nothing is noted
+    /// yet.
+    pub fn new(alloc: Global, database: &Database, is_wanted: bool) -> Roll
         ensures { IfSome result.operators (λ all. all.items ≡ []) }
     {
         Roll {
-            is_wanted: true,
+            is_wanted,
+            is_empty: database.path().is_none(),
             operators: Some(Vec::new(alloc)),
         }
     }
@@ -42,16 +39,35 @@ impl Roll {
         ensures { HasNoted store.now self.new }
     {
         self.operators = None;
+        self.is_empty = !store.has_begun_enrolled();
         if self.is_wanted {
             self.operators = operators_of(store).ok();
+            self.is_empty = has_none(&self.operators);
         }
     }
 
-    /// The operators, ascending by name, if they were noted.
-    pub fn into_operators(self) -> Option<Vec<Enrolment>>
-        ensures { result ≡ self.operators }
+    /// Whether it is known that the desk has no operator.
+    pub fn is_empty(&self) -> bool
+        ensures { result ≡ self.now.is_empty }
     {
-        self.operators
+        self.is_empty
+    }
+
+    /// The operators, ascending by name, if they were noted. They are to be noted anew then.
+    pub fn take(&mut self) -> Option<Vec<Enrolment>>
+        ensures { result ≡ self.old.operators }
+    {
+        self.operators.take()
+    }
+}
+
+// Whether operators were noted, and there is none.
+fn has_none(operators: &Option<Vec<Enrolment>>) -> bool
+    ensures { IsTrue result ↔ IsSomeAnd operators.now (λ all. all.items ≡ []) }
+{
+    match operators {
+        Some(all) => all.is_empty(),
+        None => false,
     }
 }
 

@@ -1,8 +1,8 @@
-//! A line carried out at the desk that was opened for it, whatever the disk of its files, the streams and the
-//! port are.
+//! A command carried out at the desk that was opened for it, whatever the disk of its files, the streams and
+//! the port are.
 
 ghost use Rattle.sqlite.specs.Files.{over_files};
-ghost use Rattle.desk_line.specs.Lines.{IsLine};
+ghost use Rattle.desk_line.specs.Lines.{IsLine, line_of};
 ghost use Rattle.desk_wire.specs.Passage.{course};
 ghost use Rattle.desk_program.specs.Outside.{outside};
 ghost use Rattle.uss_desk.specs.Guarding.{IsPastOf, Past};
@@ -10,17 +10,17 @@ ghost use Rattle.uss_desk.specs.OpenedLines.{AreReadsTested, IsLineRun, StaysGua
 
 use crate::opening::DeskAt;
 use desk_host::paths::Paths;
-use desk_line::{Exit, Failure, Line};
+use desk_line::{Action, Exit, Failure};
 use desk_program::{Port, Streams, run_opened};
 use sqlite_disk::Disk;
 use std::alloc::Global;
 use std::io::{Read, Write};
 
-/// Does what a line says at the desk that was opened for it, and answers how it ended and the desk, if there
-/// was one. The word of a failure goes to `errors`; a fault there is passed over.
+/// Does what a command does at the desk that was opened for it, and answers how it ended and the desk, if
+/// there was one. The word of a failure goes to `errors`; a fault there is passed over.
 pub fn run_line<D, N, P, R, W, E>(
     alloc: Global,
-    line: &Line,
+    action: Action<'_>,
     opened: Result<DeskAt<D, N>, Failure>,
     port: &mut P,
     streams: &mut Streams<R, W, E>,
@@ -32,11 +32,11 @@ where
     R: Read + Drop,
     W: Write + Drop,
     E: Write + Drop,
-    requires { IsLine line.now }
-    ensures run { IsLineRun over_files opened line.now (outside R.Read W.Write E.Write streams.old streams.new
-        (course (P.traffic port.old) (P.traffic port.new)) result.0) result.1 }
+    requires { IsLine (line_of action) }
+    ensures run { IsLineRun over_files opened (line_of action.entry) (outside R.Read W.Write E.Write
+        streams.old streams.new (course (P.traffic port.old) (P.traffic port.new)) result.0) result.1 }
     ensures guarded { (past : Past D) → IsPastOf D.Disk past → AreReadsTested opened
         → StaysGuarded past opened result.1 }
 {
-    run_opened(alloc, line, opened, port, streams)
+    run_opened(alloc, action, opened, port, streams)
 }

@@ -10,8 +10,10 @@ ghost use Rattle.desk_store.specs.StoreFrames.{Remembers};
 ghost use Rattle.desk_tables.specs.Closing.{IsLeftUnclosed};
 ghost use Rattle.desk_wire.specs.Passage.{course};
 ghost use Rattle.desk_host.specs.Paths.{AreAtPaths};
+ghost use Rattle.uss_desk.specs.Rolls.{HasNoted};
 ghost use Rattle.uss_desk.specs.Watching.{IsWatched};
 
+use crate::rolls::Roll;
 use desk_host::paths::Paths;
 use desk_rules::operator::Operator;
 use desk_rules::plan::{PlanRow, States};
@@ -71,6 +73,13 @@ impl<S: Alter, N: Drop> Watched<S, N> {
 }
 
 impl<D: Disk + Drop, N: Paths + Drop> Watched<FileStore<D>, N> {
+    /// Notes the operators of the store in a roll, if they are wanted there.
+    pub fn note(&self, roll: &mut Roll)
+        ensures { HasNoted self.now roll.new }
+    {
+        roll.note(&self.store);
+    }
+
     /// Copies the log into the database file, wherever that is, and gives the files back; and tells whether
     /// they were at their paths.
     pub fn close(self) -> Closed<D>

@@ -8,8 +8,8 @@ use Rattle.uss_desk.specs.Rolls.{HasNoted}
 use Rattle.desk_admin.proofs.UnopenedLemmas.{fails_over}
 use Rattle.uss_desk.proofs.opening.open_file.Goals as goal
 
-pub returns-after-is_told-clause-opened : goal.returns-after-is_told-clause-opened
-returns-after-is_told-clause-opened g c =
+pub returns-in-Ok-clause-opened : goal.returns-in-Ok-clause-opened
+returns-in-Ok-clause-opened g c =
     let same = ap (λ d. d.store) c.new.ensures ∙ c.over.ensures in
     let opens = subst (λ s. OpensIn (image_at g.F.Start) s.held s.world) (sym same) c.in-Ok.ensures.begins in
     let left = subst (λ s. IsSettledAt over_files s.held s.world) (sym same) c.in-Ok.ensures.left in record {
@@ -19,8 +19,8 @@ returns-after-is_told-clause-opened g c =
       none = ap (λ d. d.terms) c.new.ensures;
     }
 
-pub returns-after-is_told-clause-noted : goal.returns-after-is_told-clause-noted
-returns-after-is_told-clause-noted g c =
+pub returns-in-Ok-clause-noted : goal.returns-in-Ok-clause-noted
+returns-in-Ok-clause-noted g c =
     subst (λ s. HasNoted s c.note.new.self) (sym (ap (λ d. d.store) c.new.ensures ∙ c.over.ensures))
     c.note.ensures
 

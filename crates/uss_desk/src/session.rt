@@ -1,0 +1,196 @@
+//! A command of a desk: what it needs is got ready, its desk is opened, and then it is carried out there. No
+//! clause tells what the operating system did.
+
+ghost use Rattle.std.specs.Prelude.{◌≡◌, ◌↔◌, [], IsTrue, None};
+ghost use Rattle.desk_line.specs.Lines.{IsLine, line_of};
+ghost use Rattle.uss_desk.specs.OpenedLines.{AreReadsTested};
+
+use crate::closing::{close_after, status_closed};
+use crate::fail;
+use crate::opening::{DeskAt, Opened, open_database};
+use crate::playing::play_line;
+use crate::recording::{RecordFolder, folder_for};
+use crate::refusals::tell_refusal;
+use crate::rolls::Roll;
+use crate::running::run_line;
+use desk_admin::reordering::reorder_for;
+use desk_admin::unopened::or_failure;
+use desk_host::damage::look_before;
+use desk_host::operators::{LocalFiles, OperatorsFile, operators_of};
+use desk_host::paths::{LocalPaths, Paths, paths_at};
+use desk_host::telling::tell_unenrolled;
+use desk_line::{Action, DeskArgs, Enrolment, Failure};
+use desk_program::{LocalPort, Streams};
+use desk_recording::{InputPort, RecordedPort};
+use sqlite::Unknown;
+use sqlite_disk::Disk;
+use std::io::{BufReader, Stderr, Stdin, Stdout};
+
+/// What a command needs beside its desk and the paths of that.
+#[derive(Drop)]
+struct Session<'s> {
+    rt: &'s HostRuntime,
+    words: &'s DeskArgs,
+    // the operators that it enrols first
+    enrolments: &'s [Enrolment],
+    streams: Streams<BufReader<Stdin>, Stdout, Stderr>,
+    register: OperatorsFile<'s, LocalFiles<'s>>,
+    // the folder of its journal, if it keeps one
+    folder: Option<RecordFolder<'s>>,
+    roll: Roll,
+}
+
+impl<'s> Session<'s> {
+    // Gets ready what a command needs, with the paths of its desk. Nothing is opened yet.
+    fn prepare(
+        rt: &'s HostRuntime,
+        words: &'s DeskArgs,
+        enrolments: &'s [Enrolment],
+        action: Action<'_>,
+    ) -> Result<(Session<'s>, LocalPaths<'s>), Failure> {
+        look_before(rt, &words.database, false, &mut rt.stderr())?;
+        let Ok(input) = BufReader::new(rt.alloc(), rt.stdin()) else {
+            return Err(Failure::Memory);
+        };
+        let register = operators_of(rt, LocalFiles::new(rt), words.operators.as_deref())?;
+        let paths = paths_at(rt, &words.database)?;
+        reorder_for(rt, &words.database, false)?;
+        let folder = folder_for(rt, words, action)?;
+        let roll = Roll::new(rt.alloc(), &words.database, folder.is_some());
+        let session = Session {
+            rt,
+            words,
+            enrolments,
+            streams: Streams {
+                input,
+                output: rt.stdout(),
+                errors: rt.stderr(),
+            },
+            register,
+            folder,
+            roll,
+        };
+        Ok((session, paths))
+    }
+
+    // Whether the last record left something undone, so that the desk's file has to be there.
+    fn has_undone(&self) -> bool {
+        match &self.folder {
+            Some(folder) => folder.has_undone(),
+            None => false,
+        }
+    }
+
+    // The desk that was opened over files, at which all is done that the last record left undone.
+    fn recover<D: Disk + Drop, N: Paths + Drop>(
+        &mut self,
+        opened: Result<DeskAt<D, N>, Failure>,
+    ) -> Result<DeskAt<D, N>, Failure>
+        ensures tested { AreReadsTested opened → AreReadsTested result }
+    {
+        let Some(folder) = &mut self.folder else {
+            return opened;
+        };
+        match opened {
+            Ok(desk) => folder.finish(desk, &mut self.roll),
+            Err(failure) => Err(failure),
+        }
+    }
+
+    // Tells that no operator is enrolled, if that is known of the desk, and the command names none.
+    fn tell_if_unenrolled(&self) {
+        if self.roll.is_empty() && enrols_none(self.words, self.enrolments) {
+            tell_unenrolled(self.rt, self.words.database.path());
+        }
+    }
+
+    // Carries a command out at the desk that was opened for it, each request recorded if it keeps a journal:
+    // those of an input, or those of connections at a port. Answers the exit status and the desk.
+    fn run<D: Disk + Drop, N: Paths + Drop>(
+        self,
+        action: Action<'_>,
+        opened: Result<DeskAt<D, N>, Failure>,
+    ) -> (u8, Option<DeskAt<D, N>>)
+        requires { IsLine (line_of action) }
+    {
+        let Session {
+            rt,
+            words,
+            enrolments,
+            mut streams,
+            register,
+            folder,
+            roll,
+        } = self;
+        let (alloc, terms) = (rt.alloc(), words.terms);
+        let begun = match folder {
+            Some(folder) => folder.begin_if(opened.is_ok(), &terms, enrolments, roll),
+            None => Ok(None),
+        };
+        let record = match begun {
+            Ok(record) => record,
+            Err(failure) => return (fail(rt, failure), opened.ok()),
+        };
+        let mut port = LocalPort::new(rt, rt, register, alloc, rt.stderr());
+        let (exit, desk) = match (record, action) {
+            (Some(record), Action::Play(words)) => {
+                let Streams {
+                    input,
+                    output,
+                    mut errors,
+                } = streams;
+                let requests = InputPort::new(input, output, words.moment);
+                let mut port = RecordedPort::new(requests, record);
+                play_line(alloc, words, opened, &mut port, &mut errors)
+            }
+            (Some(record), _) => {
+                let mut port = RecordedPort::new(port, record);
+                run_line(alloc, action, opened, &mut port, &mut streams)
+            }
+            (None, _) => run_line(alloc, action, opened, &mut port, &mut streams),
+        };
+        (exit.status, desk)
+    }
+}
+
+// Whether a command names no operator, so that its desk may have none.
+fn enrols_none(words: &DeskArgs, enrolments: &[Enrolment]) -> bool
+    ensures { IsTrue result ↔ (enrolments.now ≡ []) × (words.now.operators ≡ None) }
+{
+    enrolments.is_empty() && words.operators.is_none()
+}
+
+/// Does what a command does at its desk, with the standard streams, the network and the clock, closes the
+/// desk, and answers the exit status. A file whose tables stand in another order is put in order before. Of
+/// files nothing is known.
+///
+/// # Errors
+///
+/// Why the desk is not opened: its log, its file of enrolments, its tables or the folder of its records,
+/// which is told; or memory ran out.
+pub fn at_desk(
+    rt: &HostRuntime,
+    words: &DeskArgs,
+    enrolments: &[Enrolment],
+    action: Action<'_>,
+) -> Result<u8, Failure>
+    requires { IsLine (line_of action) }
+{
+    let (mut session, paths) = Session::prepare(rt, words, enrolments, action)?;
+    match open_database(rt, &words.database, Unknown, paths, &mut session.roll) {
+        Opened::Memory(desk) => {
+            session.tell_if_unenrolled();
+            Ok(session.run(action, desk).0)
+        }
+        Opened::Files(found) => {
+            let is_made = !session.has_undone();
+            tell_refusal(rt, &words.database, is_made, &found, &mut rt.stderr());
+            let desk = session.recover(or_failure(found));
+            if desk.is_ok() {
+                session.tell_if_unenrolled();
+            }
+            let (status, desk) = session.run(action, desk);
+            Ok(status_closed(close_after(status, desk, &mut rt.stderr())))
+        }
+    }
+}
