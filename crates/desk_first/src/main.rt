@@ -7,8 +7,7 @@ ghost use Rattle.std.specs.Option.{is_some};
 ghost use Rattle.desk_line.specs.Lines.{IsPlay, file_of};
 
 use desk_line::{
-    Failure, Line, Play, Task, WordsFault, conclude, print_line, read_words, report,
-    report_malformed,
+    Failure, Line, Play, WordsFault, conclude, print_line, read_words, report, report_malformed,
 };
 use desk_program::play;
 use desk_run::Desk;
@@ -34,8 +33,8 @@ fn given_words(rt: &HostRuntime) -> Option<Vec<String>> {
 // Does what the words say, and answers the exit status. What keeps plans or serves is refused as `store`.
 fn run_words(rt: &HostRuntime, alloc: Global, words: Vec<String>) -> u8 {
     match read_words(alloc, words) {
-        Ok(Task::Run(Line::Play(line))) => play_here(rt, alloc, &line),
-        Ok(Task::Print(line)) => {
+        Ok(Line::Play(line)) => play_here(rt, alloc, &line),
+        Ok(line @ (Line::Token(_) | Line::Cover(_))) => {
             print_line(alloc, &line, &mut rt.stdout(), &mut rt.stderr()).status
         }
         Ok(_) => fail(rt, Failure::Store),
@@ -56,7 +55,7 @@ fn play_here(rt: &HostRuntime, alloc: Global, line: &Play) -> u8
         return fail(rt, Failure::Store);
     }
     let mut errors = rt.stderr();
-    if line.enrolments.is_empty() {
+    if line.desk.enrolments.is_empty() {
         report(
             alloc,
             "in memory",
@@ -81,9 +80,9 @@ fn play_here(rt: &HostRuntime, alloc: Global, line: &Play) -> u8
 
 // Whether a line keeps plans in a file, or its requests in a folder.
 fn keeps(line: &Play) -> bool
-    ensures { result ≡ (is_some (file_of line.now.database) || is_some line.now.folder) }
+    ensures { result ≡ (is_some (file_of line.now.desk.database) || is_some line.now.desk.folder) }
 {
-    line.database.path().is_some() || line.folder.is_some()
+    line.desk.database.path().is_some() || line.desk.folder.is_some()
 }
 
 // Reports which of the words is malformed, prints the error code, and answers its exit status.

@@ -1,4 +1,4 @@
--- The record of a desk, as bytes (docs/RECORD.md): entries one after the other, each a line, the bytes that
+-- The record of a desk, as bytes (docs/journal-format.md): entries one after the other, each a line, the bytes that
 -- the line counts, and a line feed.
 use Rattle.std.specs.Prelude.{◌<◌, ◌^◌, ℕ, zero, suc, ◌+◌, ◌/◌, ◌%◌, List, [], ◌∷◌, ◌++◌, length, take, map, codes}
 use Rattle.std.specs.List.{concat}

@@ -1,4 +1,4 @@
--- Replaying: records played at a desk's world, entry by entry (docs/RECORD.md).
+-- Replaying: records played at a desk's world, entry by entry (docs/journal-format.md).
 use Rattle.std.specs.Prelude.{◌≡◌, ◌⊎◌, ⊤, ℕ, ℤ, pos, ◌+◌, ◌==◌, min, length, is_none, nat_le, nat_lt, ◌^◌, ◌-◌, List, [], ◌∷◌, ◌++◌, Bool, true, false, not, ◌&&◌, ◌||◌, if◌then◌else◌, Option, Some, None, Result, Ok, Err, codes}
 use Rattle.std.specs.Str.{bytes_eq}
 use Rattle.desk_rules.specs.Limits.{max_priority, max_spans}

@@ -1,10 +1,10 @@
 //! Lines carried out over streams in memory: the exit status, and what is printed.
 
-ghost use Rattle.std.specs.Prelude.{IfOk};
+ghost use Rattle.std.specs.Prelude.{◌≡◌, IfOk};
 ghost use Rattle.desk_program.specs.CarryingOut.{IsPortless};
 
 use desk_ends::Moment;
-use desk_line::{Database, Enrol, Enrolment, Line, Play};
+use desk_line::{Database, DeskArgs, Enrol, Enrolment, Line, Play};
 use desk_program::with_desk;
 use desk_rules::operator::Operator;
 use desk_rules::terms::Terms;
@@ -36,12 +36,22 @@ fn play_line(alloc: Global) -> Result<Line, Fail>
         ceiling: 7,
     };
     Ok(Line::Play(Play {
-        database: Database::InMemory,
+        desk: desk_in_memory(vec![in alloc; alfa, bravo]?),
         moment: Moment { second: 0 },
-        terms: Terms::none(),
-        enrolments: vec![in alloc; alfa, bravo]?,
-        folder: None,
     }))
+}
+
+// The desk in memory of these enrolments.
+fn desk_in_memory(enrolments: Vec<Enrolment>) -> DeskArgs
+    ensures { result.enrolments ≡ enrolments }
+{
+    DeskArgs {
+        database: Database::InMemory,
+        terms: Terms::none(),
+        enrolments,
+        operators: None,
+        folder: None,
+    }
 }
 
 // What that line comes to on these bytes.
@@ -110,7 +120,7 @@ fn enrols_every_name(rt: HostRuntime) -> Result<(), Fail> {
 }
 
 // The line of `enrol` for `alfa`.
-fn enrol_line() -> Result<Line, Fail>
+fn enrol_line(alloc: Global) -> Result<Line, Fail>
     ensures { IfOk result IsPortless }
 {
     let alfa = Enrolment {
@@ -118,9 +128,8 @@ fn enrol_line() -> Result<Line, Fail>
         ceiling: 100,
     };
     Ok(Line::Enrol(Enrol {
-        database: Database::InMemory,
+        desk: desk_in_memory(Vec::new(alloc)),
         enrolment: alfa,
-        folder: None,
     }))
 }
 
@@ -141,7 +150,7 @@ fn check_enrolment(
     let mut input = b"".as_slice();
     let status = with_desk(
         alloc,
-        &enrol_line()?,
+        &enrol_line(alloc)?,
         &mut desk,
         &mut input,
         &mut output,

@@ -5,7 +5,7 @@ ghost use Rattle.std.specs.Int.{IsInRange};
 ghost use Rattle.desk_line.specs.Lines.{AreEnrolments, IsServe};
 
 use crate::given::{COMPLETED, FIRST_PUT, LATE};
-use desk_line::{Database, Enrolment, Failure, Serve};
+use desk_line::{Database, DeskArgs, Enrolment, Failure, Serve};
 use desk_program::{LocalPort, Register, serve};
 use desk_rules::operator::Operator;
 use desk_rules::terms::Terms;
@@ -72,13 +72,15 @@ pub fn serve_line(alloc: Global, connections: u32) -> Serve
     ensures { IsServe result }
 {
     Serve {
-        database: Database::InMemory,
+        desk: DeskArgs {
+            database: Database::InMemory,
+            terms: Terms::none(),
+            enrolments: Vec::new(alloc),
+            operators: None,
+            folder: None,
+        },
         port: 1,
         connections,
-        terms: Terms::none(),
-        enrolments: Vec::new(alloc),
-        operators: None,
-        folder: None,
     }
 }
 

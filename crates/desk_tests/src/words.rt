@@ -1,11 +1,11 @@
 //! What `clap` makes of words that it doesn't take, and of a question for help.
 
-use desk_line::{Task, WordsFault, read_words};
+use desk_line::{Line, WordsFault, read_words};
 use std::alloc::{AllocError, Global};
 use std::test::Fail;
 
-// The task of words behind the program's name.
-fn task_of(alloc: Global, words: &[&str]) -> Result<Result<Task, WordsFault>, AllocError> {
+// The line of words behind the program's name.
+fn line_of(alloc: Global, words: &[&str]) -> Result<Result<Line, WordsFault>, AllocError> {
     let mut all = Vec::new(alloc);
     all.push(String::from_str(alloc, "uss_desk")?)?;
     for word in words {
@@ -16,7 +16,7 @@ fn task_of(alloc: Global, words: &[&str]) -> Result<Result<Task, WordsFault>, Al
 
 // Whether the words are none of the forms.
 fn is_refused(alloc: Global, words: &[&str]) -> Result<bool, AllocError> {
-    Ok(matches!(task_of(alloc, words)?, Err(WordsFault::Words(_))))
+    Ok(matches!(line_of(alloc, words)?, Err(WordsFault::Words(_))))
 }
 
 #[test]
@@ -40,8 +40,8 @@ fn refuses_words(rt: HostRuntime) -> Result<(), Fail> {
     }
     assert!(rt;
         matches!(
-            task_of(alloc, &["play", "--at", "253370764800"])?,
-            Ok(Task::Run(_))
+            line_of(alloc, &["play", "--at", "253370764800"])?,
+            Ok(Line::Play(_))
         )
     );
     Ok(())
@@ -51,7 +51,7 @@ fn refuses_words(rt: HostRuntime) -> Result<(), Fail> {
 #[test]
 fn shows_help(rt: HostRuntime) -> Result<(), Fail> {
     let alloc = rt.alloc();
-    let Err(WordsFault::Words(help)) = task_of(alloc, &["play", "--help"])? else {
+    let Err(WordsFault::Words(help)) = line_of(alloc, &["play", "--help"])? else {
         return Err(Fail::from("no help"));
     };
     let text = format!(in alloc; "{help}")?;

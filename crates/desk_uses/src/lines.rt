@@ -6,9 +6,10 @@ ghost use Rattle.desk_store.specs.StoreFaults.{IsHonest};
 ghost use Rattle.desk_run.specs.DeskWorld.{enrolled, world_of};
 ghost use Rattle.desk_tables.specs.OpenWords as spec;
 
-use desk_line::{Database, Enrol, Enrolment, Line};
+use desk_line::{Database, DeskArgs, Enrol, Enrolment, Line};
 use desk_program::with_desk;
 use desk_rules::operator::Operator;
+use desk_rules::terms::Terms;
 use desk_run::Desk;
 use desk_store::PlanStore;
 use desk_tables::{FilesFault, open_word};
@@ -31,9 +32,14 @@ pub fn enrol_as_told<S: PlanStore, W: Write, E: Write>(
         world_of S.content desk.new ≡ enrolled (world_of S.content desk.old) operator ceiling }
 {
     let line = Line::Enrol(Enrol {
-        database: Database::InMemory,
+        desk: DeskArgs {
+            database: Database::InMemory,
+            terms: Terms::none(),
+            enrolments: Vec::new(alloc),
+            operators: None,
+            folder: None,
+        },
         enrolment: Enrolment { operator, ceiling },
-        folder: None,
     });
     let mut input = b"".as_slice();
     with_desk(alloc, &line, desk, &mut input, output, errors) == 0

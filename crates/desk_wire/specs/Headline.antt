@@ -11,7 +11,8 @@
 --   "For every list of requests": each field speaks of any lists of any bytes with any moments, answered
 --   one after the other from any world on. That a desk gives these answers is the contract of `answer_all`,
 --   and of `play_all` for the requests of a stream; the laws `answers_given` and `stream_given` say what
---   follows for the answers that were really given.
+--   follows for the answers that were really given, and `desk_program::laws::port_given` for those that the
+--   clients of a port were sent.
 --
 --   "each answer": a list of requests has as many answers, in their order (`each`).
 --
