@@ -277,6 +277,20 @@ def test_operator_removed(room: pathlib.Path, rows: Rows, left: Left) -> None:
     plays(rows, room, False)
 
 
+def test_one_opening(room: pathlib.Path, rows: Rows, left: Left) -> None:
+    """A start after a crash locks the desk's file and its log once, and lists the folder of its records twice."""
+    crashed(room, left, planned(2), False)
+    trace = room / "trace"
+    strace = ["strace", "-f", "-qq", "-e", "trace=openat,fcntl", "-o", str(trace)]
+    ran = run("enrol", *words_of(room), "charlie", "50", under=strace)
+    rows.equal("enrolled", Ran(0, b"enrolled charlie 50\n", ""), ran)
+    rows.equal("records", [1, 2, 3], [int(it.name[:10]) for it in recorded(room / "records")])
+    calls = trace.read_text().splitlines()
+    rows.equal("locks", 2, sum("F_OFD_SETLK" in it for it in calls))
+    rows.equal("lists", 2, sum("O_DIRECTORY" in it for it in calls))
+    plays(rows, room, True)
+
+
 def lay_out_file(room: pathlib.Path, data: bytes) -> None:
     """Another file in the place of the desk's."""
     for old in BOTH:

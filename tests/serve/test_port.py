@@ -86,7 +86,7 @@ def test_statuses(rows: Rows) -> None:
             rows.equal(f"the port at {address}", REFUSED, status)
         second = run("serve", "--port", str(desk.port), "--requests", "1", "alfa=100")
         in_use = f"uss_desk: 127.0.0.1:{desk.port}: in use by another program\nuss_desk: network\n"
-        rows.equal("a port in use", (4, in_use), (second.status, second.errors))
+        rows.equal("a port in use", (4, b"", in_use), (second.status, second.output, second.errors))
         url, alfa = f"{desk.url}{PLAN}", operator("alfa")
         rows.equal("ready", READY, asked(*alfa, f"{desk.url}/status"))
         rows.equal("put", STORED, asked(*alfa, *PUT, url, given=BODY))
