@@ -1,7 +1,7 @@
 -- What a volume keeps beside its footprint, and why a footprint is refused.
-use Rattle.std.specs.Prelude.{◌≡◌, ◌<◌, ◌≤◌, false, IsTrue, List, length}
+use Rattle.std.specs.Prelude.{◌≡◌, ◌<◌, ◌≤◌, ℕ, false, IsTrue, IfSome, Option, List, length}
 use Rattle.s2_cover.specs.declared.spans.Span.{Span}
-use Rattle.s2_cover.specs.Ranges.{IsRanges}
+use Rattle.s2_cover.specs.Ranges.{IsRanges, range_count}
 use Rattle.volume4d.specs.declared.fault.VolumeFault.{VolumeFault}
 use Rattle.volume4d.specs.declared.fault.VolumeFault.TheVariants.{Cells, TooManyCells, OutOfMemory}
 use Rattle.volume4d.specs.VolumeLimits.{max_cover}
@@ -13,6 +13,13 @@ pub record HasRanges (shape : Shape) (spans : List Span) : Type 0 where
   pub ranges : IsRanges (shape_positions shape) spans
   pub some : 0 < length spans
   pub few : length spans ≤ max_cover
+
+-- a footprint within the limits, how many ranges its leaves are, and these, if they are kept
+pub record KeepsRanges (shape : Shape) (count : ℕ) (kept : Option (List Span)) : Type 0 where
+  pub limits : IsTrue (is_footprint shape)
+  pub counted : count ≡ range_count (shape_positions shape)
+  pub few : count ≤ max_cover
+  pub ranges : IfSome kept (HasRanges shape)
 
 -- the fault of a footprint past its limit
 abbrev pub limit_fault : Shape → VolumeFault

@@ -92,6 +92,13 @@ impl Area {
         Ok(bounds_of(&slabs))
     }
 
+    /// Has its volumes drop their ranges (`Volume::drop_ranges`). The area stays as it is.
+    pub fn drop_ranges(&mut self)
+        ensures { self.new ≡ self.old }
+    {
+        drop_ranges_of(&mut self.volumes);
+    }
+
     /// An equal area.
     ///
     /// # Errors
@@ -146,6 +153,15 @@ fn copies(volumes: &Vec<Volume>) -> Result<Vec<Volume>, AllocError>
         copies.push(volume.copy()?)?;
     }
     Ok(copies)
+}
+
+// Has volumes drop their ranges.
+fn drop_ranges_of(volumes: &mut [Volume])
+    ensures { volumes.new ≡ volumes.old }
+{
+    for volume in volumes.iter_mut() {
+        volume.drop_ranges();
+    }
 }
 
 // Whether an area may have this many volumes.

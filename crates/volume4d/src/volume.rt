@@ -8,12 +8,12 @@ ghost use Rattle.volume4d.specs.Windows.{is_window};
 ghost use Rattle.volume4d.specs.Footprint.{shape_of};
 ghost use Rattle.volume4d.specs.VolumeLimits.{max_cover};
 ghost use Rattle.volume4d.specs.SpanCounts.{volume_spans};
-ghost use Rattle.volume4d.specs.Shape.{shape_positions, is_footprint};
+ghost use Rattle.volume4d.specs.Shape.{Shape, shape_positions, is_footprint};
 ghost use Rattle.volume4d.specs.Volume.{block_has};
 ghost use Rattle.volume4d.specs.Slab.{slabs_have, span_of, slab_window};
 ghost use Rattle.volume4d.specs.Bounds.{AreFilled};
 ghost use Rattle.volume4d.specs.Slabs.{AreSlabsOn, AreVolumeSlabs};
-ghost use Rattle.volume4d.specs.Attributes.{IsFaultOf};
+ghost use Rattle.volume4d.specs.Attributes.{IsFaultOf, HasRanges};
 
 use crate::fault::VolumeFault;
 use crate::footprint::Footprint;
@@ -25,19 +25,22 @@ use std::alloc::{AllocError, Global};
 use std::marker::Model;
 
 /// A footprint with altitudes and times (`Volume4D` of ASTM F3548-21), always within the desk's
-/// limits. It keeps the ranges of its footprint's leaves, so that they are computed once.
+/// limits. It keeps the ranges of its footprint's leaves, so that they are computed once, until it is told to
+/// drop them.
 #[derive(Debug, Drop)]
 pub struct Volume {
     footprint: Footprint,
     window: Window,
-    ranges: Ranges,
+    // how many ranges the footprint's leaves are, and these, if they are kept
+    count: u32,
+    ranges: Option<Ranges>,
     alloc: Global,
 }
 
 impl Model for Volume {
     ghost use Rattle.std.specs.Prelude.{IsTrue};
     ghost use Rattle.volume4d.specs.Windows.{is_window};
-    ghost use Rattle.volume4d.specs.Attributes.{HasRanges};
+    ghost use Rattle.volume4d.specs.Attributes.{KeepsRanges};
     ghost use Rattle.volume4d.specs.Volume.{Block};
 
     ghost Value = { Block };
@@ -46,7 +49,7 @@ impl Model for Volume {
 
     ghost view = { λ v. record { footprint = shape_of v.footprint; window = v.window } };
 
-    ghost invariant = { λ v. HasRanges (shape_of v.footprint) v.ranges × IsTrue (is_window v.window) };
+    ghost invariant = { λ v. KeepsRanges (shape_of v.footprint) v.count v.ranges × IsTrue (is_window v.window) };
 }
 
 impl Volume {
@@ -69,12 +72,22 @@ impl Volume {
         ensures fault { IfErr result (IsFaultOf (shape_of footprint)) }
     {
         let ranges = footprint.ranges(alloc)?;
+        ranges_are_counted();
         Ok(Volume {
             footprint,
             window,
-            ranges,
+            count: ranges.spans().len() as u32,
+            ranges: Some(ranges),
             alloc,
         })
+    }
+
+    /// Drops the ranges, which take up to 16 KB. The volume stays as it is: `slabs` and `cover` compute them
+    /// anew.
+    pub fn drop_ranges(&mut self)
+        ensures { self.new ≡ self.old }
+    {
+        self.ranges = None;
     }
 
     /// The footprint given to `try_new`.
@@ -106,7 +119,10 @@ impl Volume {
             slabs_have slabs.items x ≡ block_has self.now x) }
         ensures filled { IfOk result (λ slabs. AreFilled slabs.items) }
     {
-        slabs_of(self.alloc, self.ranges.spans(), self.window)
+        match &self.ranges {
+            Some(ranges) => slabs_over(self.alloc, ranges, self.window),
+            None => slabs_over(self.alloc, &self.ranges_anew()?, self.window),
+        }
     }
 
     /// How many slabs the volume has: one for each range of the footprint's leaves along the S2 curve.
@@ -114,8 +130,7 @@ impl Volume {
         ensures value { result ≡ volume_spans self.now }
         ensures few { result ≤ max_cover }
     {
-        ranges_are_counted();
-        self.ranges.spans().len() as u32
+        self.count
     }
 
     /// The canonical cover of the footprint's leaves: for a rectangle the cover that its limit speaks of.
@@ -127,7 +142,10 @@ impl Volume {
         ensures { IfOk result (λ cover.
             IsCanonical (shape_positions self.now.footprint) cover.ids) }
     {
-        Cover::of_ranges(self.alloc, &self.ranges)
+        match &self.ranges {
+            Some(ranges) => Cover::of_ranges(self.alloc, ranges),
+            None => Cover::of_ranges(self.alloc, &self.ranges_anew()?),
+        }
     }
 
     /// An equal volume.
@@ -138,13 +156,42 @@ impl Volume {
     pub fn copy(&self) -> Result<Volume, AllocError>
         ensures { IfOk result (λ copy. copy ≡ self.now) }
     {
+        let ranges = match &self.ranges {
+            Some(ranges) => Some(ranges.copy()?),
+            None => None,
+        };
         Ok(Volume {
             footprint: self.footprint.copy()?,
             window: self.window,
-            ranges: self.ranges.copy()?,
+            count: self.count,
+            ranges,
             alloc: self.alloc,
         })
     }
+
+    // The ranges of the footprint's leaves, computed again.
+    fn ranges_anew(&self) -> Result<Ranges, AllocError>
+        ensures { IfOk result (HasRanges self.now.footprint) }
+    {
+        match self.footprint.ranges(self.alloc) {
+            Ok(ranges) => Ok(ranges),
+            Err(VolumeFault::OutOfMemory) => Err(AllocError),
+            Err(VolumeFault::Cells | VolumeFault::TooManyCells) => unreachable!(),
+        }
+    }
+}
+
+// One slab for each range of the leaves of a footprint, all with the same window.
+fn slabs_over(alloc: Global, ranges: &Ranges, window: Window) -> Result<Vec<Slab>, AllocError>
+    requires window { IsTrue (is_window window) }
+    ensures slabs { (shape : Shape) → HasRanges shape ranges.now → IfOk result (λ slabs.
+        AreVolumeSlabs (record { footprint = shape; window = window }) slabs.items) }
+    ensures points { (shape : Shape) → HasRanges shape ranges.now → IfOk result (λ slabs. (x : Point) →
+        slabs_have slabs.items x ≡ block_has (record { footprint = shape; window = window }) x) }
+    ensures filled { (shape : Shape) → HasRanges shape ranges.now → IfOk result (λ slabs.
+        AreFilled slabs.items) }
+{
+    slabs_of(alloc, ranges.spans(), window)
 }
 
 // One slab for each span of positions, all with the same window.

@@ -98,7 +98,7 @@ pub(crate) fn listed_in(row: &Row) -> Result<ListedOperator, RowFault>
 }
 
 /// The plan whose row in `plan` the first is, and whose rows in `volume2`, or in `volume` of schema 1, by
-/// place, the others are.
+/// place, the others are. A closed one keeps no ranges: no row of spans is compared with them.
 ///
 /// # Errors
 ///
@@ -116,9 +116,12 @@ pub(crate) fn filed_in(alloc: Global, head: &Row, volumes: &[Row]) -> Result<Fil
     if row.priority > MAX_PRIORITY {
         return Err(RowFault::NoDesk);
     }
-    let plan = FiledPlan { operator, row };
+    let mut plan = FiledPlan { operator, row };
     if !has_rows(&plan, head, volumes) {
         return Err(RowFault::NoDesk);
+    }
+    if !plan.row.usage.is_live() {
+        plan.row.area.drop_ranges();
     }
     Ok(plan)
 }
