@@ -1,6 +1,6 @@
 //! Conflicts of an operator's plans with what is held.
 
-ghost use Rattle.std.specs.Prelude.{◌≡◌, ◌≤◌, IfOk, IfErr};
+ghost use Rattle.std.specs.Prelude.{◌≡◌, ◌≤◌, ◌^◌, IfOk, IfErr};
 ghost use Rattle.desk_store.specs.StoreFrames.{OnlyReads};
 ghost use Rattle.desk_store.specs.StoreFaults.{IsHonest, IsCounted};
 ghost use Rattle.desk_rules.specs.Permission.{least_blocking};
@@ -45,7 +45,9 @@ pub fn conflict_of<S: PlanStore>(
 }
 
 // How wide a gap between slabs has to be that they lie far apart.
-pub fn wide_gap(slabs: &[Slab]) -> u64 {
+pub fn wide_gap(slabs: &[Slab]) -> u64
+    ensures { result ≤ 2 ^ 48 }
+{
     match slabs {
         [first, .., last] => (last.first.saturating_sub(first.first) / GAPS).min(WIDEST),
         _ => 0,

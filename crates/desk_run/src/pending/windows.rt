@@ -1,7 +1,7 @@
 //! What a store is asked of a piece: extents round those slabs of a plan that have the same altitudes and
 //! seconds and lie close to each other.
 
-ghost use Rattle.std.specs.Prelude.{◌<◌, length, IfOk, IfSome, OnOk};
+ghost use Rattle.std.specs.Prelude.{◌<◌, ◌≤◌, ◌+◌, length, IfOk, IfSome, IsTrue, OnOk};
 ghost use Rattle.volume4d.specs.Slab.{slab_has, slabs_have};
 ghost use Rattle.desk_run.specs.HeldAmong.{HaveAll, Keep};
 ghost use Rattle.desk_run.specs.Pieces.{HavePart};
@@ -62,7 +62,9 @@ fn place_for(extents: &[Slab], slab: &Slab, gap: u64) -> Option<usize>
 }
 
 // Whether a slab has the altitudes and seconds of an extent, and begins no further after it than a gap.
-fn may_join(extent: &Slab, slab: &Slab, gap: u64) -> bool {
+fn may_join(extent: &Slab, slab: &Slab, gap: u64) -> bool
+    ensures { IsTrue result → slab.now.first ≤ extent.now.last + gap }
+{
     if slab.first.saturating_sub(extent.last) > gap {
         return false;
     }
