@@ -1,6 +1,7 @@
 -- Volumes in chunks and groups.
-use Rattle.std.proofs.Common.{◌≡◌, List, [], ◌∷◌, ◌++◌, sym, ap, subst, ◌∙◌, IsPermutation}
-use Rattle.std.specs.List.{AllByRecursion}
+use Rattle.std.proofs.Common.{◌≡◌, ℕ, zero, suc, ◌<◌, Bool, true, List, [], ◌∷◌, ◌++◌, IfSome, length, slice_get, sym, ap, subst, ◌∙◌, arith, IsPermutation}
+use Rattle.std.specs.List.{AllByRecursion, list_any}
+use Rattle.std.proofs.lemmas.Bool.{or_left, or_right}
 use Rattle.std.proofs.lemmas.List.{append_assoc}
 use Rattle.desk_store.proofs.lemmas.Order.{all_append}
 use Rattle.desk_live.specs.declared.volume.LiveVolume.{LiveVolume}
@@ -32,3 +33,12 @@ pub all_permuted : (P : LiveVolume → Type 0) (xs ys : List LiveVolume) → IsP
     → AllByRecursion P xs → AllByRecursion P ys
 all_permuted P = along_permutation (λ xs ys. AllByRecursion P xs → AllByRecursion P ys) (λ xs h. h)
     (λ x xs ys f h. (h.0, f h.1)) (λ x y xs h. (h.1.0, (h.0, h.1.1))) (λ xs ys zs f g h. g (f h))
+
+-- ---- found
+
+-- a test that is passed at a place is passed by one of all
+pub any_where : {C : Type 0} (test : C → Bool) (cs : List C) (at : ℕ) → at < length cs
+    → IfSome (slice_get cs at) (λ c. test c ≡ true) → list_any test cs ≡ true
+any_where test [] at below h = absurd (omega (arith, below))
+any_where test (c ∷ cs) zero below h = or_left (test c) _ h
+any_where test (c ∷ cs) (suc at) below h = or_right (test c) _ (any_where test cs at (omega (arith, below)) h)

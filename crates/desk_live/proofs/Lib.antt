@@ -3,6 +3,7 @@ pub mod VolumeLemmas
 pub mod FenceLemmas
 pub mod GatherLemmas
 pub mod ChunkLemmas
+pub mod OrderLemmas
 pub mod LeftLemmas
 pub mod HedgeLemmas
 pub mod PlaceLemmas

@@ -62,6 +62,13 @@ is_beside operator id live = not (is_volume_of operator id live)
 
 -- ---- what is kept
 
+-- a chunk, or one of a group's, has a volume of the operator's plan of the id
+abbrev pub chunk_has_plan : List ℕ → List ℕ → Chunk → Bool
+chunk_has_plan operator id c = list_any (is_volume_of operator id) c.volumes.items
+
+abbrev pub group_has_plan : List ℕ → List ℕ → Group → Bool
+group_has_plan operator id g = list_any (chunk_has_plan operator id) g.chunks.items
+
 -- it lies within a fence, and has no greater priority
 pub record IsFenced (fence : Fence) (live : LiveVolume) : Type 0 where
   pub within : IsWithin live.bounds fence.bounds

@@ -1,16 +1,16 @@
 //! Chunks of volumes, each within a fence of its own, so that most are passed over unread.
 
-ghost use Rattle.std.specs.Prelude.{◌≡◌, ◌+◌, ◌≤◌, ◌∷◌, ◌++◌, ◌<◌, [], true, length, IfOk, OnOk, OnErr, IfSome, IsPermutation};
+ghost use Rattle.std.specs.Prelude.{◌≡◌, ◌+◌, ◌-◌, ◌≤◌, ◌∷◌, ◌++◌, ◌<◌, [], true, length, slice_get, IfOk, OnOk, OnErr, IfSome, IsPermutation};
 ghost use Rattle.std.specs.List.{AllByRecursion, filter};
 ghost use Rattle.desk_live.specs.Live as spec;
-ghost use Rattle.desk_live.specs.Live.{AreFenced, IsFenced, IsLeft, IsWhole, is_beside, volumes_in};
+ghost use Rattle.desk_live.specs.Live.{AreFenced, IsFenced, IsLeft, IsWhole, chunk_has_plan, is_beside, volumes_in};
 ghost use Rattle.desk_live.specs.Regions.{chunk_has_theirs};
 ghost use Rattle.desk_live.specs.Near.{AddsPlans};
 ghost use Rattle.desk_live.specs.Sought.{sought_has};
 
 use crate::changing::{leave, push_all};
 use crate::fence::Fence;
-use crate::near::{NearPlans, Wanted, add_each};
+use crate::near::{NearPlans, PlanKey, Wanted, add_each};
 use crate::order::{Rank, put_in_order};
 use crate::sought::Sought;
 use crate::volume::LiveVolume;
@@ -114,6 +114,15 @@ impl Chunk {
         ensures { result ≡ true → self.now.volumes.items ≡ [] }
     {
         self.volumes.is_empty()
+    }
+
+    // Whether it has a volume of a plan.
+    fn has_plan(&self, plan: &PlanKey) -> bool
+        ensures { result ≡ chunk_has_plan plan.now.operator plan.now.id self.now }
+    {
+        self.volumes
+            .iter()
+            .any(|live| live.is_of(&plan.operator, &plan.id))
     }
 
     // Adds the plans of the volumes that are near, if the fence says that one may be.
@@ -247,7 +256,9 @@ fn cut(alloc: Global, chunks: &mut Vec<Chunk>, at: usize) -> Result<(), AllocErr
 }
 
 // The last chunk that begins at a rank or before it, or else the first one.
-fn last_upto(chunks: &[Chunk], rank: &Rank) -> usize {
+fn last_upto(chunks: &[Chunk], rank: &Rank) -> usize
+    ensures { result ≤ length chunks.now - 1 }
+{
     chunks
         .partition_point(|chunk| chunk.low <= Some(*rank))
         .saturating_sub(1)
@@ -271,16 +282,15 @@ pub(crate) fn leave_at(chunks: &mut Vec<Chunk>, rank: &Rank) -> usize
 }
 
 /// The first chunk that may have a rank and has a volume of the rank's plan, or the number of all.
-pub(crate) fn chunk_with(chunks: &[Chunk], rank: &Rank) -> usize {
+pub(crate) fn chunk_with(chunks: &[Chunk], rank: &Rank) -> usize
+    ensures bound { result ≤ length chunks.now }
+    ensures found { IfSome (slice_get chunks.now result)
+        (λ chunk. chunk_has_plan rank.now.plan.operator rank.now.plan.id chunk ≡ true) }
+{
     let mut at = chunks
         .partition_point(|chunk| chunk.low < Some(*rank))
         .saturating_sub(1);
-    while at < chunks.len()
-        && !chunks[at]
-            .volumes
-            .iter()
-            .any(|live| live.is_of(&rank.plan.operator, &rank.plan.id))
-    {
+    while at < chunks.len() && !chunks[at].has_plan(&rank.plan) {
         if Some(*rank) < chunks[at].low {
             return chunks.len();
         }

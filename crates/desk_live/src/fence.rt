@@ -1,7 +1,9 @@
 //! Fences round volumes.
 
-ghost use Rattle.std.specs.Prelude.{◌≡◌, ◌∷◌};
+ghost use Rattle.std.specs.Prelude.{◌≡◌, false, ◌∷◌};
 ghost use Rattle.std.specs.List.{AllByRecursion};
+ghost use Rattle.volume4d.specs.Point.{Point};
+ghost use Rattle.volume4d.specs.Slab.{slab_has};
 ghost use Rattle.desk_live.specs.Live as spec;
 ghost use Rattle.desk_live.specs.Live.{IsFenced};
 ghost use Rattle.desk_live.specs.declared.volume.LiveVolume.{LiveVolume as Live};
@@ -40,7 +42,10 @@ impl Fence {
     }
 
     /// Round nothing.
-    pub(crate) fn none() -> Fence {
+    pub(crate) fn none() -> Fence
+        ensures bounds { (x : Point) → slab_has result.bounds x ≡ false }
+        ensures top { result.top ≡ 0 }
+    {
         Fence {
             bounds: Slab::empty(),
             top: 0,

@@ -1,9 +1,9 @@
 //! Groups of chunks, each within a fence of its own, so that most chunks are passed over unread.
 
-ghost use Rattle.std.specs.Prelude.{◌≡◌, ◌∷◌, ◌++◌, [], true, ◌<◌, ◌≤◌, ◌+◌, length, IfOk, OnOk, OnErr, IsPermutation};
+ghost use Rattle.std.specs.Prelude.{◌≡◌, ◌∷◌, ◌++◌, [], true, ◌<◌, ◌≤◌, ◌+◌, ◌-◌, length, slice_get, IfOk, OnOk, OnErr, IfSome, IsPermutation};
 ghost use Rattle.std.specs.List.{AllByRecursion, filter};
 ghost use Rattle.std.specs.List.{insert as insert_at};
-ghost use Rattle.desk_live.specs.Live.{AreFenced, AreHedged, IsFenced, IsHedged, IsLeft, count_of, is_beside, volumes_in, volumes_under};
+ghost use Rattle.desk_live.specs.Live.{AreFenced, AreHedged, IsFenced, IsHedged, IsLeft, count_of, group_has_plan, is_beside, volumes_in, volumes_under};
 ghost use Rattle.desk_live.specs.Regions.{group_has_theirs};
 ghost use Rattle.desk_live.specs.Near.{AddsPlans};
 ghost use Rattle.desk_live.specs.Sought.{sought_has};
@@ -120,6 +120,14 @@ impl Group {
         ensures { result ≡ true → self.now.chunks.items ≡ [] }
     {
         self.chunks.is_empty()
+    }
+
+    // Whether a chunk of it may have a rank and has a volume of the rank's plan.
+    fn has_plan_at(&self, rank: &Rank) -> bool
+        ensures { result ≡ true
+            → group_has_plan rank.now.plan.operator rank.now.plan.id self.now ≡ true }
+    {
+        chunk_with(&self.chunks, rank) < self.chunks.len()
     }
 
     // Adds the plans of the volumes that are near, if the fence says that one may be and the search goes on.
@@ -300,7 +308,9 @@ fn put_behind(groups: &mut Vec<Group>, at: usize, later: Group)
 }
 
 // The last group that begins at a rank or before it, or else the first one.
-fn last_upto(groups: &[Group], rank: &Rank) -> usize {
+fn last_upto(groups: &[Group], rank: &Rank) -> usize
+    ensures { result ≤ length groups.now - 1 }
+{
     groups
         .partition_point(|group| group.low <= Some(*rank))
         .saturating_sub(1)
@@ -350,11 +360,15 @@ fn leave_at(groups: &mut Vec<Group>, rank: &Rank) -> usize
 }
 
 // The first group that may have a rank and has a volume of the rank's plan there, or the number of all.
-fn group_with(groups: &[Group], rank: &Rank) -> usize {
+fn group_with(groups: &[Group], rank: &Rank) -> usize
+    ensures bound { result ≤ length groups.now }
+    ensures found { IfSome (slice_get groups.now result)
+        (λ group. group_has_plan rank.now.plan.operator rank.now.plan.id group ≡ true) }
+{
     let mut at = groups
         .partition_point(|group| group.low < Some(*rank))
         .saturating_sub(1);
-    while at < groups.len() && chunk_with(&groups[at].chunks, rank) == groups[at].chunks.len() {
+    while at < groups.len() && !groups[at].has_plan_at(rank) {
         if Some(*rank) < groups[at].low {
             return groups.len();
         }

@@ -1,7 +1,7 @@
 //! An order of volumes in which those that follow each other lie close together in time, on the ground and
 //! in height.
 
-ghost use Rattle.std.specs.Prelude.{◌≡◌, IsPermutation};
+ghost use Rattle.std.specs.Prelude.{◌≡◌, ◌+◌, ◌*◌, ◌%◌, ◌^◌, bit_and, IsPermutation};
 
 use crate::near::PlanKey;
 use crate::volume::LiveVolume;
@@ -18,7 +18,8 @@ pub(crate) struct Rank {
 impl Rank {
     /// That of a plan's volume at a place.
     pub(crate) fn of(plan: &PlanKey, place: u128) -> Rank
-        ensures { result.plan ≡ plan.now }
+        ensures place { result.place ≡ place }
+        ensures plan { result.plan ≡ plan.now }
     {
         Rank { place, plan: *plan }
     }
@@ -26,16 +27,28 @@ impl Rank {
 
 /// The place of a slab in that order: of its start, its first leaf and its lowest altitude one bit each in
 /// turn, the greatest first (a Z-order curve), and then its first leaf.
-pub(crate) fn place_of(slab: &Slab) -> u128 {
+pub(crate) fn place_of(slab: &Slab) -> u128
+    ensures { result % 2 ^ 64 ≡ slab.now.first }
+{
     let time = slab.start.abs_diff(i64::MIN) >> 7;
     let ground = slab.first >> 42;
     let height = u64::from(slab.lower.abs_diff(i32::MIN));
     let turns = (spread(time) << 2) | (spread(ground) << 1) | spread(height);
-    (u128::from(turns) << 64) | u128::from(slab.first)
+    joined(turns, slab.first)
+}
+
+// A number of which these are the first and the last 64 bits.
+fn joined(high: u64, low: u64) -> u128
+    ensures { result ≡ high * 2 ^ 64 + low }
+{
+    (u128::from(high) << 64) | u128::from(low)
 }
 
 // The last 21 bits of a number, each the last of three.
-fn spread(number: u64) -> u64 {
+#[tactic(auto, using(crate::proofs::OrderLemmas::masked))]
+fn spread(number: u64) -> u64
+    ensures { bit_and result 0x1249_2492_4924_9249 ≡ result }
+{
     let mut bits = number & 0x1f_ffff;
     bits = (bits | (bits << 32)) & 0x1f_0000_0000_ffff;
     bits = (bits | (bits << 16)) & 0x1f_0000_ff00_00ff;

@@ -18,7 +18,9 @@ pub(crate) struct Places {
 
 impl Places {
     /// Of no plan.
-    pub(crate) fn new(alloc: Global) -> Places {
+    pub(crate) fn new(alloc: Global) -> Places
+        ensures { result.plans.entries ≡ [] }
+    {
         Places {
             plans: BTreeMap::new(alloc),
         }

@@ -77,7 +77,10 @@ impl LiveVolume {
     }
 
     /// Where it stands in the order of chunks.
-    pub(crate) fn rank(&self) -> Rank {
+    pub(crate) fn rank(&self) -> Rank
+        ensures place { result.place ≡ self.now.place }
+        ensures plan { result.plan ≡ near.key_of self.now }
+    {
         Rank::of(&self.key(), self.place)
     }
 
