@@ -4,6 +4,7 @@ use Rattle.std.proofs.lemmas.List.{drop_at, get_or_append_left, take_at}
 use Rattle.sqlite_wal.specs.PageSize.{IsPageSize, size_in_file}
 use Rattle.std.specs.Fmt.{option_append}
 use Rattle.std.specs.Io.KnownBytes.{Appends, Consumes}
+use Rattle.db_file.specs.Header.{keeps_sums}
 use Rattle.db_file.specs.Orders.{has_other_order, mended, ordered, ordered_file, ordered_page, with_sums, are_moved, is_moved_by_name, is_slot_named, placed, placed_by_name, slot_from}
 
 less_one : (n k : ℕ) → k < n → n - k ≡ suc (n - (k + 1))
@@ -175,3 +176,39 @@ pub is_sized : {E : Type 0} (done : Result Bool E) (known : Option (List ℕ)) (
 is_sized (Err e) known header says is = tt
 is_sized (Ok told) None header says is = tt
 is_sized (Ok told) (Some bytes) header says is = λ none. absurd (none (subst IsPageSize (sym says) is))
+
+-- ---- a file that is copied as its header says
+
+sums_said : (bytes header rest : List ℕ) → length header ≡ 24 → bytes ≡ header ++ rest
+    → keeps_sums bytes ≡ keeps_sums header
+sums_said bytes header rest long took =
+    let more = length-append header rest in
+    let said = get_or_append_left header rest 0 20 (omega (arith, long)) in
+    rw took (grind (arith, long, more, said))
+
+pub copied_as_said : {U E : Type 0} (done : Result U E) (known left whole : Option (List ℕ)) (header : List ℕ)
+    (size len : ℕ) (sums : Bool) (out now : Option (List ℕ))
+    → length header ≡ 24 → Consumes known left header → whole ≡ option_append (Some header) left
+    → size ≡ size_in_file header → sums ≡ keeps_sums header
+    → OnOk done (IfSome whole (λ bytes. length bytes ≡ len → Appends out now (mended sums size bytes)))
+    → OnOk done (IfSome known (λ bytes. length bytes ≡ len
+    → Appends out now (mended (keeps_sums bytes) (size_in_file bytes) bytes)))
+copied_as_said (Err e) known left whole header size len sums out now long took is named said given = tt
+copied_as_said (Ok u) None left whole header size len sums out now long took is named said given = tt
+copied_as_said (Ok u) (Some bytes) None whole header size len sums out now long took is named said given =
+    absurd took
+copied_as_said (Ok u) (Some bytes) (Some rest) whole header size len sums out now long took is named said given =
+    let copied : length bytes ≡ len → Appends out now (mended sums size bytes) =
+    subst (λ w. IfSome w (λ it. length it ≡ len → Appends out now (mended sums size it)))
+    (is ∙ ap (λ it. Some it) (sym took)) given in λ same.
+    subst (λ n. Appends out now (mended (keeps_sums bytes) n bytes))
+    (named ∙ sym (header_says (Some bytes) (Some rest) header long took))
+    (subst (λ b. Appends out now (mended b size bytes)) (said ∙ sym (sums_said bytes header rest long took))
+    (copied same))
+
+pub sized_as_said : {U E : Type 0} (done : Result U E) (known : Option (List ℕ)) (header : List ℕ)
+    → IfSome known (λ bytes. size_in_file bytes ≡ size_in_file header) → IsPageSize (size_in_file header)
+    → OnOk done (IfSome known (λ bytes. IsPageSize (size_in_file bytes)))
+sized_as_said (Err e) known header says is = tt
+sized_as_said (Ok u) None header says is = tt
+sized_as_said (Ok u) (Some bytes) header says is = subst IsPageSize (sym says) is

@@ -4,6 +4,7 @@ ghost use Rattle.std.specs.Prelude.{◌≡◌, ◌≤◌, ◌<◌, ◌++◌, len
 ghost use Rattle.std.specs.Fmt.{option_append};
 ghost use Rattle.std.specs.Io.KnownBytes.{Appends};
 ghost use Rattle.sqlite_wal.specs.PageSize.{IsPageSize, bytes_of, size_in_file};
+ghost use Rattle.db_file.specs.Header.{keeps_sums as has_sums};
 ghost use Rattle.db_file.specs.Orders as spec;
 ghost use Rattle.db_file.specs.Orders.{IsFirstPage};
 
@@ -11,7 +12,7 @@ use crate::db_header::{HEADER, MAX_PAGE, byte, keeps_sums, page_size_in};
 use crate::sums::{copy_bytes, copy_summed, open_regular};
 use sqlite_wal::PageSize;
 use std::fs::File;
-use std::io::{self, ErrorKind, Read, Seek, Write};
+use std::io::{self, ErrorKind, Read, Write};
 
 // What the header of a tree's page has for a leaf.
 const LEAF: u8 = 13;
@@ -417,14 +418,28 @@ fn read_page<R: Read>(
 ///
 /// What the reading or the writing failed with; `Unsupported` if its header names no size of pages.
 pub fn copy_mended<W: Write>(file: &mut File, twin: &mut W) -> io::Result<()> {
+    let len = file.metadata()?.len();
+    copy_by_header(file, twin, len)
+}
+
+// Copies a file of so many bytes, mended: how long its pages are, and whether they have sums, its header
+// says.
+fn copy_by_header<R: Read, W: Write>(file: &mut R, twin: &mut W, len: u64) -> io::Result<()>
+    ensures mended { OnOk result (IfSome (R.remaining file.old) (λ bytes. length bytes ≡ len →
+        Appends (W.contents twin.old) (W.contents twin.new)
+        (spec.mended (has_sums bytes) (size_in_file bytes) bytes))) }
+    ensures sized { OnOk result (IfSome (R.remaining file.old) (λ bytes.
+        IsPageSize (size_in_file bytes))) }
+{
     let mut header = [0u8; HEADER];
     file.read_exact(&mut header)?;
-    let Some(size) = page_size_in(&header) else {
-        return Err(io::Error::from(ErrorKind::Unsupported));
-    };
-    let len = file.metadata()?.len();
-    file.rewind()?;
-    copy_in_order(file, twin, size, len, keeps_sums(&header))
+    match page_size_in(&header) {
+        Some(size) => {
+            let mut whole = (&header[..]).chain(file);
+            copy_in_order(&mut whole, twin, size, len, keeps_sums(&header))
+        }
+        None => Err(io::Error::from(ErrorKind::Unsupported)),
+    }
 }
 
 /// Copies a file of so many bytes, the rows of its first page in a desk's own order, if they are those of a
