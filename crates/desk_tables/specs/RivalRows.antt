@@ -1,7 +1,7 @@
 -- Slabs that are held, as rows of `span2` show them.
-use Rattle.std.specs.Prelude.{◌≡◌, true, ◌<◌, ◌^◌, ◌*◌, ◌&&◌, ℕ, ℤ, Bool, pos, List, Option, Some, None, map, filter, IsPermutation, FitsSigned}
+use Rattle.std.specs.Prelude.{◌≡◌, true, ◌+◌, ◌-◌, ◌<◌, ◌^◌, ◌*◌, ◌&&◌, ℕ, ℤ, Bool, pos, List, Option, Some, None, map, filter, IsPermutation, FitsSigned}
 use Rattle.std.specs.Int.{w32}
-use Rattle.std.specs.List.{AllZip, flat_map}
+use Rattle.std.specs.List.{AllZip, flat_map, sum_by}
 use Rattle.sqlite_value.specs.declared.value.Value.TheVariants.{Int}
 use Rattle.sqlite_value.specs.Order.{Row, column}
 use Rattle.s2_cover.specs.declared.spans.Span.{Span}
@@ -108,3 +108,7 @@ AreWanted w wanted extent helds =
 abbrev pub AreWantedNear : World → Wanted → List Slab → List Held → Type 0
 AreWantedNear w wanted extents helds = (x : Point) → slabs_have extents x ≡ true
     → top_held helds x ≡ at_least wanted.least (held_but w wanted.operator wanted.id x)
+
+-- at how many leaves the spans begin that questions are for
+abbrev pub leaves_begun : List Span → ℕ
+leaves_begun questions = sum_by (λ q. q.last - q.first + 1) questions

@@ -28,7 +28,10 @@ pub(crate) struct SpanBounds {
 
 impl SpanBounds {
     /// Of no spans, or of single leaves.
-    pub(crate) fn new() -> SpanBounds {
+    pub(crate) fn new() -> SpanBounds
+        ensures bound { result.bound ≡ 0 }
+        ensures long_spans { (span : Range) → ¬ IsAmong result.long_spans span }
+    {
         SpanBounds {
             bound: 0,
             long_spans: [None; MOST],

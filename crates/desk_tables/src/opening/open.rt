@@ -1,6 +1,6 @@
 //! Stores of plans made over connections.
 
-ghost use Rattle.std.specs.Prelude.{◌≡◌, [], false, IfOk, IfErr, MatchResult, None};
+ghost use Rattle.std.specs.Prelude.{◌≡◌, ◌-◌, ◌++◌, [], false, length, replicate, IfOk, IfErr, MatchResult, None};
 ghost use Rattle.desk_sql.specs.Effects.{StaysShown};
 ghost use Rattle.desk_tables.specs.CutShort.{IsCompletedAs, IsMovedOn, LeavesShownOr};
 ghost use Rattle.desk_tables.specs.Moving.{BeginsMoved, KeepsRows, ShowsNoContent};
@@ -249,7 +249,9 @@ fn over_ram(alloc: Global) -> Result<SqliteStore<FileStore<Ram>>, OpenFault>
 }
 
 // The bytes of a database with no table.
-fn blank_database(alloc: Global) -> Result<Vec<u8>, AllocError> {
+fn blank_database(alloc: Global) -> Result<Vec<u8>, AllocError>
+    ensures { IfOk result (λ page. page.items ≡ BLANK ++ replicate (PAGE - length BLANK) 0) }
+{
     let mut page = Vec::from_slice(alloc, &BLANK)?;
     page.resize(PAGE, 0)?;
     Ok(page)

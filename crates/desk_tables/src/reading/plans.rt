@@ -1,6 +1,6 @@
 //! The slabs of a few plans, whose spans are looked up by their keys.
 
-ghost use Rattle.std.specs.Prelude.{◌≡◌, true};
+ghost use Rattle.std.specs.Prelude.{◌≡◌, ◌+◌, ◌-◌, ◌^◌, min, nat_le, true, if◌then◌else◌};
 ghost use Rattle.volume4d.specs.Point.{Point};
 ghost use Rattle.volume4d.specs.Slab.{slabs_have, top_held};
 ghost use Rattle.desk_rules.specs.Conflict.{at_least};
@@ -8,7 +8,7 @@ ghost use Rattle.desk_store.specs.Content.{IsId};
 ghost use Rattle.desk_store.specs.Rivals.{HaveLevel};
 ghost use Rattle.desk_live.specs.Near.{listed_top};
 ghost use Rattle.desk_tables.specs.ReadsMade.{ReadsSpans, spans_shown};
-ghost use Rattle.desk_tables.specs.RivalRows.{HaveTaken, is_asked_of_plan};
+ghost use Rattle.desk_tables.specs.RivalRows.{HaveTaken, is_asked_of_plan, leaves_begun};
 ghost use Rattle.desk_sql.specs.QueryEnds.{WasOpen};
 
 use crate::reading::readers::held_by;
@@ -113,9 +113,11 @@ impl<S: Alter> DeskTables<S> {
     }
 }
 
-/// How many rows are read by the keys of plans at most, where these questions would do too. No clause speaks
-/// of it.
-pub(crate) fn room_beside(questions: &[Span]) -> usize {
+/// How many rows are read by the keys of plans at most, where these questions would do too: that decides
+/// about time alone.
+pub(crate) fn room_beside(questions: &[Span]) -> usize
+    ensures { result ≡ (if nat_le (leaves_begun questions.now) SHORT then FEW_BESIDE_SHORT else MOST) }
+{
     if leaves_of(questions) <= SHORT {
         FEW_BESIDE_SHORT
     } else {
@@ -124,11 +126,21 @@ pub(crate) fn room_beside(questions: &[Span]) -> usize {
 }
 
 // At how many leaves the spans begin that questions are for.
-fn leaves_of(questions: &[Span]) -> u64 {
+fn leaves_of(questions: &[Span]) -> u64
+    ensures { result ≡ min (leaves_begun questions.now) (2 ^ 64 - 1) }
+{
     let mut leaves: u64 = 0;
     for question in questions {
-        leaves = leaves.saturating_add(question.last.saturating_sub(question.first));
-        leaves = leaves.saturating_add(1);
+        leaves = with_leaves(leaves, question);
     }
     leaves
+}
+
+// So many leaves, and those that a question is for.
+fn with_leaves(leaves: u64, question: &Span) -> u64
+    ensures { result ≡ min (leaves + (question.now.last - question.now.first + 1)) (2 ^ 64 - 1) }
+{
+    leaves
+        .saturating_add(question.last.saturating_sub(question.first))
+        .saturating_add(1)
 }
