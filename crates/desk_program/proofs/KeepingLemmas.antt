@@ -24,7 +24,7 @@ use Rattle.desk_program.specs.Enrolling.{AreEnrolled, HasListed, on_terms, with_
 use Rattle.desk_program.specs.Keeping.{AreKept, AreKeptSoFar, FindsListed, FindsNews, IsFoundServed, IsLeftByOne, IsPlayKept, IsPortKept}
 use Rattle.desk_program.specs.PlayLines.{done_unless}
 use Rattle.desk_program.specs.Recorded.{IsOpen}
-use Rattle.desk_program.specs.Serving.{AreNoted, AreServed, BringsNews, Denies, EndsAfter, EndsAtNews, Exchange, Grows, IsDenied, IsLastNews, IsUnsent, Listens, Traffic, failing, first_failure, news_of, outcome_of, passage_of}
+use Rattle.desk_program.specs.Serving.{AreNoted, AreServed, BringsNews, Denies, EndsAfter, EndsAtNews, Exchange, Grows, IsAskedToListen, IsDenied, IsLastNews, IsUnsent, Traffic, failing, first_failure, news_of, outcome_of, passage_of}
 use Rattle.desk_program.proofs.ServedLemmas.{all_then, all_unsent, both_more, both_news, both_noted, both_served, none, none_last, none_more, not_ok, one_closed, one_ends, served_then, stays, stops}
 
 -- ---- enrolments
@@ -374,7 +374,7 @@ module _ {A S : Type 0} (g : Ghosts S) (done : Result A Failure) (serve : ServeW
       → world_of g.content begun ≡ with_operators (on_terms w serve.desk.terms) serve.desk.enrolments.items)
       → ((found : Option World) → g.may_leave begun.store found
       → found ≡ Some (world_of g.content begun).content)
-      → (old mid new : Traffic) → Listens old mid serve.port
+      → (old mid new : Traffic) → IsAskedToListen old mid serve.port
       → AreKept g done serve.connections (course mid new) begun left
       → (found : Option World) → g.may_leave left.store found
       → IsPortKept (IsHonest (g.doubt left.store)) done serve (course old new) w (world_of g.content left)
@@ -399,7 +399,7 @@ module _ {A S : Type 0} (g : Ghosts S) (done : Result A Failure) (serve : ServeW
       → ((found : Option World) → g.may_leave desk.store found
       → found ≡ Some (world_of g.content desk).content)
       → (f : Failure) (old new : Traffic) → IsErrAnd done (λ e. e ≡ f) → IsDenied f
-      → Listens old new serve.port → (found : Option World) → g.may_leave desk.store found
+      → IsAskedToListen old new serve.port → (found : Option World) → g.may_leave desk.store found
       → IsPortKept (IsHonest (g.doubt desk.store)) done serve (course old new) w (world_of g.content desk)
       found
   unserved_kept desk p listed only f old new is denied listens =

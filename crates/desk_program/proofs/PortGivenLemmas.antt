@@ -29,7 +29,7 @@ use Rattle.desk_line.specs.declared.line.Enrolment.{Enrolment}
 use Rattle.desk_program.specs.Enrolling.{AreEnrolled, with_operators}
 use Rattle.desk_program.specs.PortGiven.{IsWhole}
 use Rattle.desk_program.specs.PortTurns.{AreTurns, HasTurns, IsGiven, IsSent, ListsLast, Sends, Turn, caller, left_by, sent_in, world_by, world_met}
-use Rattle.desk_program.specs.Serving.{AreServed, AreTaken, Exchange, Grows, IsLastNews, Listens, Parting, Traffic, is_answered, outcome_of, passage_of}
+use Rattle.desk_program.specs.Serving.{AreServed, AreTaken, Exchange, Grows, IsAskedToListen, IsLastNews, Parting, Traffic, is_answered, outcome_of, passage_of}
 
 -- ---- what one client was sent
 
@@ -192,15 +192,15 @@ port_turns H done count port w after h p tells =
 
 -- the turns since a port was asked to listen
 pub listening_turns : (port : Course Traffic) (listening : Traffic) (number : ℕ) (w after : DeskWorld)
-    → Listens port.before listening number → HasTurns (course listening port.after) w after
+    → IsAskedToListen port.before listening number → HasTurns (course listening port.after) w after
     → HasTurns port w after
 listening_turns port listening number w after is h = (
   h.0,
   h.1,
   record {
-    taken = subst (λ old. Grows old port.after.taken (map (λ t. t.arrival) h.0)) is.1 h.2.taken;
-    closed = subst (λ old. Grows old port.after.closed (map (λ t. t.parting) h.0)) is.2 h.2.closed;
-    news = subst (λ old. Grows old port.after.news (map (λ t. t.news) h.0 ++ option_to_list h.1)) is.3 h.2.news;
+    taken = subst (λ old. Grows old port.after.taken (map (λ t. t.arrival) h.0)) is.1.1 h.2.taken;
+    closed = subst (λ old. Grows old port.after.closed (map (λ t. t.parting) h.0)) is.1.2 h.2.closed;
+    news = subst (λ old. Grows old port.after.news (map (λ t. t.news) h.0 ++ option_to_list h.1)) is.1.3 h.2.news;
     given = h.2.given;
     left = h.2.left;
   },

@@ -1,5 +1,5 @@
 -- What connections leave, one after the other.
-use Rattle.std.proofs.Common.{◌≡◌, ◌≢◌, ◌+◌, ℕ, ℤ, List, [], ◌∷◌, ◌++◌, ◌∙◌, Option, None, Some, Result, Ok, Err, All, IfSome, length, inl, inr, refl, ap, sym, subst, arith}
+use Rattle.std.proofs.Common.{◌≡◌, ◌≢◌, ◌+◌, ℕ, ℤ, true, List, [], ◌∷◌, ◌++◌, ◌∙◌, Option, None, Some, Result, Ok, Err, All, IfSome, length, inl, inr, refl, ap, sym, subst, arith}
 use Rattle.std.specs.Prelude.{⊤, IfErr, OnOk}
 use Rattle.std.specs.Result.{IsErrAnd}
 use Rattle.std.proofs.lemmas.List.{length-append, append_assoc, append-nil}
@@ -9,7 +9,7 @@ use Rattle.desk_ends.specs.declared.serving.Served.{Served}
 use Rattle.desk_ends.specs.declared.serving.Served.TheVariants.{Answered, End}
 use Rattle.desk_ends.specs.declared.serving.ServeFault.{ServeFault}
 use Rattle.desk_ends.specs.declared.serving.ServeFault.TheVariants.{Read, Write, CutShort, OutOfMemory}
-use Rattle.desk_wire.specs.Passage.{Passage, course}
+use Rattle.desk_wire.specs.Passage.{Course, Passage, course}
 use Rattle.desk_wire.specs.OneRequest.{HasServed, IsReplied}
 use Rattle.desk_wire.specs.declared.response.ServerError.{ServerError}
 use Rattle.desk_line.specs.declared.failure.Failure.{Failure}
@@ -18,7 +18,7 @@ use Rattle.desk_line.specs.declared.line.Serve.{Serve as ServeWords}
 use Rattle.desk_line.specs.declared.line.Enrolment.{Enrolment}
 use Rattle.desk_program.specs.Enrolling.{AreEnrolled, on_terms, with_operators}
 use Rattle.desk_program.specs.Recorded.{IsCutOff, IsOpen, Noted, Recorded, Ended, Open, RecordsNone, with_news, with_request}
-use Rattle.desk_program.specs.Serving.{AreNoted, AreServed, AreTaken, Denies, EndsAfter, EndsAtNews, EndsDeskBy, Exchange, Grows, IsAtPort, IsDenied, IsLastNews, IsUnsent, Listens, Parting, Traffic, failing, first_failure, news_of, outcome_of, passage_of}
+use Rattle.desk_program.specs.Serving.{AreNoted, AreServed, AreTaken, Denies, EndsAfter, EndsAtNews, EndsDeskBy, Exchange, Grows, IsAskedToListen, IsAtPort, IsDenied, IsLastNews, IsUnsent, Parting, PrintsIfListening, Traffic, failing, first_failure, news_of, outcome_of, passage_of}
 
 -- ---- the connections that are taken
 
@@ -304,10 +304,18 @@ last_stops H (Ok d) f then is was (Some news) w after h = absurd is
 last_stops H (Err e) f then is was (Some news) w after h = subst (λ v. EndsAtNews H v news w after) (sym is)
     (subst (λ r. IsLastNews H (Some news) r w after) was h)
 
+-- what is printed, after connections were served
+pub still_heard : (old mid new : Traffic) (number : ℕ) (writes : Course (Option (List ℕ)))
+    → new.listened ≡ mid.listened → PrintsIfListening (course old mid) number writes
+    → PrintsIfListening (course old new) number writes
+still_heard old mid new number writes same (inl listens) =
+    inl (subst (λ now. Grows old.listened now ((number, true) ∷ [])) (sym same) listens)
+still_heard old mid new number writes same (inr none) = inr none
+
 -- the operators are listed, and no connection is taken
 pub unserved : {A : Type 0} (H : Type 0) (done : Result A Failure) (f : Failure) (serve : ServeWords)
     (old new : Traffic) (w after : DeskWorld) → IsErrAnd done (λ e. e ≡ f)
-    → IsDenied f → Listens old new serve.port → (H → after ≡ with_operators (on_terms w serve.desk.terms)
+    → IsDenied f → IsAskedToListen old new serve.port → (H → after ≡ with_operators (on_terms w serve.desk.terms)
     serve.desk.enrolments.items)
     → IsAtPort H done serve (course old new) w after
 unserved H done f serve old new w after is denied listens listed = inl (record {

@@ -44,11 +44,11 @@ pub record Parting : Type 0 where
 abbrev pub parted : Option (List ℕ) → Option (List ℕ) → Outcome → Parting
 parted unread sent outcome = record { unread = unread; sent = sent; outcome = outcome }
 
--- what a port tells: the numbers at which it was asked to listen, the connections that were taken, those that
--- were closed, and the enrolments of each news that it was asked for, in their order, and what it has
--- recorded of them, if they are known
+-- what a port tells: the numbers at which it was asked to listen, and whether it does, the connections that
+-- were taken, those that were closed, and the enrolments of each news that it was asked for, in their order,
+-- and what it has recorded of them, if they are known
 pub record Traffic : Type 0 where
-  pub listened : Option (List ℕ)
+  pub listened : Option (List (ℕ × Bool))
   pub taken : Option (List Arrival)
   pub closed : Option (List Parting)
   pub news : Option (List (List Enrolment))
@@ -63,10 +63,20 @@ Grows None new more = ⊤
 Grows (Some old) None more = ⊥
 Grows (Some old) (Some new) more = new ≡ old ++ more
 
--- it is asked to listen at a number; a connection is taken; one is closed; news are brought
-abbrev pub Listens : Traffic → Traffic → ℕ → Type 0
-Listens old new number = Grows old.listened new.listened (number ∷ []) × (new.taken ≡ old.taken)
-    × (new.closed ≡ old.closed) × (new.news ≡ old.news) × (new.recorded ≡ old.recorded)
+-- it is asked to listen at a number, and does, or can't; a connection is taken; one is closed; news are
+-- brought
+abbrev pub Listens : Traffic → Traffic → ℕ → Bool → Type 0
+Listens old new number does = Grows old.listened new.listened ((number, does) ∷ [])
+    × (new.taken ≡ old.taken) × (new.closed ≡ old.closed) × (new.news ≡ old.news)
+    × (new.recorded ≡ old.recorded)
+
+abbrev pub IsAskedToListen : Traffic → Traffic → ℕ → Type 0
+IsAskedToListen old new number = (does : Bool) × Listens old new number does
+
+-- something is printed only if the port listens at a number then
+abbrev pub PrintsIfListening : Course Traffic → ℕ → Course (Option (List ℕ)) → Type 0
+PrintsIfListening port number writes =
+    Grows port.before.listened port.after.listened ((number, true) ∷ []) ⊎ (writes.after ≡ writes.before)
 
 abbrev pub TakesArrival : Traffic → Traffic → Arrival → Type 0
 TakesArrival old new arrival = Grows old.taken new.taken (arrival ∷ []) × (new.closed ≡ old.closed)
@@ -229,7 +239,7 @@ pub record HasBegunServing {A : Type 0} (H : Type 0) (done : Result A Failure) (
   pub begun : DeskWorld
   pub listed : H → begun ≡ with_operators (on_terms w serve.desk.terms) serve.desk.enrolments.items
   pub listening : Traffic
-  pub listens : Listens port.before listening serve.port
+  pub listens : IsAskedToListen port.before listening serve.port
   pub taken : AreTaken H done serve.connections (course listening port.after) begun after
 
 -- an operator could not be listed: those before it are, and no connection is taken
@@ -244,10 +254,11 @@ abbrev pub IsAtPort :
 IsAtPort H done serve port w after =
     HasBegunServing H done serve port w after ⊎ IsNotBegun H done serve port w after
 
--- a line of `serve` is carried out, prints that it listens, and ends as that does
+-- a line of `serve` is carried out, prints that it listens, if it does, and ends as that does
 pub record IsLineServed (H : Type 0) (serve : ServeWords) (end : Ending) (port : Course Traffic)
     (writes : Course (Option (List ℕ))) (w after : DeskWorld) : Type 0 where
   pub done : Result ⊤ Failure
   pub ends : EndsWith done end
   pub printed : IsAnnounced done (listening_line serve.port) writes.before writes.after
+  pub heard : PrintsIfListening port serve.port writes
   pub came : IsAtPort H done serve port w after

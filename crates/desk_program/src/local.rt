@@ -1,10 +1,11 @@
 //! A port of 127.0.0.1, with the moments of the clock.
 
-ghost use Rattle.std.specs.Prelude.{◌≡◌, ◌≢◌, None, Some, Err, Ok, IfErr, IfOk, codes, option_map, string_bytes};
+ghost use Rattle.std.specs.Prelude.{◌≡◌, ◌≢◌, None, Some, Err, Ok, IfErr, IfOk, IsSome, OnOk, codes, option_map, string_bytes};
 ghost use Rattle.std.specs.IoError.{error_kind};
+ghost use Rattle.std.specs.Result.{is_ok};
 ghost use Rattle.std.specs.Time.{system_time_nanos};
 ghost use Rattle.desk_program.specs.Serving as spec;
-ghost use Rattle.desk_program.specs.Serving.{IsDenied};
+ghost use Rattle.desk_program.specs.Serving.{IsDenied, Listens, untold};
 ghost use Rattle.desk_program.specs.Waiting.{moment_at};
 
 use crate::port::{Connection, Outcome, Port, Register};
@@ -72,7 +73,11 @@ impl<'s, N: Net, C: Clock, G: Register + Drop, E: Write> Port for LocalPort<'s, 
 
     type Output = Timed<'s, N::Stream, C>;
 
-    fn listen(&mut self, number: u16) -> Result<(), Failure> {
+    fn listen(&mut self, number: u16) -> Result<(), Failure>
+        ensures listens { Listens untold untold number (is_ok result) }
+        ensures fault { IfErr result IsDenied }
+        ensures listener { OnOk result (IsSome self.new.listener) }
+    {
         match TcpListener::bind(self.net, (Ipv4Addr::LOCALHOST, number)) {
             Ok(listener) => {
                 self.listener = Some(listener);

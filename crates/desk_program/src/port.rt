@@ -1,6 +1,7 @@
 //! Where a desk gets its connections from.
 
 ghost use Rattle.std.specs.Prelude.{◌≡◌, IfOk, IfErr, OnOk, OnErr};
+ghost use Rattle.std.specs.Result.{is_ok};
 ghost use Rattle.desk_line.specs.Lines.{AreEnrolments};
 ghost use Rattle.desk_program.specs.Recorded.{IsOpen};
 ghost use Rattle.desk_program.specs.Serving.{BringsNews, Closes, Denies, IsDenied, IsFresh, Listens};
@@ -50,8 +51,9 @@ pub trait Port {
 
     type Output: Write + Drop;
 
-    /// The numbers at which it was asked to listen, the connections that were taken, those that were closed,
-    /// the news that it brought, in their order, and what it has recorded of them, if they are known.
+    /// The numbers at which it was asked to listen, and whether it does, the connections that were taken,
+    /// those that were closed, the news that it brought, in their order, and what it has recorded of them, if
+    /// they are known.
     ghost traffic: { Self → Traffic } = { λ _. untold };
 
     /// Listens at the port of this number.
@@ -60,7 +62,7 @@ pub trait Port {
     ///
     /// `Network` if the port can't be had.
     fn listen(&mut self, number: u16) -> Result<(), Failure>
-        ensures listens { Listens (traffic self.old) (traffic self.new) number }
+        ensures listens { Listens (traffic self.old) (traffic self.new) number (is_ok result) }
         ensures fault { IfErr result IsDenied };
 
     /// Waits until there is a connection, which `take` takes then, and tells the operators that the keeper

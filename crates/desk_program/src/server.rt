@@ -15,8 +15,8 @@ ghost use Rattle.desk_program.specs.PortPlays.{IsInputKept, IsInputPlayed};
 ghost use Rattle.desk_program.specs.Keeping.{AreKept, IsPortKept, IsServeKept};
 ghost use Rattle.desk_program.specs.Outside.{bytes_written, ended};
 ghost use Rattle.desk_program.specs.Serving as spec;
-ghost use Rattle.desk_program.specs.Serving.{IsAtPort, IsDenied, IsLineServed, Listens, failing};
-ghost use Rattle.desk_program.specs.Serving.{first_failure, listening_line};
+ghost use Rattle.desk_program.specs.Serving.{IsAskedToListen, IsAtPort, IsDenied, IsLineServed, failing};
+ghost use Rattle.desk_program.specs.Serving.{PrintsIfListening, first_failure, listening_line};
 
 use crate::port::{Connection, Outcome, Port};
 use crate::program::{enrol_news, set_up};
@@ -74,6 +74,8 @@ fn serve_line<S: PlanStore, P: Port, W: Write>(
         (world_of S.content desk.new)) }
     ensures printed { IsAnnounced result (listening_line line.now.port) (W.contents output.old)
         (W.contents output.new) }
+    ensures heard { PrintsIfListening (course (P.traffic port.old) (P.traffic port.new)) line.now.port
+        (course (W.contents output.old) (W.contents output.new)) }
     ensures remembered { Remembers S.doubt S.faults S.is_shielded desk.old.store desk.new.store }
     ensures cause { IsEndCounted result (S.faults desk.old.store) (S.faults desk.new.store) }
 {
@@ -90,7 +92,9 @@ fn listen<P: Port, W: Write>(
     output: &mut W,
 ) -> Result<(), Failure>
     ensures fault { IfErr result IsDenied }
-    ensures listens { Listens (P.traffic port.old) (P.traffic port.new) number }
+    ensures listens { IsAskedToListen (P.traffic port.old) (P.traffic port.new) number }
+    ensures heard { PrintsIfListening (course (P.traffic port.old) (P.traffic port.new)) number
+        (course (W.contents output.old) (W.contents output.new)) }
     ensures printed { IsAnnounced result (listening_line number) (W.contents output.old)
         (W.contents output.new) }
 {

@@ -1,13 +1,17 @@
 -- A request that is asked again: two steps of its record; and what a recovery comes to.
-use Rattle.std.proofs.Common.{◌≡◌, List, [], ◌∷◌, ◌++◌, Option, None, Some, Result, Ok, Err, inl, inr, ap, subst, sym, ◌∙◌, append_assoc}
-use Rattle.std.specs.Prelude.{⊤, option_map}
+use Rattle.std.proofs.Common.{◌≡◌, ◌≤◌, List, [], ◌∷◌, ◌++◌, Option, None, Some, Result, Ok, Err, inl, inr, ap, subst, sym, ◌∙◌, append_assoc}
+use Rattle.std.specs.Prelude.{⊤, OnOk, option_map}
+use Rattle.desk_store.specs.declared.store.PlanStore.{Ghosts}
+use Rattle.desk_store.proofs.lemmas.Fault.{was_honest}
 use Rattle.desk_run.specs.CallFaults as call
-use Rattle.desk_run.specs.DeskWorld.{DeskWorld}
+use Rattle.desk_run.specs.DeskFrames.{FindsOnly}
+use Rattle.desk_run.specs.DeskWorld.{DeskWorld, Parts, world_of}
 use Rattle.desk_run.specs.declared.fault.DeskFault.{DeskFault}
 use Rattle.desk_wire.specs.Passage.{Course, course}
 use Rattle.desk_line.specs.Exits.{IsLineBreakdown, enrolment_failure}
 use Rattle.desk_line.specs.declared.failure.Failure.{Failure}
 use Rattle.desk_program.specs.Enrolling.{AreListedSoFar, on_terms, with_operators}
+use Rattle.desk_replay.specs.Replaying.{StaysSettled}
 use Rattle.desk_recording.specs.Recording.{AddsStep, Step}
 use Rattle.desk_recording.specs.Recovering.{AddsBoth, AsksAgainIfAny, Recovers, Undone}
 
@@ -46,3 +50,13 @@ unlisted u world steps fault f is broken same so_far =
       kept = same;
       listed = so_far;
     })
+
+-- what was settled before the operators were listed is so once the request is answered
+pub still_settled : {S A E : Type 0} (g : Ghosts S) (old mid new : Parts S) (done : Result A E)
+    → g.doubt mid.store ≤ g.doubt new.store
+    → FindsOnly g old mid (λ found. found ≡ Some (world_of g.content mid).content)
+    → OnOk done (StaysSettled g mid new)
+    → OnOk done (StaysSettled g old new)
+still_settled g old mid new (Ok d) below finds kept =
+    λ honest settled. kept honest (λ found may. finds (was_honest below honest) settled found may)
+still_settled g old mid new (Err e) below finds kept = tt

@@ -1,7 +1,8 @@
 -- What one step more changes of what a port tells.
 use Rattle.std.proofs.Common.{◌≡◌, ◌<◌, ◌⊎◌, ℕ, ℤ, pos, nat_abs, Bool, true, false, List, [], ◌∷◌, ◌++◌, Option, None, Some, IfSome, length, append-nil, ap, inl, inr, refl, subst, sym, ◌∙◌}
-use Rattle.std.specs.Prelude.{not, option_map}
+use Rattle.std.specs.Prelude.{⊤, not, option_map, Result}
 use Rattle.desk_ends.specs.Moments.{IsMoment}
+use Rattle.desk_ends.specs.declared.writing.Cut.{Cut}
 use Rattle.desk_record.specs.Record.{entry}
 use Rattle.desk_wire.specs.Passage.{Course, course}
 use Rattle.desk_wire.specs.Streams.{IsRequest}
@@ -223,22 +224,23 @@ closes (Some steps) new recorded after parting (inr is) answer =
       answer,
     )
 
-kept_or_lost : (old new : Option (List Step)) (parting : Parting) (writes : Course (Option (List ℕ)))
-    → SendsKept (course old new) parting writes
+kept_or_lost : {W : Type 0} (old new : Option (List Step)) (parting : Parting)
+    (writes : Course (Option (List ℕ))) (done : Result ⊤ (Cut W))
+    → SendsKept (course old new) parting writes done
     → AddsStep old new (Answered parting) ⊎ AddsStep old new (Lost parting)
-kept_or_lost old new parting writes (inl kept) = inl kept.0
-kept_or_lost old new parting writes (inr lost) = inr lost.0
+kept_or_lost old new parting writes done (inl kept) = inl kept.0
+kept_or_lost old new parting writes done (inr lost) = inr lost.0
 
-module _ (old new : Option (List Step)) (noted now : Option Noted) (was_lost is_lost : Bool)
-    (parting : Parting) (answer : List ℕ) (out sent : Option (List ℕ)) where
-  pub closes_so : SendsKept (course old new) parting (course out sent) → parting.sent ≡ Some answer
+module _ {W : Type 0} (old new : Option (List Step)) (noted now : Option Noted) (was_lost is_lost : Bool)
+    (parting : Parting) (answer : List ℕ) (out sent : Option (List ℕ)) (done : Result ⊤ (Cut W)) where
+  pub closes_so : SendsKept (course old new) parting (course out sent) done → parting.sent ≡ Some answer
       → Notes noted now (not is_lost) (λ n. with_answer n answer)
       → (is_lost ≡ false → (was_lost ≡ false) × (parting.outcome.is_answered ≡ true))
       → Closes (traffic_of old (recorded_by was_lost noted))
       (traffic_of new (recorded_by is_lost now)) parting
   closes_so sends said noting may =
       closes old new (recorded_by was_lost noted) (recorded_by is_lost now) parting
-      (kept_or_lost old new parting (course out sent) sends)
+      (kept_or_lost old new parting (course out sent) done sends)
       (subst (λ s. RecordsAnswer (recorded_by was_lost noted) (recorded_by is_lost now) s
       parting.outcome.is_answered) (sym said)
       (records_answer noted now was_lost is_lost parting.outcome.is_answered answer noting may))

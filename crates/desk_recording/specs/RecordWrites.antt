@@ -1,5 +1,5 @@
 -- RecordWrites: what is done to the file of a record, so that something is kept.
-use Rattle.std.specs.Prelude.{◌≡◌, ⊤, ℕ, Bool, true, false, List, [], ◌∷◌, ◌++◌, map, Option, None, Some, option_map}
+use Rattle.std.specs.Prelude.{◌≡◌, ◌⊎◌, ⊤, ℕ, Bool, true, false, List, [], ◌∷◌, ◌++◌, map, Option, None, Some, option_map}
 use Rattle.desk_line.specs.declared.line.Enrolment.{Enrolment}
 use Rattle.desk_record.specs.Record.{EntryParts, entries, entry}
 use Rattle.desk_program.specs.Recorded.{Noted, answer_entry, operator_entry, request_entry}
@@ -15,6 +15,16 @@ pub data Write : Type 0 where
 -- known writes are followed by these
 abbrev pub FollowsWrites : Option (List Write) → Option (List Write) → List Write → Type 0
 FollowsWrites old new more = new ≡ option_map (λ writes. writes ++ more) old
+
+-- none of two writes is made, as memory was refused; or the first fails, and no other is tried; or that is
+-- made, and the second fails
+abbrev pub StopsWriting : Option (List Write) → Option (List Write) → Write → Type 0
+StopsWriting old new first = (new ≡ old) ⊎ FollowsWrites old new (Failed ∷ [])
+    ⊎ FollowsWrites old new (first ∷ Failed ∷ [])
+
+-- one write isn't made: memory was refused, or it fails, and no other is tried
+abbrev pub IsNotWritten : Option (List Write) → Option (List Write) → Type 0
+IsNotWritten old new = (new ≡ old) ⊎ FollowsWrites old new (Failed ∷ [])
 
 -- a write is made, or fails
 abbrev pub MakesWrite : Option (List Write) → Option (List Write) → Bool → Write → Type 0

@@ -1,11 +1,11 @@
 //! The beginning of a record.
 
-ghost use Rattle.std.specs.Prelude.{◌≡◌, ◌++◌, map, option_to_list, IfOk, OnOk};
+ghost use Rattle.std.specs.Prelude.{◌≡◌, ◌++◌, map, option_to_list, IfOk, OnErr, OnOk};
 ghost use Rattle.desk_record.specs.Record.{entries};
 ghost use Rattle.desk_recording.specs.Beginning.{header, header_writes, permitted_below, permitted_if};
 ghost use Rattle.desk_recording.specs.Beginning.{spans_entry};
 ghost use Rattle.desk_program.specs.Recorded.{operator_entry};
-ghost use Rattle.desk_recording.specs.RecordWrites.{FollowsWrites};
+ghost use Rattle.desk_recording.specs.RecordWrites.{Appended, FollowsWrites, StopsWriting};
 
 use crate::journal::{Journal, Unwritten, append_to, sync_to};
 use desk_line::Enrolment;
@@ -31,8 +31,10 @@ pub fn begin_record<J: Journal>(
     terms: &Terms,
     operators: &[Enrolment],
 ) -> Result<(), Unwritten<J::Fault>>
-    ensures { OnOk result (FollowsWrites (J.writes journal.old) (J.writes journal.new)
+    ensures done { OnOk result (FollowsWrites (J.writes journal.old) (J.writes journal.new)
         (header_writes number terms.now operators.now)) }
+    ensures stops { OnErr result (StopsWriting (J.writes journal.old) (J.writes journal.new)
+        (Appended (entries (header number terms.now operators.now)))) }
 {
     let text = header_text(alloc, number, terms, operators)?;
     append_to(journal, &text)?;

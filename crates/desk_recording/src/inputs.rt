@@ -3,6 +3,7 @@
 
 ghost use Rattle.std.specs.Prelude.{◌≡◌, [], false, Err, IfErr, IfOk, IfSome, IsOkAnd, IsSome, None, Ok, OnErr, OnOk, Some, not};
 ghost use Rattle.std.specs.Option.{IsSomeAnd, option_map};
+ghost use Rattle.std.specs.Result.{is_ok};
 ghost use Rattle.std.specs.Io.Cursor.{cursor_inner, cursor_remaining};
 ghost use Rattle.desk_wire.specs.OneRequest.{IsTaken};
 ghost use Rattle.desk_wire.specs.Passage.{course};
@@ -106,7 +107,7 @@ impl<R: Read + Drop, W: Write + Drop> Port for InputPort<R, W> {
     type Output = Vec<u8>;
 
     fn listen(&mut self, _number: u16) -> Result<(), Failure>
-        ensures listens { Listens untold untold _number }
+        ensures listens { Listens untold untold _number (is_ok result) }
         ensures fault { IfErr result IsDenied }
         ensures ok { result ≡ Ok (tt {0}) }
         ensures ended { self.new.ended ≡ self.old.ended }

@@ -3,6 +3,7 @@
 ghost use Rattle.std.specs.Prelude.{◌≡◌, ◌⊎◌, false, true};
 ghost use Rattle.std.specs.Prelude.{Err, None, Some, IfErr, IfOk, IsSome, OnErr, OnOk};
 ghost use Rattle.std.specs.Option.{IsNone, is_none, is_some};
+ghost use Rattle.std.specs.Result.{is_ok};
 ghost use Rattle.std.specs.Io.Cursor.{cursor_inner, cursor_remaining};
 ghost use Rattle.desk_wire.specs.Passage.{course};
 ghost use Rattle.desk_wire.specs.RefusalTexts.{server_error_text};
@@ -20,7 +21,7 @@ ghost use Rattle.desk_recording.specs.Telling.{parted_in, told_of};
 use crate::receiving::{Unread, Unreceived, receive};
 use crate::record::{Parted, Record, RecordFault};
 use crate::streams::{Given, Held};
-use desk_ends::write_whole;
+use desk_ends::{Cut, write_whole};
 use desk_line::{Enrolment, Failure};
 use desk_program::{Connection, Outcome, Port};
 use desk_wire::ServerError;
@@ -75,8 +76,8 @@ impl<P: Port + Drop, R: Record + Drop> Port for RecordedPort<P, R> {
     ghost traffic = { λ s. told_of R.Record s };
 
     fn listen(&mut self, number: u16) -> Result<(), Failure>
-        ensures listens { Listens (told_of R.Record self.old) (told_of R.Record self.new) number }
-        ensures asked { Listens (P.traffic self.old.port) (P.traffic self.new.port) number }
+        ensures listens { Listens (told_of R.Record self.old) (told_of R.Record self.new) number (is_ok result) }
+        ensures asked { Listens (P.traffic self.old.port) (P.traffic self.new.port) number (is_ok result) }
         ensures fault { IfErr result IsDenied }
         ensures kept { self.new.broken ≡ self.old.broken }
     {
@@ -157,7 +158,7 @@ impl<P: Port + Drop, R: Record + Drop> Port for RecordedPort<P, R> {
             }),
             Err(fault) => {
                 self.broken = Some(Loss::Unkept(RecordFault::by(fault)));
-                refuse(&mut taken.output);
+                let _ = refuse(&mut taken.output);
                 let _ = self.port.close(taken.input, taken.output, UNANSWERED);
                 Err(Failure::Broken)
             }
@@ -179,7 +180,7 @@ impl<P: Port + Drop, R: Record + Drop> Port for RecordedPort<P, R> {
         ensures cause { result ≡ Err Failure.Broken → IsSome self.new.broken }
         ensures lost { self.new.broken ≡ Some Loss.Unanswered
             → (self.old.broken ≡ Some Loss.Unanswered) ⊎ (outcome.is_answered ≡ false) }
-        ensures kept { IsClosedBy (course (R.steps self.old.keeper) (R.steps self.new.keeper))
+        ensures kept { IsClosedBy P.Output (course (R.steps self.old.keeper) (R.steps self.new.keeper))
             (parted_in input output outcome) (client_of (P.Input.remaining input.client)
             (P.Output.contents output.to)) (course (P.traffic self.old.port) (P.traffic self.new.port)) }
         ensures broken { IsNone self.new.broken → IsNone self.old.broken × AddsStep
@@ -196,7 +197,8 @@ impl<P: Port + Drop, R: Record + Drop> Port for RecordedPort<P, R> {
             sent: &answer,
             outcome,
         };
-        self.broken = send_kept(&mut self.keeper, self.broken, connection, &mut to);
+        let (broken, _) = send_kept(&mut self.keeper, self.broken, connection, &mut to);
+        self.broken = broken;
         let closed = self.port.close(client, to, outcome);
         closed_as(self.broken.is_some(), closed)
     }
@@ -226,31 +228,29 @@ fn closed_as(is_lost: bool, closed: Result<(), Failure>) -> Result<(), Failure>
 }
 
 // Keeps the answer of a connection, if it is whole and nothing was lost before, and then sends it; or else
-// tells the client that the desk failed. What is lost, if so.
+// tells the client that the desk failed. What is lost, if so, and whether all was sent.
 fn send_kept<R: Record, W: Write>(
     keeper: &mut R,
     broken: Option<Loss<R>>,
     connection: Parted<'_>,
     client: &mut W,
-) -> Option<Loss<R>>
+) -> (Option<Loss<R>>, Result<(), Cut<W>>)
     ensures sends { SendsKept (course (R.steps keeper.old) (R.steps keeper.new)) (parting_of connection.entry)
-        (course (W.contents client.old) (W.contents client.new)) }
-    ensures kept { IsNone result →
+        (course (W.contents client.old) (W.contents client.new)) result.1 }
+    ensures kept { IsNone result.0 →
         AddsStep (R.steps keeper.old) (R.steps keeper.new) (Answered (parting_of connection.entry)) }
-    ensures noted { Notes (R.noted keeper.old) (R.noted keeper.new) (is_none result)
+    ensures noted { Notes (R.noted keeper.old) (R.noted keeper.new) (is_none result.0)
         (λ n. with_answer n connection.entry.sent.now) }
-    ensures whole { IsNone result → IsNone broken × (connection.entry.outcome.is_answered ≡ true) }
-    ensures lost { result ≡ Some Loss.Unanswered
+    ensures whole { IsNone result.0 → IsNone broken × (connection.entry.outcome.is_answered ≡ true) }
+    ensures lost { result.0 ≡ Some Loss.Unanswered
         → (broken ≡ Some Loss.Unanswered) ⊎ (connection.entry.outcome.is_answered ≡ false) }
 {
     let lost = keep_or_lose(keeper, broken, connection);
     if lost.is_none() {
-        send(client, connection.sent);
-    } else {
-        keeper.lose_answer(connection);
-        refuse(client);
+        return (None, write_whole(client, connection.sent));
     }
-    lost
+    keeper.lose_answer(connection);
+    (lost, refuse(client))
 }
 
 // Keeps the answer of a connection, if it is whole and nothing was lost before. What is lost, if so.
@@ -309,17 +309,10 @@ fn request_of<R: Read>(alloc: Global, client: &mut R) -> Result<Received<R>, All
 }
 
 // Tells a client that its request, or the answer to it, can't be kept.
-fn refuse<W: Write>(client: &mut W)
-    ensures { Sends (server_error_text Store) (W.contents client.old) (W.contents client.new) }
+fn refuse<W: Write>(client: &mut W) -> Result<(), Cut<W>>
+    ensures { Sends (server_error_text Store) (W.contents client.old) (W.contents client.new) result }
 {
-    send(client, ServerError::Store.answer());
-}
-
-// Sends bytes to a client. A fault of the connection is passed over.
-fn send<W: Write>(client: &mut W, bytes: &[u8])
-    ensures { Sends bytes.now (W.contents client.old) (W.contents client.new) }
-{
-    let _ = write_whole(client, bytes);
+    write_whole(client, ServerError::Store.answer())
 }
 
 // The bytes that are left of a request.

@@ -2,13 +2,14 @@
 
 ghost use Rattle.std.specs.Prelude.{◌≡◌, ◌≤◌, ◌⊎◌, IsTrue, IfErr, IfOk, OnOk};
 ghost use Rattle.desk_rules.specs.Limits.{max_priority};
-ghost use Rattle.desk_store.specs.StoreFaults.{IsHonest};
+ghost use Rattle.desk_store.specs.StoreFaults.{HasRisen, IsHonest};
 ghost use Rattle.desk_store.specs.StoreFrames.{Remembers};
 ghost use Rattle.desk_run.specs.CallFaults.{IsBreakdown};
 ghost use Rattle.desk_run.specs.DeskWorld.{world_of};
 ghost use Rattle.desk_wire.specs.Passage.{course};
 ghost use Rattle.desk_line.specs.Exits.{enrolment_failure};
 ghost use Rattle.desk_line.specs.Lines.{AreEnrolments};
+ghost use Rattle.desk_replay.specs.Replaying.{IsOwn, StaysSettled};
 ghost use Rattle.desk_recording.specs.Recording.{AddsStep, Answered, Lost, parting_of};
 ghost use Rattle.desk_recording.specs.Recovering as spec;
 ghost use Rattle.desk_recording.specs.Recovering.{AsksAgain, AsksAgainIfAny, Recovers, ended_as, told_again, undone};
@@ -121,6 +122,9 @@ pub fn recover<S: PlanStore, R: Record>(
         (course (world_of S.content desk.old) (world_of S.content desk.new))
         (course (R.steps keeper.old) (R.steps keeper.new)) (ended_as result) }
     ensures remembered { Remembers S.doubt S.faults S.is_shielded desk.old.store desk.new.store }
+    ensures kept { OnOk result (StaysSettled S.PlanStore desk.old desk.new) }
+    ensures cause { IfErr result (λ why. spec.failure_of why ≡ Failure.Store
+        → HasRisen (S.faults desk.old.store) (S.faults desk.new.store)) }
 {
     if let Err(fault) = set_up(desk, terms, missing) {
         return Err(unlisted(fault));
@@ -130,7 +134,8 @@ pub fn recover<S: PlanStore, R: Record>(
 
 // Why an operator could not be listed.
 fn unlisted<R>(fault: DeskFault) -> Unrecovered<R>
-    ensures { IsBreakdown fault → spec.failure_of result ≡ enrolment_failure fault }
+    ensures is { IsBreakdown fault → spec.failure_of result ≡ enrolment_failure fault }
+    ensures cause { IsBreakdown fault → spec.failure_of result ≡ Failure.Store → fault ≡ DeskFault.Store }
 {
     match fault {
         DeskFault::OutOfMemory => Unrecovered::OutOfMemory,
@@ -149,6 +154,9 @@ fn ask_if_any<S: PlanStore, R: Record>(
         (course (world_of S.content desk.old) (world_of S.content desk.new))
         (course (R.steps keeper.old) (R.steps keeper.new)) (ended_as result) }
     ensures remembered { Remembers S.doubt S.faults S.is_shielded desk.old.store desk.new.store }
+    ensures kept { OnOk result (StaysSettled S.PlanStore desk.old desk.new) }
+    ensures cause { IfErr result (λ why. spec.failure_of why ≡ Failure.Store
+        → HasRisen (S.faults desk.old.store) (S.faults desk.new.store)) }
 {
     match asked {
         Some(asked) => ask_again(alloc, desk, asked, keeper),
@@ -168,6 +176,9 @@ fn ask_again<S: PlanStore, R: Record>(
         (course (world_of S.content desk.old) (world_of S.content desk.new))
         (course (R.steps keeper.old) (R.steps keeper.new)) (ended_as result) }
     ensures remembered { Remembers S.doubt S.faults S.is_shielded desk.old.store desk.new.store }
+    ensures kept { OnOk result (StaysSettled S.PlanStore desk.old desk.new) }
+    ensures cause { IfErr result (λ why. spec.failure_of why ≡ Failure.Store
+        → HasRisen (S.faults desk.old.store) (S.faults desk.new.store)) }
 {
     let Unanswered { second, request } = asked;
     if second > MAX_SECOND as u64 {
@@ -222,7 +233,8 @@ fn told_again(answer: &[u8]) -> Parted<'_>
 
 // Why the desk did not answer.
 fn unanswered_by<R>(fault: ReplayFault) -> Unrecovered<R>
-    ensures { (spec.failure_of result ≡ Failure.Memory) ⊎ (spec.failure_of result ≡ Failure.Store) }
+    ensures own { (spec.failure_of result ≡ Failure.Memory) ⊎ (spec.failure_of result ≡ Failure.Store) }
+    ensures cause { IsOwn fault → spec.failure_of result ≡ Failure.Store → fault ≡ ReplayFault.Store }
 {
     match fault {
         ReplayFault::OutOfMemory => Unrecovered::OutOfMemory,

@@ -1,13 +1,14 @@
 //! A record that is written to a journal.
 
-ghost use Rattle.std.specs.Prelude.{◌≡◌, map, nat_abs, [], ◌∷◌, None, IfOk, IfSome, OnOk};
+ghost use Rattle.std.specs.Prelude.{◌≡◌, map, nat_abs, [], ◌∷◌, None, IfOk, IfSome, OnErr, OnOk};
 ghost use Rattle.std.specs.Result.{is_ok};
 ghost use Rattle.desk_record.specs.Record.{entries, entry};
-ghost use Rattle.desk_program.specs.Recorded.{AreNamed, operator_entry, with_answer, with_news, with_request};
+ghost use Rattle.desk_program.specs.Recorded.{AreNamed, operator_entry, request_entry, with_answer, with_news};
+ghost use Rattle.desk_program.specs.Recorded.{with_request};
 ghost use Rattle.desk_recording.specs.Recording.{AddsIf, Answered, Asked, Enrolled, Notes, NotesOnDisk};
 ghost use Rattle.desk_recording.specs.Recording.{parting_of};
-ghost use Rattle.desk_recording.specs.RecordWrites.{Appended, AppendsKnown, FollowsWrites, MakesWrite, Synced, answer_writes};
-ghost use Rattle.desk_recording.specs.RecordWrites.{appended_writes};
+ghost use Rattle.desk_recording.specs.RecordWrites.{Appended, AppendsKnown, Failed, FollowsWrites, IsNotWritten, MakesWrite};
+ghost use Rattle.desk_recording.specs.RecordWrites.{StopsWriting, Synced, answer_writes, appended_writes};
 ghost use Rattle.desk_recording.specs.RecordWrites.{news_writes, noted_in, request_writes};
 
 use crate::journal::{Journal, Unwritten, append_to, sync_to};
@@ -54,6 +55,7 @@ impl<J: Journal + Drop> WrittenRecord<J> {
     fn append(&mut self, kind: Kind, number: u64, bytes: &[u8]) -> Result<(), Unwritten<J::Fault>>
         ensures done { OnOk result (FollowsWrites (J.writes self.old.journal) (J.writes self.new.journal)
             (appended_writes (record { kind = kind; number = number; bytes = bytes.now }))) }
+        ensures stops { OnErr result (IsNotWritten (J.writes self.old.journal) (J.writes self.new.journal)) }
         ensures text { AppendsKnown (J.writes self.old.journal) (J.writes self.new.journal) (is_ok result)
             (entry (record { kind = kind; number = number; bytes = bytes.now })) }
         ensures second { self.new.second ≡ self.old.second }
@@ -68,6 +70,7 @@ impl<J: Journal + Drop> WrittenRecord<J> {
     fn append_news(&mut self, news: &[Enrolment]) -> Result<(), Unwritten<J::Fault>>
         ensures done { OnOk result (FollowsWrites (J.writes self.old.journal) (J.writes self.new.journal)
             (Appended (entries (map operator_entry news.now)) ∷ [])) }
+        ensures stops { OnErr result (IsNotWritten (J.writes self.old.journal) (J.writes self.new.journal)) }
         ensures text { AppendsKnown (J.writes self.old.journal) (J.writes self.new.journal) (is_ok result)
             (entries (map operator_entry news.now)) }
         ensures named { OnOk result (AreNamed news.now) }
@@ -83,6 +86,7 @@ impl<J: Journal + Drop> WrittenRecord<J> {
 fn append_text<J: Journal>(journal: &mut J, text: &[u8]) -> Result<(), Unwritten<J::Fault>>
     ensures done { OnOk result
         (FollowsWrites (J.writes journal.old) (J.writes journal.new) (Appended text.now ∷ [])) }
+    ensures stops { OnErr result (FollowsWrites (J.writes journal.old) (J.writes journal.new) (Failed ∷ [])) }
     ensures text { AppendsKnown (J.writes journal.old) (J.writes journal.new) (is_ok result) text.now }
 {
     append_to(journal, text)
@@ -119,6 +123,8 @@ impl<J: Journal + Drop> Record for WrittenRecord<J> {
             (λ _. OnOk result (AreNamed news.now)) }
         ensures writes { OnOk result (FollowsWrites (J.writes self.old.journal) (J.writes self.new.journal)
             (news_writes news.now)) }
+        ensures stops { OnErr result (StopsWriting (J.writes self.old.journal) (J.writes self.new.journal)
+            (Appended (entries (map operator_entry news.now)))) }
     {
         if news.is_empty() {
             return Ok(());
@@ -134,6 +140,8 @@ impl<J: Journal + Drop> Record for WrittenRecord<J> {
             (λ n. with_request n moment.second bytes.now) }
         ensures writes { OnOk result (FollowsWrites (J.writes self.old.journal) (J.writes self.new.journal)
             (request_writes (nat_abs moment.second) bytes.now)) }
+        ensures stops { OnErr result (StopsWriting (J.writes self.old.journal) (J.writes self.new.journal)
+            (Appended (entry (request_entry (nat_abs moment.second) bytes.now)))) }
     {
         if bytes.is_empty() {
             return Ok(());
@@ -150,6 +158,7 @@ impl<J: Journal + Drop> Record for WrittenRecord<J> {
             (λ n. with_answer n connection.entry.sent.now) }
         ensures writes { OnOk result (FollowsWrites (J.writes self.old.journal) (J.writes self.new.journal)
             (answer_writes self.old.second connection.entry.sent.now)) }
+        ensures stops { OnErr result (IsNotWritten (J.writes self.old.journal) (J.writes self.new.journal)) }
     {
         if connection.sent.is_empty() {
             return Ok(());

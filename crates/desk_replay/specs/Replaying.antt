@@ -11,8 +11,10 @@ use Rattle.desk_record.specs.Record.{EntryParts}
 use Rattle.desk_record.specs.declared.kind.Kind.{Kind}
 use Rattle.desk_record.specs.declared.kind.Kind.TheVariants as kind
 use Rattle.desk_reading.specs.Requests.{asked}
+use Rattle.desk_store.specs.StoreFaults.{IsHonest}
 use Rattle.desk_store.specs.World.{World}
-use Rattle.desk_run.specs.DeskWorld.{DeskWorld, Parts, enrolled, world_of}
+use Rattle.desk_store.specs.declared.store.PlanStore.{Ghosts}
+use Rattle.desk_run.specs.DeskWorld.{DeskWorld, IsSettled, Parts, enrolled, world_of}
 use Rattle.desk_wire.specs.Bytes.{makes_change_for, text_for, world_after}
 use Rattle.desk_wire.specs.Passage.{Course}
 use Rattle.desk_wire.specs.RefusalTexts.{server_error_text}
@@ -261,6 +263,11 @@ played s (e ∷ es) = then_taken (λ t. played t es) (taken s e)
 -- what stops a replay and says nothing of the record
 abbrev pub IsOwn : ReplayFault → Type 0
 IsOwn fault = (fault ≡ OutOfMemory) ⊎ (fault ≡ Store)
+
+-- if a start could find the desk's content alone before, it finds that of the new desk alone
+abbrev pub StaysSettled : {S : Type 0} → Ghosts S → Parts S → Parts S → Type 0
+StaysSettled g old new = IsHonest (g.doubt new.store) → IsSettled g.content g.may_leave old
+    → IsSettled g.content g.may_leave new
 
 -- the outcome is that new state; or the fault, or one of the desk's own, and all is as it was
 abbrev pub GivesOutcome : Result ⊤ ReplayFault → Outcome → State → State → Type 0

@@ -1,7 +1,7 @@
 //! Requests and answers of a record, played at a desk.
 
-ghost use Rattle.std.specs.Prelude.{◌≡◌, ◌⊎◌, IfErr, IfOk, OnErr};
-ghost use Rattle.desk_store.specs.StoreFaults.{IsHonest};
+ghost use Rattle.std.specs.Prelude.{◌≡◌, ◌⊎◌, IfErr, IfOk, OnErr, OnOk};
+ghost use Rattle.desk_store.specs.StoreFaults.{HasRisen, IsHonest};
 ghost use Rattle.desk_store.specs.StoreFrames.{Remembers};
 ghost use Rattle.desk_reading.specs.Requests.{asked as asked_in};
 ghost use Rattle.desk_run.specs.DeskWorld.{DeskWorld, world_of};
@@ -9,7 +9,7 @@ ghost use Rattle.desk_wire.specs.Bytes.{makes_change_for, text_for, world_after}
 ghost use Rattle.desk_wire.specs.Passage.{course};
 ghost use Rattle.desk_record.specs.Reading.{entry_shown};
 ghost use Rattle.desk_replay.specs.Replaying as spec;
-ghost use Rattle.desk_replay.specs.Replaying.{GivesOutcome, IsOwn, StepsAt, asking_in, asking_shown, bytes_of, is_failure};
+ghost use Rattle.desk_replay.specs.Replaying.{GivesOutcome, IsOwn, StaysSettled, StepsAt, asking_in, asking_shown, bytes_of, is_failure};
 ghost use Rattle.desk_replay.specs.Replaying.{progress_state, request_turn, requested, taken, taken_answer};
 ghost use Rattle.desk_replay.specs.declared.fault.ReplayFault.TheVariants as replay_fault;
 
@@ -185,6 +185,9 @@ pub fn answer_one<S: PlanStore>(
     ensures err { IsHonest (S.doubt desk.new.store) → OnErr result
         (world_of S.content desk.new ≡ world_of S.content desk.old) }
     ensures fault { IfErr result IsOwn }
+    ensures kept { OnOk result (StaysSettled S.PlanStore desk.old desk.new) }
+    ensures cause { IfErr result (λ f. f ≡ replay_fault.Store
+        → HasRisen (S.faults desk.old.store) (S.faults desk.new.store)) }
     ensures remembered { Remembers S.doubt S.faults S.is_shielded desk.old.store desk.new.store }
 {
     let answer = tell_one(alloc, desk, sent)?;
@@ -205,6 +208,9 @@ fn tell_one<S: PlanStore>(
         ≡ world_after (world_of S.content desk.old) sent.now.0.second (asked_in sent.now.1.items)) }
     ensures err { OnErr result (world_of S.content desk.new ≡ world_of S.content desk.old) }
     ensures fault { IfErr result IsOwn }
+    ensures kept { OnOk result (StaysSettled S.PlanStore desk.old desk.new) }
+    ensures cause { IfErr result (λ f. f ≡ replay_fault.Store
+        → HasRisen (S.faults desk.old.store) (S.faults desk.new.store)) }
     ensures remembered { Remembers S.doubt S.faults S.is_shielded desk.old.store desk.new.store }
 {
     let answer = full_answer(alloc, desk, sent.0, &sent.1)?;

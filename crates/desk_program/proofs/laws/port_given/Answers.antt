@@ -13,7 +13,7 @@ returns c = record {
   served = λ doubt done serve port w after h honest tells.
       listening_turns port h.listening serve.port h.begun after h.listens
       (port_turns (IsHonest doubt) done serve.connections (course h.listening port.after) h.begun after h.taken
-      honest (subst IsSome (sym h.listens.2) tells));
+      honest (subst IsSome (sym h.listens.1.2) tells));
   played = λ doubt done play port w after h.
       port_turns (IsHonest doubt) done max_answered port h.begun after h.taken;
 }

@@ -4,7 +4,7 @@ use Rattle.desk_store.proofs.lemmas.Fault.{was_honest}
 use Rattle.desk_run.specs.DeskWorld.{world_of}
 use Rattle.desk_program.specs.Enrolling.{on_terms, with_operators}
 use Rattle.desk_program.proofs.KeepingLemmas.{port_kept, unserved_kept}
-use Rattle.desk_program.proofs.ServedLemmas.{unserved}
+use Rattle.desk_program.proofs.ServedLemmas.{still_heard, unserved}
 use Rattle.desk_program.proofs.BegunLemmas.{announced_none, announced_same, announced_whole}
 use Rattle.desk_program.proofs.CauseLemmas.{counted_later}
 use Rattle.desk_program.proofs.server.serve_line.Goals as goal
@@ -68,3 +68,10 @@ pub returns-clause-cause : goal.returns-clause-cause
 returns-clause-cause g c =
     counted_later c.serve_connections.result _ _ _ c.set_up.ensures.remembered.counted
     c.serve_connections.ensures.cause
+
+-- nothing is printed unless the port is listened at
+pub returns-clause-heard : goal.returns-clause-heard
+returns-clause-heard g c =
+    still_heard (g.P.Port.traffic c.args.port.now) (g.P.Port.traffic c.listen.new.port)
+    (g.P.Port.traffic c.serve_connections.new.port) _ _ c.serve_connections.ensures.kept.taken.listened
+    c.in_ok-listen.ensures.heard
