@@ -5,3 +5,4 @@ pub mod CommandLemmas
 pub mod EqualLemmas
 pub mod LackLemmas
 mod RegisterLemmas
+mod PictureLemmas

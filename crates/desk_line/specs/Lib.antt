@@ -10,3 +10,4 @@ pub mod Register
 pub mod Printing
 pub mod Reporting
 pub mod Copies
+pub mod Picture

@@ -1,7 +1,9 @@
 //! Pictures of covers (SVG): the squares of the face round a rectangle, the cells of its cover, the order in
 //! which the curve goes through them, and below what the lines mean.
 
-ghost use Rattle.std.specs.Prelude.{◌<◌, ◌≤◌};
+ghost use Rattle.std.specs.Prelude.{◌≡◌, ◌<◌, ◌≤◌, ◌+◌, ◌-◌, ◌*◌, ◌/◌, ◌^◌, max, min};
+ghost use Rattle.desk_line.specs.Picture as spec;
+ghost use Rattle.desk_line.specs.Picture.{floor_of, sum64};
 
 use s2_cellid::CellId;
 use s2_cover::Rect;
@@ -99,7 +101,9 @@ impl Frame {
     }
 
     // The place of a cell.
-    fn place_of(&self, cell: &CellId) -> Place {
+    fn place_of(&self, cell: &CellId) -> Place
+        ensures { result ≡ spec.place_of self.now cell.now }
+    {
         let side = side_of(cell.level());
         let leaf = leaf_at(cell.first());
         let i = floor(u64::from(leaf.i), side);
@@ -112,25 +116,33 @@ impl Frame {
     }
 
     // How thick a line of one pixel is.
-    fn line(&self) -> u64 {
+    fn line(&self) -> u64
+        ensures { result ≡ max (self.now.width / WIDTH) 1 }
+    {
         (self.width / WIDTH).max(1)
     }
 
     // How many pixels the part is high.
-    fn tall(&self) -> u64 {
+    fn tall(&self) -> u64
+        ensures { 0 < self.now.width
+            → result ≡ min (self.now.height * WIDTH) (2 ^ 64 - 1) / self.now.width }
+    {
         let high = self.height.saturating_mul(WIDTH);
         high.checked_div(self.width).unwrap_or(0)
     }
 
     // How far below the upper edge a coordinate `j` is.
-    fn down(&self, j: u64) -> u64 {
+    fn down(&self, j: u64) -> u64
+        ensures { result ≡ sum64 self.now.j self.now.height - j }
+    {
         self.j.saturating_add(self.height).saturating_sub(j)
     }
 }
 
 // How many leaves a square of a level has along a side; a level is at most 30.
 fn side_of(level: u8) -> u64
-    ensures { 0 < result }
+    ensures value { result ≡ 2 ^ (30 - level) }
+    ensures some { 0 < result }
 {
     1 << LEAF_LEVEL.saturating_sub(level)
 }
@@ -145,8 +157,10 @@ fn step_for(length: u64, side: u64) -> u64
 }
 
 // The greatest multiple of a step up to a number.
+#[tactic(auto, using(crate::proofs::PictureLemmas::floored))]
 fn floor(number: u64, step: u64) -> u64
     requires { 0 < step }
+    ensures { result ≡ floor_of number step }
 {
     number.saturating_sub(number % step)
 }
@@ -154,6 +168,9 @@ fn floor(number: u64, step: u64) -> u64
 // The least coordinate that is shown, and how many are, of those with a margin round the given ones.
 fn shown(least: u32, greatest: u32, margin: u64, step: u64) -> (u64, u64)
     requires { 0 < step }
+    ensures from { result.0 ≡ floor_of (least - margin) step }
+    ensures count { result.1
+        ≡ min (sum64 (floor_of (sum64 greatest margin) step) step) (2 ^ 30) - result.0 }
 {
     let from = floor(u64::from(least).saturating_sub(margin), step);
     let last = u64::from(greatest).saturating_add(margin);
@@ -291,7 +308,11 @@ fn line_between(alloc: Global, from: Place, to: Place) -> Result<String, AllocEr
 }
 
 impl Place {
-    fn middle(self) -> (u64, u64) {
+    // Its middle.
+    fn middle(self) -> (u64, u64)
+        ensures x { result.0 ≡ sum64 self.x (self.side / 2) }
+        ensures y { result.1 ≡ sum64 self.y (self.side / 2) }
+    {
         let half = self.side / 2;
         (self.x.saturating_add(half), self.y.saturating_add(half))
     }

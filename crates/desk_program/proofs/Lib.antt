@@ -5,3 +5,4 @@ mod BegunLemmas
 mod EndLemmas
 mod CauseLemmas
 mod PortGivenLemmas
+mod LineLemmas

@@ -1,5 +1,6 @@
 -- Enrolling: the world in which operators are listed, and the line that tells of one.
-use Rattle.std.specs.Prelude.{◌≡◌, ◌<◌, ℕ, List, [], ◌∷◌, ◌++◌, length, take, codes, decimal, Option, Result, Ok, Err}
+use Rattle.std.specs.Prelude.{◌≡◌, ◌<◌, ◌⊎◌, ℕ, List, [], ◌∷◌, ◌++◌, length, take, codes, decimal, Option, Result, Ok, Err}
+use Rattle.std.specs.Io.KnownBytes.{Appends}
 use Rattle.desk_rules.specs.declared.terms.Terms.{Terms}
 use Rattle.desk_run.specs.DeskWorld.{DeskWorld, enrolled}
 use Rattle.desk_ends.specs.Writing.{BreaksOff}
@@ -49,3 +50,7 @@ enrolled_line e =
 -- the writing of the bytes broke off
 abbrev pub IsCutOff : List ℕ → Option (List ℕ) → Option (List ℕ) → Type 0
 IsCutOff bytes out now = (fault : WriteFault) × BreaksOff bytes out now fault
+
+-- a line is written, whole or up to the write that broke off; or memory ran out for it
+abbrev pub IsWrittenIfRoom : List ℕ → Option (List ℕ) → Option (List ℕ) → Type 0
+IsWrittenIfRoom line out now = (now ≡ out) ⊎ Appends out now line ⊎ IsCutOff line out now

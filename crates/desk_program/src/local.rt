@@ -4,6 +4,7 @@ ghost use Rattle.std.specs.Prelude.{◌≡◌, ◌≢◌, None, Some, Err, Ok, I
 ghost use Rattle.std.specs.IoError.{error_kind};
 ghost use Rattle.std.specs.Result.{is_ok};
 ghost use Rattle.std.specs.Time.{system_time_nanos};
+ghost use Rattle.desk_program.specs.Enrolling.{IsWrittenIfRoom};
 ghost use Rattle.desk_program.specs.Serving as spec;
 ghost use Rattle.desk_program.specs.Serving.{IsDenied, Listens, untold};
 ghost use Rattle.desk_program.specs.Waiting.{moment_at};
@@ -42,7 +43,12 @@ impl<'s, N: Net, C: Clock, G: Register + Drop, E: Write> LocalPort<'s, N, C, G, 
         register: G,
         alloc: Global,
         errors: E,
-    ) -> LocalPort<'s, N, C, G, E> {
+    ) -> LocalPort<'s, N, C, G, E>
+        ensures register { result.register ≡ register }
+        ensures listener { result.listener ≡ None }
+        ensures waiting { result.waiting ≡ None }
+        ensures errors { result.errors ≡ errors }
+    {
         LocalPort {
             net,
             clock,
@@ -84,7 +90,12 @@ impl<'s, N: Net, C: Clock, G: Register + Drop, E: Write> Port for LocalPort<'s, 
                 Ok(())
             }
             Err(error) => {
-                tell_port(self.alloc, number, error.kind(), &mut self.errors);
+                tell_port(
+                    self.alloc,
+                    number,
+                    port_cause(error.kind()),
+                    &mut self.errors,
+                );
                 Err(Failure::Network)
             }
         }
@@ -122,10 +133,20 @@ impl<'s, N: Net, C: Clock, G: Register + Drop, E: Write> Port for LocalPort<'s, 
 }
 
 // Tells why a port can't be had. A fault of the writer is passed over, and so is want of memory.
-fn tell_port<E: Write>(alloc: Global, number: u16, kind: ErrorKind, errors: &mut E) {
-    if let Ok(text) = port_text(alloc, number, port_cause(kind)) {
-        let _ = write_whole(errors, text.as_bytes());
+fn tell_port<E: Write>(alloc: Global, number: u16, cause: &str, errors: &mut E)
+    ensures { IsWrittenIfRoom (spec.port_line number cause.now) (E.contents errors.old)
+        (E.contents errors.new) }
+{
+    if let Ok(text) = port_text(alloc, number, cause) {
+        tell_line(&text, errors);
     }
+}
+
+// Prints a line. A fault of the writer is passed over.
+fn tell_line<E: Write>(line: &str, errors: &mut E)
+    ensures { IsWrittenIfRoom line.now (E.contents errors.old) (E.contents errors.new) }
+{
+    let _ = write_whole(errors, line.as_bytes());
 }
 
 // The line that tells why a port can't be had.
@@ -139,6 +160,8 @@ fn port_text(alloc: Global, number: u16, cause: &str) -> Result<String, AllocErr
 fn port_cause(kind: ErrorKind) -> &'static str
     ensures used { kind ≡ ErrorKind.AddrInUse → result.now ≡ codes "in use by another program" }
     ensures denied { kind ≡ ErrorKind.PermissionDenied → result.now ≡ codes "no right to it" }
+    ensures other { kind ≢ ErrorKind.AddrInUse → kind ≢ ErrorKind.PermissionDenied
+        → result.now ≡ codes "it can't be had" }
 {
     match kind {
         ErrorKind::AddrInUse => "in use by another program",

@@ -37,7 +37,10 @@ pub struct Timed<'c, T, C> {
 
 impl<'c, T, C> Timed<'c, T, C> {
     /// A direction of a stream, whose time has not begun.
-    pub(crate) fn new(stream: T, clock: &'c C) -> Timed<'c, T, C> {
+    pub(crate) fn new(stream: T, clock: &'c C) -> Timed<'c, T, C>
+        ensures stream { result.stream ≡ stream }
+        ensures end { result.end ≡ None }
+    {
         Timed {
             stream,
             clock,
@@ -85,7 +88,9 @@ impl<T: Write + OpenStream, C: Clock> Write for Timed<'_, T, C> {
 pub(crate) fn discard_rest<T: Read + OpenStream, C: Clock>(
     input: &mut Timed<'_, T, C>,
     output: &Timed<'_, T, C>,
-) -> io::Result<()> {
+) -> io::Result<()>
+    ensures { IfSome input.old.end (λ last. input.new.end ≡ Some last) }
+{
     output.stream.shutdown(Shutdown::Write)?;
     let mut chunk = [0u8; REST_CHUNK];
     for _ in 0..REST_READS {
@@ -101,7 +106,9 @@ pub(crate) fn discard_rest<T: Read + OpenStream, C: Clock>(
 pub(crate) fn discard_extra<T: Read + OpenStream, C: Clock>(
     input: &mut Timed<'_, T, C>,
     output: &Timed<'_, T, C>,
-) -> io::Result<()> {
+) -> io::Result<()>
+    ensures { input.new.end ≡ input.old.end }
+{
     output.stream.shutdown(Shutdown::Write)?;
     input.stream.set_nonblocking(true)?;
     let mut chunk = [0u8; REST_CHUNK];
@@ -117,7 +124,12 @@ pub(crate) fn discard_extra<T: Read + OpenStream, C: Clock>(
 fn read_briefly<T: Read + OpenStream, C: Clock>(
     input: &mut Timed<'_, T, C>,
     room: &mut [u8],
-) -> io::Result<usize> {
+) -> io::Result<usize>
+    ensures bound { ReadsAtMost result room.new }
+    ensures bytes { ReadConsumes (T.remaining input.old.stream) (T.remaining input.new.stream) result
+        room.new }
+    ensures kept { IfSome input.old.end (λ last. input.new.end ≡ Some last) }
+{
     let left = time_left(Instant::now(input.clock)?, &mut input.end)?;
     let wait = left.min(Duration::from_millis(REST_WAIT));
     input.stream.set_read_timeout(Some(wait))?;
