@@ -1,11 +1,10 @@
 -- What is told, one line after the other.
-use Rattle.std.proofs.Common.{◌≡◌, ℕ, List, [], ◌++◌, take, Option, Result, Ok, Err, OnOk, IfErr, inl, inr, subst, sym}
+use Rattle.std.proofs.Common.{ℕ, List, [], ◌++◌, take, Option, None, Some, inl, inr, subst, sym}
 use Rattle.std.proofs.KnownBytes.{Appends-nil, Appends-trans}
 use Rattle.std.specs.Io.KnownBytes.{Appends}
-use Rattle.desk_ends.specs.Writing.{BreaksOff}
 use Rattle.desk_ends.specs.declared.writing.Cut.{Cut}
 use Rattle.desk_wire.specs.Passage.{Course, course}
-use Rattle.desk_host.specs.Telling.{IsWrittenIfRoom, Tells}
+use Rattle.desk_host.specs.Telling.{IsWrittenIfRoom, IsWrittenUpTo, Tells}
 
 -- nothing is told
 pub tells_nothing : (now : Option (List ℕ)) → Tells (course now now)
@@ -20,11 +19,10 @@ tells_both {old} {between} {now} first next = record {
 }
 
 -- a line is written, or broken off
-pub noted : {U E : Type 0} (line : List ℕ) (old now : Option (List ℕ)) (done : Result U (Cut E))
-    → OnOk done (Appends old now line) → IfErr done (λ cut. BreaksOff line old now cut.fault)
-    → IsWrittenIfRoom line (course old now)
-noted line old now (Ok u) whole off = inr (inl whole)
-noted line old now (Err cut) whole off = inr (inr (cut.fault, off))
+pub noted : {E : Type 0} (line : List ℕ) (cut : Option (Cut E)) (writes : Course (Option (List ℕ)))
+    → IsWrittenUpTo line cut writes → IsWrittenIfRoom line writes
+noted line None writes whole = inr (inl whole)
+noted line (Some cut) writes off = inr (inr (cut.fault, off))
 
 -- a line that is written, whole or in part, is told
 pub tells_noted : (line : List ℕ) (writes : Course (Option (List ℕ))) → IsWrittenIfRoom line writes

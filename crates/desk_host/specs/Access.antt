@@ -1,10 +1,13 @@
 -- Access: what a look at the path of a file that can't be had finds, and what is told of it.
-use Rattle.std.specs.Prelude.{ℕ, ◌==◌, Bool, true, false, if◌then◌else◌, List, [], ◌∷◌, ◌++◌, codes, bytes_eq}
-use Rattle.std.specs.Prelude.{Option, None, Some, Result, Ok, Err}
+use Rattle.std.specs.Prelude.{◌≡◌, ℕ, ◌==◌, Bool, true, false, if◌then◌else◌, List, [], ◌∷◌, ◌++◌, codes}
+use Rattle.std.specs.Prelude.{bytes_eq, nat_eq, Option, None, Some, Result, Ok, Err, is_ok}
+use Rattle.std.specs.List.{starts_with}
 use Rattle.std.specs.declared.io.ErrorKind.{ErrorKind}
 use Rattle.std.specs.declared.io.ErrorKind.TheVariants as kind
 use Rattle.sqlite_std_file.specs.declared.pair.OpenError.{OpenError}
 use Rattle.sqlite_std_file.specs.declared.pair.OpenError.TheVariants as opening
+use Rattle.desk_host.specs.Answers.{Answers}
+use Rattle.desk_host.specs.declared.files.Found.{Found}
 use Rattle.desk_host.specs.declared.state.FileState.{FileState}
 use Rattle.desk_host.specs.declared.state.FileState.TheVariants as state
 use Rattle.desk_host.specs.declared.state.Missing.{Missing}
@@ -27,10 +30,18 @@ missing_by kind.NotADirectory = missing.NoFolder
 missing_by kind.PermissionDenied = missing.NoRight
 missing_by _ = missing.Other
 
--- what stands at a path where something is reached, by whether it is a regular file, and its length
-abbrev pub place_of : Bool → ℕ → Place
-place_of false len = place.NotRegular
-place_of true len = if len == 0 then place.Empty else place.Filled
+-- what stands at a path, by what was found there
+abbrev pub place_with : Bool → ℕ → Place
+place_with false len = place.NotRegular
+place_with true len = if len == 0 then place.Empty else place.Filled
+
+abbrev pub place_of : Result Found ErrorKind → Place
+place_of (Ok found) = place_with found.is_file found.len
+place_of (Err kind) = place.Nothing (missing_by kind)
+
+-- SQLite reads a name otherwise than as a path
+abbrev pub is_no_path : List ℕ → Bool
+is_no_path path = if bytes_eq path (codes ":memory:") then true else starts_with nat_eq path (codes "file:")
 
 -- what is still to be asked, by what stands there, and whether a file is made there; of a name that SQLite
 -- reads otherwise than as a path nothing is, but whether an empty file can be had that is made
@@ -52,22 +63,36 @@ abbrev pub unmade_by : Bool → FileState
 unmade_by true = state.DeadLink
 unmade_by false = state.Free
 
--- why a file can't be had, by the kind of the error of opening it for reading, of opening it for writing, and
--- by the error of opening it as SQLite does
-abbrev pub reading_denial : ErrorKind → Option Denial
-reading_denial kind.PermissionDenied = Some denial.NoReading
+-- why a file can't be had, by why it can't be opened for reading, and for writing
+abbrev pub reading_denial : Option ErrorKind → Option Denial
+reading_denial (Some kind.PermissionDenied) = Some denial.NoReading
 reading_denial _ = None
 
-abbrev pub writing_denial : ErrorKind → Option Denial
-writing_denial kind.PermissionDenied = Some denial.NoWriting
-writing_denial kind.ReadOnlyFilesystem = Some denial.ReadOnly
+abbrev pub writing_denial : Option ErrorKind → Option Denial
+writing_denial (Some kind.PermissionDenied) = Some denial.NoWriting
+writing_denial (Some kind.ReadOnlyFilesystem) = Some denial.ReadOnly
 writing_denial _ = None
 
-abbrev pub opening_denial : OpenError → Option Denial
-opening_denial opening.Busy = Some denial.Busy
-opening_denial opening.HotJournal = Some denial.HotJournal
-opening_denial (opening.Io error) = Some denial.Unopened
-opening_denial opening.OutOfMemory = None
+-- so, by the error of opening it as SQLite does
+abbrev pub denial_by : OpenError → Option Denial
+denial_by opening.Busy = Some denial.Busy
+denial_by opening.HotJournal = Some denial.HotJournal
+denial_by (opening.Io error) = Some denial.Unopened
+denial_by opening.OutOfMemory = None
+
+-- the first of two, if there is one
+abbrev pub or_denial : Option Denial → Option Denial → Option Denial
+or_denial (Some it) next = Some it
+or_denial None next = next
+
+-- why a file can't be had, by why it can't be opened for reading, and what else the machine answers
+abbrev pub denial_beside : Answers → List ℕ → Option ErrorKind → Option Denial
+denial_beside it path unread =
+    or_denial (reading_denial unread)
+    (or_denial (writing_denial (it.unwritten path)) (it.unheld path))
+
+abbrev pub access_denial : Answers → List ℕ → Option Denial
+access_denial it path = denial_beside it path (it.unread path)
 
 -- how a file begins, by its first bytes, or by the kind of the error of reading them
 abbrev pub start_of : Result (List ℕ) ErrorKind → Start
@@ -75,6 +100,22 @@ start_of (Ok bytes) =
     if bytes_eq bytes (codes "SQLite format 3" ++ (0 ∷ [])) then start.Database else start.Other
 start_of (Err kind.UnexpectedEof) = start.Other
 start_of (Err _) = start.Unread
+
+-- a file can be had, and so begins somehow; or it can't be had
+abbrev pub IsStartAt : Answers → List ℕ → Result Start Denial → Type 0
+IsStartAt it path (Ok start) = access_denial it path ≡ None
+IsStartAt it path (Err denial) = access_denial it path ≡ Some denial
+
+-- what a look at a path finds, by what is still asked once it is known what stands there
+abbrev pub IsStateBy : Answers → List ℕ → Next → FileState → Type 0
+IsStateBy it path (next.Nothing found) now = now ≡ found
+IsStateBy it path next.Link now = now ≡ unmade_by (is_ok (it.entry path))
+IsStateBy it path next.Access now = now ≡ state.Made (access_denial it path)
+IsStateBy it path next.Start now = (begun : Result Start Denial) × (now ≡ state.Filled begun)
+    × IsStartAt it path begun
+
+abbrev pub IsStateAt : Answers → List ℕ → Bool → FileState → Type 0
+IsStateAt it path made = IsStateBy it path (next_at (place_of (it.found path)) (is_no_path path) made)
 
 -- ---- what is told
 
@@ -123,3 +164,11 @@ taken_text false = codes "it is there already"
 abbrev pub may_be_damaged : FileState → Bool
 may_be_damaged (state.Filled (Ok start.Database)) = true
 may_be_damaged _ = false
+
+-- how many pages of a file have another checksum than theirs, if some have, and its pages may be damaged
+abbrev pub if_any : Option ℕ → Option ℕ
+if_any None = None
+if_any (Some count) = if count == 0 then None else Some count
+
+abbrev pub pages_of : Answers → List ℕ → FileState → Option ℕ
+pages_of it path found = if may_be_damaged found then if_any (it.unsummed path) else None

@@ -1,10 +1,8 @@
 -- DamageTold: what is told of a damaged log, and which files are opened.
 use Rattle.std.specs.Prelude.{◌≡◌, ◌⊎◌, ℕ, Bool, true, false, if◌then◌else◌, List, ◌++◌, codes, decimal}
-use Rattle.std.specs.Prelude.{Option, None, Some, IfSome, Result, Ok, Err}
-use Rattle.std.specs.Io.KnownBytes.{Appends}
+use Rattle.std.specs.Prelude.{Option, IfSome, Result, Ok, Err}
 use Rattle.std.specs.declared.io.Read as read
 use Rattle.std.specs.declared.io.Write as write
-use Rattle.desk_ends.specs.Writing.{BreaksOff}
 use Rattle.desk_ends.specs.declared.writing.Cut.{Cut}
 use Rattle.desk_wire.specs.Passage.{Course}
 use Rattle.desk_program.specs.Outside.{bytes_written}
@@ -12,7 +10,7 @@ use Rattle.desk_line.specs.declared.failure.Failure.{Failure}
 use Rattle.desk_line.specs.declared.failure.Failure.TheVariants as failure
 use Rattle.db_file.specs.Damage.{IsDamaged}
 use Rattle.db_file.specs.Reads.{IsUnjudged}
-use Rattle.desk_host.specs.Telling.{IsWrittenIfRoom, line_of}
+use Rattle.desk_host.specs.Telling.{IsWrittenIfRoom, IsWrittenUpTo, line_of}
 use Rattle.desk_host.specs.declared.logs.FoundLog.{FoundLog}
 use Rattle.desk_host.specs.declared.logs.FoundLog.TheVariants as found
 use Rattle.desk_host.specs.declared.damage.Look.{Look}
@@ -24,11 +22,6 @@ unfoldable pub damage_line : List ℕ → ℕ → ℕ → List ℕ
 damage_line path frame commits =
     codes "uss_desk: " ++ (path ++ (codes ": its log is damaged at frame " ++ (decimal frame ++ (codes ": "
     ++ (decimal commits ++ codes " commits from there on can't be read\n")))))
-
--- a line is written, whole or up to the write that broke off
-abbrev pub IsWrittenUpTo : {E : Type 0} → List ℕ → Option (Cut E) → Course (Option (List ℕ)) → Type 0
-IsWrittenUpTo line None writes = Appends writes.before writes.after line
-IsWrittenUpTo line (Some cut) writes = BreaksOff line writes.before writes.after cut.fault
 
 -- a log is damaged, and that is told, up to the write that broke off
 pub record IsLossTold {E : Type 0} (path log : List ℕ) (cut : Option (Cut E))

@@ -1,20 +1,35 @@
 -- FoundLogs: what the answers of the operating system say of a file and its log.
-use Rattle.std.specs.Prelude.{ℕ, Bool, false, not, if◌then◌else◌, Option, None, Some, Result, Ok, Err}
-use Rattle.std.specs.IoError.{error_kind}
-use Rattle.std.specs.declared.io.Error.{Error}
+use Rattle.std.specs.Prelude.{ℕ, ◌==◌, Bool, true, false, nat_le, not, if◌then◌else◌, List, Option, None, Some}
+use Rattle.std.specs.Prelude.{Result, Ok, Err}
 use Rattle.std.specs.declared.io.ErrorKind.{ErrorKind}
 use Rattle.std.specs.declared.io.ErrorKind.TheVariants as kind
+use Rattle.db_file.specs.Commits.{least_with_commit}
+use Rattle.db_file.specs.Damage.{least_damaged}
 use Rattle.desk_line.specs.declared.failure.Failure.{Failure}
 use Rattle.desk_line.specs.declared.failure.Failure.TheVariants as failure
+use Rattle.desk_host.specs.Answers.{Answers}
+use Rattle.desk_host.specs.Naming.{log_of}
+use Rattle.desk_host.specs.declared.files.Found.{Found}
+use Rattle.desk_host.specs.declared.state.Denial.{Denial}
+use Rattle.desk_host.specs.declared.state.Denial.TheVariants as denial
 
--- nothing is at a path, by the answer to whether something is; an error leaves that open
-abbrev pub is_gone : Result Bool Error → Bool
-is_gone (Ok there) = not there
-is_gone (Err error) = false
+-- nothing is at a path, by what it leads to; another error leaves that open
+abbrev pub is_gone : Result Found ErrorKind → Bool
+is_gone (Err kind.NotFound) = true
+is_gone _ = false
 
--- how many bytes count of what stands at a path, by whether it is a regular file, and its length
-abbrev pub size_of : Bool → ℕ → ℕ
-size_of is_file len = if is_file then len else 0
+-- how many bytes count of what stands at a path: those of a regular file
+abbrev pub size_of : Result Found ErrorKind → ℕ
+size_of (Ok found) = if found.is_file then found.len else 0
+size_of (Err error) = 0
+
+abbrev pub size_at : Answers → List ℕ → ℕ
+size_at it path = size_of (it.found path)
+
+-- another program has a file open
+abbrev pub is_held : Option Denial → Bool
+is_held (Some denial.Busy) = true
+is_held _ = false
 
 -- nothing is reached, or memory ran out, by the kind of the error
 abbrev pub unreached_by : {T : Type 0} → ErrorKind → Result (Option T) Failure
@@ -22,6 +37,22 @@ unreached_by kind.OutOfMemory = Err failure.Memory
 unreached_by _ = Ok None
 
 -- what was found, or nothing
-abbrev pub if_there : {T : Type 0} → Result T Error → Result (Option T) Failure
+abbrev pub if_there : {T : Type 0} → Result T ErrorKind → Result (Option T) Failure
 if_there (Ok it) = Ok (Some it)
-if_there (Err error) = unreached_by (error_kind error)
+if_there (Err kind) = unreached_by kind
+
+-- a log of so many bytes may have a commit, or be damaged
+abbrev pub may_have_commit : ℕ → Bool
+may_have_commit size = nat_le least_with_commit size
+
+abbrev pub may_be_damaged : ℕ → Bool
+may_be_damaged size = nat_le least_damaged size
+
+-- a log with a commit may be beside a file
+abbrev pub has_commit : Answers → List ℕ → Bool
+has_commit it path = may_have_commit (size_at it (log_of path))
+
+-- the log of a file has to be judged, by where the file and the log lie
+abbrev pub is_judged : Answers → List ℕ → List ℕ → List ℕ → Bool
+is_judged it path real log = if size_at it real == 0 then false
+    else (if may_be_damaged (size_at it log) then not (is_held (it.unheld path)) else false)

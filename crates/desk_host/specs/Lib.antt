@@ -7,6 +7,10 @@ pub mod Scratch
 pub mod Paths
 pub mod Access
 pub mod Operators
+pub mod Answers
+pub mod Openings
+pub mod LeftFiles
+pub mod Unmade
 pub mod FoundLogs
 pub mod DamageTold
 pub mod Ways

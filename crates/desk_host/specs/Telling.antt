@@ -1,7 +1,8 @@
 -- Telling: what is told to the administrator on the standard error.
-use Rattle.std.specs.Prelude.{◌≡◌, ◌⊎◌, ℕ, List, ◌++◌, codes, Option}
+use Rattle.std.specs.Prelude.{◌≡◌, ◌⊎◌, ℕ, List, ◌++◌, codes, Option, None, Some}
 use Rattle.std.specs.Io.KnownBytes.{Appends}
 use Rattle.desk_ends.specs.Writing.{BreaksOff}
+use Rattle.desk_ends.specs.declared.writing.Cut.{Cut}
 use Rattle.desk_ends.specs.declared.writing.WriteFault.{WriteFault}
 use Rattle.desk_wire.specs.Passage.{Course}
 
@@ -14,7 +15,12 @@ pub record Tells (writes : Course (Option (List ℕ))) : Type 0 where
 unfoldable pub line_of : List ℕ → List ℕ → List ℕ
 line_of path text = codes "uss_desk: " ++ (path ++ (codes ": " ++ (text ++ codes "\n")))
 
--- a line is written, whole or up to the write that broke off; or memory ran out for it
+-- a line is written, whole or up to the write that broke off
+abbrev pub IsWrittenUpTo : {E : Type 0} → List ℕ → Option (Cut E) → Course (Option (List ℕ)) → Type 0
+IsWrittenUpTo line None writes = Appends writes.before writes.after line
+IsWrittenUpTo line (Some cut) writes = BreaksOff line writes.before writes.after cut.fault
+
+-- the same, of which it isn't known where it broke off; or memory ran out for it
 abbrev pub IsWrittenIfRoom : List ℕ → Course (Option (List ℕ)) → Type 0
 IsWrittenIfRoom line writes =
     (writes.after ≡ writes.before) ⊎ Appends writes.before writes.after line

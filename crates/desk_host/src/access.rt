@@ -1,18 +1,18 @@
 //! Why a file can't be had, as it is told: by what a look at its path found, and nothing of what its tables
 //! hold.
 
-ghost use Rattle.std.specs.Prelude.{◌≡◌};
+ghost use Rattle.std.specs.Prelude.{◌≡◌, IfSome};
 ghost use Rattle.desk_program.specs.Outside.{bytes_written};
 ghost use Rattle.desk_host.specs.Access as spec;
 ghost use Rattle.desk_host.specs.Telling.{Tells};
 ghost use Rattle.desk_host.specs.Naming.{Free, TakesIfNone};
 ghost use Rattle.desk_host.specs.FolderSteps.{steps_of};
 
+use crate::files::{HostFiles, LocalHost};
 use crate::naming::{Folder, IN_USE, LocalFolder, READ_ONLY, TAKEN, is_no_path};
 use crate::probing::probe_access;
 use crate::state::{Denial, FileState, Missing, Start};
 use crate::telling::tell_of;
-use db_file::pages_without_sums;
 use std::alloc::Global;
 use std::io::Write;
 
@@ -50,18 +50,23 @@ pub fn tell_store<E: Write>(
 )
     ensures { Tells (bytes_written E.Write errors.old errors.new) }
 {
-    match pages_of(rt, path, state) {
+    match pages_of(&LocalHost::new(rt), path, state) {
         Some(count) => tell_pages(rt.alloc(), name, count, errors),
         None => tell_of(rt.alloc(), name, cause_of(rt, path, state), errors),
     }
 }
 
 // How many pages of a file that may be damaged have another sum than theirs, if some have.
-fn pages_of(rt: &HostRuntime, path: &str, state: FileState) -> Option<u64> {
+fn pages_of<F: HostFiles>(files: &F, path: &str, state: FileState) -> Option<u64>
+    ensures { IfSome (F.answers files.now) (λ it. result ≡ spec.pages_of it path.now state) }
+{
     if !may_be_damaged(state) {
         return None;
     }
-    pages_without_sums(rt, path).filter(|count| *count > 0)
+    match files.unsummed(path) {
+        Some(0) | None => None,
+        Some(count) => Some(count),
+    }
 }
 
 // Whether the pages of a file may be damaged: all else that refuses it was looked at.
@@ -95,7 +100,10 @@ fn cause_of(rt: &HostRuntime, path: &str, state: FileState) -> &'static str {
 
 /// Why a file can't be had, whatever it holds.
 pub fn access_cause(rt: &HostRuntime, path: &str) -> Option<&'static str> {
-    probe_access(rt, path).map(denial_text)
+    match probe_access(&mut LocalHost::new(rt), path) {
+        Some(denial) => Some(denial_text(denial)),
+        None => None,
+    }
 }
 
 // Why a file is refused, by what a look at its path found.

@@ -6,12 +6,15 @@ ghost use Rattle.desk_program.specs.Outside.{bytes_written};
 ghost use Rattle.db_file.specs.Commits.{HasCommit};
 ghost use Rattle.db_file.specs.Damage.{IsDamaged};
 ghost use Rattle.desk_host.specs.DamageTold as spec;
-ghost use Rattle.desk_host.specs.DamageTold.{HasUnlookedCause, IsJudged, IsLookedAt, IsWrittenUpTo};
+ghost use Rattle.desk_host.specs.FoundLogs as logs;
+ghost use Rattle.desk_host.specs.DamageTold.{HasUnlookedCause, IsJudged, IsLookedAt};
+ghost use Rattle.desk_host.specs.Telling.{IsWrittenUpTo};
 
+use crate::files::LocalHost;
 use crate::logs::{FoundLog, find_log};
-use crate::telling::tell_of;
+use crate::telling::{tell_line, tell_of};
 use db_file::{LogFault, Verdict, commits_are_long, damaged_is_long, judge_log};
-use desk_ends::{Cut, write_whole};
+use desk_ends::Cut;
 use desk_line::{Database, Failure};
 use std::alloc::{AllocError, Global};
 use std::io::{Read, Write};
@@ -72,7 +75,7 @@ pub fn look_before<E: Write>(
     let Some(path) = database.path() else {
         return Ok(false);
     };
-    let found = find_log(rt, path)?;
+    let found = find_log(rt.alloc(), &mut LocalHost::new(rt), path)?;
     judge_found(rt.alloc(), path, is_copied, found, errors)
 }
 
@@ -159,10 +162,7 @@ fn tell_damage<E: Write>(
     ensures untold { IfErr result (λ _. E.contents errors.new ≡ E.contents errors.old) }
 {
     let line = damage_line(alloc, path, frame, commits)?;
-    match write_whole(errors, line.as_bytes()) {
-        Ok(()) => Ok(None),
-        Err(cut) => Ok(Some(cut)),
-    }
+    Ok(tell_line(&line, errors))
 }
 
 // The line that tells damage.
@@ -178,7 +178,8 @@ fn damage_line(alloc: Global, path: &str, frame: u64, commits: u64) -> Result<St
 
 /// Whether a log of so many bytes may have a commit.
 pub(crate) fn may_have_commit(size: u64) -> bool
-    ensures { result ≡ false → (log : List ℕ) → length log ≡ size → ¬ HasCommit log }
+    ensures exact { result ≡ logs.may_have_commit size }
+    ensures none { result ≡ false → (log : List ℕ) → length log ≡ size → ¬ HasCommit log }
 {
     commits_are_long();
     size >= LEAST_WITH_A_COMMIT
@@ -186,7 +187,8 @@ pub(crate) fn may_have_commit(size: u64) -> bool
 
 /// Whether a log of so many bytes may be damaged.
 pub(crate) fn may_be_damaged(size: u64) -> bool
-    ensures { result ≡ false → (log : List ℕ) → length log ≡ size
+    ensures exact { result ≡ logs.may_be_damaged size }
+    ensures none { result ≡ false → (log : List ℕ) → length log ≡ size
         → (frame commits : ℕ) → ¬ IsDamaged log frame commits }
 {
     damaged_is_long();

@@ -4,6 +4,7 @@
 
 pub mod access;
 pub mod damage;
+pub mod files;
 pub mod folders;
 pub mod logs;
 pub mod naming;

@@ -1,16 +1,17 @@
-//! Where the WAL of a file is, and whether it has to be judged. The operating system is asked before the file is
-//! opened.
+//! Where the WAL of a file is, and whether it has to be judged. The operating system is asked before the file
+//! is opened.
 
-ghost use Rattle.std.specs.Prelude.{◌≡◌};
+ghost use Rattle.std.specs.Prelude.{◌≡◌, IfOk, IfSome};
 ghost use Rattle.desk_host.specs.FoundLogs as spec;
+ghost use Rattle.desk_host.specs.Openings.{OpensAtMost};
 
 use crate::damage::{may_be_damaged, may_have_commit};
-use crate::probing::probe_opening;
+use crate::files::{Found, HostFiles};
+use crate::naming::name_with;
 use crate::state::Denial;
 use desk_line::Failure;
-use std::alloc::AllocError;
-use std::fs::{self, File};
-use std::io::{self, ErrorKind};
+use std::alloc::{AllocError, Global};
+use std::io::ErrorKind;
 
 /// What a look for the log of a file found.
 #[derive(Drop)]
@@ -29,11 +30,15 @@ pub enum FoundLog<R> {
 /// # Errors
 ///
 /// `Memory` if memory runs out.
-pub fn find_log(rt: &HostRuntime, path: &str) -> Result<FoundLog<File>, Failure> {
-    if is_gone(fs::exists(rt, path)) && has_commit(rt, path)? {
+pub fn find_log<F: HostFiles>(
+    alloc: Global,
+    files: &mut F,
+    path: &str,
+) -> Result<FoundLog<F::File>, Failure> {
+    if is_gone(files.find(path)) && has_commit(alloc, files, path)? {
         return Ok(FoundLog::Alone);
     }
-    match log_beside(rt, path)? {
+    match log_beside(alloc, files, path)? {
         Some(log) => Ok(FoundLog::Log(log)),
         None => Ok(FoundLog::Nothing),
     }
@@ -44,60 +49,90 @@ pub fn find_log(rt: &HostRuntime, path: &str) -> Result<FoundLog<File>, Failure>
 /// # Errors
 ///
 /// `AllocError` if memory runs out.
-pub fn has_commit(rt: &HostRuntime, path: &str) -> Result<bool, AllocError> {
-    let name = format!(in rt.alloc(); "{path}-wal")?;
-    Ok(may_have_commit(size_at(rt, &name)))
+pub fn has_commit<F: HostFiles>(alloc: Global, files: &F, path: &str) -> Result<bool, AllocError>
+    ensures { IfOk result (λ has. IfSome (F.answers files.now) (λ it. has ≡ spec.has_commit it path.now)) }
+{
+    let name = name_with(alloc, path, "-wal")?;
+    Ok(may_have_commit(size_at(files, &name)))
 }
 
 // The log of the file at a path that may be damaged, if both are files and no other program has them open.
-fn log_beside(rt: &HostRuntime, path: &str) -> Result<Option<File>, Failure> {
-    let Some(real) = if_there(fs::canonicalize(rt, path))? else {
+fn log_beside<F: HostFiles>(
+    alloc: Global,
+    files: &mut F,
+    path: &str,
+) -> Result<Option<F::File>, Failure> {
+    let Some(real) = if_there(files.real(path))? else {
         return Ok(None);
     };
-    let name = format!(in rt.alloc(); "{}-wal", real.as_str())?;
-    if size_at(rt, real.as_str()) == 0 || !may_be_damaged(size_at(rt, &name)) || is_held(rt, path) {
+    let name = name_with(alloc, &real, "-wal")?;
+    if !is_judged(files, path, &real, &name) {
         return Ok(None);
     }
-    if_there(File::open(rt, name.as_str()))
+    if_there(files.open(&name))
+}
+
+// Whether the log of a file has to be judged: by the path that is asked about, where its file lies, and where
+// the log does.
+fn is_judged<F: HostFiles>(files: &mut F, path: &str, real: &str, log: &str) -> bool
+    ensures answer { IfSome (F.answers files.old) (λ it.
+        result ≡ spec.is_judged it path.now real.now log.now) }
+    ensures same { F.answers files.new ≡ F.answers files.old }
+    ensures opens { OpensAtMost F.HostFiles path.now files.old files.new }
+{
+    if size_at(files, real) == 0 {
+        return false;
+    }
+    if !may_be_damaged(size_at(files, log)) {
+        return false;
+    }
+    !is_held(files.opening_denial(path))
 }
 
 // How many bytes the file at a path has; 0 if there is none.
-fn size_at(rt: &HostRuntime, path: &str) -> u64 {
-    match fs::metadata(rt, path) {
-        Ok(found) => size_of(found.is_file(), found.len()),
-        Err(_) => 0,
+fn size_at<F: HostFiles>(files: &F, path: &str) -> u64
+    ensures { IfSome (F.answers files.now) (λ it. result ≡ spec.size_at it path.now) }
+{
+    size_of(files.find(path))
+}
+
+// Whether another program has a file open, by why it can't be had.
+fn is_held(denial: Option<Denial>) -> bool
+    ensures { result ≡ spec.is_held denial }
+{
+    match denial {
+        Some(Denial::Busy) => true,
+        _ => false,
     }
 }
 
-// Whether another program has a file open.
-fn is_held(rt: &HostRuntime, path: &str) -> bool {
-    matches!(probe_opening(rt, path), Some(Denial::Busy))
-}
-
 // Whether nothing is at a path, by the answer to that question.
-fn is_gone(is_there: io::Result<bool>) -> bool
-    ensures { result ≡ spec.is_gone is_there }
+fn is_gone(found: Result<Found, ErrorKind>) -> bool
+    ensures { result ≡ spec.is_gone found }
 {
-    match is_there {
-        Ok(is_there) => !is_there,
-        Err(_) => false,
+    match found {
+        Err(ErrorKind::NotFound) => true,
+        _ => false,
     }
 }
 
 // How many bytes count of what stands at a path: none but those of a regular file.
-fn size_of(is_file: bool, len: u64) -> u64
-    ensures { result ≡ spec.size_of is_file len }
+fn size_of(found: Result<Found, ErrorKind>) -> u64
+    ensures { result ≡ spec.size_of found }
 {
-    if is_file { len } else { 0 }
+    match found {
+        Ok(found) if found.is_file => found.len,
+        _ => 0,
+    }
 }
 
 // What was found; nothing if it isn't there or can't be reached, which to open it tells.
-fn if_there<T: Drop>(found: io::Result<T>) -> Result<Option<T>, Failure>
+fn if_there<T: Drop>(found: Result<T, ErrorKind>) -> Result<Option<T>, Failure>
     ensures { result ≡ spec.if_there found }
 {
     match found {
         Ok(it) => Ok(Some(it)),
-        Err(error) if error.kind() == ErrorKind::OutOfMemory => Err(Failure::Memory),
+        Err(ErrorKind::OutOfMemory) => Err(Failure::Memory),
         Err(_) => Ok(None),
     }
 }

@@ -1,19 +1,25 @@
 //! How a new file gets its name, once it is whole.
 
-ghost use Rattle.std.specs.Prelude.{◌≡◌, ℕ, ◌++◌, [], List, Option, None, false, true, IfOk, string_bytes};
+ghost use Rattle.std.specs.Prelude.{◌≡◌, ℕ, ◌++◌, [], List, Option, None, false, true, IfOk, IfSome};
+ghost use Rattle.std.specs.Prelude.{string_bytes};
 ghost use Rattle.desk_wire.specs.Passage.{course};
+ghost use Rattle.desk_host.specs.Access as access;
+ghost use Rattle.desk_host.specs.LeftFiles as left;
 ghost use Rattle.desk_host.specs.Naming.{AreNames, ChangesOwn, Cleared, Follows, Free, HasFailedStep, IsUnnamed, Ordered};
+ghost use Rattle.desk_host.specs.Unmade as unmade;
 ghost use Rattle.desk_host.specs.Naming.{Removed, Renamed, Step, Synced, Takes, TakesAll, TakesIfNone, Tried, Twinned};
 ghost use Rattle.desk_host.specs.Naming.{named_steps};
 
+use crate::files::{HostFiles, LocalHost};
 use crate::pairs::{TwinFault, write_twin};
+use crate::paths::is_at;
 use db_file::{is_in_order, put_in_order};
 use sqlite::Unknown;
 use sqlite_std_file::OpenError;
 use std::alloc::{AllocError, Global};
-use std::fs::{self, File, Metadata, OpenOptions, Permissions};
+use std::fs::{self, File, OpenOptions, Permissions};
 use std::io::{self, ErrorKind};
-use std::os::unix::fs::{MetadataExt, OpenOptionsExt, PermissionsExt};
+use std::os::unix::fs::{OpenOptionsExt, PermissionsExt};
 
 /// What is told of a path at which there is something.
 pub const TAKEN: &str = "it is there already";
@@ -89,10 +95,11 @@ impl<'s> Folder for LocalFolder<'s> {
     }
 
     fn clear(&mut self, source: &str, part: &str, log: &str) -> Option<&'static str> {
-        if is_missing(self.rt, part) && is_missing(self.rt, log) {
+        let host = LocalHost::new(self.rt);
+        if is_missing(&host, part) && is_missing(&host, log) {
             return None;
         }
-        if is_left(self.rt, source, part) && is_left(self.rt, source, log) {
+        if is_left(&host, source, part) && is_left(&host, source, log) {
             clear_left(self.rt, part, log)
         } else {
             Some(TAKEN)
@@ -134,7 +141,9 @@ impl<'s> Folder for LocalFolder<'s> {
 }
 
 /// Why a file can't be made where there is none, by what the operating system says.
-pub fn unmade_text(kind: ErrorKind) -> &'static str {
+pub fn unmade_text(kind: ErrorKind) -> &'static str
+    ensures { result.now ≡ unmade.unmade_text kind }
+{
     match kind {
         ErrorKind::AlreadyExists => TAKEN,
         ErrorKind::NotFound | ErrorKind::NotADirectory => "no such folder",
@@ -146,28 +155,33 @@ pub fn unmade_text(kind: ErrorKind) -> &'static str {
 }
 
 /// Whether SQLite reads a name otherwise than as a path.
-pub fn is_no_path(path: &str) -> bool {
-    path == ":memory:" || path.starts_with("file:")
+pub fn is_no_path(path: &str) -> bool
+    ensures { result ≡ access.is_no_path path.now }
+{
+    if path == ":memory:" {
+        return true;
+    }
+    path.as_bytes().starts_with(b"file:".as_slice())
 }
 
-// Whether nothing stands at a path.
-fn is_missing(rt: &HostRuntime, path: &str) -> bool {
-    matches!(fs::symlink_metadata(rt, path), Err(error) if error.kind() == ErrorKind::NotFound)
-}
-
-// Whether a copy may have left what stands at a path, if something does: a file, and not `source`.
-fn is_left(rt: &HostRuntime, source: &str, path: &str) -> bool {
-    match fs::symlink_metadata(rt, path) {
-        Ok(found) => found.is_file() && !is_same(rt, &found, source),
-        Err(error) => error.kind() == ErrorKind::NotFound,
+/// Whether nothing stands at a path.
+pub(crate) fn is_missing<F: HostFiles>(files: &F, path: &str) -> bool
+    ensures { IfSome (F.answers files.now) (λ it. result ≡ left.is_missing it path.now) }
+{
+    match files.find_entry(path) {
+        Err(ErrorKind::NotFound) => true,
+        _ => false,
     }
 }
 
-// Whether a path leads to this file.
-fn is_same(rt: &HostRuntime, file: &Metadata, path: &str) -> bool {
-    match fs::metadata(rt, path) {
-        Ok(found) => found.dev() == file.dev() && found.ino() == file.ino(),
-        Err(_) => false,
+// Whether a copy may have left what stands at a path, if something does: a file, and not `source`.
+fn is_left<F: HostFiles>(files: &F, source: &str, path: &str) -> bool
+    ensures { IfSome (F.answers files.now) (λ it. result ≡ left.is_left it source.now path.now) }
+{
+    match files.find_entry(path) {
+        Ok(found) if found.is_file => !is_at(files, source, Some(found.identity)),
+        Err(ErrorKind::NotFound) => true,
+        _ => false,
     }
 }
 

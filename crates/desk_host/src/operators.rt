@@ -125,8 +125,8 @@ pub struct OperatorsFile<'r, F: Drop> {
     told: Option<&'static str>,
 }
 
-/// The file of enrolments at a path, if there is one, read once, so that its keeper is told which lines can't be
-/// read.
+/// The file of enrolments at a path, if there is one, read once, so that its keeper is told which lines can't
+/// be read.
 ///
 /// # Errors
 ///

@@ -1,13 +1,18 @@
 //! The twins of files of the operating system.
 
+ghost use Rattle.std.specs.Prelude.{◌≡◌, IfSome};
+ghost use Rattle.desk_host.specs.LeftFiles as left;
+ghost use Rattle.desk_host.specs.Unmade as spec;
+
 use crate::access::access_cause;
-use crate::naming::{OWNER_ALONE, unmade_text};
+use crate::files::{HostFiles, LocalHost};
+use crate::naming::{OWNER_ALONE, is_missing, name_with, unmade_text};
 use db_file::{copy_bytes, copy_mended};
 use sqlite::Unknown;
 use sqlite_std_file::OpenError;
 use std::alloc::AllocError;
 use std::fs::{self, File, OpenOptions};
-use std::io::{self, ErrorKind};
+use std::io::ErrorKind;
 use std::os::unix::fs::OpenOptionsExt;
 
 /// Why a file has no twin.
@@ -22,7 +27,7 @@ pub enum TwinFault {
 }
 
 impl From<AllocError> for TwinFault {
-    ghost use Rattle.std.specs.Prelude.{◌≡◌};
+    ghost use Rattle.std.specs.Prelude.{◌≡◌, IfSome};
     ghost use Rattle.desk_host.specs.declared.pairs.TwinFault.TheVariants.{OutOfMemory};
 
     ghost from_gives = { λ _ fault. fault ≡ OutOfMemory };
@@ -48,14 +53,17 @@ pub fn write_twin(
     twin: &str,
     is_mended: bool,
 ) -> Result<(), TwinFault> {
-    let real = fs::canonicalize(rt, source).map_err(|error| source_fault(&error))?;
-    let log = format!(in rt.alloc(); "{}-wal", real.as_str())?;
-    let is_alone =
-        matches!(fs::symlink_metadata(rt, log.as_str()), Err(error) if error.kind() == ErrorKind::NotFound);
+    let host = LocalHost::new(rt);
+    let log = match host.real(source) {
+        Ok(real) => name_with(rt.alloc(), &real, "-wal")?,
+        Err(kind) => return Err(source_fault(kind)),
+    };
+    let is_alone = is_missing(&host, &log);
     match sqlite_std_file::open(rt, source, Unknown) {
         Ok(_held) => {
-            if is_alone {
-                remove_empty(rt, &log);
+            // a log that was made when the file was held
+            if is_alone && is_empty(&host, &log) {
+                let _ = fs::remove_file(rt, &log);
             }
             if is_mended {
                 write_mended(rt, source, twin)
@@ -68,30 +76,33 @@ pub fn write_twin(
     }
 }
 
-// Removes a log that has nothing: one that was made when its file was held.
-fn remove_empty(rt: &HostRuntime, log: &str) {
-    if matches!(fs::symlink_metadata(rt, log), Ok(found) if found.is_file() && found.len() == 0) {
-        let _ = fs::remove_file(rt, log);
+// Whether an empty file stands at a path.
+fn is_empty<F: HostFiles>(files: &F, path: &str) -> bool
+    ensures { IfSome (F.answers files.now) (λ it. result ≡ left.is_empty it path.now) }
+{
+    match files.find_entry(path) {
+        Ok(found) if found.is_file => found.len == 0,
+        _ => false,
     }
 }
 
 // Copies a file, mended. It is opened once, and closed after all else: its closing lets go
 // of it.
 fn write_mended(rt: &HostRuntime, source: &str, twin: &str) -> Result<(), TwinFault> {
-    let mut file = File::open(rt, source).map_err(|error| source_fault(&error))?;
+    let mut file = File::open(rt, source).map_err(|error| source_fault(error.kind()))?;
     let mut made = new_file(rt, twin)?;
-    copy_mended(&mut file, &mut made).map_err(|error| copy_fault(&error))
+    copy_mended(&mut file, &mut made).map_err(|error| copy_fault(error.kind()))
 }
 
 // Copies a file and its log. Both are closed after all else.
 fn write_pair(rt: &HostRuntime, source: &str, log: &str, twin: &str) -> Result<(), TwinFault> {
     let twin_log = format!(in rt.alloc(); "{twin}-wal")?;
-    let mut file = File::open(rt, source).map_err(|error| source_fault(&error))?;
-    let mut changes = File::open(rt, log).map_err(|error| source_fault(&error))?;
+    let mut file = File::open(rt, source).map_err(|error| source_fault(error.kind()))?;
+    let mut changes = File::open(rt, log).map_err(|error| source_fault(error.kind()))?;
     let mut made = new_file(rt, twin)?;
-    copy_bytes(&mut file, &mut made).map_err(|error| copy_fault(&error))?;
+    copy_bytes(&mut file, &mut made).map_err(|error| copy_fault(error.kind()))?;
     let mut made_log = new_file(rt, &twin_log)?;
-    copy_bytes(&mut changes, &mut made_log).map_err(|error| copy_fault(&error))
+    copy_bytes(&mut changes, &mut made_log).map_err(|error| copy_fault(error.kind()))
 }
 
 // Makes a file where there is nothing, its owner's alone.
@@ -110,16 +121,20 @@ fn new_file(rt: &HostRuntime, path: &str) -> Result<File, TwinFault> {
 }
 
 // Why a file can't be read.
-fn source_fault(error: &io::Error) -> TwinFault {
-    match error.kind() {
+fn source_fault(kind: ErrorKind) -> TwinFault
+    ensures { spec.fault_text result ≡ spec.source_text kind }
+{
+    match kind {
         ErrorKind::OutOfMemory => TwinFault::OutOfMemory,
         _ => TwinFault::Source(UNREAD),
     }
 }
 
 // Why a file can't be copied.
-fn copy_fault(error: &io::Error) -> TwinFault {
-    match error.kind() {
+fn copy_fault(kind: ErrorKind) -> TwinFault
+    ensures { spec.fault_text result ≡ spec.copy_text kind }
+{
+    match kind {
         ErrorKind::OutOfMemory => TwinFault::OutOfMemory,
         ErrorKind::StorageFull | ErrorKind::QuotaExceeded => TwinFault::Twin("a full disk"),
         _ => TwinFault::Twin("it can't be written, or what it is made of can't be read"),

@@ -1,14 +1,20 @@
 //! The paths of a desk's files in the folders of the operating system.
 
-ghost use Rattle.std.specs.Prelude.{◌≡◌, ◌↔◌, [], ◌∷◌, IsTrue, List, None, Option};
+ghost use Rattle.std.specs.Prelude.{◌≡◌, [], ◌∷◌, IfErr, IfOk, IfSome, List, None, Option, string_bytes};
+ghost use Rattle.std.specs.Prelude.{unwrap_or};
+ghost use Rattle.desk_line.specs.Lines.{file_of};
+ghost use Rattle.desk_line.specs.declared.failure.Failure.TheVariants.{Memory};
+ghost use Rattle.desk_host.specs.LeftFiles as left;
 ghost use Rattle.desk_program.specs.Serving.{Grows};
-ghost use Rattle.desk_host.specs.Paths.{File, Log, Look};
+ghost use Rattle.desk_host.specs.Paths as spec;
+ghost use Rattle.desk_host.specs.Paths.{File, IsUnheldAt, Log, Look};
 
+use crate::files::{HostFiles, Identity, LocalHost};
+use crate::naming::name_with;
 use crate::telling::tell_of;
 use desk_line::{Database, Failure};
-use std::fs;
+use std::alloc::Global;
 use std::io::ErrorKind;
-use std::os::unix::fs::MetadataExt;
 
 /// The paths of a desk's database file and of its log, while the desk has both open.
 pub trait Paths {
@@ -44,13 +50,6 @@ impl Paths for NoPaths {
     }
 }
 
-// Which file it is to which a path leads.
-#[derive(Clone, Copy)]
-struct Identity {
-    device: u64,
-    inode: u64,
-}
-
 /// The paths of a file and of its log. That one doesn't lead to the file that is open is told on the
 /// standard error, once.
 #[derive(Drop)]
@@ -69,19 +68,20 @@ pub struct LocalPaths<'r> {
 /// # Errors
 ///
 /// `Memory` if memory runs out.
-pub fn paths_at<'r>(
-    rt: &'r HostRuntime,
-    database: &'r Database,
-) -> Result<LocalPaths<'r>, Failure> {
+pub fn paths_at<'r>(rt: &'r HostRuntime, database: &'r Database) -> Result<LocalPaths<'r>, Failure>
+    ensures { IfOk result (λ paths. IsUnheldAt (unwrap_or (file_of database.entry.now) []) paths) }
+{
     paths_beside(rt, database.path().unwrap_or(""))
 }
 
 // The paths of a file.
-fn paths_beside<'r>(rt: &'r HostRuntime, file: &'r str) -> Result<LocalPaths<'r>, Failure> {
+fn paths_beside<'r>(rt: &'r HostRuntime, file: &'r str) -> Result<LocalPaths<'r>, Failure>
+    ensures { IfOk result (λ paths. IsUnheldAt file.entry.now paths) }
+{
     Ok(LocalPaths {
         rt,
         file,
-        log: log_beside(rt, file)?,
+        log: log_beside(rt.alloc(), &LocalHost::new(rt), file)?,
         held_file: None,
         held_log: None,
         is_told: false,
@@ -89,11 +89,15 @@ fn paths_beside<'r>(rt: &'r HostRuntime, file: &'r str) -> Result<LocalPaths<'r>
 }
 
 // The path of the log of a file, which is beside the file to which a link leads.
-fn log_beside(rt: &HostRuntime, file: &str) -> Result<String, Failure> {
-    match fs::canonicalize(rt, file) {
-        Ok(real) => Ok(format!(in rt.alloc(); "{}-wal", real.as_str())?),
-        Err(error) if error.kind() == ErrorKind::OutOfMemory => Err(Failure::Memory),
-        Err(_) => Ok(format!(in rt.alloc(); "{file}-wal")?),
+fn log_beside<F: HostFiles>(alloc: Global, files: &F, file: &str) -> Result<String, Failure>
+    ensures log { IfOk result (λ log. IfSome (F.answers files.now) (λ it.
+        string_bytes log ≡ spec.log_at it file.now)) }
+    ensures fault { IfErr result (λ f. f ≡ Memory) }
+{
+    match files.real(file) {
+        Ok(real) => Ok(name_with(alloc, &real, "-wal")?),
+        Err(ErrorKind::OutOfMemory) => Err(Failure::Memory),
+        Err(_) => Ok(name_with(alloc, file, "-wal")?),
     }
 }
 
@@ -110,15 +114,15 @@ impl LocalPaths<'_> {
 impl Paths for LocalPaths<'_> {
     fn hold(&mut self) {
         if self.held_file.is_none() {
-            self.held_file = identity_at(self.rt, self.file);
+            self.held_file = identity_at(&LocalHost::new(self.rt), self.file);
         }
         if self.held_log.is_none() {
-            self.held_log = identity_at(self.rt, &self.log);
+            self.held_log = identity_at(&LocalHost::new(self.rt), &self.log);
         }
     }
 
     fn has_file(&mut self) -> bool {
-        let is_there = is_at(self.rt, self.file, self.held_file);
+        let is_there = is_at(&LocalHost::new(self.rt), self.file, self.held_file);
         if !is_there {
             self.tell_once("it was moved or removed while the desk ran");
         }
@@ -126,7 +130,7 @@ impl Paths for LocalPaths<'_> {
     }
 
     fn has_log(&mut self) -> bool {
-        let is_there = is_at(self.rt, &self.log, self.held_log);
+        let is_there = is_at(&LocalHost::new(self.rt), &self.log, self.held_log);
         if !is_there {
             self.tell_once("its log was moved or removed while the desk ran");
         }
@@ -135,25 +139,28 @@ impl Paths for LocalPaths<'_> {
 }
 
 // Whether a path leads to this file.
-fn is_at(rt: &HostRuntime, path: &str, held: Option<Identity>) -> bool {
-    match (identity_at(rt, path), held) {
-        (Some(found), Some(held)) => is_same(found, held),
+pub(crate) fn is_at<F: HostFiles>(files: &F, path: &str, held: Option<Identity>) -> bool
+    ensures { IfSome (F.answers files.now) (λ it. result ≡ left.is_at it path.now held) }
+{
+    match (files.find(path), held) {
+        (Ok(found), Some(held)) => is_same(found.identity, held),
         _ => false,
     }
 }
 
 // The file to which a path leads, if it leads to one.
-fn identity_at(rt: &HostRuntime, path: &str) -> Option<Identity> {
-    let found = fs::metadata(rt, path).ok()?;
-    Some(Identity {
-        device: found.dev(),
-        inode: found.ino(),
-    })
+fn identity_at<F: HostFiles>(files: &F, path: &str) -> Option<Identity>
+    ensures { IfSome (F.answers files.now) (λ it. result ≡ spec.identity_at it path.now) }
+{
+    match files.find(path) {
+        Ok(found) => Some(found.identity),
+        Err(_) => None,
+    }
 }
 
 // Whether these are the same file.
 fn is_same(one: Identity, other: Identity) -> bool
-    ensures { IsTrue result ↔ one ≡ other }
+    ensures { result ≡ left.is_same one other }
 {
     if one.device != other.device {
         return false;

@@ -4,6 +4,7 @@
 ghost use Rattle.std.specs.Prelude.{◌≡◌};
 ghost use Rattle.desk_host.specs.Access as spec;
 
+use crate::files::Found;
 use std::io::ErrorKind;
 
 // What a database file begins with.
@@ -97,8 +98,8 @@ pub enum Next {
     Start,
 }
 
-/// Why nothing is reached at a path, by the kind of the error.
-pub fn missing_by(kind: ErrorKind) -> Missing
+// Why nothing is reached at a path, by the kind of the error.
+fn missing_by(kind: ErrorKind) -> Missing
     ensures { result ≡ spec.missing_by kind }
 {
     match kind {
@@ -109,12 +110,16 @@ pub fn missing_by(kind: ErrorKind) -> Missing
     }
 }
 
-/// What stands at a path where something is reached, by whether it is a regular file, and its length.
-pub fn place_of(is_file: bool, len: u64) -> Place
-    ensures { result ≡ spec.place_of is_file len }
+/// What stands at a path, by what was found there.
+pub fn place_of(found: Result<Found, ErrorKind>) -> Place
+    ensures { result ≡ spec.place_of found }
 {
-    match len {
-        _ if !is_file => Place::NotRegular,
+    let found = match found {
+        Ok(found) => found,
+        Err(kind) => return Place::Nothing(missing_by(kind)),
+    };
+    match found.len {
+        _ if !found.is_file => Place::NotRegular,
         0 => Place::Empty,
         _ => Place::Filled,
     }
@@ -147,23 +152,23 @@ pub fn unmade_by(is_link: bool) -> FileState
     }
 }
 
-/// Why a file can't be had, by the kind of the error of opening it for reading.
-pub fn reading_denial(kind: ErrorKind) -> Option<Denial>
-    ensures { result ≡ spec.reading_denial kind }
+/// Why a file can't be had, by why it can't be opened for reading, if so.
+pub fn reading_denial(unread: Option<ErrorKind>) -> Option<Denial>
+    ensures { result ≡ spec.reading_denial unread }
 {
-    match kind {
-        ErrorKind::PermissionDenied => Some(Denial::NoReading),
+    match unread {
+        Some(ErrorKind::PermissionDenied) => Some(Denial::NoReading),
         _ => None,
     }
 }
 
-/// Why a file can't be had, by the kind of the error of opening it for writing.
-pub fn writing_denial(kind: ErrorKind) -> Option<Denial>
-    ensures { result ≡ spec.writing_denial kind }
+/// Why a file can't be had, by why it can't be opened for writing, if so.
+pub fn writing_denial(unwritten: Option<ErrorKind>) -> Option<Denial>
+    ensures { result ≡ spec.writing_denial unwritten }
 {
-    match kind {
-        ErrorKind::PermissionDenied => Some(Denial::NoWriting),
-        ErrorKind::ReadOnlyFilesystem => Some(Denial::ReadOnly),
+    match unwritten {
+        Some(ErrorKind::PermissionDenied) => Some(Denial::NoWriting),
+        Some(ErrorKind::ReadOnlyFilesystem) => Some(Denial::ReadOnly),
         _ => None,
     }
 }

@@ -3,9 +3,9 @@
 ghost use Rattle.std.specs.Prelude.{◌≡◌, IfOk, string_bytes};
 ghost use Rattle.desk_program.specs.Outside.{bytes_written};
 ghost use Rattle.desk_host.specs.Telling as spec;
-ghost use Rattle.desk_host.specs.Telling.{IsWrittenIfRoom, Tells};
+ghost use Rattle.desk_host.specs.Telling.{IsWrittenIfRoom, IsWrittenUpTo, Tells};
 
-use desk_ends::write_whole;
+use desk_ends::{Cut, write_whole};
 use desk_line::malformed_word;
 use std::alloc::{AllocError, Global};
 use std::io::Write;
@@ -18,7 +18,7 @@ pub fn tell_of<E: Write>(alloc: Global, path: &str, text: &str, errors: &mut E)
     ensures told { Tells (bytes_written E.Write errors.old errors.new) }
 {
     if let Ok(line) = line_of(alloc, path, text) {
-        tell_line(&line, errors);
+        let _ = tell_line(&line, errors);
     }
 }
 
@@ -34,11 +34,16 @@ pub fn line_of(alloc: Global, path: &str, text: &str) -> Result<String, AllocErr
     format!(in alloc; "uss_desk: {path}: {text}\n")
 }
 
-/// Prints a line. A fault of the writer is passed over.
-pub fn tell_line<E: Write>(line: &str, errors: &mut E)
-    ensures { IsWrittenIfRoom line.now (bytes_written E.Write errors.old errors.new) }
+/// Prints a line, and answers where it was broken off, if it was.
+#[tactic(auto, using(crate::proofs::TellLemmas::noted))]
+pub fn tell_line<E: Write>(line: &str, errors: &mut E) -> Option<Cut<E>>
+    ensures cut { IsWrittenUpTo line.now result (bytes_written E.Write errors.old errors.new) }
+    ensures line { IsWrittenIfRoom line.now (bytes_written E.Write errors.old errors.new) }
 {
-    let _ = write_whole(errors, line.as_bytes());
+    match write_whole(errors, line.as_bytes()) {
+        Ok(()) => None,
+        Err(cut) => Some(cut),
+    }
 }
 
 /// Tells which word of a line is malformed: `uss_desk: WORD: CAUSE`. A fault of the writer is passed over.

@@ -4,6 +4,7 @@
 ghost use Rattle.std.specs.Prelude.{◌≡◌};
 ghost use Rattle.desk_host.specs.Ways as spec;
 
+use crate::files::LocalHost;
 use crate::logs::has_commit;
 use crate::naming::is_no_path;
 use db_file::{has_other_order, pages_without_sums, takes_commit};
@@ -77,7 +78,10 @@ fn way_for(is_damaged: bool, unsummed: Option<u64>, is_disordered: bool) -> Way
 // Whether the log of a file may have a commit, or that can't be known.
 fn has_changes(rt: &HostRuntime, path: &str) -> bool {
     match fs::canonicalize(rt, path) {
-        Ok(real) => has_commit(rt, real.as_str()).unwrap_or(true) && may_take_commit(rt, path),
+        Ok(real) => {
+            has_commit(rt.alloc(), &LocalHost::new(rt), real.as_str()).unwrap_or(true)
+                && may_take_commit(rt, path)
+        }
         Err(_) => true,
     }
 }

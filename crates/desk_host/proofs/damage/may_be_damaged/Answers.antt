@@ -4,8 +4,8 @@ use Rattle.std.proofs.lemmas.Bool.Decides.{leb_tells}
 use Rattle.db_file.specs.Damage.{least_damaged}
 use Rattle.desk_host.proofs.damage.may_be_damaged.Goals as goal
 
-pub returns : goal.returns
-returns c short log len frame commits damaged =
+pub returns-clause-none : goal.returns-clause-none
+returns-clause-none c short log len frame commits damaged =
     let long = c.damaged_is_long.ensures log frame commits damaged in
     elim (leb_tells least_damaged c.args.size) [
       | inl h ↦ absurd (true≢false (sym h.0 ∙ short))
