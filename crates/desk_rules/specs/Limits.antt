@@ -18,6 +18,10 @@ max_priority = 1000
 abbrev pub max_spans : ℕ
 max_spans = 5000000
 
+-- the greatest number of cells that a keeper may name as the most of an operator's plans
+abbrev pub max_total_cells : ℕ
+max_total_cells = 5000000
+
 -- the greatest time between a request and the start of its plan, in seconds: thirty days
 abbrev pub max_ahead : ℕ
 max_ahead = 2592000

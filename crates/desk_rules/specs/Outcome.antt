@@ -22,6 +22,7 @@ use Rattle.desk_rules.specs.declared.decide.Effect.TheVariants as effect
 use Rattle.volume4d.specs.Volume.{Block}
 use Rattle.volume4d.specs.Meeting.{Spot}
 use Rattle.desk_rules.specs.Limits.{max_plans, max_ahead}
+use Rattle.desk_rules.specs.Terms.{no_excess}
 use Rattle.desk_rules.specs.States.{states_of, status_from, is_offered, step_from}
 
 -- some volume's end is at or before the moment
@@ -41,7 +42,7 @@ refusal_of Shut = None
 refusal_of Keep = None
 
 -- which of the later refusals apply: all of them to a check, those of the ceiling and of the numbers of
--- plans and of spans to a report, none to closing
+-- plans, spans and cells to a report, none to closing
 abbrev pub is_check : Step → Bool
 is_check (Refuse n) = false
 is_check (Check s) = true
@@ -76,7 +77,8 @@ note_from call moment stored standing blocked =
     ∷ note_where (is_check step && is_beyond_horizon call.area moment) note.Horizon
     ∷ note_where (is_stored step && nat_lt standing.ceiling call.priority) note.Priority
     ∷ note_where (is_stored step && (is_none stored && nat_le max_plans standing.own_rows)) note.PlansLimit
-    ∷ note_where (is_stored step && standing.is_over) note.SpansLimit
+    ∷ note_where (is_stored step && standing.excess.spans) note.SpansLimit
+    ∷ note_where (is_stored step && standing.excess.cells) note.CellsLimit
     ∷ note_where (is_check step && blocked) note.Conflict
     ∷ [])
 
@@ -91,6 +93,7 @@ refused_result note.Horizon = result.Rejected
 refused_result note.Priority = result.Rejected
 refused_result note.PlansLimit = result.Rejected
 refused_result note.SpansLimit = result.Rejected
+refused_result note.CellsLimit = result.Rejected
 refused_result note.Conflict = result.Rejected
 
 -- the conflict is named only beside its own note
@@ -104,6 +107,7 @@ shown_conflict note.Horizon conflict = None
 shown_conflict note.Priority conflict = None
 shown_conflict note.PlansLimit conflict = None
 shown_conflict note.SpansLimit conflict = None
+shown_conflict note.CellsLimit conflict = None
 shown_conflict note.Conflict conflict = conflict
 
 -- the status and the effect of a step that is carried out
@@ -152,9 +156,9 @@ unfoldable pub outcome_under : PutCall → ℤ → Option States → Standing �
 outcome_under call moment stored standing conflict =
     verdict_from call stored conflict (note_from call moment stored standing (is_some conflict))
 
--- the same given the plan itself, at a desk where an operator's live plans may have any number of spans,
+-- the same given the plan itself, at a desk where an operator's plans may have any number of spans and cells,
 -- by the number of the operator's plans and its ceiling
 unfoldable pub outcome : PutCall → ℤ → Option PlanRow → ℕ → ℕ → Option Spot → Verdict
 outcome call moment stored own_rows ceiling conflict =
     outcome_under call moment (states_of stored)
-    (record { own_rows = own_rows; ceiling = ceiling; is_over = false }) conflict
+    (record { own_rows = own_rows; ceiling = ceiling; excess = no_excess }) conflict

@@ -7,7 +7,7 @@ use Rattle.desk_rules.specs.declared.words.Usage.TheVariants as usage
 use Rattle.volume4d.specs.Point.{Point}
 use Rattle.volume4d.specs.Volume.{area_has}
 use Rattle.volume4d.specs.Level.{greatest}
-use Rattle.volume4d.specs.SpanCounts.{area_spans}
+use Rattle.volume4d.specs.SpanCounts.{area_cells, area_spans}
 
 -- a plan is live while it is planned or in use
 abbrev pub is_live : Usage → Bool
@@ -22,6 +22,10 @@ row_holds row x = is_live row.usage && area_has row.area x
 -- a live plan takes the spans of its area, a closed one none
 abbrev pub row_spans : PlanRow → ℕ
 row_spans row = cond (is_live row.usage) (area_spans row.area) 0
+
+-- a plan has the cells of its area, live or closed
+abbrev pub row_cells : PlanRow → ℕ
+row_cells row = area_cells row.area
 
 -- the greatest priority of the plans that hold the point, or None
 unfoldable pub top_priority : List PlanRow → Point → Option ℕ

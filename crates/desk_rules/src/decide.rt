@@ -10,6 +10,7 @@ ghost use Rattle.desk_rules.specs.States as spec;
 ghost use Rattle.desk_rules.specs.States.{status_in_use, is_offered};
 
 use crate::plan::{PlanRow, PutCall, States, states_of};
+use crate::terms::Excess;
 use crate::transition::{Step, transition_from};
 use crate::words::{Aircraft, Note, PlanResult, PlanStatus, Style, Usage};
 use volume4d::{Meeting, Volume};
@@ -48,9 +49,8 @@ pub struct Standing {
     pub own_rows: u32,
     /// The greatest priority that it may use.
     pub ceiling: u32,
-    /// Whether its live plans, with the requested one in place of the stored one, would have more spans
-    /// than they may have.
-    pub is_over: bool,
+    /// Which limits its plans would exceed, with the requested one in place of the stored one.
+    pub excess: Excess,
 }
 
 /// The greatest time between a request and the start of its plan, in seconds: thirty days.
@@ -84,14 +84,13 @@ pub fn decide(
     let standing = Standing {
         own_rows,
         ceiling,
-        is_over: false,
+        excess: Excess::none(),
     };
     decide_under(call, moment, states_of(stored), &standing, meeting)
 }
 
 /// The verdict on a request, as `decide` gives it, by the states of the operator's plan with its id, of an
-/// operator of this standing: it is refused too where the operator's live plans would have more spans than
-/// they may have.
+/// operator of this standing: it is refused too where the operator's plans would exceed a limit of the terms.
 #[tactic(auto, unfolding(crate::specs::Outcome::outcome_under))]
 pub fn decide_under(
     call: &PutCall,
@@ -174,7 +173,8 @@ fn note_for(
 fn over_limit(priority: u32, stored: Option<States>, standing: &Standing) -> Option<Note>
     ensures { result ≡ first_note (note_where (nat_lt standing.now.ceiling priority) notes.Priority
         ∷ note_where (is_none stored && nat_le max_plans standing.now.own_rows) notes.PlansLimit
-        ∷ note_where standing.now.is_over notes.SpansLimit ∷ []) }
+        ∷ note_where standing.now.excess.spans notes.SpansLimit
+        ∷ note_where standing.now.excess.cells notes.CellsLimit ∷ []) }
 {
     if priority > standing.ceiling {
         return Some(Note::Priority);
@@ -182,8 +182,11 @@ fn over_limit(priority: u32, stored: Option<States>, standing: &Standing) -> Opt
     if is_full(stored, standing.own_rows) {
         return Some(Note::PlansLimit);
     }
-    if standing.is_over {
+    if standing.excess.spans {
         return Some(Note::SpansLimit);
+    }
+    if standing.excess.cells {
+        return Some(Note::CellsLimit);
     }
     None
 }

@@ -3,7 +3,7 @@
 ghost use Rattle.std.specs.Prelude.{◌≡◌, ◌*◌, ◌≤◌, IfOk};
 ghost use Rattle.std.specs.Option.{option_copied};
 ghost use Rattle.volume4d.specs.VolumeLimits.{max_cover, max_volumes};
-ghost use Rattle.desk_rules.specs.Plan.{row_spans};
+ghost use Rattle.desk_rules.specs.Plan.{row_cells, row_spans};
 ghost use Rattle.desk_rules.specs.States as spec;
 
 use crate::plan_id::PlanId;
@@ -83,6 +83,15 @@ impl PlanRow {
         } else {
             0
         }
+    }
+
+    /// How many cells the plan has: for each of its volumes those of its cell list, or of the canonical cover of
+    /// its rectangle. A closed plan keeps them.
+    pub fn cell_count(&self) -> u32
+        ensures value { result ≡ row_cells self.now }
+        ensures few { result ≤ max_volumes * max_cover }
+    {
+        self.area.cell_count()
     }
 
     /// The states of the plan.

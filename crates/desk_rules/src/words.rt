@@ -99,6 +99,8 @@ pub enum Note {
     PlansLimit,
     /// The operator's live plans would have more spans than they may have.
     SpansLimit,
+    /// The operator's plans would have more cells than they may have.
+    CellsLimit,
     /// Another plan blocks a point of the area.
     Conflict,
 }

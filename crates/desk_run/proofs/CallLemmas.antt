@@ -1,13 +1,11 @@
 -- Calls: what is prepared and committed is the verdict's.
-use Rattle.std.proofs.Common.{◌≡◌, ◌+◌, ◌≤◌, ℕ, ℤ, List, length, map, Option, Some, None, Result, Ok, Err, true, refl, sym, ap, subst, ◌∙◌}
+use Rattle.std.proofs.Common.{◌≡◌, ◌≤◌, ℕ, ℤ, List, length, map, Option, Some, None, Result, Ok, Err, true, refl, sym, ap, subst, ◌∙◌}
 use Rattle.std.specs.Prelude.{IsSome, is_some}
 use Rattle.desk_rules.specs.declared.plan.PlanRow.{PlanRow}
 use Rattle.desk_rules.specs.declared.plan.PutCall.{PutCall}
 use Rattle.desk_rules.specs.declared.plan.States.{States}
 use Rattle.desk_rules.specs.declared.decide.Standing.{Standing}
 use Rattle.desk_rules.specs.declared.terms.Terms.{Terms}
-use Rattle.desk_rules.specs.Terms.{exceeds}
-use Rattle.volume4d.specs.SpanCounts.{area_spans}
 use Rattle.desk_rules.specs.States.{states_of}
 use Rattle.desk_rules.specs.declared.words.PlanResult.TheVariants as result
 use Rattle.desk_rules.specs.declared.words.PlanStatus.TheVariants as status
@@ -21,7 +19,7 @@ use Rattle.desk_rules.specs.Limits.{max_priority}
 use Rattle.desk_store.specs.declared.change.Change.{Change}
 use Rattle.desk_store.specs.declared.change.Change.TheVariants as change
 use Rattle.desk_store.specs.StoreChange.{changed_by, IsFitting}
-use Rattle.desk_store.specs.World.{World, own, held, held_at, ceiling_of, plans_of, spans_beside, stored_of}
+use Rattle.desk_store.specs.World.{World, own, held, held_at, ceiling_of, plans_of, stored_of}
 use Rattle.volume4d.specs.Volume.{Block}
 use Rattle.desk_rules.specs.declared.call.Call.{Call}
 use Rattle.desk_rules.specs.declared.call.Call.TheVariants as call
@@ -36,7 +34,7 @@ use Rattle.desk_rules.specs.Replies as said
 use Rattle.desk_rules.specs.declared.reply.PutReply.{PutReply}
 use Rattle.desk_run.specs.declared.pending.Pending.{Pending}
 use Rattle.desk_run.specs.DeskWorld.{DeskWorld, held_in}
-use Rattle.desk_run.specs.Verdicts.{Told, Ruling, replied, unknown_operator, no_such_plan, ruling_alone, put_outcome, put_ruling, plans_left, delete_ruling, shown_in, list_ruling, show_ruling, clear_ruling, enrolled_ruling, ruling_under, verdict, world_with_plans, ruling_in, makes_change, told_to, step}
+use Rattle.desk_run.specs.Verdicts.{Told, Ruling, replied, unknown_operator, no_such_plan, ruling_alone, excess_asked, put_outcome, put_ruling, plans_left, delete_ruling, shown_in, list_ruling, show_ruling, clear_ruling, enrolled_ruling, ruling_under, verdict, world_with_plans, ruling_in, makes_change, told_to, step}
 use Rattle.desk_run.specs.Calls.{HasNoReply, IsPendingAs, Readies, IsPending, Prepares, change_after, world_with, world_committed}
 use Rattle.desk_run.proofs.OutcomeLemmas.{outcome_counts}
 use Rattle.desk_run.proofs.PutLemmas.{change_fits}
@@ -47,7 +45,7 @@ pub verdict_is : (terms : Terms) (w : World) (o : List ℕ) (put : PutCall) (giv
     ≡ outcome_under put given stored standing meeting → given ≡ moment → stored
     ≡ states_of (stored_of put.id (plans_of o w))
     → (stored ≡ None → standing.own_rows ≡ length (plans_of o w))
-    → standing.is_over ≡ exceeds terms.spans (spans_beside put.id (plans_of o w) + area_spans put.area)
+    → standing.excess ≡ excess_asked terms (plans_of o w) put
     → meeting
     ≡ conflict terms.permitted put.area (held_at (plans_of o w) (held w o) put.id) put.priority → v
     ≡ put_outcome terms (own w o) (held w o) standing.ceiling moment put
@@ -55,7 +53,7 @@ unfolding put_outcome own
 verdict_is terms w o put given moment stored standing meeting v e m s n over c = e
     ∙ outcome_counts put given stored standing (length (plans_of o w)) meeting n
     ∙ (λ i. outcome_under put (m i) (s i)
-    (record { own_rows = length (plans_of o w); ceiling = standing.ceiling; is_over = over i }) (c i))
+    (record { own_rows = length (plans_of o w); ceiling = standing.ceiling; excess = over i }) (c i))
 
 -- a call to which an answer says no more than a word
 unanswered_by : (w : DeskWorld) (moment : ℤ) (asked : Asked) (reason : Told)
@@ -111,7 +109,7 @@ put_ready terms w o put given moment ceiling v r c listed low is m change reply_
           ∙ ap (λ q. replied (said.answered q)) (sym reply_is);
       change_is = ap is_some c_is ∙ change_asked o put (plans_of o w) u.effect;
       left = ap (world_with w) c_is ∙ change_made w o put u.effect;
-      fits = rw c_is (change_fits w o put moment terms.spans ceiling
+      fits = rw c_is (change_fits w o put moment terms ceiling
           (conflict terms.permitted put.area (held_at (plans_of o w) (held w o) put.id) put.priority) listed
           low);
     }

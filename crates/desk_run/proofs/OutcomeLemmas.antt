@@ -86,40 +86,43 @@ shows_none None put = none_shows_none put.usage put.aircraft
 shows_none (Some had) put = states_show_none had.usage had.aircraft put.usage put.aircraft
 
 -- the first note by the tests of the list of refusals
-abbrev noted : Step → Bool → Bool → Bool → Bool → Bool → Bool → Bool → Option Note
-noted next offered ended beyond above full over blocked =
+abbrev noted : Step → Bool → Bool → Bool → Bool → Bool → Bool → Bool → Bool → Option Note
+noted next offered ended beyond above full spans cells blocked =
     first_note (note_where (not offered) note.Style
     ∷ refusal_of next
     ∷ note_where (is_check next && ended) note.Ended
     ∷ note_where (is_check next && beyond) note.Horizon
     ∷ note_where (is_stored next && above) note.Priority
     ∷ note_where (is_stored next && full) note.PlansLimit
-    ∷ note_where (is_stored next && over) note.SpansLimit
+    ∷ note_where (is_stored next && spans) note.SpansLimit
+    ∷ note_where (is_stored next && cells) note.CellsLimit
     ∷ note_where (is_check next && blocked) note.Conflict
     ∷ [])
 
 -- where a note is first without a conflict, or the step is no check, a conflict changes nothing
 settled_by : (put : PutCall) (stored : Option States) (conflict : Option Spot) (next : Step)
-    (offered ended beyond above full over blocked : Bool) → ShowsNone next
-    → (is_none (noted next offered ended beyond above full over false) && is_check next) ≡ false
-    → verdict_from put stored conflict (noted next offered ended beyond above full over blocked)
-    ≡ verdict_from put stored None (noted next offered ended beyond above full over false)
-settled_by put stored conflict next false ended beyond above full over blocked shows e = refl
-settled_by put stored conflict (Refuse n) true ended beyond above full over blocked shows e =
+    (offered ended beyond above full spans cells blocked : Bool) → ShowsNone next
+    → (is_none (noted next offered ended beyond above full spans cells false) && is_check next) ≡ false
+    → verdict_from put stored conflict (noted next offered ended beyond above full spans cells blocked)
+    ≡ verdict_from put stored None (noted next offered ended beyond above full spans cells false)
+settled_by put stored conflict next false ended beyond above full spans cells blocked shows e = refl
+settled_by put stored conflict (Refuse n) true ended beyond above full spans cells blocked shows e =
     ap (λ m. record (verdict_from put stored None (Some n)) { meeting = m })
     (shows conflict ∙ sym (shows None))
-settled_by put stored conflict (Check s) true true beyond above full over blocked shows e = refl
-settled_by put stored conflict (Check s) true false true above full over blocked shows e = refl
-settled_by put stored conflict (Check s) true false false true full over blocked shows e = refl
-settled_by put stored conflict (Check s) true false false false true over blocked shows e = refl
-settled_by put stored conflict (Check s) true false false false false true blocked shows e = refl
-settled_by put stored conflict (Check s) true false false false false false blocked shows e = cc
-settled_by put stored conflict (Report s) true ended beyond true full over blocked shows e = refl
-settled_by put stored conflict (Report s) true ended beyond false true over blocked shows e = refl
-settled_by put stored conflict (Report s) true ended beyond false false true blocked shows e = refl
-settled_by put stored conflict (Report s) true ended beyond false false false blocked shows e = refl
-settled_by put stored conflict Shut true ended beyond above full over blocked shows e = refl
-settled_by put stored conflict Keep true ended beyond above full over blocked shows e = refl
+settled_by put stored conflict (Check s) true true beyond above full spans cells blocked shows e = refl
+settled_by put stored conflict (Check s) true false true above full spans cells blocked shows e = refl
+settled_by put stored conflict (Check s) true false false true full spans cells blocked shows e = refl
+settled_by put stored conflict (Check s) true false false false true spans cells blocked shows e = refl
+settled_by put stored conflict (Check s) true false false false false true cells blocked shows e = refl
+settled_by put stored conflict (Check s) true false false false false false true blocked shows e = refl
+settled_by put stored conflict (Check s) true false false false false false false blocked shows e = cc
+settled_by put stored conflict (Report s) true ended beyond true full spans cells blocked shows e = refl
+settled_by put stored conflict (Report s) true ended beyond false true spans cells blocked shows e = refl
+settled_by put stored conflict (Report s) true ended beyond false false true cells blocked shows e = refl
+settled_by put stored conflict (Report s) true ended beyond false false false true blocked shows e = refl
+settled_by put stored conflict (Report s) true ended beyond false false false false blocked shows e = refl
+settled_by put stored conflict Shut true ended beyond above full spans cells blocked shows e = refl
+settled_by put stored conflict Keep true ended beyond above full spans cells blocked shows e = refl
 
 note_is : (put : PutCall) (stored : Option States) (conflict : Option Spot) (n : Option Note)
     → (verdict_from put stored conflict n).note ≡ n
@@ -137,7 +140,8 @@ unfolding outcome_under note_from
 settled put moment stored standing conflict e =
     settled_by put stored conflict (step_from stored put) (is_offered put.style put.usage put.aircraft)
     (has_ended put.area moment) (is_beyond_horizon put.area moment) (nat_lt standing.ceiling put.priority)
-    (is_none stored && nat_le max_plans standing.own_rows) standing.is_over (is_some conflict)
+    (is_none stored && nat_le max_plans standing.own_rows) standing.excess.spans standing.excess.cells
+    (is_some conflict)
     (shows_none stored put)
     (ap (λ n. is_none n && is_check (step_from stored put))
     (sym (note_is put stored None (note_from put moment stored standing false))) ∙ e)

@@ -6,6 +6,7 @@ use Rattle.desk_rules.specs.declared.plan.PlanRow.{PlanRow}
 use Rattle.desk_rules.specs.declared.plan.PutCall.{PutCall}
 use Rattle.desk_rules.specs.declared.plan.States.{States}
 use Rattle.desk_rules.specs.declared.decide.Standing.{Standing}
+use Rattle.desk_rules.specs.declared.terms.Terms.{Terms}
 use Rattle.desk_run.specs.Verdicts.{standing_of}
 use Rattle.desk_rules.specs.declared.words.Note.{Note}
 use Rattle.desk_rules.specs.declared.words.Style.{Style}
@@ -37,22 +38,25 @@ not_noted : (b : Bool) (n : Note) → note_where b n ≡ None → b ≡ false
 not_noted true n e = cc
 not_noted false n e = refl
 
-sixth : (a b c d f g h k : Option Note) → first_note (a ∷ b ∷ c ∷ d ∷ f ∷ g ∷ h ∷ k ∷ []) ≡ None → g ≡ None
-sixth a b c d f g h k e =
-    let p = no_first a (b ∷ c ∷ d ∷ f ∷ g ∷ h ∷ k ∷ []) e in
-    let q = no_first b (c ∷ d ∷ f ∷ g ∷ h ∷ k ∷ []) p.1 in
-    let r = no_first c (d ∷ f ∷ g ∷ h ∷ k ∷ []) q.1 in
-    let s = no_first d (f ∷ g ∷ h ∷ k ∷ []) r.1 in
-    let t = no_first f (g ∷ h ∷ k ∷ []) s.1 in
-    (no_first g (h ∷ k ∷ []) t.1).0
+-- the sixth of a list of which no note is first, and the fifth
+sixth : (a b c d f g : Option Note) (more : List (Option Note))
+    → first_note (a ∷ b ∷ c ∷ d ∷ f ∷ g ∷ more) ≡ None → g ≡ None
+sixth a b c d f g more e =
+    let p = no_first a (b ∷ c ∷ d ∷ f ∷ g ∷ more) e in
+    let q = no_first b (c ∷ d ∷ f ∷ g ∷ more) p.1 in
+    let r = no_first c (d ∷ f ∷ g ∷ more) q.1 in
+    let s = no_first d (f ∷ g ∷ more) r.1 in
+    let t = no_first f (g ∷ more) s.1 in
+    (no_first g more t.1).0
 
-fifth : (a b c d f g h k : Option Note) → first_note (a ∷ b ∷ c ∷ d ∷ f ∷ g ∷ h ∷ k ∷ []) ≡ None → f ≡ None
-fifth a b c d f g h k e =
-    let p = no_first a (b ∷ c ∷ d ∷ f ∷ g ∷ h ∷ k ∷ []) e in
-    let q = no_first b (c ∷ d ∷ f ∷ g ∷ h ∷ k ∷ []) p.1 in
-    let r = no_first c (d ∷ f ∷ g ∷ h ∷ k ∷ []) q.1 in
-    let s = no_first d (f ∷ g ∷ h ∷ k ∷ []) r.1 in
-    (no_first f (g ∷ h ∷ k ∷ []) s.1).0
+fifth : (a b c d f : Option Note) (more : List (Option Note))
+    → first_note (a ∷ b ∷ c ∷ d ∷ f ∷ more) ≡ None → f ≡ None
+fifth a b c d f more e =
+    let p = no_first a (b ∷ c ∷ d ∷ f ∷ more) e in
+    let q = no_first b (c ∷ d ∷ f ∷ more) p.1 in
+    let r = no_first c (d ∷ f ∷ more) q.1 in
+    let s = no_first d (f ∷ more) r.1 in
+    (no_first f more s.1).0
 
 -- where nothing is noted, the priority of a stored request is within the ceiling
 within_ceiling : (asked : PutCall) (moment : ℤ) (stored : Option States) (standing : Standing)
@@ -67,9 +71,10 @@ within_ceiling asked moment stored standing blocked e =
     (note_where (is_check next && has_ended asked.area moment) note.Ended)
     (note_where (is_check next && is_beyond_horizon asked.area moment) note.Horizon)
     (note_where (is_stored next && nat_lt standing.ceiling asked.priority) note.Priority)
-    (note_where (is_stored next && (is_none stored && nat_le max_plans standing.own_rows)) note.PlansLimit)
-    (note_where (is_stored next && standing.is_over) note.SpansLimit)
-    (note_where (is_check next && blocked) note.Conflict) e)
+    (note_where (is_stored next && (is_none stored && nat_le max_plans standing.own_rows)) note.PlansLimit
+    ∷ note_where (is_stored next && standing.excess.spans) note.SpansLimit
+    ∷ note_where (is_stored next && standing.excess.cells) note.CellsLimit
+    ∷ note_where (is_check next && blocked) note.Conflict ∷ []) e)
 
 -- where nothing is noted, a stored request is no plan too many
 within_limit : (asked : PutCall) (moment : ℤ) (stored : Option States) (standing : Standing)
@@ -85,8 +90,9 @@ within_limit asked moment stored standing blocked e =
     (note_where (is_check next && is_beyond_horizon asked.area moment) note.Horizon)
     (note_where (is_stored next && nat_lt standing.ceiling asked.priority) note.Priority)
     (note_where (is_stored next && (is_none stored && nat_le max_plans standing.own_rows)) note.PlansLimit)
-    (note_where (is_stored next && standing.is_over) note.SpansLimit)
-    (note_where (is_check next && blocked) note.Conflict) e)
+    (note_where (is_stored next && standing.excess.spans) note.SpansLimit
+    ∷ note_where (is_stored next && standing.excess.cells) note.CellsLimit
+    ∷ note_where (is_check next && blocked) note.Conflict ∷ []) e)
 
 saves_stored : (s : Style) (t : Step) → styled_effect s (step_effect t) ≡ effect.Save → is_stored t
     ≡ true
@@ -185,19 +191,19 @@ stored_by None e = e
 stored_by (Some row) e = refl
 
 -- the change of a verdict is one that a store takes
-pub change_fits : (w : World) (o : List ℕ) (asked : PutCall) (moment : ℤ) (most : Option ℕ) (ceiling : ℕ)
+pub change_fits : (w : World) (o : List ℕ) (asked : PutCall) (moment : ℤ) (terms : Terms) (ceiling : ℕ)
     (spot : Option Spot)
     → ceiling_of o w ≡ Some ceiling → ceiling ≤ max_priority
     → IsFittingIf w (change_after (outcome_under asked moment (states_of (stored_of asked.id (plans_of o w)))
-    (standing_of most (plans_of o w) ceiling asked) spot).effect o asked)
+    (standing_of terms (plans_of o w) ceiling asked) spot).effect o asked)
 unfolding IsFitting
-change_fits w o asked moment most ceiling spot listed low =
+change_fits w o asked moment terms ceiling spot listed low =
     by_effect (outcome_under asked moment stored standing spot).effect refl where
       stored : Option States
       stored = states_of (stored_of asked.id (plans_of o w))
 
       standing : Standing
-      standing = standing_of most (plans_of o w) ceiling asked
+      standing = standing_of terms (plans_of o w) ceiling asked
 
       is_listed : IsSome (ceiling_of o w)
       is_listed = ap is_some listed

@@ -15,8 +15,10 @@ pub record Parts (S : Type 0) : Type 0 where
 
 abbrev pub terms_code : Coded Terms
 terms_code =
-    code_by (List ℕ × Option ℕ) (coded× (coded_list coded_ℕ) (coded_option coded_ℕ))
-    (λ t. (t.permitted, t.spans)) (λ p. record { permitted = p.0; spans = p.1 }) (λ _. refl)
+    code_by (List ℕ × (Option ℕ × Option ℕ))
+    (coded× (coded_list coded_ℕ) (coded× (coded_option coded_ℕ) (coded_option coded_ℕ)))
+    (λ t. (t.permitted, (t.spans, t.cells))) (λ p. record { permitted = p.0; spans = p.1.0; cells = p.1.1 })
+    (λ _. refl)
 
 abbrev pub parts_code : {S : Type 0} → Coded S → Coded (Parts S)
 parts_code {S} store =

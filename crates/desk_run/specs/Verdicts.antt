@@ -17,8 +17,9 @@ use Rattle.volume4d.specs.Meeting.{Spot}
 use Rattle.volume4d.specs.Volume.{Block}
 use Rattle.desk_rules.specs.Plan.{is_live}
 use Rattle.desk_rules.specs.States.{states_of, status_of}
-use Rattle.desk_rules.specs.Terms.{exceeds}
-use Rattle.volume4d.specs.SpanCounts.{area_spans}
+use Rattle.desk_rules.specs.declared.terms.Excess.{Excess}
+use Rattle.desk_rules.specs.Terms.{excess_of}
+use Rattle.volume4d.specs.SpanCounts.{area_cells, area_spans}
 use Rattle.desk_rules.specs.Conflict.{conflict}
 use Rattle.desk_rules.specs.Sharing.{share_a_point}
 use Rattle.desk_rules.specs.Outcome.{outcome_under}
@@ -28,7 +29,7 @@ use Rattle.desk_rules.specs.declared.call.Call.TheVariants as call
 use Rattle.desk_rules.specs.declared.reply.Shown.{Shown}
 use Rattle.desk_rules.specs.Replies as said
 use Rattle.desk_rules.specs.Replies.{ReplyParts}
-use Rattle.desk_store.specs.World.{World, Own, own, held, held_at, plans_of, spans_beside, stored_of}
+use Rattle.desk_store.specs.World.{World, Own, own, held, held_at, cells_beside, plans_of, spans_beside, stored_of}
 use Rattle.desk_store.specs.Changes.{put_row, close_row, with_plans}
 use Rattle.desk_run.specs.DeskWorld.{DeskWorld, Side, held_in}
 
@@ -44,22 +45,24 @@ pub record Ruling : Type 0 where
   pub told : Told
   pub plans : Option (List PlanRow)
 
--- an operator's standing for a request to plan, by its plans and its ceiling: it would have too many spans
--- if those of its other live plans and those of the requested area are more than it may have
-abbrev pub standing_of : Option ℕ → List PlanRow → ℕ → PutCall → Standing
-standing_of most rows ceiling asked =
-    record {
-      own_rows = length rows;
-      ceiling = ceiling;
-      is_over = exceeds most (spans_beside asked.id rows + area_spans asked.area);
-    }
+-- which limits a request to plan exceeds: by the spans of the operator's other live plans and those of the
+-- requested area, and by the cells of all its other plans and those of the area
+abbrev pub excess_asked : Terms → List PlanRow → PutCall → Excess
+excess_asked terms rows asked =
+    excess_of terms (spans_beside asked.id rows + area_spans asked.area)
+    (cells_beside asked.id rows + area_cells asked.area)
+
+-- an operator's standing for a request to plan, by its plans and its ceiling
+abbrev pub standing_of : Terms → List PlanRow → ℕ → PutCall → Standing
+standing_of terms rows ceiling asked =
+    record { own_rows = length rows; ceiling = ceiling; excess = excess_asked terms rows asked }
 
 -- the verdict on a request to plan of an operator with a ceiling: the outcome with the conflict of
 -- the area asked
 unfoldable pub put_outcome : Terms → Own → (Point → Option ℕ) → ℕ → ℤ → PutCall → Verdict
 put_outcome terms mine others ceiling moment asked =
     outcome_under asked moment (states_of (stored_of asked.id mine.plans))
-    (standing_of terms.spans mine.plans ceiling asked)
+    (standing_of terms mine.plans ceiling asked)
     (conflict terms.permitted asked.area (held_at mine.plans others asked.id) asked.priority)
 
 -- that in a world

@@ -11,7 +11,8 @@ use Rattle.desk_rules.specs.declared.plan.PlanRow.{PlanRow}
 use Rattle.volume4d.specs.Point.{Point}
 use Rattle.volume4d.specs.Level.{greater}
 use Rattle.desk_rules.specs.Limits.{max_plans, max_priority}
-use Rattle.desk_rules.specs.Plan.{row_spans, top_priority}
+use Rattle.desk_rules.specs.Plan.{row_cells, row_spans, top_priority}
+use Rattle.desk_store.specs.declared.sizes.Sizes.{Sizes}
 
 -- a plan, with its operator's name
 pub record Filed : Type 0 where
@@ -80,13 +81,23 @@ held w operator x = top_priority (others_of operator w) x
 unfoldable pub stored_of : List ℕ → List PlanRow → Option PlanRow
 stored_of id rows = find (has_id id) rows
 
--- the spans that a plan takes, if it isn't the one with the id, and those of all such plans
-abbrev pub spans_unless : List ℕ → PlanRow → ℕ
-spans_unless id row = cond (has_id id row) 0 (row_spans row)
+-- what a plan counts, if it isn't the one with the id, and what all such plans count
+abbrev pub count_unless : (PlanRow → ℕ) → List ℕ → PlanRow → ℕ
+count_unless count id row = cond (has_id id row) 0 (count row)
 
-unfoldable pub spans_beside : List ℕ → List PlanRow → ℕ
-spans_beside id [] = 0
-spans_beside id (row ∷ rows) = spans_unless id row + spans_beside id rows
+unfoldable pub count_beside : (PlanRow → ℕ) → List ℕ → List PlanRow → ℕ
+count_beside count id [] = 0
+count_beside count id (row ∷ rows) = count_unless count id row + count_beside count id rows
+
+-- the spans that the live plans but that of the id take, and the cells that all of them have
+abbrev pub spans_beside : List ℕ → List PlanRow → ℕ
+spans_beside = count_beside row_spans
+
+abbrev pub cells_beside : List ℕ → List PlanRow → ℕ
+cells_beside = count_beside row_cells
+
+abbrev pub sizes_beside : List ℕ → List PlanRow → Sizes
+sizes_beside id rows = record { spans = spans_beside id rows; cells = cells_beside id rows }
 
 -- the greatest priority held at a point by plans other than the operator's own of the id: the others', and
 -- its own

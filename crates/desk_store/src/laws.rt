@@ -4,7 +4,7 @@ ghost use Rattle.std.specs.Prelude.{ℕ, ◌*◌, ◌≤◌, List};
 ghost use Rattle.volume4d.specs.VolumeLimits.{max_cover, max_volumes};
 ghost use Rattle.desk_rules.specs.Limits.{max_plans};
 ghost use Rattle.desk_store.specs.Content.{IsContent};
-ghost use Rattle.desk_store.specs.World.{World, plans_of, spans_beside};
+ghost use Rattle.desk_store.specs.World.{World, cells_beside, plans_of, spans_beside};
 
 use volume4d::laws;
 
@@ -14,4 +14,12 @@ pub fn spans_are_few()
         → spans_beside id (plans_of operator w) ≤ max_plans * (max_volumes * max_cover) }
 {
     laws::spans_are_few();
+}
+
+/// An operator's plans have at most 6,553,600 cells.
+pub fn cells_are_few()
+    ensures { (w : World) (operator id : List ℕ) → IsContent w
+        → cells_beside id (plans_of operator w) ≤ max_plans * (max_volumes * max_cover) }
+{
+    laws::cells_are_few();
 }

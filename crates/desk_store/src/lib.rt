@@ -7,9 +7,11 @@ pub mod laws;
 mod limits;
 mod list;
 mod plan;
+mod sizes;
 mod store;
 
 pub use change::Change;
 pub use fault::StoreFault;
 pub use list::ListStore;
+pub use sizes::Sizes;
 pub use store::PlanStore;

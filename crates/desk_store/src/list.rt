@@ -9,7 +9,8 @@ ghost use Rattle.desk_rules.specs.Conflict.{at_least};
 ghost use Rattle.desk_rules.specs.Limits.{max_plans};
 ghost use Rattle.desk_rules.specs.States.{states_of};
 ghost use Rattle.desk_store.specs.World as world;
-ghost use Rattle.desk_store.specs.World.{text_cmp, rows_by, spans_beside, stored_of};
+ghost use Rattle.desk_store.specs.World.{text_cmp, rows_by, cells_beside, count_unless, sizes_beside, spans_beside, stored_of};
+ghost use Rattle.desk_rules.specs.Plan.{row_cells, row_spans};
 ghost use Rattle.desk_store.specs.OwnRows.{other_level, others_top, rival_level, rivals_top};
 ghost use Rattle.desk_store.specs.StoreChange.{changed_by, IsFitting};
 ghost use Rattle.desk_store.specs.Rivals.{HaveLevelNear, AddLevel, AddsLevel};
@@ -19,9 +20,10 @@ ghost use Rattle.desk_store.specs.declared.change.Change.TheVariants as change;
 
 use crate::change::Change;
 use crate::fault::StoreFault;
-use crate::laws::spans_are_few;
+use crate::laws::{cells_are_few, spans_are_few};
 use crate::limits::{name_within, row_within};
 use crate::plan::Plan;
+use crate::sizes::Sizes;
 use crate::store::PlanStore;
 use desk_rules::operator::Operator;
 use desk_rules::plan::{PlanRow, States};
@@ -103,9 +105,10 @@ impl PlanStore for ListStore {
         Ok(count_in(&self.operators, operator))
     }
 
-    fn own_spans(&mut self, operator: &Operator, id: &PlanId) -> Result<u32, StoreFault> {
+    fn own_sizes(&mut self, operator: &Operator, id: &PlanId) -> Result<Sizes, StoreFault> {
         spans_are_few();
-        Ok(spans_of(&self.plans, operator, id))
+        cells_are_few();
+        Ok(sizes_of(&self.plans, operator, id))
     }
 
     fn own_plans(&mut self, operator: &Operator) -> Result<Vec<PlanRow>, StoreFault> {
@@ -280,27 +283,29 @@ fn count_of(plans: &Plans, operator: &Operator) -> u32
     count
 }
 
-// How many spans the operator's live plans take, but for its plan with the id.
-fn spans_of(plans: &Plans, operator: &Operator, id: &PlanId) -> u32
-    requires { spans_beside id.now (rows_by operator.now (filed_all plans.now.entries)) < 2 ^ 32 }
-    ensures { result ≡ spans_beside id.now (rows_by operator.now (filed_all plans.now.entries)) }
+// How much the operator's plans take, but for its plan with the id.
+fn sizes_of(plans: &Plans, operator: &Operator, id: &PlanId) -> Sizes
+    requires spans { spans_beside id.now (rows_by operator.now (filed_all plans.now.entries)) < 2 ^ 32 }
+    requires cells { cells_beside id.now (rows_by operator.now (filed_all plans.now.entries)) < 2 ^ 32 }
+    ensures { result ≡ sizes_beside id.now (rows_by operator.now (filed_all plans.now.entries)) }
 {
-    let mut spans = 0;
+    let mut sizes = Sizes::none();
     for (key, plan) in plans {
         if is_by(operator, key) {
-            spans += spans_unless(id, key, plan);
+            sizes = sizes.plus(sizes_unless(id, key, plan));
         }
     }
-    spans
+    sizes
 }
 
-// How many spans a plan takes, if it isn't the one with the id.
-fn spans_unless(id: &PlanId, key: &(Operator, PlanId), plan: &Plan) -> u32
-    ensures { result ≡ world.spans_unless id.now (filed_of (key.now, plan.now)).row }
+// How much a plan takes, if it isn't the one with the id.
+fn sizes_unless(id: &PlanId, key: &(Operator, PlanId), plan: &Plan) -> Sizes
+    ensures spans { result.spans ≡ count_unless row_spans id.now (filed_of (key.now, plan.now)).row }
+    ensures cells { result.cells ≡ count_unless row_cells id.now (filed_of (key.now, plan.now)).row }
 {
     match id.cmp(&key.1) {
-        Ordering::Equal => 0,
-        _ => plan.span_count(),
+        Ordering::Equal => Sizes::none(),
+        _ => plan.sizes(),
     }
 }
 

@@ -5,12 +5,13 @@ ghost use Rattle.std.specs.List.{list_any};
 ghost use Rattle.volume4d.specs.Bounds.{overlap};
 ghost use Rattle.volume4d.specs.Volume.{area_has};
 ghost use Rattle.volume4d.specs.Level.{level_where};
-ghost use Rattle.volume4d.specs.SpanCounts.{area_spans};
+ghost use Rattle.volume4d.specs.SpanCounts.{area_cells, area_spans};
 ghost use Rattle.volume4d.specs.Slab.{slabs_have};
 ghost use Rattle.desk_rules.specs.Plan.{is_live};
 ghost use Rattle.desk_store.specs.Rivals.{AddLevel, AddsLevel};
 ghost use Rattle.desk_store.specs.Parts.{parts_of, row_of, kept_states, closed_parts, HasNoPoint};
 
+use crate::sizes::Sizes;
 use desk_rules::plan::{PlanRow, States};
 use desk_rules::plan_id::PlanId;
 use desk_rules::words::{Aircraft, Usage};
@@ -93,13 +94,19 @@ impl Plan {
         }
     }
 
-    /// How many spans it takes along the S2 curve: none once it is closed.
-    pub fn span_count(&self) -> u32
-        ensures { result ≡ cond (is_live self.now.usage) (area_spans self.now.area) 0 }
+    /// How much it takes: the spans of its area along the S2 curve until it is closed, and the cells of its
+    /// area.
+    pub fn sizes(&self) -> Sizes
+        ensures spans { result.spans ≡ cond (is_live self.now.usage) (area_spans self.now.area) 0 }
+        ensures cells { result.cells ≡ area_cells self.now.area }
     {
-        match self.usage {
+        let spans = match self.usage {
             Usage::Planned | Usage::InUse => self.area.span_count(),
             Usage::Closed => 0,
+        };
+        Sizes {
+            spans,
+            cells: self.area.cell_count(),
         }
     }
 

@@ -3,12 +3,13 @@
 ghost use Rattle.std.specs.Prelude.{◌≡◌, ℕ, length, Option, IfOk, IfErr, OnOk, OnErr};
 ghost use Rattle.desk_store.specs.StoreFrames.{OnlyReads, Remembers};
 ghost use Rattle.desk_store.specs.Content.{IsContent};
-ghost use Rattle.desk_store.specs.World.{World, ceiling_of, plans_of, spans_beside, stored_of};
+ghost use Rattle.desk_store.specs.World.{World, ceiling_of, plans_of, sizes_beside, stored_of};
 ghost use Rattle.desk_store.specs.Rivals.{AreHeldByOthers, AreRivals, AreRivalsNear};
 ghost use Rattle.desk_rules.specs.States.{states_of};
 
 use crate::change::Change;
 use crate::fault::StoreFault;
+use crate::sizes::Sizes;
 use desk_rules::operator::Operator;
 use desk_rules::plan::{PlanRow, States};
 use desk_rules::plan_id::PlanId;
@@ -76,11 +77,11 @@ pub trait PlanStore {
         ensures reads { OnlyReads content doubt faults may_leave is_shielded self.old self.new }
         ensures cause { IfErr result (IsCounted faults self.old self.new) };
 
-    /// How many spans the operator's live plans take along the S2 curve, but for its plan with this id: one
-    /// for each range of each of their volumes.
-    fn own_spans(&mut self, operator: &Operator, id: &PlanId) -> Result<u32, StoreFault>
-        ensures value { IsHonest (doubt self.new) → IfOk result (λ count.
-            count ≡ spans_beside id.now (plans_of operator.now (content self.old))) }
+    /// How much the operator's plans take, but for its plan with this id: the spans of those that are live,
+    /// and the cells of all.
+    fn own_sizes(&mut self, operator: &Operator, id: &PlanId) -> Result<Sizes, StoreFault>
+        ensures value { IsHonest (doubt self.new) → IfOk result (λ sizes.
+            sizes ≡ sizes_beside id.now (plans_of operator.now (content self.old))) }
         ensures reads { OnlyReads content doubt faults may_leave is_shielded self.old self.new }
         ensures cause { IfErr result (IsCounted faults self.old self.new) };
 

@@ -111,7 +111,7 @@ abbrev told_by : Side → Option Spot → ℤ → PutCall → Option ℕ → Tol
 told_by mine spot moment asked None = Told.unknown_operator
 told_by mine spot moment asked (Some ceiling) =
     (put_ruling (outcome_under asked moment (states_of (stored_of asked.id mine.own.plans))
-    (standing_of mine.terms.spans mine.own.plans ceiling asked) spot) asked mine.own.plans).told
+    (standing_of mine.terms mine.own.plans ceiling asked) spot) asked mine.own.plans).told
 
 -- the conflict of what is asked, by an operator's side and what others hold
 abbrev conflict_by : Side → (Point → Option ℕ) → PutCall → Option Spot

@@ -1,4 +1,4 @@
--- The roll of a store's operators: the ceiling of each, and the states and the spans of its plans.
+-- The roll of a store's operators: the ceiling of each, and the states and the sizes of its plans.
 use Rattle.std.specs.Prelude.{◌≡◌, ◌≢◌, ⊤, ℕ, ◌+◌, ◌≤◌, Bool, false, not, cond, List, [], ◌∷◌, Option, Some, None, map, length}
 use Rattle.std.specs.List.{filter, find, list_any, sum_by}
 use Rattle.std.specs.Option.{option_and_then, option_map}
@@ -9,7 +9,7 @@ use Rattle.std.specs.Map.{lookup}
 use Rattle.desk_rules.specs.declared.plan.PlanRow.{PlanRow}
 use Rattle.desk_rules.specs.declared.plan.States.{States}
 use Rattle.desk_rules.specs.declared.words.Usage.TheVariants as usage
-use Rattle.desk_rules.specs.Plan.{row_spans}
+use Rattle.desk_rules.specs.Plan.{row_cells, row_spans}
 use Rattle.desk_rules.specs.States.{states_in}
 use Rattle.desk_store.specs.World.{Filed, Listed, World, text_cmp, rows_by}
 use Rattle.desk_store.specs.declared.change.Change.{Change}
@@ -23,17 +23,23 @@ Accounts = List (List ℕ × Account)
 
 -- what is kept of a plan
 abbrev pub state_of : PlanRow → PlanState
-state_of row = record { id = row.id; states = states_in row; spans = row_spans row }
+state_of row = record { id = row.id; states = states_in row; spans = row_spans row; cells = row_cells row }
 
 abbrev pub state_has_id : List ℕ → PlanState → Bool
 state_has_id id s = is_eq (text_cmp id s.id)
 
--- the spans of a plan, if it isn't the one with the id, and those of all such plans
-abbrev pub kept_spans_unless : List ℕ → PlanState → ℕ
-kept_spans_unless id s = cond (state_has_id id s) 0 s.spans
+-- what is counted of a plan, if it isn't the one with the id, and of all such plans
+abbrev pub kept_unless : (PlanState → ℕ) → List ℕ → PlanState → ℕ
+kept_unless count id s = cond (state_has_id id s) 0 (count s)
+
+abbrev pub kept_beside : (PlanState → ℕ) → List ℕ → List PlanState → ℕ
+kept_beside count id plans = sum_by (kept_unless count id) plans
 
 abbrev pub kept_spans_beside : List ℕ → List PlanState → ℕ
-kept_spans_beside id plans = sum_by (kept_spans_unless id) plans
+kept_spans_beside = kept_beside (λ s. s.spans)
+
+abbrev pub kept_cells_beside : List ℕ → List PlanState → ℕ
+kept_cells_beside = kept_beside (λ s. s.cells)
 
 -- the account of an operator, its ceiling, and what is kept of its plans
 abbrev pub account_in : List ℕ → Accounts → Option Account
@@ -105,7 +111,7 @@ abbrev pub closed_states : States → States
 closed_states states = record states { usage = usage.Closed }
 
 abbrev pub close_if : List ℕ → PlanState → PlanState
-close_if id s = cond (state_has_id id s) (record { id = s.id; states = closed_states s.states; spans = 0 }) s
+close_if id s = cond (state_has_id id s) (record s { states = closed_states s.states; spans = 0 }) s
 
 abbrev pub is_state_named : List (List ℕ) → PlanState → Bool
 is_state_named ids s = list_any (λ id. state_has_id id s) ids

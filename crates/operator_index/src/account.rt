@@ -1,24 +1,25 @@
-//! What is kept of an operator: its ceiling, and the states and the spans of its plans.
+//! What is kept of an operator: its ceiling, and the states and the sizes of its plans.
 
 ghost use Rattle.std.specs.Prelude.{◌≡◌, ◌<◌, ◌≤◌, ◌+◌, ◌^◌, ◌++◌, ◌∷◌, [], not, map, take, drop, length, IfOk, OnOk};
 ghost use Rattle.std.specs.List.{filter, find};
 ghost use Rattle.std.specs.Option.{option_map};
 ghost use Rattle.operator_index.specs.Roll as spec;
-ghost use Rattle.operator_index.specs.Roll.{HasRoomForOne, ceiling_after, close_if, is_state_named, kept_spans_beside, or_else, plans_after, put_state, state_has_id, state_of};
+ghost use Rattle.operator_index.specs.Roll.{HasRoomForOne, ceiling_after, close_if, is_state_named, kept_cells_beside, kept_spans_beside, kept_unless, or_else, plans_after, put_state, state_has_id, state_of};
 
 use desk_rules::plan::{PlanRow, States};
 use desk_rules::plan_id::PlanId;
 use desk_rules::words::Usage;
-use desk_store::Change;
+use desk_store::{Change, Sizes};
 use std::alloc::AllocError;
 use std::cmp::Ordering;
 
-/// The states of a plan, and how many spans it takes, with its id.
+/// The states of a plan, and how many spans and cells it takes, with its id.
 #[derive(Clone, Copy, Debug)]
 pub(crate) struct PlanState {
     id: PlanId,
     states: States,
     spans: u32,
+    cells: u32,
 }
 
 impl PlanState {
@@ -30,6 +31,7 @@ impl PlanState {
             id: row.id,
             states: row.states(),
             spans: row.span_count(),
+            cells: row.cell_count(),
         }
     }
 
@@ -47,7 +49,7 @@ impl PlanState {
         ids.iter().any(|id| self.has_id(id))
     }
 
-    // The same, with the usage `Closed` and no spans if the plan has this id.
+    // The same, with the usage `Closed` and no spans if the plan has this id; it keeps its cells.
     fn close_if(&self, id: &PlanId) -> PlanState
         ensures { result ≡ spec.close_if id.now self.now }
     {
@@ -61,17 +63,22 @@ impl PlanState {
                 aircraft: self.states.aircraft,
             },
             spans: 0,
+            cells: self.cells,
         }
     }
 
-    // How many spans it takes, if it hasn't this id.
-    fn spans_unless(&self, id: &PlanId) -> u32
-        ensures { result ≡ spec.kept_spans_unless id.now self.now }
+    // How much it takes, if it hasn't this id.
+    fn sizes_unless(&self, id: &PlanId) -> Sizes
+        ensures spans { result.spans ≡ kept_unless (λ s. s.spans) id.now self.now }
+        ensures cells { result.cells ≡ kept_unless (λ s. s.cells) id.now self.now }
     {
         if self.has_id(id) {
-            return 0;
+            return Sizes::none();
         }
-        self.spans
+        Sizes {
+            spans: self.spans,
+            cells: self.cells,
+        }
     }
 }
 
@@ -92,12 +99,14 @@ impl Account {
         Some(found.states)
     }
 
-    /// How many spans its plans take but for that of the id, where 32 bits can say it.
-    pub(crate) fn spans_beside(&self, id: &PlanId) -> u32
-        ensures { kept_spans_beside id.now self.now.plans.items < 2 ^ 32
-            → result ≡ kept_spans_beside id.now self.now.plans.items }
+    /// How much its plans take but for that of the id, where 32 bits can say it.
+    pub(crate) fn sizes_beside(&self, id: &PlanId) -> Sizes
+        ensures spans { kept_spans_beside id.now self.now.plans.items < 2 ^ 32
+            → result.spans ≡ kept_spans_beside id.now self.now.plans.items }
+        ensures cells { kept_cells_beside id.now self.now.plans.items < 2 ^ 32
+            → result.cells ≡ kept_cells_beside id.now self.now.plans.items }
     {
-        spans_of(&self.plans, id)
+        sizes_of(&self.plans, id)
     }
 
     /// Takes a ceiling, if it has none.
@@ -152,15 +161,18 @@ impl Account {
     }
 }
 
-// How many spans plans take but for that of the id, where 32 bits can say it.
-fn spans_of(plans: &[PlanState], id: &PlanId) -> u32
-    ensures { kept_spans_beside id.now plans.now < 2 ^ 32 → result ≡ kept_spans_beside id.now plans.now }
+// How much plans take but for that of the id, where 32 bits can say it.
+fn sizes_of(plans: &[PlanState], id: &PlanId) -> Sizes
+    ensures spans { kept_spans_beside id.now plans.now < 2 ^ 32
+        → result.spans ≡ kept_spans_beside id.now plans.now }
+    ensures cells { kept_cells_beside id.now plans.now < 2 ^ 32
+        → result.cells ≡ kept_cells_beside id.now plans.now }
 {
-    let mut spans: u32 = 0;
+    let mut sizes = Sizes::none();
     for plan in plans {
-        spans = spans.saturating_add(plan.spans_unless(id));
+        sizes = sizes.plus(plan.sizes_unless(id));
     }
-    spans
+    sizes
 }
 
 // Puts a plan's states in place of those of its id, or at their place, for which there is room.

@@ -4,7 +4,7 @@ ghost use Rattle.std.specs.Prelude.{◌≡◌, ◌++◌, ◌∷◌, ◌<◌, ◌
 ghost use Rattle.std.specs.List.Sorted.{IsStrictlySortedBy};
 ghost use Rattle.std.specs.Option.{is_some};
 ghost use Rattle.desk_rules.specs.States.{states_of};
-ghost use Rattle.desk_store.specs.World.{Filed, Listed, World, ceiling_of, listed_cmp, plans_of, spans_beside, stored_of};
+ghost use Rattle.desk_store.specs.World.{Filed, Listed, World, ceiling_of, listed_cmp, cells_beside, plans_of, spans_beside, stored_of};
 ghost use Rattle.desk_store.specs.Changes.{filed_by};
 ghost use Rattle.desk_store.specs.StoreChange.{changed_by};
 ghost use Rattle.operator_index.specs.Roll as spec;
@@ -15,11 +15,11 @@ use crate::listed::ListedOperator;
 use desk_rules::operator::Operator;
 use desk_rules::plan::{PlanRow, States};
 use desk_rules::plan_id::PlanId;
-use desk_store::Change;
+use desk_store::{Change, Sizes};
 use std::alloc::{AllocError, Global};
 use std::collections::BTreeMap;
 
-/// Each operator's ceiling, and the states and the spans of its plans.
+/// Each operator's ceiling, and the states and the sizes of its plans.
 #[derive(Drop)]
 pub struct Roll {
     accounts: BTreeMap<Operator, Account>,
@@ -79,15 +79,18 @@ impl Roll {
         }
     }
 
-    /// How many spans the operator's plans take but for that of the id, where 32 bits can say it.
-    pub fn spans_beside(&self, operator: &Operator, id: &PlanId) -> u32
-        ensures { (w : World) → IsRollOf w self.now
+    /// How much the operator's plans take but for that of the id, where 32 bits can say it.
+    pub fn sizes_beside(&self, operator: &Operator, id: &PlanId) -> Sizes
+        ensures spans { (w : World) → IsRollOf w self.now
             → spans_beside id.now (plans_of operator.now w) < 2 ^ 32
-            → result ≡ spans_beside id.now (plans_of operator.now w) }
+            → result.spans ≡ spans_beside id.now (plans_of operator.now w) }
+        ensures cells { (w : World) → IsRollOf w self.now
+            → cells_beside id.now (plans_of operator.now w) < 2 ^ 32
+            → result.cells ≡ cells_beside id.now (plans_of operator.now w) }
     {
         match self.accounts.get(operator) {
-            Some(account) => account.spans_beside(id),
-            None => 0,
+            Some(account) => account.sizes_beside(id),
+            None => Sizes::none(),
         }
     }
 

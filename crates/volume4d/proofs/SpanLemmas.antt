@@ -1,14 +1,15 @@
--- How many spans a volume takes.
+-- How many spans a volume takes, and how many cells it has.
 use Rattle.std.proofs.Common.{◌≡◌, ℕ, ◌*◌, ◌^◌, ◌<◌, ◌≤◌, Bool, List, length, subst, arith, inl, inr, IsTrue}
-use Rattle.std.proofs.lemmas.Bool.{both_ways, cases_lt}
+use Rattle.std.specs.Prelude.{nat_le}
+use Rattle.std.proofs.lemmas.Bool.{and_parts, both_ways, cases_lt, leb-true}
 use Rattle.s2_hilbert.specs.Curve.{grid_leaf_at}
 use Rattle.s2_cover.specs.Canonical.{IsCanonical}
 use Rattle.s2_cover.specs.CanonicalList.{canonical_list}
 use Rattle.s2_cover.specs.Leaves.{leaves_of}
 use Rattle.s2_cover.specs.Ranges.{range_count}
-use Rattle.volume4d.specs.VolumeLimits.{max_cover}
-use Rattle.volume4d.specs.Shape.{Shape, is_footprint, shape_positions}
-use Rattle.volume4d.specs.SpanCounts.{volume_spans}
+use Rattle.volume4d.specs.VolumeLimits.{max_cells, max_cover}
+use Rattle.volume4d.specs.Shape.{Shape, cells, rectangle, is_footprint, shape_positions}
+use Rattle.volume4d.specs.SpanCounts.{shape_cells, volume_cells, volume_spans}
 use Rattle.volume4d.specs.Volume.{Block}
 use Rattle.volume4d.specs.FootprintBytes.{HasValidParts}
 use Rattle.volume4d.proofs.LeafTests.{no_leaf_at}
@@ -22,6 +23,15 @@ on_leaves shape p has = elim (cases_lt p (6 * 2 ^ 60)) [
       absurd (both_ways (shape_positions shape p)
       (leaves_alone shape (grid_leaf_at p) (no_leaf_at p past)) has)
 ]
+
+few_in : (shape : Shape) → IsTrue (is_footprint shape) → shape_cells shape ≤ max_cover
+few_in (cells ids) count =
+    let bounds = and_parts (nat_le 1 (length ids)) _ count in
+    omega (arith, leb-true (length ids) max_cells bounds.1)
+few_in (rectangle r) count = leb-true _ max_cover count
+
+pub few_cells : (v : Block) → IsTrue (is_footprint v.footprint) → volume_cells v ≤ max_cover
+few_cells v limits = few_in v.footprint limits
 
 module _ (covers : (shape : Shape) → IsTrue (is_footprint shape) → HasValidParts shape
     → length (canonical_list (shape_positions shape)) ≤ max_cover)

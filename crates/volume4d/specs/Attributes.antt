@@ -5,6 +5,7 @@ use Rattle.s2_cover.specs.Ranges.{IsRanges, range_count}
 use Rattle.volume4d.specs.declared.fault.VolumeFault.{VolumeFault}
 use Rattle.volume4d.specs.declared.fault.VolumeFault.TheVariants.{Cells, TooManyCells, OutOfMemory}
 use Rattle.volume4d.specs.VolumeLimits.{max_cover}
+use Rattle.volume4d.specs.SpanCounts.{shape_cells}
 use Rattle.volume4d.specs.Shape.{Shape, cells, rectangle, shape_positions, is_footprint}
 
 -- a footprint within the limits, and its leaves as ranges of positions
@@ -14,11 +15,13 @@ pub record HasRanges (shape : Shape) (spans : List Span) : Type 0 where
   pub some : 0 < length spans
   pub few : length spans ≤ max_cover
 
--- a footprint within the limits, how many ranges its leaves are, and these, if they are kept
-pub record KeepsRanges (shape : Shape) (count : ℕ) (kept : Option (List Span)) : Type 0 where
+-- a footprint within the limits, how many ranges its leaves are, and these, if they are kept, and how many
+-- cells it has
+pub record KeepsRanges (shape : Shape) (count : ℕ) (kept : Option (List Span)) (cells : ℕ) : Type 0 where
   pub limits : IsTrue (is_footprint shape)
   pub counted : count ≡ range_count (shape_positions shape)
   pub few : count ≤ max_cover
+  pub cells_counted : cells ≡ shape_cells shape
   pub ranges : IfSome kept (HasRanges shape)
 
 -- the fault of a footprint past its limit

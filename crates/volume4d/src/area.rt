@@ -7,7 +7,7 @@ ghost use Rattle.volume4d.specs.Point.{Point};
 ghost use Rattle.volume4d.specs.Slab.{slabs_have};
 ghost use Rattle.volume4d.specs.Bounds.{AreFilled, IsBounds};
 ghost use Rattle.volume4d.specs.Slabs.{AreAreaSlabs, AreSortedSlabs};
-ghost use Rattle.volume4d.specs.SpanCounts.{area_spans};
+ghost use Rattle.volume4d.specs.SpanCounts.{area_cells, area_spans};
 ghost use Rattle.volume4d.specs.Volume.{is_area, area_has};
 
 use crate::bounds::bounds_of;
@@ -78,6 +78,15 @@ impl Area {
         ensures few { result ≤ max_volumes * max_cover }
     {
         spans_in(&self.volumes)
+    }
+
+    /// How many cells the area has: for each of its volumes those of its cell list, or of the canonical cover
+    /// of its rectangle.
+    pub fn cell_count(&self) -> u32
+        ensures value { result ≡ area_cells self.now }
+        ensures few { result ≤ max_volumes * max_cover }
+    {
+        cells_in(&self.volumes)
     }
 
     /// The smallest slab that has all points of the area.
@@ -185,4 +194,17 @@ fn spans_in(volumes: &[Volume]) -> u32
         spans += volume.span_count();
     }
     spans
+}
+
+// How many cells volumes have, of which there are as many as an area may have.
+fn cells_in(volumes: &[Volume]) -> u32
+    requires { length volumes.now ≤ max_volumes }
+    ensures value { result ≡ area_cells volumes.now }
+    ensures few { result ≤ max_volumes * max_cover }
+{
+    let mut cells = 0;
+    for volume in volumes {
+        cells += volume.cell_count();
+    }
+    cells
 }

@@ -8,6 +8,7 @@ ghost use Rattle.volume4d.specs.VolumeLimits.{within_cells};
 ghost use Rattle.volume4d.specs.Shape as shapes;
 ghost use Rattle.volume4d.specs.Shape.{Shape};
 ghost use Rattle.volume4d.specs.Footprint.{shape_of};
+ghost use Rattle.volume4d.specs.SpanCounts.{shape_cells};
 ghost use Rattle.volume4d.specs.FootprintBytes.{footprint_bytes, HasValidParts, AreBytesOf};
 ghost use Rattle.volume4d.specs.Attributes.{HasRanges, IsFaultOf};
 
@@ -93,14 +94,16 @@ impl Footprint {
         }
     }
 
-    /// The footprint's leaves as ranges of positions along the S2 curve.
+    /// The footprint's leaves as ranges of positions along the S2 curve, and how many cells it has: those of
+    /// its list, or of the canonical cover of its rectangle.
     ///
     /// # Errors
     ///
     /// `Cells` if a cell list does not have 1 to 64 cells, `TooManyCells` if the canonical cover of a
     /// rectangle has more than 1,024, `OutOfMemory` if memory runs out.
-    pub(crate) fn ranges(&self, alloc: Global) -> Result<Ranges, VolumeFault>
-        ensures ok { IfOk result (HasRanges (shape_of self.now)) }
+    pub(crate) fn ranges(&self, alloc: Global) -> Result<(Ranges, u32), VolumeFault>
+        ensures ok { IfOk result (λ found. HasRanges (shape_of self.now) found.0) }
+        ensures cells { IfOk result (λ found. found.1 ≡ shape_cells (shape_of self.now)) }
         ensures err { IfErr result (IsFaultOf (shape_of self.now)) }
     {
         match self {
@@ -110,9 +113,10 @@ impl Footprint {
     }
 }
 
-// The leaves of a cell list as ranges of positions along the S2 curve.
-fn cell_ranges(alloc: Global, cells: &[CellId]) -> Result<Ranges, VolumeFault>
-    ensures ok { IfOk result (HasRanges (shapes.cells cells.now)) }
+// The leaves of a cell list as ranges of positions along the S2 curve, and how many cells it has.
+fn cell_ranges(alloc: Global, cells: &[CellId]) -> Result<(Ranges, u32), VolumeFault>
+    ensures ok { IfOk result (λ found. HasRanges (shapes.cells cells.now) found.0) }
+    ensures cells { IfOk result (λ found. found.1 ≡ length cells.now) }
     ensures err { IfErr result (IsFaultOf (shapes.cells cells.now)) }
 {
     if !is_count(cells.len()) {
@@ -120,18 +124,20 @@ fn cell_ranges(alloc: Global, cells: &[CellId]) -> Result<Ranges, VolumeFault>
     }
     ranges_are_counted();
     ranges_are_few();
-    Ok(normalise(alloc, cells)?.ranges()?)
+    let ranges = normalise(alloc, cells)?.ranges()?;
+    Ok((ranges, cells.len() as u32))
 }
 
-// The leaves of a rectangle as ranges of positions along the S2 curve.
-fn rect_ranges(alloc: Global, rect: &Rect) -> Result<Ranges, VolumeFault>
-    ensures ok { IfOk result (HasRanges (shapes.rectangle rect.now)) }
+// The leaves of a rectangle as ranges of positions along the S2 curve, and how many cells its cover has.
+fn rect_ranges(alloc: Global, rect: &Rect) -> Result<(Ranges, u32), VolumeFault>
+    ensures ok { IfOk result (λ found. HasRanges (shapes.rectangle rect.now) found.0) }
+    ensures cells { IfOk result (λ found. found.1 ≡ shape_cells (shapes.rectangle rect.now)) }
     ensures err { IfErr result (IsFaultOf (shapes.rectangle rect.now)) }
 {
     ranges_are_counted();
     ranges_are_few();
     match cover(alloc, rect, MAX_COVER) {
-        Ok(cover) => Ok(cover.ranges()?),
+        Ok(cover) => Ok((cover.ranges()?, cover.cells().len() as u32)),
         Err(CoverFault::TooManyCells { .. }) => Err(VolumeFault::TooManyCells),
         Err(CoverFault::OutOfMemory) => Err(VolumeFault::OutOfMemory),
     }

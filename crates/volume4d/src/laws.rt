@@ -5,7 +5,7 @@ ghost use Rattle.s2_cover.specs.CanonicalList.{canonical_list};
 ghost use Rattle.volume4d.specs.VolumeLimits.{max_cover};
 ghost use Rattle.volume4d.specs.Shape.{Shape, is_footprint, shape_positions};
 ghost use Rattle.volume4d.specs.FootprintBytes.{HasValidParts, footprint_bytes};
-ghost use Rattle.volume4d.specs.SpanCounts.{volume_spans};
+ghost use Rattle.volume4d.specs.SpanCounts.{volume_cells, volume_spans};
 ghost use Rattle.volume4d.specs.Volume.{Block};
 
 use s2_cover::laws::{
@@ -41,3 +41,8 @@ pub fn spans_are_few()
     canonical_list_is();
     ranges_are_few();
 }
+
+/// A volume has at most as many cells as the cover of a rectangle may have.
+pub fn cells_are_few()
+    ensures { (v : Block) → IsTrue (is_footprint v.footprint) → volume_cells v ≤ max_cover }
+{}

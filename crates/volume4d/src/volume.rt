@@ -7,7 +7,7 @@ ghost use Rattle.volume4d.specs.Point.{Point};
 ghost use Rattle.volume4d.specs.Windows.{is_window};
 ghost use Rattle.volume4d.specs.Footprint.{shape_of};
 ghost use Rattle.volume4d.specs.VolumeLimits.{max_cover};
-ghost use Rattle.volume4d.specs.SpanCounts.{volume_spans};
+ghost use Rattle.volume4d.specs.SpanCounts.{volume_cells, volume_spans};
 ghost use Rattle.volume4d.specs.Shape.{Shape, shape_positions, is_footprint};
 ghost use Rattle.volume4d.specs.Volume.{block_has};
 ghost use Rattle.volume4d.specs.Slab.{slabs_have, span_of, slab_window};
@@ -17,6 +17,7 @@ ghost use Rattle.volume4d.specs.Attributes.{IsFaultOf, HasRanges};
 
 use crate::fault::VolumeFault;
 use crate::footprint::Footprint;
+use crate::laws::cells_are_few;
 use crate::slab::Slab;
 use crate::window::Window;
 use s2_cover::laws::ranges_are_counted;
@@ -34,6 +35,8 @@ pub struct Volume {
     // how many ranges the footprint's leaves are, and these, if they are kept
     count: u32,
     ranges: Option<Ranges>,
+    // how many cells the footprint has
+    cells: u32,
     alloc: Global,
 }
 
@@ -49,7 +52,8 @@ impl Model for Volume {
 
     ghost view = { λ v. record { footprint = shape_of v.footprint; window = v.window } };
 
-    ghost invariant = { λ v. KeepsRanges (shape_of v.footprint) v.count v.ranges × IsTrue (is_window v.window) };
+    ghost invariant = { λ v. KeepsRanges (shape_of v.footprint) v.count v.ranges v.cells
+        × IsTrue (is_window v.window) };
 }
 
 impl Volume {
@@ -71,13 +75,14 @@ impl Volume {
         ensures limits { IfOk result (λ volume. IsTrue (is_footprint (shape_of footprint))) }
         ensures fault { IfErr result (IsFaultOf (shape_of footprint)) }
     {
-        let ranges = footprint.ranges(alloc)?;
+        let (ranges, cells) = footprint.ranges(alloc)?;
         ranges_are_counted();
         Ok(Volume {
             footprint,
             window,
             count: ranges.spans().len() as u32,
             ranges: Some(ranges),
+            cells,
             alloc,
         })
     }
@@ -133,6 +138,15 @@ impl Volume {
         self.count
     }
 
+    /// How many cells the volume has: those of its cell list, or of the canonical cover of its rectangle.
+    pub fn cell_count(&self) -> u32
+        ensures value { result ≡ volume_cells self.now }
+        ensures few { result ≤ max_cover }
+    {
+        cells_are_few();
+        self.cells
+    }
+
     /// The canonical cover of the footprint's leaves: for a rectangle the cover that its limit speaks of.
     ///
     /// # Errors
@@ -165,6 +179,7 @@ impl Volume {
             window: self.window,
             count: self.count,
             ranges,
+            cells: self.cells,
             alloc: self.alloc,
         })
     }
@@ -174,7 +189,7 @@ impl Volume {
         ensures { IfOk result (HasRanges self.now.footprint) }
     {
         match self.footprint.ranges(self.alloc) {
-            Ok(ranges) => Ok(ranges),
+            Ok((ranges, _)) => Ok(ranges),
             Err(VolumeFault::OutOfMemory) => Err(AllocError),
             Err(VolumeFault::Cells | VolumeFault::TooManyCells) => unreachable!(),
         }

@@ -5,14 +5,12 @@ ghost use Rattle.desk_run.specs.CallFaults.{IsStoreCounted};
 ghost use Rattle.desk_store.specs.StoreFrames.{OnlyReads};
 ghost use Rattle.desk_store.specs.StoreFaults.{IsHonest, IsCounted};
 ghost use Rattle.desk_rules.specs.Limits.{max_priority};
-ghost use Rattle.desk_store.specs.World.{own, ceiling_of, plans_of, spans_beside, stored_of, held};
+ghost use Rattle.desk_store.specs.World.{own, ceiling_of, plans_of, stored_of, held};
 ghost use Rattle.desk_run.specs.Calls.{Readies, change_after};
 ghost use Rattle.desk_rules.specs.Outcome.{outcome_under, is_check};
 ghost use Rattle.desk_rules.specs.States.{states_of, step_from};
-ghost use Rattle.desk_rules.specs.Terms.{exceeds};
-ghost use Rattle.volume4d.specs.SpanCounts.{area_spans};
 ghost use Rattle.volume4d.specs.Meeting.{Spot};
-ghost use Rattle.desk_run.specs.Verdicts.{put_ruling, put_outcome_in, row_asked, conflict_in};
+ghost use Rattle.desk_run.specs.Verdicts.{put_ruling, put_outcome_in, excess_asked, row_asked, conflict_in};
 
 use super::Pending;
 use super::conflict::conflict_of;
@@ -23,7 +21,7 @@ use desk_rules::permission::Permitted;
 use desk_rules::plan::{PlanRow, PutCall, States};
 use desk_rules::plan_id::PlanId;
 use desk_rules::reply::{PutReply, Reply};
-use desk_rules::terms::Terms;
+use desk_rules::terms::{Excess, Terms};
 use desk_rules::transition::{Step, transition_from};
 use desk_store::{Change, PlanStore, StoreFault};
 use std::alloc::{AllocError, Global};
@@ -88,11 +86,11 @@ fn verdict_on<S: PlanStore>(
     ensures cause { IfErr result (IsCounted S.faults store.old store.new) }
 {
     let (stored, own_rows) = states_and_count(store, operator, &put.id)?;
-    let is_over = is_over(store, terms, operator, put)?;
+    let excess = excess_with(store, terms, operator, put)?;
     let standing = Standing {
         own_rows,
         ceiling,
-        is_over,
+        excess,
     };
     let needed = needs_conflict(put, moment, stored, &standing);
     let meeting = conflict_if(alloc, needed, store, &terms.permitted, operator, put)?;
@@ -171,25 +169,27 @@ fn states_and_count<S: PlanStore>(
     Ok((stored, own_rows))
 }
 
-// Whether the operator's live plans would have more spans than they may have, with the requested one in
-// place of that of its id. Nothing is counted if any number will do.
-fn is_over<S: PlanStore>(
+// Which limits the operator's plans would exceed, with the requested one in place of that of its id. The
+// store is asked only if there is a limit.
+fn excess_with<S: PlanStore>(
     store: &mut S,
     terms: &Terms,
     operator: &Operator,
     put: &PutCall,
-) -> Result<bool, StoreFault>
-    ensures value { IsHonest (S.doubt store.new) → IfOk result (λ over.
-        over ≡ exceeds terms.now.spans (spans_beside put.now.id
-        (plans_of operator.now (S.content store.old)) + area_spans put.now.area)) }
+) -> Result<Excess, StoreFault>
+    ensures value { IsHonest (S.doubt store.new) → IfOk result (λ excess.
+        excess ≡ excess_asked terms.now (plans_of operator.now (S.content store.old)) put.now) }
     ensures reads { OnlyReads S.content S.doubt S.faults S.may_leave S.is_shielded store.old store.new }
     ensures cause { IfErr result (IsCounted S.faults store.old store.new) }
 {
-    if terms.spans.is_none() {
-        return Ok(false);
+    if terms.spans.is_none() && terms.cells.is_none() {
+        return Ok(Excess::none());
     }
-    let others = store.own_spans(operator, &put.id)?;
-    Ok(terms.is_exceeded_by(u64::from(others) + u64::from(put.area.span_count())))
+    let others = store.own_sizes(operator, &put.id)?;
+    Ok(terms.excess(
+        u64::from(others.spans) + u64::from(put.area.span_count()),
+        u64::from(others.cells) + u64::from(put.area.cell_count()),
+    ))
 }
 
 // The change that an effect is.

@@ -21,7 +21,7 @@ use Rattle.desk_store.specs.declared.change.Change.{Change}
 use Rattle.desk_store.specs.declared.change.Change.TheVariants.{Enrol, Put, Close, Clear}
 use Rattle.operator_index.specs.declared.account.PlanState.{PlanState}
 use Rattle.operator_index.specs.declared.account.Account.{Account}
-use Rattle.operator_index.specs.Roll.{Accounts, AreAccountsOf, account_in, ceiling_after, ceiling_in, close_if, is_state_named, kept_spans_beside, kept_spans_unless, named_by, or_else, plans_after, plans_in, plans_or_none, put_state, state_has_id, state_of}
+use Rattle.operator_index.specs.Roll.{Accounts, AreAccountsOf, account_in, ceiling_after, ceiling_in, close_if, is_state_named, kept_beside, kept_unless, named_by, or_else, plans_after, plans_in, plans_or_none, put_state, state_has_id, state_of}
 
 -- ---- names
 
@@ -322,10 +322,12 @@ states_found id (r ∷ rows) = go (is_eq (text_cmp id r.id)) (states_found id ro
   go true ih = refl
   go false ih = ih
 
-pub spans_found : (id : List ℕ) (rows : List PlanRow)
-    → kept_spans_beside id (map state_of rows) ≡ world.spans_beside id rows
-unfolding world.spans_beside
-spans_found id [] = refl
-spans_found id (r ∷ rows) =
-    sum_by-cons (kept_spans_unless id) (state_of r) (map state_of rows)
-    ∙ ap (λ n. kept_spans_unless id (state_of r) + n) (spans_found id rows)
+pub counted : (kept : PlanState → ℕ) (count : PlanRow → ℕ) (id : List ℕ)
+    → ((r : PlanRow) → kept (state_of r) ≡ count r) → (rows : List PlanRow)
+    → kept_beside kept id (map state_of rows) ≡ world.count_beside count id rows
+unfolding world.count_beside
+counted kept count id same [] = refl
+counted kept count id same (r ∷ rows) =
+    sum_by-cons (kept_unless kept id) (state_of r) (map state_of rows)
+    ∙ ap (λ n. kept_unless kept id (state_of r) + n) (counted kept count id same rows)
+    ∙ ap (λ k. cond (world.has_id id r) 0 k + world.count_beside count id rows) (same r)

@@ -8,7 +8,7 @@ use Rattle.volume4d.proofs.footprint.cell_ranges.Goals as goal
 pub returns-clause-ok : goal.returns-clause-ok
 returns-clause-ok c =
     let cells = c.args.cells.now in
-    let spans = c.in_ok-ranges.field-0 in
+    let spans = c.in_ok-ranges.ranges in
     let count : within_cells (length cells) ≡ true =
     grind (arith, c.is_count.ensures, c.if-not-is_count.false) in
     let some : 0 < length cells = grind (arith, nat_tests, count) in

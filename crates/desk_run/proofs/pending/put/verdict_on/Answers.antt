@@ -1,11 +1,9 @@
-use Rattle.std.proofs.Common.{◌+◌, ◌∙◌, ap, refl, w64, to_z, of_z, cond, None}
+use Rattle.std.proofs.Common.{◌∙◌, ap, refl, w64, to_z, of_z, cond, None}
 use Rattle.std.proofs.lemmas.Int.{to_z-of_z}
-use Rattle.volume4d.specs.SpanCounts.{area_spans}
 use Rattle.desk_rules.specs.declared.decide.Standing.{Standing}
-use Rattle.desk_rules.specs.Terms.{exceeds}
-use Rattle.desk_store.specs.World.{plans_of, spans_beside}
+use Rattle.desk_store.specs.World.{plans_of}
 use Rattle.desk_store.proofs.lemmas.Fault.{was_honest}
-use Rattle.desk_run.specs.Verdicts.{conflict_in}
+use Rattle.desk_run.specs.Verdicts.{conflict_in, excess_asked}
 use Rattle.desk_run.proofs.OutcomeLemmas.{outcome_if_needed}
 use Rattle.desk_run.proofs.CallLemmas.{verdict_is}
 use Rattle.desk_run.proofs.pending.put.verdict_on.Goals as goal
@@ -21,20 +19,19 @@ returns-clause-verdict g c = λ honest.
     let terms = c.args.terms.now in
     let conflict = conflict_in terms.permitted before o put.id put.area put.priority in
     let summing = was_honest c.conflict_if.ensures.reads.doubt honest in
-    let counting = was_honest c.is_over.ensures.reads.doubt summing in
+    let counting = was_honest c.excess_with.ensures.reads.doubt summing in
     let standing : Standing =
-    record { own_rows = own.own_rows; ceiling = c.args.ceiling; is_over = c.in_ok-is_over.is_over } in
+    record { own_rows = own.own_rows; ceiling = c.args.ceiling; excess = c.in_ok-excess.excess } in
     verdict_is terms before o put second c.args.moment own.stored standing conflict c.decide_under.result
     (c.decide_under.ensures
     ∙ outcome_if_needed put second own.stored standing needed conflict
     c.in_ok-meeting.meeting c.needs_conflict-needed.ensures.settled
     (c.in_ok-meeting.ensures.value honest
     ∙ ap (λ w. cond needed (conflict_in terms.permitted w o put.id put.area put.priority) None)
-    (c.is_over.ensures.reads.same ∙ c.states_and_count.ensures.reads.same)))
+    (c.excess_with.ensures.reads.same ∙ c.states_and_count.ensures.reads.same)))
     (to_z-of_z w64 c.args.moment c.ranges.moment)
     (own.ensures.stored counting)
     (own.ensures.count counting)
-    (c.in_ok-is_over.ensures.value summing
-    ∙ ap (λ w. exceeds terms.spans (spans_beside put.id (plans_of o w) + area_spans put.area))
-    c.states_and_count.ensures.reads.same)
+    (c.in_ok-excess.ensures.value summing
+    ∙ ap (λ w. excess_asked terms (plans_of o w) put) c.states_and_count.ensures.reads.same)
     refl

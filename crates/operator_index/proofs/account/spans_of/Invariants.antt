@@ -1,8 +1,0 @@
-use Rattle.std.proofs.Common.{◌≡◌, ◌<◌, ◌^◌, take}
-use Rattle.operator_index.specs.Roll.{kept_spans_beside}
-use Rattle.operator_index.proofs.account.spans_of.Given as goal
-
--- those of the plans so far, if 32 bits can say those of all
-abbrev pub invariant-loop-plan : goal.invariant-loop-plan
-invariant-loop-plan l = kept_spans_beside l.id l.plans < 2 ^ 32
-    → l.spans ≡ kept_spans_beside l.id (take l.plan-index l.plans)
