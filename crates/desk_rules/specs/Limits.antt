@@ -14,11 +14,11 @@ max_plans = 200
 abbrev pub max_priority : ℕ
 max_priority = 1000
 
--- the greatest number of spans that a keeper may name as the most of an operator's live plans
+-- the greatest number of spans that an administrator may name as the most of an operator's live plans
 abbrev pub max_spans : ℕ
 max_spans = 5000000
 
--- the greatest number of cells that a keeper may name as the most of an operator's plans
+-- the greatest number of cells that an administrator may name as the most of an operator's plans
 abbrev pub max_total_cells : ℕ
 max_total_cells = 5000000
 

@@ -1,5 +1,5 @@
 -- Equal priorities: ASTM F3548-21 leaves it to the regulator whether plans of equal priority may share
--- points. The keeper of a desk names the priorities for which they may.
+-- points. The administrator of a desk names the priorities for which they may.
 use Rattle.std.specs.Prelude.{ℕ, ◌+◌, ◌==◌, nat_le, nat_lt, List, [], ◌∷◌, length, codes, Bool, true, false, not, ◌&&◌, ◌||◌, cond, Option, Some, None, Result, Ok, Err}
 use Rattle.std.specs.List.{list_all, list_any}
 use Rattle.desk_rules.specs.Limits.{max_permitted, max_priority}

@@ -1,4 +1,4 @@
--- The terms on which a desk plans: its keeper names them, and no request changes them.
+-- The terms on which a desk plans: its administrator names them, and no request changes them.
 use Rattle.std.specs.Prelude.{ℕ, Bool, false, nat_lt, [], Option, Some, None}
 use Rattle.desk_rules.specs.declared.terms.Terms.{Terms}
 use Rattle.desk_rules.specs.declared.terms.Excess.{Excess}

@@ -85,8 +85,8 @@ impl PlanRow {
         }
     }
 
-    /// How many cells the plan has: for each of its volumes those of its cell list, or of the canonical cover of
-    /// its rectangle. A closed plan keeps them.
+    /// How many cells the plan has: for each of its volumes those of its cell list, or of the canonical cover
+    /// of its rectangle. A closed plan keeps them.
     pub fn cell_count(&self) -> u32
         ensures value { result ≡ row_cells self.now }
         ensures few { result ≤ max_volumes * max_cover }

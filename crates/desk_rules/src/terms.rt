@@ -6,13 +6,13 @@ ghost use Rattle.desk_rules.specs.Terms.{excess_of, no_excess, no_terms};
 
 use crate::permission::Permitted;
 
-/// The greatest number of spans that a keeper may name as the most of an operator's live plans.
+/// The greatest number of spans that an administrator may name as the most of an operator's live plans.
 pub const MAX_SPANS: u32 = 5_000_000;
 
 /// The greatest number of cells that an administrator may name as the most of an operator's plans.
 pub const MAX_TOTAL_CELLS: u32 = 5_000_000;
 
-/// The terms on which a desk plans, the same for all operators: its keeper names them, and no request
+/// The terms on which a desk plans, the same for all operators: its administrator names them, and no request
 /// changes them.
 #[derive(Clone, Copy, Debug)]
 pub struct Terms {
@@ -22,8 +22,8 @@ pub struct Terms {
     /// plan has a span for each range of each of its volumes along the S2 curve.
     pub spans: Option<u32>,
     /// The most cells that an operator's plans may have together, closed ones too, or `None` if any number
-    /// will do. A plan has the cells of each of its volumes: those of its cell list, or of the canonical cover
-    /// of its rectangle.
+    /// will do. A plan has the cells of each of its volumes: those of its cell list, or of the canonical
+    /// cover of its rectangle.
     pub cells: Option<u32>,
 }
 

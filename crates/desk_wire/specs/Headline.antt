@@ -27,9 +27,9 @@
 --
 --   "own plans and ceiling": `own`, compared by `OwnAlike`. "The greatest priority that other operators
 --   hold at each leaf cell, altitude and second": `held` at each point of a leaf, compared by `HoldAlike`.
---   The two together are `LookAlike`. The desk's terms, the permitted priorities and the most spans of an
---   operator's live plans, are part of the desk, set by its keeper and by no request: worlds that look
---   alike have the same terms, and a request leaves them.
+--   The two together are `LookAlike`. The desk's terms, which are the permitted priorities and the most spans
+--   and cells of an operator's plans, are part of the desk, set by its administrator and by no request:
+--   worlds that look alike have the same terms, and a request leaves them.
 --
 --   "no other operator's request changes this operator's plans": after a request, every operator but the
 --   one that it names owns what it did before, its ceiling too (`others`).
