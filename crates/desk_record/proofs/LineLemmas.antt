@@ -17,6 +17,7 @@ pub length_word : (k : Kind) → length (word k) ≡ 9
 length_word kind.Record = refl
 length_word kind.Permitted = refl
 length_word kind.Spans = refl
+length_word kind.Cells = refl
 length_word kind.Operator = refl
 length_word kind.Request = refl
 length_word kind.Answer = refl
@@ -25,6 +26,7 @@ read_word : (k : Kind) → kind_of (word k) ≡ Some k
 read_word kind.Record = refl
 read_word kind.Permitted = refl
 read_word kind.Spans = refl
+read_word kind.Cells = refl
 read_word kind.Operator = refl
 read_word kind.Request = refl
 read_word kind.Answer = refl

@@ -13,6 +13,7 @@ kind_of text =
     if bytes_eq text (codes "record   ") then Some kind.Record
     else if bytes_eq text (codes "permitted") then Some kind.Permitted
     else if bytes_eq text (codes "spans    ") then Some kind.Spans
+    else if bytes_eq text (codes "cells    ") then Some kind.Cells
     else if bytes_eq text (codes "operator ") then Some kind.Operator
     else if bytes_eq text (codes "request  ") then Some kind.Request
     else if bytes_eq text (codes "answer   ") then Some kind.Answer

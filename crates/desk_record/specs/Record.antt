@@ -1,5 +1,5 @@
--- The record of a desk, as bytes (docs/journal-format.md): entries one after the other, each a line, the bytes that
--- the line counts, and a line feed.
+-- The journal of a desk, as bytes (docs/journal-format.md): entries one after the other, each a line, the
+-- bytes that the line counts, and a line feed.
 use Rattle.std.specs.Prelude.{◌<◌, ◌^◌, ℕ, zero, suc, ◌+◌, ◌/◌, ◌%◌, List, [], ◌∷◌, ◌++◌, length, take, map, codes}
 use Rattle.std.specs.List.{concat}
 use Rattle.sha2.specs.Sha256.{sha256}
@@ -12,6 +12,7 @@ abbrev pub word : Kind → List ℕ
 word kind.Record = codes "record   "
 word kind.Permitted = codes "permitted"
 word kind.Spans = codes "spans    "
+word kind.Cells = codes "cells    "
 word kind.Operator = codes "operator "
 word kind.Request = codes "request  "
 word kind.Answer = codes "answer   "

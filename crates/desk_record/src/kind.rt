@@ -13,6 +13,8 @@ pub enum Kind {
     Permitted,
     /// The most spans of an operator's live plans. No bytes.
     Spans,
+    /// The most cells of an operator's plans. No bytes.
+    Cells,
     /// An operator is enrolled. Its ceiling, and its name.
     Operator,
     /// A request is asked at a moment. The Unix second, and the request as it came.
@@ -30,6 +32,7 @@ impl Kind {
             Kind::Record => b"record   ",
             Kind::Permitted => b"permitted",
             Kind::Spans => b"spans    ",
+            Kind::Cells => b"cells    ",
             Kind::Operator => b"operator ",
             Kind::Request => b"request  ",
             Kind::Answer => b"answer   ",
@@ -47,6 +50,8 @@ pub fn kind_in(text: &[u8]) -> Option<Kind>
         Some(Kind::Permitted)
     } else if text == b"spans    ".as_slice() {
         Some(Kind::Spans)
+    } else if text == b"cells    ".as_slice() {
+        Some(Kind::Cells)
     } else if text == b"operator ".as_slice() {
         Some(Kind::Operator)
     } else if text == b"request  ".as_slice() {

@@ -45,6 +45,7 @@ note_word Note.Horizon = codes "horizon"
 note_word Note.Priority = codes "priority"
 note_word Note.PlansLimit = codes "plans_limit"
 note_word Note.SpansLimit = codes "spans_limit"
+note_word Note.CellsLimit = codes "cells_limit"
 note_word Note.Conflict = codes "conflict"
 
 -- `notes`: the note's word, or the empty text

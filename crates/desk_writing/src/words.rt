@@ -42,6 +42,7 @@ fn note_word(note: Note) -> &'static str
         Note::Priority => "priority",
         Note::PlansLimit => "plans_limit",
         Note::SpansLimit => "spans_limit",
+        Note::CellsLimit => "cells_limit",
         Note::Conflict => "conflict",
     }
 }
