@@ -16,14 +16,14 @@ use Rattle.clap.specs.Walk.{Row, Rule, Text, all_of, first_of, one_of}
 use Rattle.clap.specs.declared.error.kind.ErrorKind.TheVariants as kind
 use Rattle.clap.specs.declared.builder.action.ArgAction.TheVariants.{Append, SetTrue}
 use Rattle.clap.specs.declared.builder.value_parser.ValueParser.TheVariants.{Signed}
-use Rattle.desk_rules.specs.Limits.{max_spans}
+use Rattle.desk_rules.specs.Limits.{max_spans, max_total_cells}
 use Rattle.desk_rules.specs.Name.{is_operator_name}
 use Rattle.desk_rules.specs.Terms.{no_terms}
 use Rattle.desk_rules.specs.declared.terms.Terms.{Terms}
 use Rattle.volume4d.specs.VolumeLimits.{max_second}
 use Rattle.desk_line.specs.Equal.{ArePermittedBy, priority_in}
 use Rattle.desk_line.specs.Lines.{IsLine, file_of, max_connections, max_port}
-use Rattle.desk_line.specs.Lines.{min_connections, min_port, min_spans, named_file}
+use Rattle.desk_line.specs.Lines.{min_connections, min_most, min_port, named_file}
 use Rattle.desk_line.specs.declared.line.Copying.{Copying as CopyWords}
 use Rattle.desk_line.specs.declared.line.Cover.{Cover as CoverWords}
 use Rattle.desk_line.specs.declared.line.DeskArgs.{DeskArgs}
@@ -73,7 +73,10 @@ abbrev pub equal : Rule
 equal = option (codes "equal") (codes "equal")
 
 abbrev pub spans : Rule
-spans = number_between min_spans (pos max_spans) (option (codes "spans") (codes "spans"))
+spans = number_between min_most (pos max_spans) (option (codes "spans") (codes "spans"))
+
+abbrev pub cells : Rule
+cells = number_between min_most (pos max_total_cells) (option (codes "cells") (codes "cells"))
 
 -- the file of enrolments
 abbrev pub operators : Rule
@@ -109,9 +112,10 @@ line_shape name rules = record (new_shape name) { rules = rules }
 -- the lines that the program takes
 abbrev pub line_shapes : List Shape
 line_shapes =
-    line_shape (codes "play") (database ∷ moment ∷ equal ∷ spans ∷ record_folder ∷ enrolments ∷ [])
+    line_shape (codes "play") (database ∷ moment ∷ equal ∷ spans ∷ cells ∷ record_folder ∷ enrolments
+    ∷ [])
     ∷ line_shape (codes "token") (needed (value (codes "token")) ∷ [])
-    ∷ line_shape (codes "serve") (database ∷ port ∷ connections ∷ equal ∷ spans ∷ operators
+    ∷ line_shape (codes "serve") (database ∷ port ∷ connections ∷ equal ∷ spans ∷ cells ∷ operators
     ∷ record_folder ∷ enrolments ∷ [])
     ∷ line_shape (codes "cover") (small (codes "FACE") ∷ coordinate (codes "I_MIN")
     ∷ coordinate (codes "I_MAX") ∷ coordinate (codes "J_MIN") ∷ coordinate (codes "J_MAX")
@@ -160,14 +164,22 @@ abbrev pub IsNumberOrNone : Text → List Row → Option ℕ → Type 0
 IsNumberOrNone id rows None = one_of id rows ≡ None
 IsNumberOrNone id rows (Some n) = IsNumberGiven id rows n
 
--- the most spans that an operator's live plans may have
-abbrev pub IsMostOf : List Row → Option ℕ → Type 0
-IsMostOf rows most = IfSome most (IsInRange min_spans max_spans) × IsNumberOrNone (codes "spans") rows most
+-- the most of something, by its name, up to the greatest number that may be named
+abbrev pub IsMostOf : Text → ℕ → List Row → Option ℕ → Type 0
+IsMostOf id greatest rows most = IfSome most (IsInRange min_most greatest) × IsNumberOrNone id rows most
+
+-- the most spans that an operator's live plans may have, and the most cells that all its plans may have
+abbrev pub AreMostSpans : List Row → Option ℕ → Type 0
+AreMostSpans rows most = IsMostOf (codes "spans") max_spans rows most
+
+abbrev pub AreMostCells : List Row → Option ℕ → Type 0
+AreMostCells rows most = IsMostOf (codes "cells") max_total_cells rows most
 
 -- the terms of a desk
 pub record AreTermsOf (rows : List Row) (terms : Terms) : Type 0 where
   pub permitted : ArePermittedBy (first_of (codes "equal") rows) terms.permitted
-  pub spans : IsMostOf rows terms.spans
+  pub spans : AreMostSpans rows terms.spans
+  pub cells : AreMostCells rows terms.cells
 
 -- the flag was given
 abbrev pub is_given : Text → List Row → Bool

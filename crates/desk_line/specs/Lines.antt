@@ -31,9 +31,9 @@ min_connections = 1
 abbrev pub max_connections : ℕ
 max_connections = 1000000
 
--- the least number of spans that may be named as the most of an operator's live plans
-abbrev pub min_spans : ℕ
-min_spans = 1
+-- the least number that may be named as the most spans or the most cells of an operator's plans
+abbrev pub min_most : ℕ
+min_most = 1
 
 -- the file of a database; none if it is in memory
 abbrev pub file_of : Database → Option (List ℕ)

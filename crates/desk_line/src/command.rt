@@ -11,7 +11,7 @@ ghost use Rattle.desk_line.specs.Grammar.{line_shape};
 use crate::line::MAX_CONNECTIONS;
 use clap::builder::ValueParser;
 use clap::{Arg, ArgAction, Command};
-use desk_rules::terms::MAX_SPANS;
+use desk_rules::terms::{MAX_SPANS, MAX_TOTAL_CELLS};
 use std::alloc::{AllocError, Global};
 use volume4d::MAX_SECOND;
 
@@ -119,6 +119,15 @@ const SPANS: ArgRow = ArgRow {
     help: "The most spans that the live plans of an operator may have",
     is_required: false,
     kind: Kind::Number(1, MAX_SPANS as i64),
+};
+
+const CELLS: ArgRow = ArgRow {
+    id: "cells",
+    long: Some("cells"),
+    value: Some("N"),
+    help: "The most cells that the plans of an operator may have, closed ones too",
+    is_required: false,
+    kind: Kind::Number(1, MAX_TOTAL_CELLS as i64),
 };
 
 const OPERATORS: ArgRow = ArgRow {
@@ -256,7 +265,7 @@ static FORMS: [Form; 9] = [
     Form {
         name: "play",
         about: "Answers the requests of the standard input",
-        words: &[DATABASE, MOMENT, EQUAL, SPANS, RECORD, ENROLMENTS],
+        words: &[DATABASE, MOMENT, EQUAL, SPANS, CELLS, RECORD, ENROLMENTS],
     },
     Form {
         name: "token",
@@ -272,6 +281,7 @@ static FORMS: [Form; 9] = [
             CONNECTIONS,
             EQUAL,
             SPANS,
+            CELLS,
             OPERATORS,
             RECORD,
             ENROLMENTS,

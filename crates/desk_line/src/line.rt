@@ -8,12 +8,13 @@ ghost use mir.Val.{SFits};
 ghost use Rattle.clap.specs.Matches.{found_of};
 ghost use Rattle.clap.specs.Simple.{subcommand_of, subcommand_rows_of};
 ghost use Rattle.clap.specs.Walk.{first_of, rows_of};
-ghost use Rattle.desk_rules.specs.Limits.{max_priority, max_spans};
+ghost use Rattle.desk_rules.specs.Limits.{max_priority};
 ghost use Rattle.desk_ends.specs.Moments.{IsMoment};
 ghost use Rattle.desk_line.specs.Copies.{SameDesk};
 ghost use Rattle.desk_line.specs.Equal.{ArePermittedBy};
 ghost use Rattle.desk_line.specs.Grammar as spec;
-ghost use Rattle.desk_line.specs.Grammar.{AreEnrolmentsGiven, AreTermsOf, AreWordsRefused, HasGiven};
+ghost use Rattle.desk_line.specs.Grammar.{AreEnrolmentsGiven, AreMostCells, AreMostSpans, AreTermsOf};
+ghost use Rattle.desk_line.specs.Grammar.{AreWordsRefused, HasGiven};
 ghost use Rattle.desk_line.specs.Grammar.{IsBareDeskGiven, IsCopyGiven, IsCoverGiven, IsDeskGiven};
 ghost use Rattle.desk_line.specs.Grammar.{IsEnrolGiven, IsGiven, IsLineOf, IsMostOf, IsNumberGiven};
 ghost use Rattle.desk_line.specs.Grammar.{IsNumberOrNone, IsPlayGiven, IsReplayGiven, IsSecondGiven};
@@ -21,7 +22,7 @@ ghost use Rattle.desk_line.specs.Grammar.{IsServeGiven, IsTextGiven, IsUntaken};
 ghost use Rattle.desk_line.specs.Grammar.{Lacks, enrolment_given, enrolment_in, file_given, name_of, program};
 ghost use Rattle.desk_line.specs.Lines.{AreEnrolments, IsCover, IsEnrol, IsLastSecond, IsLine, IsPlay};
 ghost use Rattle.desk_line.specs.Lines.{IsReplay, IsServe, desk_of, file_of, max_connections, max_port};
-ghost use Rattle.desk_line.specs.Lines.{min_connections, min_port, min_spans, named_file};
+ghost use Rattle.desk_line.specs.Lines.{min_connections, min_most, min_port, named_file};
 ghost use Rattle.desk_line.specs.declared.line.Cover.{Cover as CoverWords};
 ghost use Rattle.desk_line.specs.declared.line.WordsFault.TheVariants as fault;
 
@@ -32,7 +33,7 @@ use clap::error::ErrorKind;
 use desk_ends::Moment;
 use desk_rules::operator::Operator;
 use desk_rules::permission::Permitted;
-use desk_rules::terms::{MAX_SPANS, Terms};
+use desk_rules::terms::{MAX_SPANS, MAX_TOTAL_CELLS, Terms};
 use std::alloc::{AllocError, AllocFailed, Global};
 use volume4d::MAX_SECOND;
 
@@ -116,7 +117,7 @@ pub struct DeskArgs {
     /// Where operators and plans are kept.
     pub database: Database,
     /// The terms of the desk: the priorities of which plans may overlap, and the most spans of an operator's
-    /// live plans, 1 to 5,000,000. `enrol` has none.
+    /// live plans and the most cells of all its plans, 1 to 5,000,000 each. `enrol` has none.
     pub terms: Terms,
     /// The operators, in the order given; a name may be there twice. `enrol` has none.
     pub enrolments: Vec<Enrolment>,
@@ -647,28 +648,53 @@ fn read_terms(alloc: Global, given: &ArgMatches<'_>) -> Result<Terms, WordsFault
     Ok(Terms {
         permitted: read_permitted(alloc, given)?,
         spans: read_spans(given)?,
+        cells: read_cells(given)?,
     })
 }
 
 // The most spans of an operator's live plans; none if any number will do.
 fn read_spans(given: &ArgMatches<'_>) -> Result<Option<u32>, WordsFault>
-    ensures given { IfOk result (IsMostOf (rows_of (found_of given.now))) }
-    ensures lacks { Lacks (IsMostOf (rows_of (found_of given.now))) result }
+    ensures given { IfOk result (AreMostSpans (rows_of (found_of given.now))) }
+    ensures lacks { Lacks (AreMostSpans (rows_of (found_of given.now))) result }
 {
-    let Some(most) = read_if_given(given, "spans") else {
+    read_most(given, "spans", MAX_SPANS)
+}
+
+// The most cells of an operator's plans; none if any number will do.
+fn read_cells(given: &ArgMatches<'_>) -> Result<Option<u32>, WordsFault>
+    ensures given { IfOk result (AreMostCells (rows_of (found_of given.now))) }
+    ensures lacks { Lacks (AreMostCells (rows_of (found_of given.now))) result }
+{
+    read_most(given, "cells", MAX_TOTAL_CELLS)
+}
+
+// The most of something, by its name, up to the greatest number that may be named; none if any number will
+// do.
+fn read_most(
+    given: &ArgMatches<'_>,
+    id: &str,
+    greatest: u32,
+) -> Result<Option<u32>, WordsFault>
+    ensures given { IfOk result (IsMostOf id.now greatest (rows_of (found_of given.now))) }
+    ensures lacks { Lacks (IsMostOf id.now greatest (rows_of (found_of given.now))) result }
+{
+    let Some(most) = read_if_given(given, id) else {
         return Err(WordsFault::Value);
     };
-    if !most.is_none_or(is_most) {
+    if !is_most(most, greatest) {
         return Err(WordsFault::Value);
     }
     Ok(most)
 }
 
-// Whether so many spans may be named as the most of an operator's live plans.
-fn is_most(spans: u32) -> bool
-    ensures { IsTrue result ↔ IsInRange min_spans max_spans spans }
+// Whether so many, if they are named, may be named as the most of something.
+fn is_most(most: Option<u32>, greatest: u32) -> bool
+    ensures { IsTrue result ↔ IfSome most (IsInRange min_most greatest) }
 {
-    (1..=MAX_SPANS).contains(&spans)
+    match most {
+        Some(most) => (1..=greatest).contains(&most),
+        None => true,
+    }
 }
 
 // A number of 32 bits, or that there is none; none if there is something else.

@@ -106,6 +106,7 @@ refused_never note.Horizon e = cc
 refused_never note.Priority e = cc
 refused_never note.PlansLimit e = cc
 refused_never note.SpansLimit e = cc
+refused_never note.CellsLimit e = cc
 refused_never note.Conflict e = cc
 
 saved_as : (s : Style) → s ≢ style.Hypothetical → styled_effect s effect.Save ≡ effect.Save
