@@ -670,11 +670,7 @@ fn read_cells(given: &ArgMatches<'_>) -> Result<Option<u32>, WordsFault>
 
 // The most of something, by its name, up to the greatest number that may be named; none if any number will
 // do.
-fn read_most(
-    given: &ArgMatches<'_>,
-    id: &str,
-    greatest: u32,
-) -> Result<Option<u32>, WordsFault>
+fn read_most(given: &ArgMatches<'_>, id: &str, greatest: u32) -> Result<Option<u32>, WordsFault>
     ensures given { IfOk result (IsMostOf id.now greatest (rows_of (found_of given.now))) }
     ensures lacks { Lacks (IsMostOf id.now greatest (rows_of (found_of given.now))) result }
 {
