@@ -25,7 +25,9 @@ sizes_text file =
     ++ codes " MB in the log")))))))
 
 unfoldable pub most_text : CheckedFile → List ℕ
-most_text file = codes ", at most " ++ (decimal file.most_spans ++ codes " spans of one operator\n")
+most_text file =
+    codes ", at most " ++ (decimal file.most_spans ++ (codes " spans of one operator, at most "
+    ++ (decimal file.most_cells ++ codes " cells of one operator\n")))
 
 -- the line of `check`
 abbrev pub checked_line : CheckedFile → List ℕ

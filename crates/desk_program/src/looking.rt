@@ -30,6 +30,8 @@ pub struct CheckedFile {
     pub spans: usize,
     /// How many of them are those of the operator that has most.
     pub most_spans: usize,
+    /// How many cells the plans of the operator have that has most of those, closed ones too.
+    pub most_cells: usize,
     /// How many bytes the file has.
     pub size: u64,
     /// How many bytes its log has.
@@ -147,13 +149,16 @@ fn sizes_text(alloc: Global, file: &CheckedFile) -> Result<String, AllocError>
     format!(in alloc; ", {whole}.{part} MB, {log_whole}.{log_part} MB in the log")
 }
 
-// How many spans the operator that has most has.
+// How many spans the operator that has most has, and how many cells the one that has most of those.
 #[tactic(auto, unfolding(crate::specs::Looking::most_text))]
 fn most_text(alloc: Global, file: &CheckedFile) -> Result<String, AllocError>
     ensures { IfOk result (λ text. string_bytes text ≡ spec.most_text file.now) }
 {
-    let most = file.most_spans;
-    format!(in alloc; ", at most {most} spans of one operator\n")
+    let spans = file.most_spans;
+    let cells = file.most_cells;
+    format!(in alloc;
+        ", at most {spans} spans of one operator, at most {cells} cells of one operator\n"
+    )
 }
 
 // The line that tells what was copied.

@@ -59,6 +59,7 @@ pub fn serve<S: PlanStore, P: Port, W: Write, E: Write>(
 }
 
 // Permits the line's priorities, enrols its operators, and serves connections at the port.
+// Long: what is sent, what a crash leaves, what is printed, and why it ends have each a clause.
 fn serve_line<S: PlanStore, P: Port, W: Write>(
     alloc: Global,
     port: &mut P,
