@@ -17,7 +17,7 @@ use Rattle.desk_line.specs.declared.line.Database.{Database}
 use Rattle.desk_line.specs.Exits.{Ending, FailsWith}
 use Rattle.desk_program.specs.Looking.{IsTextPrinted, checked_line, copied_line}
 use Rattle.desk_program.specs.declared.looking.CheckedFile.{CheckedFile}
-use Rattle.desk_tables.specs.Counting.{HaveSpanRows, IsMostSpans}
+use Rattle.desk_tables.specs.Counting.{HaveSpanRows, IsMostCells, IsMostSpans}
 use Rattle.desk_tables.specs.Closing.{IsLeftUnclosed}
 use Rattle.desk_tables.specs.Copying.{AreHoldingsOf, AreNotCopied, AreNotRead, IsMadeIn, LooksIn, live_count}
 use Rattle.desk_tables.specs.declared.closing.Unclosed.{Unclosed}
@@ -40,13 +40,14 @@ pub record FailsTelling (f : Failure) (end : Ending) : Type 0 where
   pub cause : Tells (course end.before between)
   pub fails : FailsWith f (record end { before = between })
 
--- the numbers of operators, plans and rows of spans are those of the content
+-- the numbers of operators, plans, rows of spans and cells are those of the content
 pub record TellsHoldings (file : CheckedFile) (w : World) : Type 0 where
   pub operators : file.operators ≡ length w.operators
   pub plans : file.plans ≡ length w.plans
   pub live : file.live ≡ live_count w.plans
   pub spans : HaveSpanRows w.plans file.spans
-  pub most : IsMostSpans w.plans file.most_spans
+  pub most_spans : IsMostSpans w.plans file.most_spans
+  pub most_cells : IsMostCells w.plans file.most_cells
 
 module _ {D : Type 0} {g : disk.Ghosts D} (image : Image) where
   -- what is told of files that held this, as a connection read it, which leaves their rows

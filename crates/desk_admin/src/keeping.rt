@@ -229,6 +229,7 @@ fn told_of(holdings: &Holdings, bulk: Bulk) -> CheckedFile
         live: holdings.live,
         spans: holdings.spans,
         most_spans: holdings.most_spans,
+        most_cells: holdings.most_cells,
         size: bulk.size,
         log: bulk.log,
     }

@@ -1,4 +1,4 @@
--- The spans of operators, one after the other, and the most that one has.
+-- What is counted of operators, one after the other, and the most that one has.
 use Rattle.std.proofs.Common.{◌≡◌, ◌⊎◌, inl, inr, ℕ, ◌+◌, ◌≤◌, Bool, true, false, cond, List, [], ◌∷◌, length, take, drop, refl, sym, ap, subst, ◌∙◌, arith, suc, Less, Equal, Greater}
 use Rattle.std.specs.List.{AllByRecursion, filter, prefix_len, sum_by}
 use Rattle.std.specs.List.Sorted.{IsStrictlySortedBy}
@@ -9,14 +9,11 @@ use Rattle.std.proofs.lemmas.Cmp.{tied_itself}
 use Rattle.std.proofs.lemmas.Map.Lookups.{exact_bytes}
 use Rattle.sqlite_keyed.proofs.ListLemmas.{filter_none}
 use Rattle.desk_rules.specs.Limits.{max_plans}
-use Rattle.desk_rules.specs.Plan.{row_spans}
+use Rattle.desk_rules.specs.declared.plan.PlanRow.{PlanRow}
 use Rattle.desk_store.specs.World.{Filed, text_cmp, filed_cmp, is_by, rows_by}
 use Rattle.desk_store.proofs.lemmas.Order.{is_equal, all_weaker}
-use Rattle.desk_tables.specs.Counting.{IsMostSpans, operator_spans}
+use Rattle.desk_tables.specs.Counting.{IsMostOf, operator_count}
 use Rattle.desk_tables.proofs.ShareLemmas.{Above, above_on, count_is, dropped, not_by, others_left, rest_of, rest_sorted}
-
-abbrev pub total : List Filed → ℕ
-total ps = sum_by (λ p. row_spans p.row) ps
 
 -- ---- the first plans are all of their operator's
 
@@ -66,117 +63,125 @@ itself o = ap is_eq (tied_itself nat_list_cmp_total o)
 
 -- ---- the walk
 
--- of each operator all plans are left, or none, and then it has no more than the most so far, which one has
-pub record AreSummed (ps left : List Filed) (most : ℕ) : Type 0 where
-  pub keys : IsStrictlySortedBy filed_cmp left
-  pub few : (o : List ℕ) → length (filter (is_by o) left) ≤ max_plans
-  pub each : (o : List ℕ) → (operator_spans o ps ≡ operator_spans o left)
-      ⊎ ((operator_spans o left ≡ 0) × (operator_spans o ps ≤ most))
-  pub one : (most ≡ 0) ⊎ ((o : List ℕ) × (operator_spans o ps ≡ most))
+module _ (count : PlanRow → ℕ) where
+  -- what is counted of plans, and of an operator's
+  abbrev pub total : List Filed → ℕ
+  total ps = sum_by (λ p. count p.row) ps
 
-pub begin : (ps : List Filed) → IsStrictlySortedBy filed_cmp ps
-    → ((o : List ℕ) → length (rows_by o ps) ≤ max_plans) → AreSummed ps ps 0
-begin ps keys few = record {
-  keys = keys;
-  few = λ o. subst (λ n. n ≤ max_plans) (count_is o ps) (few o);
-  each = λ o. inl refl;
-  one = inl refl;
-}
+  abbrev pub own_total : List ℕ → List Filed → ℕ
+  own_total o ps = operator_count count o ps
 
-module _ (ps left later mine rest : List Filed) (p : Filed) (most count : ℕ) (h : AreSummed ps left most)
-    (some : left ≡ p ∷ rest) (count_of : count ≡ prefix_len (is_by p.operator) rest)
-    (mine_is : mine ≡ take (1 + count) left) (later_is : later ≡ drop (1 + count) left) where
-  first_own : is_by p.operator p ≡ true
-  first_own = itself p.operator
+  -- of each operator all plans are left, or none, and then it has no more than the most so far, which one has
+  pub record AreSummed (ps left : List Filed) (most : ℕ) : Type 0 where
+    pub keys : IsStrictlySortedBy filed_cmp left
+    pub few : (o : List ℕ) → length (filter (is_by o) left) ≤ max_plans
+    pub each : (o : List ℕ) → (own_total o ps ≡ own_total o left)
+        ⊎ ((own_total o left ≡ 0) × (own_total o ps ≤ most))
+    pub one : (most ≡ 0) ⊎ ((o : List ℕ) × (own_total o ps ≡ most))
 
-  all_of : 1 + count ≡ prefix_len (is_by p.operator) left
-  all_of = ap (λ n. 1 + n) count_of ∙ sym (ap (prefix_len (is_by p.operator)) some
-      ∙ ap (λ b. cond b (1 + prefix_len (is_by p.operator) rest) 0) first_own)
+  pub begin : (ps : List Filed) → IsStrictlySortedBy filed_cmp ps
+      → ((o : List ℕ) → length (rows_by o ps) ≤ max_plans) → AreSummed ps ps 0
+  begin ps keys few = record {
+    keys = keys;
+    few = λ o. subst (λ n. n ≤ max_plans) (count_is o ps) (few o);
+    each = λ o. inl refl;
+    one = inl refl;
+  }
 
-  rest_is : later ≡ rest_of p.operator left
-  rest_is = later_is ∙ ap (λ n. drop n left) all_of ∙ dropped p.operator left
+  module _ (ps left later mine rest : List Filed) (p : Filed) (most own : ℕ) (h : AreSummed ps left most)
+      (some : left ≡ p ∷ rest) (own_count : own ≡ prefix_len (is_by p.operator) rest)
+      (mine_is : mine ≡ take (1 + own) left) (later_is : later ≡ drop (1 + own) left) where
+    first_own : is_by p.operator p ≡ true
+    first_own = itself p.operator
 
-  sorted : IsStrictlySortedBy filed_cmp (p ∷ rest)
-  sorted = subst (IsStrictlySortedBy filed_cmp) some h.keys
+    all_of : 1 + own ≡ prefix_len (is_by p.operator) left
+    all_of = ap (λ n. 1 + n) own_count ∙ sym (ap (prefix_len (is_by p.operator)) some
+        ∙ ap (λ b. cond b (1 + prefix_len (is_by p.operator) rest) 0) first_own)
 
-  none_left : filter (is_by p.operator) later ≡ []
-  none_left = ap (filter (is_by p.operator)) (rest_is ∙ ap (rest_of p.operator) some
-      ∙ ap (λ b. cond b (rest_of p.operator rest) (p ∷ rest)) first_own) ∙ none_later p rest sorted
+    rest_is : later ≡ rest_of p.operator left
+    rest_is = later_is ∙ ap (λ n. drop n left) all_of ∙ dropped p.operator left
 
-  own_is : filter (is_by p.operator) left ≡ mine
-  own_is = own_first p.operator left (ap (filter (is_by p.operator)) (sym rest_is) ∙ none_left)
-      ∙ sym (mine_is ∙ ap (λ n. take n left) all_of)
+    sorted : IsStrictlySortedBy filed_cmp (p ∷ rest)
+    sorted = subst (IsStrictlySortedBy filed_cmp) some h.keys
 
-  pub mine_few : length mine ≤ max_plans
-  mine_few = subst (λ xs. length xs ≤ max_plans) own_is (h.few p.operator)
+    none_left : filter (is_by p.operator) later ≡ []
+    none_left = ap (filter (is_by p.operator)) (rest_is ∙ ap (rest_of p.operator) some
+        ∙ ap (λ b. cond b (rest_of p.operator rest) (p ∷ rest)) first_own) ∙ none_later p rest sorted
 
-  others : (o : List ℕ) → is_eq (text_cmp o p.operator) ≡ false
-      → filter (is_by o) left ≡ filter (is_by o) later
-  others o e = others_left p.operator o left e ∙ ap (filter (is_by o)) (sym rest_is)
+    own_is : filter (is_by p.operator) left ≡ mine
+    own_is = own_first p.operator left (ap (filter (is_by p.operator)) (sym rest_is) ∙ none_left)
+        ∙ sym (mine_is ∙ ap (λ n. take n left) all_of)
 
-  module _ (new spans : ℕ) (spans_are : spans ≡ total mine) (no_less : most ≤ new) (mine_less : spans ≤ new)
-      (which : (new ≡ most) ⊎ (new ≡ spans)) where
-    theirs : (o : List ℕ) → (b : Bool) → is_eq (text_cmp o p.operator) ≡ b
-        → (operator_spans o ps ≡ operator_spans o later)
-        ⊎ ((operator_spans o later ≡ 0) × (operator_spans o ps ≤ new))
-    theirs o true e = inr (ap total (subst (λ n. filter (is_by n) later ≡ []) (sym same) none_left), bound)
-      where
-        same : o ≡ p.operator
-        same = exact_bytes o p.operator (is_equal (text_cmp o p.operator) e)
+    pub mine_few : length mine ≤ max_plans
+    mine_few = subst (λ xs. length xs ≤ max_plans) own_is (h.few p.operator)
 
-        is_sum : operator_spans o left ≡ total mine
-        is_sum = ap total (subst (λ n. filter (is_by n) left ≡ mine) (sym same) own_is)
+    others : (o : List ℕ) → is_eq (text_cmp o p.operator) ≡ false
+        → filter (is_by o) left ≡ filter (is_by o) later
+    others o e = others_left p.operator o left e ∙ ap (filter (is_by o)) (sym rest_is)
 
-        bound : operator_spans o ps ≤ new
-        bound = by_cases (h.each o) where
-          by_cases : (operator_spans o ps ≡ operator_spans o left)
-              ⊎ ((operator_spans o left ≡ 0) × (operator_spans o ps ≤ most)) → operator_spans o ps ≤ new
-          by_cases (inl all) = omega (arith, all, is_sum, spans_are, mine_less)
-          by_cases (inr done) = omega (arith, done.1, no_less)
-    theirs o false e = by_cases (h.each o) where
-      same : operator_spans o left ≡ operator_spans o later
-      same = ap total (others o e)
+    module _ (new spans : ℕ) (spans_are : spans ≡ total mine) (no_less : most ≤ new) (mine_less : spans ≤ new)
+        (which : (new ≡ most) ⊎ (new ≡ spans)) where
+      theirs : (o : List ℕ) → (b : Bool) → is_eq (text_cmp o p.operator) ≡ b
+          → (own_total o ps ≡ own_total o later)
+          ⊎ ((own_total o later ≡ 0) × (own_total o ps ≤ new))
+      theirs o true e = inr (ap total (subst (λ n. filter (is_by n) later ≡ []) (sym same) none_left), bound)
+        where
+          same : o ≡ p.operator
+          same = exact_bytes o p.operator (is_equal (text_cmp o p.operator) e)
 
-      by_cases : (operator_spans o ps ≡ operator_spans o left)
-          ⊎ ((operator_spans o left ≡ 0) × (operator_spans o ps ≤ most))
-          → (operator_spans o ps ≡ operator_spans o later)
-          ⊎ ((operator_spans o later ≡ 0) × (operator_spans o ps ≤ new))
-      by_cases (inl all) = inl (all ∙ same)
-      by_cases (inr done) = inr (sym same ∙ done.0, omega (arith, done.1, no_less))
+          is_sum : own_total o left ≡ total mine
+          is_sum = ap total (subst (λ n. filter (is_by n) left ≡ mine) (sym same) own_is)
 
-    some_one : (new ≡ most) ⊎ (new ≡ spans)
-        → (new ≡ 0) ⊎ ((o : List ℕ) × (operator_spans o ps ≡ new))
-    some_one (inl old) = by_cases h.one where
-      by_cases : (most ≡ 0) ⊎ ((o : List ℕ) × (operator_spans o ps ≡ most))
-          → (new ≡ 0) ⊎ ((o : List ℕ) × (operator_spans o ps ≡ new))
-      by_cases (inl none) = inl (old ∙ none)
-      by_cases (inr has) = inr (has.0, has.1 ∙ sym old)
-    some_one (inr fresh) = by_cases (h.each p.operator) where
-      by_cases : (operator_spans p.operator ps ≡ operator_spans p.operator left)
-          ⊎ ((operator_spans p.operator left ≡ 0) × (operator_spans p.operator ps ≤ most))
-          → (new ≡ 0) ⊎ ((o : List ℕ) × (operator_spans o ps ≡ new))
-      by_cases (inl all) = inr (p.operator, all ∙ ap total own_is ∙ sym (fresh ∙ spans_are))
-      by_cases (inr done) = inl (fresh ∙ spans_are ∙ sym (ap total own_is) ∙ done.0)
+          bound : own_total o ps ≤ new
+          bound = by_cases (h.each o) where
+            by_cases : (own_total o ps ≡ own_total o left)
+                ⊎ ((own_total o left ≡ 0) × (own_total o ps ≤ most)) → own_total o ps ≤ new
+            by_cases (inl all) = omega (arith, all, is_sum, spans_are, mine_less)
+            by_cases (inr done) = omega (arith, done.1, no_less)
+      theirs o false e = by_cases (h.each o) where
+        same : own_total o left ≡ own_total o later
+        same = ap total (others o e)
 
-    pub goes_on : AreSummed ps later new
-    goes_on = record {
-      keys = subst (IsStrictlySortedBy filed_cmp) (sym rest_is) (rest_sorted p.operator left h.keys);
-      few = λ o. few_of o (is_eq (text_cmp o p.operator)) refl;
-      each = λ o. theirs o (is_eq (text_cmp o p.operator)) refl;
-      one = some_one which;
-    } where
-      few_of : (o : List ℕ) (b : Bool) → is_eq (text_cmp o p.operator) ≡ b
-          → length (filter (is_by o) later) ≤ max_plans
-      few_of o true e = subst (λ xs. length xs ≤ max_plans) (sym (subst (λ n. filter (is_by n) later ≡ [])
-          (sym (exact_bytes o p.operator (is_equal (text_cmp o p.operator) e))) none_left)) (omega arith)
-      few_of o false e = subst (λ xs. length xs ≤ max_plans) (others o e) (h.few o)
+        by_cases : (own_total o ps ≡ own_total o left)
+            ⊎ ((own_total o left ≡ 0) × (own_total o ps ≤ most))
+            → (own_total o ps ≡ own_total o later)
+            ⊎ ((own_total o later ≡ 0) × (own_total o ps ≤ new))
+        by_cases (inl all) = inl (all ∙ same)
+        by_cases (inr done) = inr (sym same ∙ done.0, omega (arith, done.1, no_less))
 
-pub ends : (ps left : List Filed) (most : ℕ) → AreSummed ps left most → left ≡ [] → IsMostSpans ps most
-ends ps left most h none = record { none_more = λ o. by_cases o (h.each o); one = h.one } where
-  nothing : (o : List ℕ) → operator_spans o left ≡ 0
-  nothing o = ap (λ xs. operator_spans o xs) none
+      some_one : (new ≡ most) ⊎ (new ≡ spans)
+          → (new ≡ 0) ⊎ ((o : List ℕ) × (own_total o ps ≡ new))
+      some_one (inl old) = by_cases h.one where
+        by_cases : (most ≡ 0) ⊎ ((o : List ℕ) × (own_total o ps ≡ most))
+            → (new ≡ 0) ⊎ ((o : List ℕ) × (own_total o ps ≡ new))
+        by_cases (inl none) = inl (old ∙ none)
+        by_cases (inr has) = inr (has.0, has.1 ∙ sym old)
+      some_one (inr fresh) = by_cases (h.each p.operator) where
+        by_cases : (own_total p.operator ps ≡ own_total p.operator left)
+            ⊎ ((own_total p.operator left ≡ 0) × (own_total p.operator ps ≤ most))
+            → (new ≡ 0) ⊎ ((o : List ℕ) × (own_total o ps ≡ new))
+        by_cases (inl all) = inr (p.operator, all ∙ ap total own_is ∙ sym (fresh ∙ spans_are))
+        by_cases (inr done) = inl (fresh ∙ spans_are ∙ sym (ap total own_is) ∙ done.0)
 
-  by_cases : (o : List ℕ) → (operator_spans o ps ≡ operator_spans o left)
-      ⊎ ((operator_spans o left ≡ 0) × (operator_spans o ps ≤ most)) → operator_spans o ps ≤ most
-  by_cases o (inl all) = omega (arith, all, nothing o)
-  by_cases o (inr done) = done.1
+      pub goes_on : AreSummed ps later new
+      goes_on = record {
+        keys = subst (IsStrictlySortedBy filed_cmp) (sym rest_is) (rest_sorted p.operator left h.keys);
+        few = λ o. few_of o (is_eq (text_cmp o p.operator)) refl;
+        each = λ o. theirs o (is_eq (text_cmp o p.operator)) refl;
+        one = some_one which;
+      } where
+        few_of : (o : List ℕ) (b : Bool) → is_eq (text_cmp o p.operator) ≡ b
+            → length (filter (is_by o) later) ≤ max_plans
+        few_of o true e = subst (λ xs. length xs ≤ max_plans) (sym (subst (λ n. filter (is_by n) later ≡ [])
+            (sym (exact_bytes o p.operator (is_equal (text_cmp o p.operator) e))) none_left)) (omega arith)
+        few_of o false e = subst (λ xs. length xs ≤ max_plans) (others o e) (h.few o)
+
+  pub ends : (ps left : List Filed) (most : ℕ) → AreSummed ps left most → left ≡ [] → IsMostOf count ps most
+  ends ps left most h none = record { none_more = λ o. by_cases o (h.each o); one = h.one } where
+    nothing : (o : List ℕ) → own_total o left ≡ 0
+    nothing o = ap (λ xs. own_total o xs) none
+
+    by_cases : (o : List ℕ) → (own_total o ps ≡ own_total o left)
+        ⊎ ((own_total o left ≡ 0) × (own_total o ps ≤ most)) → own_total o ps ≤ most
+    by_cases o (inl all) = omega (arith, all, nothing o)
+    by_cases o (inr done) = done.1

@@ -22,7 +22,7 @@ use Rattle.desk_sql.specs.Rows.{IsMadeTo, Tables, tables_at, has_old_rows}
 use Rattle.desk_rules.specs.Plan.{is_live}
 use Rattle.desk_store.specs.World.{Filed, Listed, World}
 use Rattle.desk_tables.specs.Tables.{row_of_operator, operator_rows, plan_rows, volume_rows, cover_rows, AreSpanRows}
-use Rattle.desk_tables.specs.Counting.{HaveSpanRows, IsMostSpans}
+use Rattle.desk_tables.specs.Counting.{HaveSpanRows, IsMostCells, IsMostSpans}
 use Rattle.desk_tables.specs.Opening.{IsContentOf, HasNoContent, AreNoContent, BlamesDisk}
 use Rattle.desk_tables.specs.Moving.{IsOldContentOf, HasNoOldContent, AreNoOldContent}
 use Rattle.desk_tables.specs.Files.{FindsFirst, IsOfUnreached, IsUnread}
@@ -60,14 +60,15 @@ HoldsNone db = (db.schema ≡ blank_schema) ⊎ (HasOthers db ⊎ (HasNoContent 
 abbrev pub live_count : List Filed → ℕ
 live_count ps = length (filter (λ p. is_live p.row.usage) ps)
 
--- what a content holds: operators, plans, those not closed, rows of spans, and those of the operator that has
--- most
+-- what a content holds: operators, plans, those not closed, rows of spans, those of the operator that has
+-- most, and the cells of the operator that has most of those
 pub record AreHoldingsOf (h : Holdings) (w : World) : Type 0 where
   pub operators : h.operators ≡ length w.operators
   pub plans : h.plans ≡ length w.plans
   pub live : h.live ≡ live_count w.plans
   pub spans : HaveSpanRows w.plans h.spans
-  pub most : IsMostSpans w.plans h.most_spans
+  pub most_spans : IsMostSpans w.plans h.most_spans
+  pub most_cells : IsMostCells w.plans h.most_cells
 
 module _ {S : Type 0} (g : Ghosts S) (old new : Held S) where
   -- what is shown is no content

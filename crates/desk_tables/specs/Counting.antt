@@ -1,10 +1,14 @@
--- How many rows of spans a content has, and how many spans the operator that has most.
+-- How many rows of spans a content has, and how many spans the operator that has most, and how many cells the
+-- one that has most of those.
 use Rattle.std.specs.Prelude.{◌≡◌, ◌≤◌, ◌⊎◌, ℕ, List, length}
 use Rattle.std.specs.List.{filter, sum_by}
 use Rattle.sqlite_value.specs.Order.{Row}
-use Rattle.desk_rules.specs.Plan.{row_spans}
+use Rattle.desk_rules.specs.declared.plan.PlanRow.{PlanRow}
+use Rattle.desk_rules.specs.Plan.{row_cells, row_spans}
 use Rattle.desk_store.specs.World.{Filed, is_by}
 use Rattle.desk_tables.specs.Tables.{AreSpanRows}
+use Rattle.desk_tables.specs.declared.opening.counting.Counted.{Counted}
+use Rattle.desk_tables.specs.declared.opening.counting.Counted.TheVariants.{Spans, Cells}
 
 -- these plans have so many
 pub record HaveSpanRows (ps : List Filed) (count : ℕ) : Type 0 where
@@ -12,11 +16,23 @@ pub record HaveSpanRows (ps : List Filed) (count : ℕ) : Type 0 where
   pub are : AreSpanRows ps rows
   pub counted : count ≡ length rows
 
--- the spans that an operator's plans take, of which closed ones take none
-abbrev pub operator_spans : List ℕ → List Filed → ℕ
-operator_spans operator ps = sum_by (λ p. row_spans p.row) (filter (is_by operator) ps)
+-- what is counted of a plan: spans, of which a closed one takes none, or cells, which it keeps
+abbrev pub count_of : Counted → PlanRow → ℕ
+count_of Spans = row_spans
+count_of Cells = row_cells
 
--- no operator's plans take more spans, and those of one take as many, if any take one
-pub record IsMostSpans (ps : List Filed) (most : ℕ) : Type 0 where
-  pub none_more : (operator : List ℕ) → operator_spans operator ps ≤ most
-  pub one : (most ≡ 0) ⊎ ((operator : List ℕ) × (operator_spans operator ps ≡ most))
+module _ (count : PlanRow → ℕ) where
+  -- what the plans of an operator have together
+  abbrev pub operator_count : List ℕ → List Filed → ℕ
+  operator_count operator ps = sum_by (λ p. count p.row) (filter (is_by operator) ps)
+
+  -- no operator's plans have more, and those of one have as much, if any have some
+  pub record IsMostOf (ps : List Filed) (most : ℕ) : Type 0 where
+    pub none_more : (operator : List ℕ) → operator_count operator ps ≤ most
+    pub one : (most ≡ 0) ⊎ ((operator : List ℕ) × (operator_count operator ps ≡ most))
+
+abbrev pub IsMostSpans : List Filed → ℕ → Type 0
+IsMostSpans ps most = IsMostOf row_spans ps most
+
+abbrev pub IsMostCells : List Filed → ℕ → Type 0
+IsMostCells ps most = IsMostOf row_cells ps most

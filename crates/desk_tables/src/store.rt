@@ -17,8 +17,8 @@ use desk_live::Wanted;
 use desk_rules::operator::Operator;
 use desk_rules::plan::{PlanRow, States};
 use desk_rules::plan_id::PlanId;
-use desk_store::laws::spans_are_few;
-use desk_store::{Change, PlanStore, StoreFault};
+use desk_store::laws::{cells_are_few, spans_are_few};
+use desk_store::{Change, PlanStore, Sizes, StoreFault};
 use operator_index::ListedOperator;
 use sqlite::Connection;
 use sqlite_trees::store::Alter;
@@ -34,8 +34,8 @@ use volume4d::{Held, Slab};
 #[derive(Drop)]
 pub struct SqliteStore<S: Alter> {
     tables: DeskTables<S>,
-    // the roll of operators, with how many spans each plan takes; and of live plans bounds round each volume,
-    // and how long spans are, which is forgotten at an opening alone
+    // the roll of operators, with how many spans and cells each plan takes; and of live plans bounds round
+    // each volume, and how long spans are, which is forgotten at an opening alone
     known: Known,
     // how many faults of its own it has met, up to the type's last value
     faults: u64,
@@ -156,9 +156,10 @@ impl<S: Alter> PlanStore for SqliteStore<S> {
         Ok(self.known.roll.count(operator))
     }
 
-    fn own_spans(&mut self, operator: &Operator, id: &PlanId) -> Result<u32, StoreFault> {
+    fn own_sizes(&mut self, operator: &Operator, id: &PlanId) -> Result<Sizes, StoreFault> {
         spans_are_few();
-        Ok(self.known.roll.spans_beside(operator, id))
+        cells_are_few();
+        Ok(self.known.roll.sizes_beside(operator, id))
     }
 
     fn own_plans(&mut self, operator: &Operator) -> Result<Vec<PlanRow>, StoreFault> {

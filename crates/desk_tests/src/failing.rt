@@ -12,7 +12,7 @@ use desk_rules::words::Style::{Hypothetical, IfAllowed, InReality};
 use desk_rules::words::Usage::{Closed, InUse, Planned};
 use desk_rules::words::{Aircraft, Style, Usage};
 use desk_run::{Desk, DeskFault};
-use desk_store::{Change, ListStore, PlanStore, StoreFault};
+use desk_store::{Change, ListStore, PlanStore, Sizes, StoreFault};
 use desk_wire::read_request;
 use std::alloc::Global;
 use std::process::Abort;
@@ -73,9 +73,9 @@ impl PlanStore for Failing {
         self.list.own_count(operator)
     }
 
-    fn own_spans(&mut self, operator: &Operator, id: &PlanId) -> Result<u32, StoreFault> {
+    fn own_sizes(&mut self, operator: &Operator, id: &PlanId) -> Result<Sizes, StoreFault> {
         fail_at(&mut self.calls_left, &mut self.fault_count)?;
-        self.list.own_spans(operator, id)
+        self.list.own_sizes(operator, id)
     }
 
     fn own_plans(&mut self, operator: &Operator) -> Result<Vec<PlanRow>, StoreFault> {

@@ -18,7 +18,7 @@ use desk_host::paths::Paths;
 use desk_rules::operator::Operator;
 use desk_rules::plan::{PlanRow, States};
 use desk_rules::plan_id::PlanId;
-use desk_store::{Change, PlanStore, StoreFault};
+use desk_store::{Change, PlanStore, Sizes, StoreFault};
 use desk_tables::{SqliteStore, Unclosed};
 use sqlite::{FileStore, Files};
 use sqlite_disk::Disk;
@@ -177,8 +177,8 @@ impl<S: Alter, N: Paths + Drop> PlanStore for Watched<S, N> {
         self.store.own_count(operator)
     }
 
-    fn own_spans(&mut self, operator: &Operator, id: &PlanId) -> Result<u32, StoreFault> {
-        self.store.own_spans(operator, id)
+    fn own_sizes(&mut self, operator: &Operator, id: &PlanId) -> Result<Sizes, StoreFault> {
+        self.store.own_sizes(operator, id)
     }
 
     fn own_plans(&mut self, operator: &Operator) -> Result<Vec<PlanRow>, StoreFault> {

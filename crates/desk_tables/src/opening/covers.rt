@@ -1,5 +1,5 @@
-//! The rows of `volume2`, taken one at a time. The cover in each is compared with that of the volume in it, and
-//! is not kept.
+//! The rows of `volume2`, taken one at a time. The cover in each is compared with that of the volume in it,
+//! and is not kept.
 
 ghost use Rattle.std.specs.Prelude.{◌≡◌, ◌≢◌, ◌↔◌, ◌++◌, [], ◌∷◌, List, map, IsTrue, IfOk, IfErr, OnOk};
 ghost use Rattle.sqlite_value.specs.declared.value.Value.TheVariants.{Blob};

@@ -226,8 +226,8 @@ pub(crate) fn uncovered_parts(
     Ok((operators, plans))
 }
 
-// The operators and plans of rows that are those of a content, but for those of spans, if the covers are those
-// of the volumes.
+// The operators and plans of rows that are those of a content, but for those of spans, if the covers are
+// those of the volumes.
 fn parts_of(
     alloc: Global,
     heads: &TableRows,

@@ -15,7 +15,7 @@ ghost use Rattle.desk_tables.specs.Copying.{AreHoldingsOf, AreNoContentIn, IsCon
 
 use crate::known::Known;
 use crate::opening::content::Content;
-use crate::opening::counting::most_spans;
+use crate::opening::counting::{Counted, most_of};
 use crate::opening::exact::FiledPlan;
 use crate::opening::finding::{content_found, tables_found};
 use crate::opening::moving::load_old_tables;
@@ -41,6 +41,8 @@ pub struct Holdings {
     pub spans: usize,
     /// How many of them are those of the operator that has most.
     pub most_spans: usize,
+    /// How many cells the plans of the operator have that has most of those, closed ones too.
+    pub most_cells: usize,
 }
 
 /// How many operators and plans a database holds, in either schema. It makes and changes nothing.
@@ -66,7 +68,7 @@ pub fn look_into<S: Alter>(
     Ok(holdings_of(&content, old))
 }
 
-/// How many operators, plans and spans a content has, and whether it was read in schema 1.
+/// How many operators, plans, spans and cells a content has, and whether it was read in schema 1.
 pub(crate) fn holdings_of(content: &Content, is_old: bool) -> Holdings
     requires { IsContent content.now }
     ensures counted { AreHoldingsOf result content.now }
@@ -78,7 +80,8 @@ pub(crate) fn holdings_of(content: &Content, is_old: bool) -> Holdings
         plans: content.plans.len(),
         live: live_count(&content.plans),
         spans: content.spans,
-        most_spans: most_spans(&content.plans),
+        most_spans: most_of(Counted::Spans, &content.plans),
+        most_cells: most_of(Counted::Cells, &content.plans),
     }
 }
 

@@ -51,6 +51,7 @@ impl<S: EmptyStore> Stage<S> {
             Step::At(word) => self.set_moment(word),
             Step::Equal(list) => self.set_permitted(list, output),
             Step::Spans(word) => self.set_spans(word),
+            Step::Cells(word) => self.set_cells(word),
             Step::Ask(ask) => self.send_ask(ask, output),
             Step::Request {
                 method,
@@ -84,12 +85,19 @@ impl<S: EmptyStore> Stage<S> {
 
     // Takes the most spans of an operator's live plans; `-` if any number will do.
     fn set_spans(&mut self, word: &str) -> anyhow::Result<()> {
-        let spans = match word {
-            "-" => None,
-            word => Some(word.parse()?),
-        };
+        let spans = most_in(word)?;
         self.keep_to(&Terms {
             spans,
+            ..self.terms
+        });
+        Ok(())
+    }
+
+    // Takes the most cells of an operator's plans; `-` if any number will do.
+    fn set_cells(&mut self, word: &str) -> anyhow::Result<()> {
+        let cells = most_in(word)?;
+        self.keep_to(&Terms {
+            cells,
             ..self.terms
         });
         Ok(())
@@ -201,6 +209,14 @@ impl<S: EmptyStore> Stage<S> {
         self.desk.keep_to(self.terms);
         rows.ok().context("the plans can't be read")
     }
+}
+
+// The most that a word names; none of `-`.
+fn most_in(word: &str) -> anyhow::Result<Option<u32>> {
+    Ok(match word {
+        "-" => None,
+        word => Some(word.parse()?),
+    })
 }
 
 // The numbers of a list, with commas between them.

@@ -18,6 +18,8 @@ pub enum Step<'l> {
     Equal(&'l str),
     /// `spans N`: the most spans of an operator's live plans from here on; `-` for any number.
     Spans(&'l str),
+    /// `cells N`: the most cells of an operator's plans from here on; `-` for any number.
+    Cells(&'l str),
     /// `ask OPERATOR ID STYLE USAGE AIRCRAFT PRIORITY LOWER UPPER START END CELL,..`: a PUT as bytes.
     Ask(Ask<'l>),
     /// `request METHOD TARGET OPERATOR BODY`: a request as bytes, with a content-length; OPERATOR `-` leaves
@@ -77,6 +79,7 @@ impl<'l> Step<'l> {
             "at" => Some(Step::At(rest)),
             "equal" => Some(Step::Equal(rest)),
             "spans" => Some(Step::Spans(rest)),
+            "cells" => Some(Step::Cells(rest)),
             "raw" => Some(Step::Raw(rest)),
             "request" => request_of(rest),
             _ => {

@@ -1,9 +1,10 @@
 use Rattle.std.proofs.Common.{length}
+use Rattle.desk_tables.specs.Counting.{count_of}
 use Rattle.desk_tables.proofs.CountingLemmas.{AreSummed}
-use Rattle.desk_tables.proofs.opening.counting.most_spans.Given as goal
+use Rattle.desk_tables.proofs.opening.counting.most_of.Given as goal
 
 abbrev pub invariant-loop-first : goal.invariant-loop-first
-invariant-loop-first l = AreSummed l.plans l.left l.most
+invariant-loop-first l = AreSummed (count_of l.counted) l.plans l.left l.most
 
 abbrev pub decreases-loop-first : goal.decreases-loop-first
 decreases-loop-first l = length l.left

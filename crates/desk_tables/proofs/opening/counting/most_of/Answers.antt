@@ -1,16 +1,17 @@
 use Rattle.std.proofs.Common.{◌∙◌, ap}
 use Rattle.std.specs.List.{prefix_len}
 use Rattle.desk_store.specs.World.{Filed, is_by}
+use Rattle.desk_tables.specs.Counting.{count_of}
 use Rattle.desk_tables.proofs.CountingLemmas.{begin, ends, goes_on, mine_few}
 use Rattle.desk_tables.proofs.AscendLemmas.{empty}
-use Rattle.desk_tables.proofs.opening.counting.most_spans.Goals as goal
+use Rattle.desk_tables.proofs.opening.counting.most_of.Goals as goal
 
 pub loop-first-init : goal.loop-first-init
-loop-first-init c = begin c.args.plans.now c.requires.keys c.requires.few
+loop-first-init c = begin (count_of c.args.counted) c.args.plans.now c.requires.keys c.requires.few
 
-pub spans_of-requires : goal.spans_of-requires
-spans_of-requires c =
-    mine_few c.args.plans.now c.loop-first.left.now c.split_at.result.1.now c.split_at.result.0.now
+pub sum_of-requires : goal.sum_of-requires
+sum_of-requires c =
+    mine_few (count_of c.args.counted) c.args.plans.now c.loop-first.left.now c.split_at.result.1.now c.split_at.result.0.now
     c.in-Some.others.now c.in-Some.first.now c.loop-first.most c.count_own.result c.loop-first.invariant
     c.in-Some.ensures.cases.0 (c.count_own.ensures.value
     ∙ ap (λ (f : Filed). prefix_len (is_by f.operator) c.in-Some.others.now) c.first.view_is)
@@ -18,14 +19,14 @@ spans_of-requires c =
 
 pub loop-first-preserved : goal.loop-first-preserved
 loop-first-preserved c =
-    goes_on c.args.plans.now c.loop-first.left.now c.split_at.result.1.now c.split_at.result.0.now
+    goes_on (count_of c.args.counted) c.args.plans.now c.loop-first.left.now c.split_at.result.1.now c.split_at.result.0.now
     c.in-Some.others.now c.in-Some.first.now c.loop-first.most c.count_own.result c.loop-first.invariant
     c.in-Some.ensures.cases.0 (c.count_own.ensures.value
     ∙ ap (λ (f : Filed). prefix_len (is_by f.operator) c.in-Some.others.now) c.first.view_is)
     c.split_at.ensures.front c.split_at.ensures.back
-    c.greater_of-most.result c.spans_of.result c.spans_of.ensures c.greater_of-most.ensures.no_less.0
+    c.greater_of-most.result c.sum_of.result c.sum_of.ensures c.greater_of-most.ensures.no_less.0
     c.greater_of-most.ensures.no_less.1 c.greater_of-most.ensures.which
 
 pub returns : goal.returns
-returns c = ends c.args.plans.now c.loop-first.left.now c.loop-first.most c.loop-first.invariant
+returns c = ends (count_of c.args.counted) c.args.plans.now c.loop-first.left.now c.loop-first.most c.loop-first.invariant
     (empty c.loop-first.left.now (c.in_default.ensures.cases))
