@@ -4,20 +4,21 @@ use Rattle.desk_rules.specs.Permission.{is_permitted}
 use Rattle.desk_rules.specs.declared.terms.Terms.{Terms}
 use Rattle.desk_line.specs.declared.line.Enrolment.{Enrolment}
 use Rattle.desk_record.specs.Record.{EntryParts, entries}
+use Rattle.desk_record.specs.declared.kind.Kind.{Kind}
 use Rattle.desk_record.specs.declared.kind.Kind.TheVariants as kind
 use Rattle.desk_replay.specs.Replaying.{version}
 use Rattle.desk_program.specs.Recorded.{operator_entry}
 use Rattle.desk_recording.specs.RecordWrites.{Appended, Synced, Write}
 
--- the entries of a record's number, of a priority that is permitted, and of the most spans
+-- the entries of a record's number, of a priority that is permitted, and of a limit of this kind
 abbrev pub record_entry : ℕ → EntryParts
 record_entry n = record { kind = kind.Record; number = n; bytes = version }
 
 abbrev pub permitted_entry : ℕ → EntryParts
 permitted_entry priority = record { kind = kind.Permitted; number = priority; bytes = [] }
 
-abbrev pub spans_entry : ℕ → EntryParts
-spans_entry most = record { kind = kind.Spans; number = most; bytes = [] }
+abbrev pub limit_entry : Kind → ℕ → EntryParts
+limit_entry told most = record { kind = told; number = most; bytes = [] }
 
 abbrev pub permitted_if : List ℕ → ℕ → List EntryParts
 permitted_if permitted priority =
@@ -28,10 +29,12 @@ unfoldable pub permitted_below : ℕ → List ℕ → List EntryParts
 permitted_below zero permitted = []
 permitted_below (suc n) permitted = permitted_below n permitted ++ permitted_if permitted n
 
--- the terms of a desk: the priorities that it permits, and the most spans, if it limits them
+-- the terms of a desk: the priorities that it permits, and the most spans and cells, if it limits them
 abbrev pub terms_entries : Terms → List EntryParts
 terms_entries terms =
-    permitted_below 1001 terms.permitted ++ map spans_entry (option_to_list terms.spans)
+    permitted_below 1001 terms.permitted
+    ++ (map (limit_entry kind.Spans) (option_to_list terms.spans)
+    ++ map (limit_entry kind.Cells) (option_to_list terms.cells))
 
 -- a record begins: its number, the terms of its desk, and its operators
 abbrev pub header : ℕ → Terms → List Enrolment → List EntryParts

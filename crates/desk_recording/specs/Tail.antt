@@ -3,7 +3,7 @@ use Rattle.std.specs.Prelude.{◌≡◌, ◌⊎◌, ⊤, ℕ, ◌+◌, ◌-◌, 
 use Rattle.std.specs.List.{AllByRecursion}
 use Rattle.std.specs.Str.{bytes_eq}
 use Rattle.std.specs.Io.KnownBytes.{Consumes, IsAtEnd}
-use Rattle.desk_rules.specs.Limits.{max_priority, max_spans}
+use Rattle.desk_rules.specs.Limits.{max_priority, max_spans, max_total_cells}
 use Rattle.desk_rules.specs.Name.{is_operator_name}
 use Rattle.desk_rules.specs.Permission.{permitted_in}
 use Rattle.desk_rules.specs.Terms.{no_terms}
@@ -94,6 +94,11 @@ said_spans t n =
     none_if (not (nat_le 1 n && nat_le n max_spans))
     (Some (record t { terms = record t.terms { spans = Some n } }))
 
+unfoldable pub said_cells : TailParts → ℕ → Said
+said_cells t n =
+    none_if (not (nat_le 1 n && nat_le n max_total_cells))
+    (Some (record t { terms = record t.terms { cells = Some n } }))
+
 unfoldable pub said_operator : TailParts → ℕ → List ℕ → Said
 said_operator t ceiling name =
     none_if (not (is_operator_name name)) (none_if (nat_lt max_priority ceiling)
@@ -127,6 +132,7 @@ abbrev pub said_within : Kind → TailParts → ℕ → List ℕ → Said
 said_within kind.Record t n bytes = said_record t n bytes
 said_within kind.Permitted t n bytes = said_bare bytes (said_permitted t n)
 said_within kind.Spans t n bytes = said_bare bytes (said_spans t n)
+said_within kind.Cells t n bytes = said_bare bytes (said_cells t n)
 said_within kind.Operator t n bytes = said_operator t n bytes
 said_within kind.Request t n bytes = said_request t n bytes
 said_within kind.Answer t n bytes = said_answer t n bytes
@@ -135,6 +141,7 @@ abbrev pub is_first_kind : Kind → Bool
 is_first_kind kind.Record = true
 is_first_kind kind.Permitted = false
 is_first_kind kind.Spans = false
+is_first_kind kind.Cells = false
 is_first_kind kind.Operator = false
 is_first_kind kind.Request = false
 is_first_kind kind.Answer = false

@@ -23,11 +23,11 @@ recorded_by is_broken noted = option_map (λ n. recorded_as is_broken n) noted
 
 -- what a port tells, by its record and by whether it is broken
 abbrev pub told_by : {R F : Type 0} → Ghosts R F → R → Bool → Traffic
-told_by g keeper is_broken =
-    traffic_of (g.steps keeper) (recorded_by is_broken (g.noted keeper))
+told_by g journal is_broken =
+    traffic_of (g.steps journal) (recorded_by is_broken (g.noted journal))
 
 abbrev pub told_of : {P R F : Type 0} → Ghosts R F → RecordedPort P R → Traffic
-told_of g port = told_by g port.keeper (is_some port.broken)
+told_of g port = told_by g port.journal (is_some port.broken)
 
 -- a failure of the port below: it keeps nothing itself, so what it can't keep is no loss of this record
 abbrev pub failure_below : Failure → Failure

@@ -3,7 +3,7 @@
 ghost use Rattle.std.specs.Prelude.{◌≡◌, ◌++◌, map, option_to_list, IfOk, OnErr, OnOk};
 ghost use Rattle.desk_record.specs.Record.{entries};
 ghost use Rattle.desk_recording.specs.Beginning.{header, header_writes, permitted_below, permitted_if};
-ghost use Rattle.desk_recording.specs.Beginning.{spans_entry};
+ghost use Rattle.desk_recording.specs.Beginning.{limit_entry};
 ghost use Rattle.desk_program.specs.Recorded.{operator_entry};
 ghost use Rattle.desk_recording.specs.RecordWrites.{Appended, FollowsWrites, StopsWriting};
 
@@ -53,7 +53,8 @@ fn header_text(
     let mut text = Vec::new(alloc);
     write_entry(&mut text, Kind::Record, number, VERSION)?;
     write_permitted(&mut text, &terms.permitted)?;
-    write_spans(&mut text, terms.spans)?;
+    write_limit(&mut text, Kind::Spans, terms.spans)?;
+    write_limit(&mut text, Kind::Cells, terms.cells)?;
     write_operators(&mut text, operators)?;
     Ok(text)
 }
@@ -85,13 +86,13 @@ fn write_if_permitted(
     }
 }
 
-// Appends the entry of the most spans, if there is such a limit.
-fn write_spans(text: &mut Vec<u8>, spans: Option<u32>) -> Result<(), AllocError>
+// Appends the entry of a limit, if there is one.
+fn write_limit(text: &mut Vec<u8>, kind: Kind, most: Option<u32>) -> Result<(), AllocError>
     ensures { OnOk result (text.new.items ≡ text.old.items
-        ++ entries (map spans_entry (option_to_list spans))) }
+        ++ entries (map (limit_entry kind) (option_to_list most))) }
 {
-    match spans {
-        Some(most) => write_entry(text, Kind::Spans, u64::from(most), b""),
+    match most {
+        Some(most) => write_entry(text, kind, u64::from(most), b""),
         None => Ok(()),
     }
 }

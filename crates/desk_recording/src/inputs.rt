@@ -126,6 +126,7 @@ impl<R: Read + Drop, W: Write + Drop> Port for InputPort<R, W> {
         Ok(Vec::new(alloc))
     }
 
+    // Long: what a port tells, which request of the input it is, and when the input has ended.
     fn take(&mut self, alloc: Global) -> Result<Connection<Cursor<Vec<u8>>, Vec<u8>>, Failure>
         ensures taken { IfOk result (λ c. TakesArrival untold untold
             (arrived c.moment.second (cursor_remaining (λ v. Some v.items) c.input))) }

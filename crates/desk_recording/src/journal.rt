@@ -60,7 +60,8 @@ pub(crate) fn append_to<J: Journal>(
     journal: &mut J,
     bytes: &[u8],
 ) -> Result<(), Unwritten<J::Fault>>
-    ensures done { MakesWrite (J.writes journal.old) (J.writes journal.new) (is_ok result) (Appended bytes.now) }
+    ensures done { MakesWrite (J.writes journal.old) (J.writes journal.new) (is_ok result)
+        (Appended bytes.now) }
     ensures fault { IfErr result IsOfJournal }
 {
     match journal.append(bytes) {

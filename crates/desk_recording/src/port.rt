@@ -48,21 +48,21 @@ pub(crate) enum Loss<R> {
 #[derive(Drop)]
 pub struct RecordedPort<P: Drop, R: Drop> {
     pub(crate) port: P,
-    keeper: R,
+    journal: R,
     // What can't be kept, if so.
     broken: Option<Loss<R>>,
 }
 
 impl<P: Port + Drop, R: Record + Drop> RecordedPort<P, R> {
-    /// A port whose connections are kept by a keeper.
-    pub fn new(port: P, keeper: R) -> RecordedPort<P, R>
+    /// A port whose connections are kept in a journal.
+    pub fn new(port: P, journal: R) -> RecordedPort<P, R>
         ensures port { result.port ≡ port }
-        ensures keeper { result.keeper ≡ keeper }
+        ensures journal { result.journal ≡ journal }
         ensures whole { result.broken ≡ None }
     {
         RecordedPort {
             port,
-            keeper,
+            journal,
             broken: None,
         }
     }
@@ -76,7 +76,8 @@ impl<P: Port + Drop, R: Record + Drop> Port for RecordedPort<P, R> {
     ghost traffic = { λ s. told_of R.Record s };
 
     fn listen(&mut self, number: u16) -> Result<(), Failure>
-        ensures listens { Listens (told_of R.Record self.old) (told_of R.Record self.new) number (is_ok result) }
+        ensures listens { Listens (told_of R.Record self.old) (told_of R.Record self.new) number
+            (is_ok result) }
         ensures asked { Listens (P.traffic self.old.port) (P.traffic self.new.port) number (is_ok result) }
         ensures fault { IfErr result IsDenied }
         ensures kept { self.new.broken ≡ self.old.broken }
@@ -104,7 +105,7 @@ impl<P: Port + Drop, R: Record + Drop> Port for RecordedPort<P, R> {
             Ok(news) => news,
             Err(failure) => return Err(failure_below(failure)),
         };
-        match self.keeper.keep_news(&news) {
+        match self.journal.keep_news(&news) {
             Ok(()) => Ok(news),
             Err(fault) => {
                 self.broken = Some(Loss::Unkept(RecordFault::by(fault)));
@@ -113,6 +114,7 @@ impl<P: Port + Drop, R: Record + Drop> Port for RecordedPort<P, R> {
         }
     }
 
+    // Long: what the port tells, what was taken of the client, and when it is broken.
     #[tactic(auto, using(crate::proofs::StepLemmas::takes_one))]
     fn take(
         &mut self,
@@ -143,7 +145,7 @@ impl<P: Port + Drop, R: Record + Drop> Port for RecordedPort<P, R> {
             let _ = self.port.close(taken.input, taken.output, UNANSWERED);
             return Err(Failure::Memory);
         };
-        match self.keeper.keep_request(taken.moment, &received.request) {
+        match self.journal.keep_request(taken.moment, &received.request) {
             Ok(()) => Ok(Connection {
                 moment: taken.moment,
                 input: Given {
@@ -165,6 +167,7 @@ impl<P: Port + Drop, R: Record + Drop> Port for RecordedPort<P, R> {
         }
     }
 
+    // Long: what the port tells, what its journal has, when it is broken, and what the client was sent.
     #[tactic(auto, using(crate::proofs::StepLemmas::closes_so, crate::proofs::StepLemmas::is_open))]
     fn close(
         &mut self,
@@ -180,11 +183,12 @@ impl<P: Port + Drop, R: Record + Drop> Port for RecordedPort<P, R> {
         ensures cause { result ≡ Err Failure.Broken → IsSome self.new.broken }
         ensures lost { self.new.broken ≡ Some Loss.Unanswered
             → (self.old.broken ≡ Some Loss.Unanswered) ⊎ (outcome.is_answered ≡ false) }
-        ensures kept { IsClosedBy P.Output (course (R.steps self.old.keeper) (R.steps self.new.keeper))
+        ensures kept { IsClosedBy P.Output (course (R.steps self.old.journal) (R.steps self.new.journal))
             (parted_in input output outcome) (client_of (P.Input.remaining input.client)
             (P.Output.contents output.to)) (course (P.traffic self.old.port) (P.traffic self.new.port)) }
         ensures broken { IsNone self.new.broken → IsNone self.old.broken × AddsStep
-            (R.steps self.old.keeper) (R.steps self.new.keeper) (Answered (parted_in input output outcome)) }
+            (R.steps self.old.journal) (R.steps self.new.journal)
+            (Answered (parted_in input output outcome)) }
     {
         let Given {
             request,
@@ -197,7 +201,7 @@ impl<P: Port + Drop, R: Record + Drop> Port for RecordedPort<P, R> {
             sent: &answer,
             outcome,
         };
-        let (broken, _) = send_kept(&mut self.keeper, self.broken, connection, &mut to);
+        let (broken, _) = send_kept(&mut self.journal, self.broken, connection, &mut to);
         self.broken = broken;
         let closed = self.port.close(client, to, outcome);
         closed_as(self.broken.is_some(), closed)
@@ -230,38 +234,38 @@ fn closed_as(is_lost: bool, closed: Result<(), Failure>) -> Result<(), Failure>
 // Keeps the answer of a connection, if it is whole and nothing was lost before, and then sends it; or else
 // tells the client that the desk failed. What is lost, if so, and whether all was sent.
 fn send_kept<R: Record, W: Write>(
-    keeper: &mut R,
+    journal: &mut R,
     broken: Option<Loss<R>>,
     connection: Parted<'_>,
     client: &mut W,
 ) -> (Option<Loss<R>>, Result<(), Cut<W>>)
-    ensures sends { SendsKept (course (R.steps keeper.old) (R.steps keeper.new)) (parting_of connection.entry)
-        (course (W.contents client.old) (W.contents client.new)) result.1 }
+    ensures sends { SendsKept (course (R.steps journal.old) (R.steps journal.new))
+        (parting_of connection.entry) (course (W.contents client.old) (W.contents client.new)) result.1 }
     ensures kept { IsNone result.0 →
-        AddsStep (R.steps keeper.old) (R.steps keeper.new) (Answered (parting_of connection.entry)) }
-    ensures noted { Notes (R.noted keeper.old) (R.noted keeper.new) (is_none result.0)
+        AddsStep (R.steps journal.old) (R.steps journal.new) (Answered (parting_of connection.entry)) }
+    ensures noted { Notes (R.noted journal.old) (R.noted journal.new) (is_none result.0)
         (λ n. with_answer n connection.entry.sent.now) }
     ensures whole { IsNone result.0 → IsNone broken × (connection.entry.outcome.is_answered ≡ true) }
     ensures lost { result.0 ≡ Some Loss.Unanswered
         → (broken ≡ Some Loss.Unanswered) ⊎ (connection.entry.outcome.is_answered ≡ false) }
 {
-    let lost = keep_or_lose(keeper, broken, connection);
+    let lost = keep_or_lose(journal, broken, connection);
     if lost.is_none() {
         return (None, write_whole(client, connection.sent));
     }
-    keeper.lose_answer(connection);
+    journal.lose_answer(connection);
     (lost, refuse(client))
 }
 
 // Keeps the answer of a connection, if it is whole and nothing was lost before. What is lost, if so.
 fn keep_or_lose<R: Record>(
-    keeper: &mut R,
+    journal: &mut R,
     broken: Option<Loss<R>>,
     connection: Parted<'_>,
 ) -> Option<Loss<R>>
-    ensures steps { AddsIf (R.steps keeper.old) (R.steps keeper.new) (is_none result)
+    ensures steps { AddsIf (R.steps journal.old) (R.steps journal.new) (is_none result)
         (Answered (parting_of connection.entry)) }
-    ensures noted { Notes (R.noted keeper.old) (R.noted keeper.new) (is_none result)
+    ensures noted { Notes (R.noted journal.old) (R.noted journal.new) (is_none result)
         (λ n. with_answer n connection.entry.sent.now) }
     ensures whole { IsNone result → IsNone broken × (connection.entry.outcome.is_answered ≡ true) }
     ensures lost { result ≡ Some Loss.Unanswered
@@ -273,7 +277,7 @@ fn keep_or_lose<R: Record>(
     if !connection.outcome.is_answered {
         return Some(Loss::Unanswered);
     }
-    match keeper.keep_answer(connection) {
+    match journal.keep_answer(connection) {
         Ok(()) => None,
         Err(fault) => Some(Loss::Unkept(RecordFault::by(fault))),
     }

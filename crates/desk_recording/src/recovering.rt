@@ -114,13 +114,13 @@ pub fn recover<S: PlanStore, R: Record>(
     terms: &Terms,
     missing: &[Enrolment],
     asked: Option<Unanswered>,
-    keeper: &mut R,
+    journal: &mut R,
 ) -> Result<(), Unrecovered<R>>
     requires { AreEnrolments missing.now }
     ensures recovers { Recovers (IsHonest (S.doubt desk.new.store))
         (undone terms.now missing.now (unanswered_in asked))
         (course (world_of S.content desk.old) (world_of S.content desk.new))
-        (course (R.steps keeper.old) (R.steps keeper.new)) (ended_as result) }
+        (course (R.steps journal.old) (R.steps journal.new)) (ended_as result) }
     ensures remembered { Remembers S.doubt S.faults S.is_shielded desk.old.store desk.new.store }
     ensures kept { OnOk result (StaysSettled S.PlanStore desk.old desk.new) }
     ensures cause { IfErr result (λ why. spec.failure_of why ≡ Failure.Store
@@ -129,7 +129,7 @@ pub fn recover<S: PlanStore, R: Record>(
     if let Err(fault) = set_up(desk, terms, missing) {
         return Err(unlisted(fault));
     }
-    ask_if_any(alloc, desk, asked, keeper)
+    ask_if_any(alloc, desk, asked, journal)
 }
 
 // Why an operator could not be listed.
@@ -148,18 +148,18 @@ fn ask_if_any<S: PlanStore, R: Record>(
     alloc: Global,
     desk: &mut Desk<S>,
     asked: Option<Unanswered>,
-    keeper: &mut R,
+    journal: &mut R,
 ) -> Result<(), Unrecovered<R>>
     ensures asks { AsksAgainIfAny (IsHonest (S.doubt desk.new.store)) (unanswered_in asked)
         (course (world_of S.content desk.old) (world_of S.content desk.new))
-        (course (R.steps keeper.old) (R.steps keeper.new)) (ended_as result) }
+        (course (R.steps journal.old) (R.steps journal.new)) (ended_as result) }
     ensures remembered { Remembers S.doubt S.faults S.is_shielded desk.old.store desk.new.store }
     ensures kept { OnOk result (StaysSettled S.PlanStore desk.old desk.new) }
     ensures cause { IfErr result (λ why. spec.failure_of why ≡ Failure.Store
         → HasRisen (S.faults desk.old.store) (S.faults desk.new.store)) }
 {
     match asked {
-        Some(asked) => ask_again(alloc, desk, asked, keeper),
+        Some(asked) => ask_again(alloc, desk, asked, journal),
         None => Ok(()),
     }
 }
@@ -170,11 +170,11 @@ fn ask_again<S: PlanStore, R: Record>(
     alloc: Global,
     desk: &mut Desk<S>,
     asked: Unanswered,
-    keeper: &mut R,
+    journal: &mut R,
 ) -> Result<(), Unrecovered<R>>
     ensures asks { AsksAgain (IsHonest (S.doubt desk.new.store)) (unanswered_shown asked)
         (course (world_of S.content desk.old) (world_of S.content desk.new))
-        (course (R.steps keeper.old) (R.steps keeper.new)) (ended_as result) }
+        (course (R.steps journal.old) (R.steps journal.new)) (ended_as result) }
     ensures remembered { Remembers S.doubt S.faults S.is_shielded desk.old.store desk.new.store }
     ensures kept { OnOk result (StaysSettled S.PlanStore desk.old desk.new) }
     ensures cause { IfErr result (λ why. spec.failure_of why ≡ Failure.Store
@@ -188,30 +188,30 @@ fn ask_again<S: PlanStore, R: Record>(
         second: second as i64,
     };
     let sent = (moment, request);
-    if let Err(fault) = keeper.keep_request(sent.0, &sent.1) {
+    if let Err(fault) = journal.keep_request(sent.0, &sent.1) {
         return Err(Unrecovered::Unkept(RecordFault::by(fault)));
     }
     match answer_one(alloc, desk, &sent) {
-        Ok(answer) => keep_again(keeper, &answer),
+        Ok(answer) => keep_again(journal, &answer),
         Err(fault) => {
-            keeper.lose_answer(told_again(b""));
+            journal.lose_answer(told_again(b""));
             Err(unanswered_by(fault))
         }
     }
 }
 
 // Keeps an answer that goes to no client.
-fn keep_again<R: Record>(keeper: &mut R, answer: &[u8]) -> Result<(), Unrecovered<R>>
+fn keep_again<R: Record>(journal: &mut R, answer: &[u8]) -> Result<(), Unrecovered<R>>
     ensures ok { OnOk result
-        (AddsStep (R.steps keeper.old) (R.steps keeper.new) (Answered (told_again answer.now))) }
+        (AddsStep (R.steps journal.old) (R.steps journal.new) (Answered (told_again answer.now))) }
     ensures err { IfErr result (λ why. (spec.failure_of why ≡ Failure.Broken)
-        × AddsStep (R.steps keeper.old) (R.steps keeper.new) (Lost (told_again answer.now))) }
+        × AddsStep (R.steps journal.old) (R.steps journal.new) (Lost (told_again answer.now))) }
 {
     let connection = told_again(answer);
-    match keeper.keep_answer(connection) {
+    match journal.keep_answer(connection) {
         Ok(()) => Ok(()),
         Err(fault) => {
-            keeper.lose_answer(connection);
+            journal.lose_answer(connection);
             Err(Unrecovered::Unkept(RecordFault::by(fault)))
         }
     }

@@ -13,7 +13,7 @@ use desk_replay::says_failure;
 use desk_rules::decide::MAX_PRIORITY;
 use desk_rules::operator::Operator;
 use desk_rules::permission::Permitted;
-use desk_rules::terms::{MAX_SPANS, Terms};
+use desk_rules::terms::{MAX_SPANS, MAX_TOTAL_CELLS, Terms};
 use std::alloc::{AllocError, Global};
 use std::io::Read;
 use volume4d::MAX_SECOND;
@@ -169,6 +169,8 @@ fn note_within(tail: &mut Tail, kind: Kind, number: u64, bytes: Vec<u8>) -> Resu
         Kind::Permitted => permit(tail, number),
         Kind::Spans if !bytes.is_empty() => Err(TailFault::NoRecord),
         Kind::Spans => limit_spans(tail, number),
+        Kind::Cells if !bytes.is_empty() => Err(TailFault::NoRecord),
+        Kind::Cells => limit_cells(tail, number),
         Kind::Operator => list(tail, number, &bytes),
         Kind::Request => ask(tail, number, bytes),
         Kind::Answer => answer(tail, number, &bytes),
@@ -217,6 +219,18 @@ fn limit_spans(tail: &mut Tail, spans: u64) -> Result<(), TailFault>
         return Err(TailFault::NoRecord);
     }
     tail.terms.spans = Some(spans as u32);
+    Ok(())
+}
+
+// An operator's plans may have so many cells.
+#[tactic(auto, unfolding(crate::specs::Tail::said_cells))]
+fn limit_cells(tail: &mut Tail, cells: u64) -> Result<(), TailFault>
+    ensures { Notes result (spec.said_cells (tail_shown tail.old) cells) (tail_shown tail.new) }
+{
+    if cells < 1 || cells > u64::from(MAX_TOTAL_CELLS) {
+        return Err(TailFault::NoRecord);
+    }
+    tail.terms.cells = Some(cells as u32);
     Ok(())
 }
 

@@ -1,7 +1,7 @@
 -- Replaying: records played at a desk's world, entry by entry (docs/journal-format.md).
 use Rattle.std.specs.Prelude.{◌≡◌, ◌⊎◌, ⊤, ℕ, ℤ, pos, ◌+◌, ◌==◌, min, length, is_none, nat_le, nat_lt, ◌^◌, ◌-◌, List, [], ◌∷◌, ◌++◌, Bool, true, false, not, ◌&&◌, ◌||◌, if◌then◌else◌, Option, Some, None, Result, Ok, Err, codes}
 use Rattle.std.specs.Str.{bytes_eq}
-use Rattle.desk_rules.specs.Limits.{max_priority, max_spans}
+use Rattle.desk_rules.specs.Limits.{max_priority, max_spans, max_total_cells}
 use Rattle.desk_rules.specs.Name.{is_operator_name}
 use Rattle.desk_rules.specs.Permission.{permitted_in}
 use Rattle.desk_rules.specs.Terms.{no_terms}
@@ -100,7 +100,7 @@ abbrev pub reopened : Option AskingParts → Option AskingParts
 reopened None = None
 reopened (Some a) = Some (record a { reopened = true })
 
--- a record begins: no priority is permitted yet, and any number of spans
+-- a record begins: no priority is permitted yet, and any number of spans and of cells
 unfoldable pub begun : State → ℕ → List ℕ → Outcome
 begun s n bytes =
     refuse_if (not (bytes_eq bytes version)) NoRecord
@@ -135,6 +135,15 @@ spanned s n =
     (Ok (record s {
       world = record s.world { terms = record s.terms { spans = Some n } };
       terms = record s.terms { spans = Some n };
+    }))
+
+-- an operator's plans may have so many cells
+unfoldable pub celled : State → ℕ → Outcome
+celled s n =
+    refuse_if (not (nat_le 1 n && nat_le n max_total_cells)) NoRecord
+    (Ok (record s {
+      world = record s.world { terms = record s.terms { cells = Some n } };
+      terms = record s.terms { cells = Some n };
     }))
 
 -- an operator is enrolled
@@ -233,6 +242,7 @@ abbrev pub taken_within : Kind → State → ℕ → List ℕ → Outcome
 taken_within kind.Record s n bytes = Err NoRecord
 taken_within kind.Permitted s n bytes = bare bytes (permitted s n)
 taken_within kind.Spans s n bytes = bare bytes (spanned s n)
+taken_within kind.Cells s n bytes = bare bytes (celled s n)
 taken_within kind.Operator s n bytes = listed s n bytes
 taken_within kind.Request s n bytes = requested s n bytes
 taken_within kind.Answer s n bytes = taken_answer s n bytes
@@ -241,6 +251,7 @@ abbrev pub is_record : Kind → Bool
 is_record kind.Record = true
 is_record kind.Permitted = false
 is_record kind.Spans = false
+is_record kind.Cells = false
 is_record kind.Operator = false
 is_record kind.Request = false
 is_record kind.Answer = false

@@ -31,6 +31,7 @@ is_too_late None told n = false
 is_too_late (Some last) kind.Record n = false
 is_too_late (Some last) kind.Permitted n = false
 is_too_late (Some last) kind.Spans n = false
+is_too_late (Some last) kind.Cells n = false
 is_too_late (Some last) kind.Operator n = false
 is_too_late (Some last) kind.Request n = nat_lt last n
 is_too_late (Some last) kind.Answer n = false

@@ -15,7 +15,7 @@ ghost use Rattle.desk_replay.specs.declared.fault.ReplayFault.TheVariants as rep
 
 use crate::fault::ReplayFault;
 use crate::progress::{Asking, Progress};
-use crate::terms::{begin, enrol, limit_spans, permit};
+use crate::terms::{begin, enrol, limit_cells, limit_spans, permit};
 use desk_ends::Moment;
 use desk_record::{Entry, Kind};
 use desk_run::Desk;
@@ -76,6 +76,8 @@ fn take_within<S: PlanStore>(
         Kind::Permitted => permit(desk, progress, number),
         Kind::Spans if !bytes.is_empty() => Err(ReplayFault::NoRecord),
         Kind::Spans => limit_spans(desk, progress, number),
+        Kind::Cells if !bytes.is_empty() => Err(ReplayFault::NoRecord),
+        Kind::Cells => limit_cells(desk, progress, number),
         Kind::Operator => enrol(desk, progress, number, &bytes),
         Kind::Request => ask(alloc, desk, progress, number, bytes),
         Kind::Answer => compare(progress, number, &bytes),
@@ -173,6 +175,7 @@ fn turn(
 /// # Errors
 ///
 /// `OutOfMemory` or `Store` by the desk, which changed nothing then.
+// Long: the answer, the world that it leaves, each fault and what a crash leaves have each a clause.
 pub fn answer_one<S: PlanStore>(
     alloc: Global,
     desk: &mut Desk<S>,
@@ -195,6 +198,7 @@ pub fn answer_one<S: PlanStore>(
 }
 
 // The answer to one request, the bytes of a whole one with its moment, and whether a change was made.
+// Long: the answer, the world that it leaves, each fault and what a crash leaves have each a clause.
 fn tell_one<S: PlanStore>(
     alloc: Global,
     desk: &mut Desk<S>,

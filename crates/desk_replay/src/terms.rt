@@ -4,14 +4,14 @@ ghost use Rattle.std.specs.Prelude.{◌≡◌};
 ghost use Rattle.desk_store.specs.StoreFaults.{IsHonest};
 ghost use Rattle.desk_store.specs.StoreFrames.{Remembers};
 ghost use Rattle.desk_wire.specs.Passage.{course};
-ghost use Rattle.desk_replay.specs.Replaying.{StepsAt, begun, listed, permitted, spanned};
+ghost use Rattle.desk_replay.specs.Replaying.{StepsAt, begun, celled, listed, permitted, spanned};
 
 use crate::fault::ReplayFault;
 use crate::progress::{Progress, may_follow};
 use desk_rules::decide::MAX_PRIORITY;
 use desk_rules::operator::Operator;
 use desk_rules::permission::Permitted;
-use desk_rules::terms::{MAX_SPANS, Terms};
+use desk_rules::terms::{MAX_SPANS, MAX_TOTAL_CELLS, Terms};
 use desk_run::Desk;
 use desk_store::PlanStore;
 use std::alloc::Global;
@@ -19,7 +19,7 @@ use std::alloc::Global;
 /// The version of the format.
 const VERSION: &[u8] = b"1";
 
-/// Begins a record: no priority is permitted yet, and any number of spans.
+/// Begins a record: no priority is permitted yet, and any number of spans and of cells.
 #[tactic(auto, unfolding(crate::specs::Replaying::begun))]
 pub(crate) fn begin<S: PlanStore>(
     alloc: Global,
@@ -89,6 +89,25 @@ pub(crate) fn limit_spans<S: PlanStore>(
         return Err(ReplayFault::NoRecord);
     }
     progress.terms.spans = Some(spans as u32);
+    desk.keep_to(progress.terms);
+    Ok(())
+}
+
+/// Has an operator's plans have so many cells at most.
+#[tactic(auto, unfolding(crate::specs::Replaying::celled))]
+pub(crate) fn limit_cells<S: PlanStore>(
+    desk: &mut Desk<S>,
+    progress: &mut Progress,
+    cells: u64,
+) -> Result<(), ReplayFault>
+    ensures given { StepsAt S.content result (λ s. celled s cells) (course desk.old desk.new)
+        (course progress.old progress.new) }
+    ensures store { desk.new.store ≡ desk.old.store }
+{
+    if cells < 1 || cells > u64::from(MAX_TOTAL_CELLS) {
+        return Err(ReplayFault::NoRecord);
+    }
+    progress.terms.cells = Some(cells as u32);
     desk.keep_to(progress.terms);
     Ok(())
 }

@@ -5,8 +5,8 @@ use Rattle.desk_recording.proofs.port.RecordedPortPort.close.Goals as goal
 
 pub returns-clause-closed : goal.returns-clause-closed
 returns-clause-closed g c =
-    let old = c.args.self.now.keeper in
-    let new = c.send_kept-broken.new.keeper in
+    let old = c.args.self.now.journal in
+    let new = c.send_kept-broken.new.journal in
     let kept = rw (c.unread_of.ensures, c.deref.ensures.value) at c.send_kept-broken.ensures in
     closes_so (g.R.Record.steps old) (g.R.Record.steps new) (g.R.Record.noted old) (g.R.Record.noted new)
     (is_some c.args.self.now.broken) (is_some c.send_kept-broken.result.0) _ _

@@ -6,7 +6,7 @@ use Rattle.desk_recording.proofs.port.RecordedPortPort.news.Goals as goal
 
 pub returns-in-Ok-keep_news-clause-brings : goal.returns-in-Ok-keep_news-clause-brings
 returns-in-Ok-keep_news-clause-brings g c =
-    let old = c.args.self.now.keeper in
+    let old = c.args.self.now.journal in
     let new = c.keep_news.new.self in
     subst (λ b. BringsNews (told_by g.R.Record old b) (told_by g.R.Record new b) c.in-Ok.news.items)
     c.if-is_some.ensures
@@ -17,7 +17,7 @@ returns-in-Ok-keep_news-clause-brings g c =
 
 pub returns-in-Err-keep_news-clause-same : goal.returns-in-Err-keep_news-clause-same
 returns-in-Err-keep_news-clause-same g c =
-    let old = c.args.self.now.keeper in
+    let old = c.args.self.now.journal in
     let new = c.keep_news.new.self in
     subst (λ b. Denies (told_by g.R.Record old b) (told_by g.R.Record new true)) c.if-is_some.ensures
     (no_news (g.R.Record.steps old) (g.R.Record.steps new) (g.R.Record.noted old) (g.R.Record.noted new)

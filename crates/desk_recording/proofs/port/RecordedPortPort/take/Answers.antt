@@ -6,7 +6,7 @@ use Rattle.desk_recording.proofs.port.RecordedPortPort.take.Goals as goal
 
 pub returns-in-Ok-keep_request-clause-taken : goal.returns-in-Ok-keep_request-clause-taken
 returns-in-Ok-keep_request-clause-taken g c =
-    let old = c.args.self.now.keeper in
+    let old = c.args.self.now.journal in
     let new = c.keep_request.new.self in
     let moment = c.in-Ok.taken.moment in
     let request = c.in-Ok-request_of.received.request.items in
@@ -21,7 +21,7 @@ returns-in-Ok-keep_request-clause-taken g c =
 
 pub returns-in-Err-keep_request-clause-same : goal.returns-in-Err-keep_request-clause-same
 returns-in-Err-keep_request-clause-same g c =
-    let old = c.args.self.now.keeper in
+    let old = c.args.self.now.journal in
     let new = c.keep_request.new.self in
     subst (λ b. Denies (told_by g.R.Record old b) (told_by g.R.Record new true)) c.if-is_some.ensures
     (none_taken (g.R.Record.steps old) (g.R.Record.steps new) (g.R.Record.noted old) (g.R.Record.noted new)
