@@ -71,13 +71,13 @@ def strips(lowers: Iterable[int], start: int, stop: int) -> Iterator[Volume]:
         yield (lower, lower + 10, start, stop), asked, canon, spans
 
 
-def write(path: str, operators: Iterable[str], plans: Iterable[Plan], closed: bool = False) -> None:
-    """A new file with these operators and plans; closed ones have no spans."""
+def write(path: str, operators: Iterable[str], plans: Iterable[Plan], shut: int = 1 << 128) -> None:
+    """A new file with these operators and plans; those with ids from a number on are closed, and have no spans."""
     with sqlite3.connect(path) as connection:
         connection.executescript(SCHEMA)
         connection.executemany("INSERT INTO operator VALUES (?, 100)", [(name,) for name in operators])
         for operator, identity, volumes in plans:
-            key = (operator, str(identity))
+            key, closed = (operator, str(identity)), identity.int >= shut
             connection.execute("INSERT INTO plan VALUES (?, ?, 10, ?, 0)", (*key, 2 * closed))
             for place, (bounds, asked, canon, spans) in enumerate(volumes):
                 row = (*key, place, *bounds, asked, canon)

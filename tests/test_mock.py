@@ -101,18 +101,21 @@ NAMES = ["alfa", "bravo", "charlie", "delta", "echo", "foxtrot"]
 FLOWN = 500
 """How many requests of a city are played; the mock takes long over its conflicts."""
 CITIES = [
-    ("in memory", False, None, rb'{"conflict":{[^}]*}[^}]*"Rejected"}'),
-    ("over a file", True, None, rb'{"conflict":{[^}]*}[^}]*"Rejected"}'),
-    ("of few spans", False, 200, rb'"notes":"spans_limit"'),
+    ("in memory", False, None, None, rb'{"conflict":{[^}]*}[^}]*"Rejected"}'),
+    ("over a file", True, None, None, rb'{"conflict":{[^}]*}[^}]*"Rejected"}'),
+    ("of few spans", False, 200, None, rb'"notes":"spans_limit"'),
+    ("of few cells", True, None, 300, rb'"notes":"cells_limit"'),
 ]
-"""Whether the city's plans are in a file, the most spans of an operator, and what refuses some of its flights."""
+"""Whether the city's plans are in a file, the most spans and cells of an operator, and what refuses some of its
+flights."""
 
 
 @pytest.mark.slow
-@pytest.mark.parametrize("in_file, spans, refusal", named(CITIES))
+@pytest.mark.parametrize("in_file, spans, cells, refusal", named(CITIES))
 def test_city(
     in_file: bool,
     spans: int | None,
+    cells: int | None,
     refusal: bytes,
     pytestconfig: pytest.Config,
     record_property: Callable[[str, object], None],
@@ -122,7 +125,7 @@ def test_city(
     chance = random.Random(f"city {pytestconfig.getoption('--seed')}")
     everybody = operators(chance, NAMES, crowds.FIRST)
     asked = tuple(chance.choice(everybody).request() for _ in range(FLOWN))
-    start = Start(MOMENT, (), spans, tuple((name, 100) for name in NAMES), asked)
+    start = Start(MOMENT, (), spans, cells, tuple((name, 100) for name in NAMES), asked)
     record_property("answers alike", alike(History((start,), in_file)))
     told = run(*start.words(""), given=b"".join(asked)).output
     assert len(re.findall(rb'"planning_result":"Completed"', told)) >= FLOWN // 15

@@ -60,7 +60,7 @@ ON_THE_MACHINE = {
         "Several desks": 1,
     },
     "proxy.md": {"Limits": 1, "TLS": 1, "Other users of the machine": 1},
-    "sizing.md": {"The limit on spans": 1},
+    "sizing.md": {"The limit on spans": 1, "The limit on cells": 1},
     "standby.md": {"Set up": 2, "Take over": 1, "Follow again": 1},
     "troubleshooting.md": {"Troubleshooting": 1},
     "upgrade.md": {"Rehearse the upgrade": 3, "Upgrade the package": 1, "Go back": 1, "A database of schema 1": 1},

@@ -5,20 +5,21 @@ from __future__ import annotations
 import http.client
 import pathlib
 import re
+from collections.abc import Iterator
 
 import crowds
 
 import pytest
 from harness.places import DEPLOY
-from harness.requests import show, status
+from harness.requests import delete, plan_id, show, status
 from harness.rows import Rows
 from harness.serving import Served
 from keeping.given import TOMORROW
 
 pytestmark = pytest.mark.alone
 
-SOME, ALL, SPANS = 4, 40, 25_000
-"""So many of the operators for which the unit's memory is reckoned, and the spans that each may have."""
+SOME, ALL, SPANS, CELLS = 4, 40, 25_000, 100_000
+"""So many of the operators for which the unit's memory is reckoned, and the spans and cells that each may have."""
 NAMES = [f"op{number}" for number in range(SOME)]
 
 
@@ -36,9 +37,17 @@ def answered(port: int, operator: str, asked: bytes) -> int | str:
         link.close()
 
 
+def closed_ones(operator: str, plan: bytes) -> Iterator[bytes]:
+    """PUTs and DELETEs by which an operator has closed plans, of the cells of this one, which is put later: as many as
+    fit beside it."""
+    for number in range(100, 100 + CELLS // (crowds.VOLUMES * 1024) - 1):
+        yield plan.replace(plan.split()[1], f"/flight_plans/{plan_id(number)}".encode(), 1)
+        yield delete(operator, plan_id(number))
+
+
 @pytest.mark.proved
 def test_within_memory(rows: Rows, room: pathlib.Path) -> None:
-    """Plans are put, and the desk is killed, started again, and put to again."""
+    """Plans are put, also ones that are closed, and the desk is killed, started again, and put to again."""
     limit = re.search(r"MemoryMax=(\d+)G", (DEPLOY / "uss_desk.service").read_text())
     assert limit
     most = int(limit[1]) * 2**30 * SOME // ALL
@@ -47,11 +56,15 @@ def test_within_memory(rows: Rows, room: pathlib.Path) -> None:
     for life in range(3):
         operators = [] if life else [f"{name}=100" for name in NAMES]
         under = ["prlimit", f"--as={most}"]
-        with Served("--db", str(room / "full.db"), *operators, connections=99, under=under) as desk:
+        words = ["--db", str(room / "full.db"), "--spans", str(SPANS), "--cells", str(CELLS)]
+        with Served(*words, *operators, connections=99, under=under) as desk:
             told = [answered(desk.port, name, status(name)) for name in NAMES]
             rows.equal(f"life {life} within {most >> 20} MB", [200] * SOME, told)
             told = [answered(desk.port, name, asked) for name, asked in zip(NAMES, shows)]
             rows.equal(f"plans in life {life}", [200 if life else 404] * SOME, told)
+            for name, plan in () if life else zip(NAMES, plans):
+                told = [answered(desk.port, name, asked) for asked in closed_ones(name, plan)]
+                rows.equal(f"closed plans of {name}", [200] * 4, told)
             again = plans[: 1 if life else SOME]
             told = [answered(desk.port, name, asked) for name, asked in zip(NAMES, again)]
             rows.equal(f"PUTs in life {life}", [200] * len(again), told)

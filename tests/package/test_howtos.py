@@ -236,7 +236,8 @@ def options(rows: Rows, machine: Machine) -> None:
     run(machine, *commands("operate.md", "Equal priorities"))
     rows.equal("started again", True, listens(machine))
     told = machine.sh("tr '\\0' ' ' < /proc/$(systemctl show --property=MainPID --value uss_desk)/cmdline")
-    rows.has("the desk's options", "--equal 10,20 --spans 25000 --operators /etc/uss_desk/operators --record /", told)
+    wanted = "--equal 10,20 --spans 25000 --cells 100000 --operators /etc/uss_desk/operators --record /"
+    rows.has("the desk's options", wanted, told)
     rows.has("a restart", "listening 127.0.0.1:8080", run(machine, *commands("operate.md", "Start and stop")))
     rows.equal("started once more", True, listens(machine))
     run(machine, *commands("operate.md", "Several desks"))
@@ -276,8 +277,10 @@ def watch(rows: Rows, machine: Machine) -> None:
 
 
 def spans_and_damage(rows: Rows, machine: Machine) -> None:
-    """Whose spans there are; what the desk printed last; copies of a file that is damaged."""
-    rows.has("whose spans", "\nalfa|4\n", f"\n{run(machine, *commands('sizing.md', 'The limit on spans'))}")
+    """Whose spans and cells there are; what the desk printed last; copies of a file that is damaged."""
+    for what in ("spans", "cells"):
+        told = run(machine, *commands("sizing.md", f"The limit on {what}"))
+        rows.has(f"whose {what}", "\nalfa|4\n", f"\n{told}")
     told = run(machine, *commands("troubleshooting.md", "Troubleshooting"))
     rows.has("what the desk printed last", "listening 127.0.0.1:8080", told)
     first = commands("how-files-get-damaged.md", "What to do when a file is damaged")[0]

@@ -205,19 +205,20 @@ def test_alerts_of_the_page() -> None:
     assert re.findall(r"^\| `(Desk\w+)` \|", page("monitoring.md"), re.MULTILINE) == named
 
 
-# What the copy below holds at half past twelve: alfa's plan is in the air, bravo's two cells begin later, and a plan is
-# closed.
+# What the copy below holds at half past twelve: alfa's plan is in the air, bravo's two cells begin later, and a plan of
+# two cells is closed.
 COPY = """\
 uss_desk_copy_intact 1
 uss_desk_operators 2
 uss_desk_plans 3
 uss_desk_plans_live 2
 uss_desk_spans 3
+uss_desk_most_cells 3
 uss_desk_plans_in_air 1
 uss_desk_most_spans{operator="bravo"} 2
 """
 # operator, plan, the minutes after twelve at which it begins, its cells
-PLANS = [("alfa", 1, 0, ["04"]), ("bravo", 1, 40, ["34", "9"]), ("alfa", 2, 50, ["b"])]
+PLANS = [("alfa", 1, 0, ["04"]), ("bravo", 1, 40, ["34", "9"]), ("alfa", 2, 50, ["7", "b"])]
 
 
 def identity(number: int) -> str:

@@ -27,10 +27,14 @@ def entry(word: str, number: int, data: bytes = b"") -> bytes:
 
 
 def beginning(
-    number: int, operators: Sequence[tuple[str, int]] = (), permitted: Sequence[int] = (), spans: int | None = None
+    number: int,
+    operators: Sequence[tuple[str, int]] = (),
+    permitted: Sequence[int] = (),
+    spans: int | None = None,
+    cells: int | None = None,
 ) -> list[bytes]:
     """The entries with which a record begins."""
-    limits = [] if spans is None else [entry("spans", spans)]
+    limits = [entry(word, most) for word, most in (("spans", spans), ("cells", cells)) if most is not None]
     return [
         entry("record", number, b"1"),
         *(entry("permitted", priority) for priority in permitted),

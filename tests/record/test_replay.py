@@ -189,17 +189,22 @@ def test_request_asked_again(heard: list[Heard], rows: Rows) -> None:
     )
 
 
-def test_terms(room: pathlib.Path, rows: Rows) -> None:
-    """Priorities that are permitted and the most spans are those of each record."""
-    file, equal, limit = room / "terms.db", ("--equal", "10,20"), ("--spans", "1")
+@pytest.mark.parametrize("limit", ["spans", "cells"])
+def test_terms(limit: str, room: pathlib.Path, rows: Rows) -> None:
+    """Priorities that are permitted and the most spans or cells are those of each record."""
+    file, words = room / "terms.db", ("--equal", "10,20", f"--{limit}", "1")
     both = [put("alfa", plan_id(1), AREA), put("bravo", plan_id(2), AREA), put("bravo", plan_id(3), OTHER)]
-    one = asked(file, MOMENT, both, *equal, *limit, *WORDS)
+    one = asked(file, MOMENT, both, *words, *WORDS)
+    assert f'"notes":"{limit}_limit"'.encode() in one[2].answer
     two = asked(file, MOMENT, [put("alfa", plan_id(4), AREA)])
-    entries = [*beginning(1, OPERATORS, (10, 20), 1), *exchanges(one), *beginning(2), *exchanges(two)]
+    begun = beginning(1, OPERATORS, (10, 20), **{limit: 1})
+    entries = [*begun, *exchanges(one), *beginning(2), *exchanges(two)]
     rows.equal("as they were", alike(4, 2), replayed(entries))
     bare = [*beginning(1, OPERATORS), *exchanges(one)]
     rows.equal("without them", stopped(bare[:6], 2, OTHER_ANSWER, "differs"), replayed(bare))
-    kept = [*beginning(1, OPERATORS, (10, 20), 1), *exchanges(one), *exchanges(two)]
+    unlimited = [*beginning(1, OPERATORS, (10, 20)), *exchanges(one)]
+    rows.equal("without the limit", stopped(unlimited[:-1], 3, OTHER_ANSWER, "differs"), replayed(unlimited))
+    kept = [*begun, *exchanges(one), *exchanges(two)]
     rows.equal("of the record before", stopped(kept[:-1], 4, OTHER_ANSWER, "differs"), replayed(kept))
 
 
@@ -266,6 +271,9 @@ MISPLACED = [
     ("priorities that descend", [*BEGUN, entry("permitted", 10)], entry("permitted", 9)),
     ("no spans", BEGUN, entry("spans", 0)),
     ("too many spans", BEGUN, entry("spans", 5000001)),
+    ("no cells", BEGUN, entry("cells", 0)),
+    ("too many cells", BEGUN, entry("cells", 5000001)),
+    ("cells with bytes", BEGUN, entry("cells", 1, b"1")),
     ("an operator's name in upper case", BEGUN, entry("operator", 1, b"Alfa")),
     ("an operator without a name", BEGUN, entry("operator", 1)),
     ("a ceiling too great", BEGUN, entry("operator", 1001, b"alfa")),

@@ -190,14 +190,14 @@ def test_what_else_is_there(room: pathlib.Path, rows: Rows, left: Left) -> None:
 def test_request_left(room: pathlib.Path, rows: Rows, left: Left) -> None:
     """A request without an answer is asked again on the terms of its record, in one of its own, before the next."""
     asked = entry("request", int(time.time()), planned(2))
-    terms = beginning(1, OPERATORS, [10, 20], 5)
+    terms = beginning(1, OPERATORS, [10, 20], 5, 7)
     record = lay_out(room, left.before, left.name, b"".join([*terms, asked]))
     with Served(*words_of(room), connections=1) as desk:
         rows.equal("it is planned", True, plan_id(2).encode() in desk.ask(list_plans("alfa")))
         desk.end()
     again = recorded(record.parent)[1].read_bytes()
     told = entry("answer", int(asked[10:30]), PLANNED)
-    rows.equal("its record", b"".join([*beginning(2, OPERATORS, [10, 20], 5), asked, told]), again)
+    rows.equal("its record", b"".join([*beginning(2, OPERATORS, [10, 20], 5, 7), asked, told]), again)
     begun, next_one = b"".join(beginning(3, OPERATORS)), recorded(record.parent)[2].read_bytes()
     rows.equal("the next begins", begun, next_one[: len(begun)])
 

@@ -55,6 +55,17 @@ PLAN = [
     f"INSERT INTO span2 VALUES ('alfa', '{ID}', 0, 0, {2**60 - 1}, 0, 1000, {WHEN}, 10)",
 ]
 CLOSED = PLAN + ["UPDATE plan SET usage = 2", "DELETE FROM span2"]
+# a closed plan more: face 0, the cell 04 and face 0 again; and a rectangle of three squares of level 24 along i = 0,
+# which have the numbers 0, 3 and 4 on the curve
+COPIES = "x'01100000000000000004000000000000001000000000000000'"
+SQUARES = "x'0200000000000000000000000000000000bf18'"
+SQUARES_COVER = "x'000000000000100000000000000070000000000000009000'"
+COPIED = PLAN + [
+    "INSERT INTO operator VALUES ('bravo', 100)",
+    f"INSERT INTO plan VALUES ('bravo', '{ID}', 10, 2, 0)",
+    f"INSERT INTO volume2 VALUES ('bravo', '{ID}', 0, 0, 1000, {WHEN}, {COPIES}, {COVER})",
+    f"INSERT INTO volume2 VALUES ('bravo', '{ID}', 1, 0, 1000, {WHEN}, {SQUARES}, {SQUARES_COVER})",
+]
 # a rectangle along i = 0 of face 0 in squares of level 24, up to the leaf j_max
 ROW = (
     "INSERT INTO volume VALUES ('bravo', '{}', {}, 2000, 3000, " + WHEN + ", x'0200000000000000000000000000{:08x}18')"

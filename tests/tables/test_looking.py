@@ -27,17 +27,20 @@ from tables.judging import (
     moved,
     told,
 )
-from tables.statements import CLOSED, PLAN, many, shared
+from tables.statements import CLOSED, COPIED, PLAN, many, shared, wide
 
-# name, the statements of a file, and how many operators, plans, live plans and spans it has, and spans of the operator
-# that has most
-FILES: list[tuple[str, list[str], tuple[int, int, int, int, int]]] = [
-    ("one_plan", PLAN, (1, 1, 1, 1, 1)),
-    ("closed_plan", CLOSED, (1, 1, 0, 0, 0)),
-    ("no_plan", [], (0, 0, 0, 0, 0)),
-    ("many_plans", many(200), (1, 200, 0, 0, 0)),
-    ("most_in_the_midst", shared(1, 3, 2), (3, 6, 6, 6, 3)),
-    ("most_at_the_end", shared(2, 0, 3), (3, 5, 5, 5, 3)),
+Counts = tuple[int, int, int, int, int, int]
+# name, the statements of a file, and how many operators, plans, live plans and spans it has, spans of the operator that
+# has most, and cells of the one that has most of those: as they are listed, or of a rectangle's cover
+FILES: list[tuple[str, list[str], Counts]] = [
+    ("one_plan", PLAN, (1, 1, 1, 1, 1, 1)),
+    ("closed_plan", CLOSED, (1, 1, 0, 0, 0, 1)),
+    ("no_plan", [], (0, 0, 0, 0, 0, 0)),
+    ("many_plans", many(200), (1, 200, 0, 0, 0, 200)),
+    ("many_volumes", wide(32), (1, 1, 0, 0, 0, 32)),
+    ("most_in_the_midst", shared(1, 3, 2), (3, 6, 6, 6, 3, 3)),
+    ("most_at_the_end", shared(2, 0, 3), (3, 5, 5, 5, 3, 3)),
+    ("most_cells_of_another", COPIED, (2, 2, 1, 1, 1, 6)),
 ]
 # name, a new name that is none, within the folder if it has a slash, the name that is told, and the cause
 NO_NAMES = [
@@ -63,19 +66,19 @@ def one_plan(room: pathlib.Path) -> str:
 
 @pytest.mark.quick_each(3)
 @pytest.mark.parametrize("statements, counts", named(FILES))
-def test_check(statements: list[str], counts: tuple[int, int, int, int, int], room: pathlib.Path) -> None:
+def test_check(statements: list[str], counts: Counts, room: pathlib.Path) -> None:
     """What `check` counts in a file."""
     path = made_file(str(room / "desk.db"), statements)
-    operators, plans, live, spans, most = counts
+    operators, plans, live, spans, most, cells = counts
     size = os.path.getsize(path) // 100_000
     line = f"schema 2, sums no, {operators} operators, {plans} plans, {live} live, {spans} spans"
     line += f", {size // 10}.{size % 10} MB, 0.0 MB in the log, at most {most} spans of one operator"
-    assert_looked(path, line)
+    assert_looked(path, f"{line}, at most {cells} cells of one operator")
 
 
 @pytest.mark.quick_each(6)
 @pytest.mark.parametrize("statements, counts", named(FILES))
-def test_copy(statements: list[str], counts: tuple[int, int, int, int, int], room: pathlib.Path) -> None:
+def test_copy(statements: list[str], counts: Counts, room: pathlib.Path) -> None:
     """What `copy` counts in a file, and copies."""
     path = made_file(str(room / "desk.db"), statements)
     assert_copied(path, f"copied {counts[0]} operators, {counts[1]} plans")
@@ -87,7 +90,7 @@ def test_copy_with_its_log(room: pathlib.Path) -> None:
     look = looked(path)
     assert look.status == 0
     assert look.output.startswith(b"schema 2, sums no, 1 operators, 1 plans, 1 live, 1 spans")
-    assert look.output.endswith(b", at most 1 spans of one operator\n")
+    assert look.output.endswith(b", at most 1 spans of one operator, at most 1 cells of one operator\n")
     assert copied(path, path + ".copy") == (0, b"copied 1 operators, 1 plans\n", "")
     rows = rows_of(path)
     assert len(rows[1]) == 1
@@ -95,10 +98,10 @@ def test_copy_with_its_log(room: pathlib.Path) -> None:
 
 
 def test_check_of_schema_1(room: pathlib.Path) -> None:
-    """What `check` counts in a file of schema 1."""
+    """What `check` counts in a file of schema 1: the cells are alfa's, four of its closed plan."""
     path = old_file(str(room / "old.db"), [])
     line = "schema 1, sums no, 2 operators, 3 plans, 2 live, 2 spans, 0.0 MB, 0.0 MB in the log"
-    assert_looked(path, f"{line}, at most 1 spans of one operator")
+    assert_looked(path, f"{line}, at most 1 spans of one operator, at most 5 cells of one operator")
 
 
 def test_copy_of_schema_1(room: pathlib.Path) -> None:

@@ -30,6 +30,7 @@ class Start(NamedTuple):
     moment: int
     equal: Tuple[int, ...]
     spans: Optional[int]
+    cells: Optional[int]
     enrolled: Tuple[Tuple[str, int], ...]
     requests: Tuple[bytes, ...]
 
@@ -38,6 +39,7 @@ class Start(NamedTuple):
         file = ["--db", path] if path else []
         equal = ["--equal", ",".join(map(str, self.equal))] if self.equal else []
         spans = ["--spans", str(self.spans)] if self.spans else []
+        cells = ["--cells", str(self.cells)] if self.cells else []
         return [
             "play",
             "--at",
@@ -45,6 +47,7 @@ class Start(NamedTuple):
             *file,
             *equal,
             *spans,
+            *cells,
             "--",
             *(f"{name}={most}" for name, most in self.enrolled),
         ]
@@ -99,7 +102,8 @@ def make_history(seed: int, number: int) -> History:
             scene, asked, [] if at else edges, hostile if kind == "heads" or dice.random() < 0.2 else None
         )
         spans = dice.choice([None, None, None, 1, 2, 3, 5, 20, 300, 5_000_000])
-        starts.append(Start(scene.moment, equal, spans, enrolment(dice, names), given))
+        cells = dice.choice([None, None, None, 1, 2, 5, 10, 30, 100, 1000, 5_000_000])
+        starts.append(Start(scene.moment, equal, spans, cells, enrolment(dice, names), given))
     return History(tuple(starts), kind == "file")
 
 
@@ -129,10 +133,9 @@ def full_history(scene: Scene) -> History:
     scene.ids = [f"{number:032x}" for number in (0, 1, 198, 199, 200, 201)]
     found += [heads.plain(scene) for _ in range(12)]
     found += [small_put(it, number, dice) for it in (other, name) for number in (0, 1, 204, 205)]
-    return History(
-        (Start(scene.moment, (), dice.choice([None, 199, 200]), ((name, 1000), (other, 1000)), tuple(found)),),
-        dice.random() < 0.5,
-    )
+    spans, cells = (dice.choice([None, None, 199, 200]) for _ in range(2))
+    start = Start(scene.moment, (), spans, cells, ((name, 1000), (other, 1000)), tuple(found))
+    return History((start,), dice.random() < 0.5)
 
 
 def small_put(name: str, number: int, dice: Random) -> bytes:
@@ -160,7 +163,7 @@ def at_mock(history: History, path: str) -> Iterator[Ran]:
         store = Store(path or ":memory:")
         for name, ceiling in start.enrolled:
             store.enrol(name, ceiling)
-        desk = Desk(store, start.equal, lambda: start.moment, start.spans)
+        desk = Desk(store, start.equal, lambda: start.moment, start.spans, start.cells)
         told = list(play(desk, b"".join(start.requests)))
         store.close()
         word = told[-1][1] if told else ""

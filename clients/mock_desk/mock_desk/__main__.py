@@ -76,6 +76,9 @@ def read_line(words: Sequence[str]) -> argparse.Namespace:
     line.add_argument(
         "--spans", type=number_within(1, 5_000_000), metavar="N", help="the most spans of an operator's live plans"
     )
+    line.add_argument(
+        "--cells", type=number_within(1, 5_000_000), metavar="N", help="the most cells of an operator's plans"
+    )
     line.add_argument("operators", nargs="*", metavar="NAME=CEILING", help="operators to enrol first")
     end = words.index("--") if "--" in words else len(words)
     found = line.parse_intermixed_args(words[:end])
@@ -193,9 +196,9 @@ def main(words: Sequence[str]) -> int:
         equal = read_equal(line.equal)
         store = open_store(line.db, [read_operator(it) for it in line.operators])
         if line.at is not None:
-            play_input(Desk(store, equal, lambda: int(line.at), line.spans))
+            play_input(Desk(store, equal, lambda: int(line.at), line.spans, line.cells))
         else:
-            desk = Desk(store, equal, lambda: int(time.time()), line.spans)
+            desk = Desk(store, equal, lambda: int(time.time()), line.spans, line.cells)
             serve(desk, line.port, line.requests, Troubles(line.fault))
     except Failed as failed:
         print(f"uss_desk: {failed.word}", file=sys.stderr)

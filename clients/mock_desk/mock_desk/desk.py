@@ -101,13 +101,19 @@ def first_conflict(
 
 
 class Desk:
-    """A store of operators and plans, the permitted equal priorities, the most spans of an operator's live plans (None:
-    any number), and the moment of a request."""
+    """A store of operators and plans, the permitted equal priorities, the most spans of an operator's live plans and
+    the most cells of all its plans (None: any number), and the moment of a request."""
 
     def __init__(
-        self, store: Store, equal: Tuple[int, ...], clock: Callable[[], int], spans: Optional[int] = None
+        self,
+        store: Store,
+        equal: Tuple[int, ...],
+        clock: Callable[[], int],
+        spans: Optional[int] = None,
+        most_cells: Optional[int] = None,
     ) -> None:
-        self.store, self.equal, self.clock, self.spans = store, equal, clock, spans
+        self.store, self.equal, self.clock = store, equal, clock
+        self.spans, self.most_cells = spans, most_cells
 
     def answer(self, request: Request) -> bytes:
         """The whole answer to a request, whose change is made."""
@@ -212,20 +218,29 @@ class Desk:
         plans = self.store.plans[operator]
         if step != "CLOSE" and plan_id not in plans and len(plans) >= PLANS_MOST:
             return "plans_limit"
-        if step != "CLOSE" and self.is_over(operator, plan_id, asked.area):
-            return "spans_limit"
-        return ""
+        return "" if step == "CLOSE" else self.excess(operator, plan_id, asked.area)
 
-    def is_over(self, operator: str, plan_id: str, area: Tuple[Volume, ...]) -> bool:
-        """Whether the operator's other live plans and a plan of an area would take too many spans."""
-        plans = self.store.plans[operator]
-        others = (plan.area for it, plan in plans.items() if it != plan_id and plan.usage != "Closed")
-        return self.spans is not None and sum(map(span_count, [area, *others])) > self.spans
+    def excess(self, operator: str, plan_id: str, area: Tuple[Volume, ...]) -> str:
+        """The note of the limit that the operator's other plans and a plan of an area would exceed; empty if there is
+        none. Closed plans take no spans, and keep their cells."""
+        others = [plan for it, plan in self.store.plans[operator].items() if it != plan_id]
+        live = [plan.area for plan in others if plan.usage != "Closed"]
+        if self.spans is not None and sum(map(span_count, [area, *live])) > self.spans:
+            return "spans_limit"
+        kept = [plan.area for plan in others]
+        if self.most_cells is not None and sum(map(cell_count, [area, *kept])) > self.most_cells:
+            return "cells_limit"
+        return ""
 
 
 def span_count(area: Tuple[Volume, ...]) -> int:
     """How many spans a plan of an area takes: one for each range of each of its volumes."""
     return sum(len(volume.ranges) for volume in area)
+
+
+def cell_count(area: Tuple[Volume, ...]) -> int:
+    """How many cells a plan of an area has: of each of its volumes those that are listed, or a rectangle's cover."""
+    return sum(cells.cover_size(it.asked) if isinstance(it.asked, cells.Rectangle) else len(it.asked) for it in area)
 
 
 def decision(status: str, note: str, result: str) -> Dict[str, Any]:

@@ -18,13 +18,14 @@ def desk(
     moment: int = MOMENT,
     path: str = ":memory:",
     spans: Optional[int] = None,
+    most_cells: Optional[int] = None,
     **ceilings: int,
 ) -> Desk:
     """A desk of operators with their ceilings; of alfa and bravo with 100 if none is named."""
     store = Store(path)
     for name, ceiling in (ceilings or {"alfa": 100, "bravo": 100}).items():
         store.enrol(name, ceiling)
-    return Desk(store, equal, lambda: moment, spans)
+    return Desk(store, equal, lambda: moment, spans, most_cells)
 
 
 def request(method: str, path: str, operator: str = "alfa", body: Optional[Any] = None) -> bytes:

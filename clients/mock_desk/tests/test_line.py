@@ -57,6 +57,9 @@ def test_values(words: list[str]) -> None:
         ["--port", "0"],
         ["--port", "1", "--requests", "0"],
         ["--at", "x"],
+        ["--at", "0", "--cells", "0"],
+        ["--at", "0", "--cells", "5000001"],
+        ["--at", "0", "--cells", "x"],
     ],
 )
 def test_lines_that_are_none(words: list[str]) -> None:

@@ -163,6 +163,37 @@ def test_spans() -> None:
     assert put(at, "alfa", OTHER, volume(["04", "0c", "1c"]))[2] == ""
 
 
+def test_cells() -> None:
+    # copies count, and cells in one another; a rectangle of three squares in a row is three cells
+    at = desk(most_cells=3)
+    row = volume(None, rectangle={"face": 5, "i_min": 0, "i_max": 0, "j_min": 0, "j_max": 191, "level": 24})
+    assert put(at, "alfa", ID, volume(["04", "04", "0c", "1"])) == ("Rejected", "NotPlanned", "cells_limit")
+    assert put(at, "alfa", ID, volume(["04"]), volume(["0c"]))[2] == ""
+    assert put(at, "alfa", ID, volume(["04", "0c", "04"]))[2] == ""
+    assert put(at, "alfa", ID, volume(["04", "04"]), usage="InUse")[2] == ""
+    assert put(at, "alfa", OTHER, volume(["3", "5"]), style="Hypothetical")[2] == "cells_limit"
+    assert put(at, "alfa", OTHER, volume(["04", "3"]))[2] == "cells_limit"
+    assert put(at, "bravo", OTHER, row)[2] == ""
+    assert put(at, "bravo", ID, volume(["9"]))[2] == "cells_limit"
+    more = volume(["04", "0c", "3", "5"])
+    assert put(at, "alfa", ID, more, usage="InUse", aircraft="OffNominal")[2] == "cells_limit"
+    ask(at, "DELETE", f"/flight_plans/{ID}")
+    assert put(at, "alfa", ID, usage="Closed")[2] == ""
+    assert put(at, "alfa", OTHER, volume(["3", "5"]))[2] == "cells_limit"
+    assert put(at, "alfa", OTHER, volume(["3"]))[2] == ""
+    ask(at, "POST", "/clear_area_requests", "alfa", {"extent": volume(["1"])})
+    assert put(at, "alfa", OTHER, volume(["3", "3", "5"]))[2] == ""
+
+
+def test_spans_before_cells() -> None:
+    at = desk(spans=1, most_cells=1)
+    assert put(at, "alfa", ID, volume(["04", "14"]))[2] == "spans_limit"
+    assert put(at, "alfa", ID, volume(["04", "04"]))[2] == "cells_limit"
+    assert put(at, "alfa", ID)[2] == ""
+    assert put(at, "bravo", ID, volume(["04", "04"]))[2] == "cells_limit"
+    assert put(at, "bravo", ID)[2] == "conflict"
+
+
 def test_permitted_priorities() -> None:
     at = desk(equal=(10,))
     put(at, "alfa", ID)

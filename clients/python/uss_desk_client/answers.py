@@ -25,6 +25,8 @@ ADVICE = {
     "plans_limit": "the operator has 200 plans, closed ones too: clear those whose time is over",
     "spans_limit": "the operator's live plans would take more spans than the administrator allows: close or clear"
     " plans, or ask for fewer cells",
+    "cells_limit": "the operator's plans, closed ones too, would have more cells than the administrator allows: clear"
+    " those whose time is over, or ask for fewer cells",
     "conflict": "a point of the flight is blocked: avoid it (uss-plan why draws where), take another time (uss-plan"
     " when finds one), or use a higher priority",
 }

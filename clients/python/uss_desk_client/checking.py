@@ -3,7 +3,7 @@
 `check` and `check_clear` ask nobody. Of a body alone they tell the refusals `too_large`, `bad_json`, `bad_member`,
 `bad_volume` and `too_many_cells`; told a moment, a ceiling and what is stored, also the notes `style`, `state`,
 `closed`, `not_planned`, `ended`, `horizon` and `priority`. What only the desk knows, they can't: `plans_limit`,
-`spans_limit`, `conflict` and whether the operator is enrolled.
+`spans_limit`, `cells_limit`, `conflict` and whether the operator is enrolled.
 """
 from __future__ import annotations
 
