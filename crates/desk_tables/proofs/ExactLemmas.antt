@@ -36,7 +36,7 @@ with5 P f r h = absurd (omega (arith, h))
 
 module _ (p : Filed) (operator id : List ℕ) (by : operator ≡ p.operator) (of : id ≡ id_text p.row.id)
   where
-    plan_row_is : (r : Row) → IsKeyed operator id 5 r → AreNumbersOf r p.row → r ≡ row_of_plan p
+    pub plan_row_is : (r : Row) → IsKeyed operator id 5 r → AreNumbersOf r p.row → r ≡ row_of_plan p
     plan_row_is r key n =
         with5 (λ r. IsKeyed operator id 5 r → AreNumbersOf r p.row → r ≡ row_of_plan p)
         (λ x0 x1 x2 x3 x4 key n i. (key.name ∙ ap Text by) i ∷ (key.text ∙ ap Text of) i ∷ n.priority i

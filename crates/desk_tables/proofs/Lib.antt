@@ -30,6 +30,7 @@ pub mod KeyOrderLemmas
 pub mod AssemblyLemmas
 pub mod OpeningLemmas
 pub mod HeadLemmas
+pub mod NamingLemmas
 pub mod UnreadLemmas
 pub mod ExactLemmas
 pub mod CoverLemmas

@@ -2,13 +2,17 @@
 //! found afterwards, by the tests that refuse a database, in their order. Nothing is changed, and no clause
 //! says which part is named.
 
-ghost use Rattle.std.specs.Prelude.{◌≡◌, ◌≢◌, true, false, IfErr, IfOk};
+ghost use Rattle.std.specs.Prelude.{◌≡◌, ◌≢◌, ◌⊎◌, List, true, false, IfErr, IfOk, IfSome, OnOk};
+ghost use Rattle.sqlite_value.specs.Order.{Row as Values};
 ghost use Rattle.sqlite_wal.specs.Files.{image_at};
 ghost use Rattle.sqlite.specs.Files.{over_files};
 ghost use Rattle.sqlite.specs.Held.{IsNew};
 ghost use Rattle.desk_sql.specs.Frames.{OnlyReads};
 ghost use Rattle.desk_tables.specs.Files.{IsUnreached};
-ghost use Rattle.desk_tables.specs.Naming.{OnlyReadsIn};
+ghost use Rattle.desk_tables.specs.Naming as spec;
+ghost use Rattle.desk_tables.specs.Naming.{AreGoodHeads, ArePlanHeads, FailsHeads, FailsOldSpans, FailsSpans};
+ghost use Rattle.desk_tables.specs.Naming.{IsPlanHead, OnlyReadsIn};
+ghost use Rattle.desk_tables.specs.SpansHeld.{AreHeld};
 ghost use Rattle.desk_tables.specs.OpeningSteps.{ShowsOperators, ShowsPart};
 
 use crate::opening::connecting::connect_there;
@@ -28,6 +32,7 @@ use sqlite::{Connection, FileFrom, FileStore, Row, Start};
 use sqlite_disk::Disk;
 use sqlite_trees::store::Alter;
 use std::alloc::Global;
+use volume4d::laws::one_shape;
 
 /// A part of a database that is that of no desk.
 #[derive(Clone, Copy, Debug, PartialEq, Eq)]
@@ -192,7 +197,10 @@ fn old_part<S: Alter>(
 }
 
 // The spans, which were held against the plans, or the covers, of which it is known whether they agree.
-fn fault_of_spans(mut check: SpanCheck, covered: bool) -> Option<PartFault> {
+fn fault_of_spans(mut check: SpanCheck, covered: bool) -> Option<PartFault>
+    ensures { (rows : List Values) → AreHeld check rows
+        → IfSome result (FailsSpans check.plans.items rows covered) }
+{
     match check.agrees() {
         Ok(true) => {}
         Ok(false) => return Some(PartFault::Span),
@@ -206,7 +214,10 @@ fn fault_of_spans(mut check: SpanCheck, covered: bool) -> Option<PartFault> {
 }
 
 // The spans of schema 1, which were held against the plans, or the limits of these.
-fn fault_of_old_spans(mut check: SpanCheck) -> Option<PartFault> {
+fn fault_of_old_spans(mut check: SpanCheck) -> Option<PartFault>
+    ensures { (rows : List Values) → AreHeld check rows
+        → IfSome result (FailsOldSpans check.plans.items rows) }
+{
     match check.agrees() {
         Ok(true) => {}
         Ok(false) => return Some(PartFault::OldSpan),
@@ -223,7 +234,11 @@ fn plans_of(
     alloc: Global,
     rows: &TableRows,
     volume: PartFault,
-) -> Result<Vec<FiledPlan>, Option<PartFault>> {
+) -> Result<Vec<FiledPlan>, Option<PartFault>>
+    ensures ok { IfOk result (λ plans. AreGoodHeads rows.now plans.items) }
+    ensures fault { IfErr result (λ named. IfSome named (FailsHeads rows.now volume)) }
+{
+    one_shape();
     let operators = match operators_in(alloc, &rows.operators) {
         Ok(operators) => operators,
         Err(fault) => return Err(if_no_desk(fault, PartFault::Operator)),
@@ -245,7 +260,9 @@ fn plans_of(
 }
 
 // The part whose rows were not read, if they are no desk's.
-fn if_no_desk(fault: RowFault, part: PartFault) -> Option<PartFault> {
+fn if_no_desk(fault: RowFault, part: PartFault) -> Option<PartFault>
+    ensures { result ≡ spec.if_no_desk fault part }
+{
     match fault {
         RowFault::NoDesk => Some(part),
         RowFault::OutOfMemory => None,
@@ -253,7 +270,9 @@ fn if_no_desk(fault: RowFault, part: PartFault) -> Option<PartFault> {
 }
 
 // The plans, if one of these rows of `plan` is none; else the volumes.
-fn plan_or(volume: PartFault, heads: &[Row]) -> PartFault {
+fn plan_or(volume: PartFault, heads: &[Row]) -> PartFault
+    ensures { (result ≡ volume) ⊎ ((result ≡ PartFault.Plan) × (¬ ArePlanHeads heads.now)) }
+{
     match test_heads(heads) {
         Err(RowFault::NoDesk) => PartFault::Plan,
         _ => volume,
@@ -261,15 +280,23 @@ fn plan_or(volume: PartFault, heads: &[Row]) -> PartFault {
 }
 
 // Whether each of these rows is one of `plan`, whatever its volumes are.
-fn test_heads(heads: &[Row]) -> Result<(), RowFault> {
-    for head in heads {
+fn test_heads(heads: &[Row]) -> Result<(), RowFault>
+    ensures are { OnOk result (ArePlanHeads heads.now) }
+    ensures none { IfErr result (λ e. e ≡ RowFault.NoDesk → ¬ ArePlanHeads heads.now) }
+{
+    let mut left = heads;
+    'head: while let Some((head, later)) = left.split_first() {
         test_head(head)?;
+        left = later;
     }
     Ok(())
 }
 
 // Whether a row is one of `plan`, whatever its volumes are.
-fn test_head(head: &Row) -> Result<(), RowFault> {
+fn test_head(head: &Row) -> Result<(), RowFault>
+    ensures is { OnOk result (IsPlanHead head.now) }
+    ensures none { IfErr result (λ e. e ≡ RowFault.NoDesk → ¬ IsPlanHead head.now) }
+{
     let Some(operator) = operator_in(head) else {
         return Err(RowFault::NoDesk);
     };
