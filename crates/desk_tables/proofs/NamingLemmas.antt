@@ -53,8 +53,11 @@ module _ (head : Row) (operator name id text : List ℕ) (same : name ≡ operat
 pub unsorted_operators : (t : Tables) (other : PartFault) (rows : List Row) → rows ≡ t.operators
     → (ls : List Listed) → AreOperatorRows ls rows → (IsStrictlySortedBy listed_cmp ls → ⊥)
     → FailsHeads t other Operator
-unsorted_operators t other rows same ls are off = inl (refl, λ ks sorted more.
-    off (subst (IsStrictlySortedBy listed_cmp) (one_operators ks ls (sym more.are ∙ sym same ∙ are.are)) sorted))
+unsorted_operators t other rows same ls are off = inl (
+  refl,
+  λ ks sorted more.
+      off (subst (IsStrictlySortedBy listed_cmp) (one_operators ks ls (sym more.are ∙ sym same ∙ are.are)) sorted),
+)
 
 pub unsorted_plans : ((one other : Shape) → HasValidParts one → HasValidParts other
     → footprint_bytes one ≡ footprint_bytes other → one ≡ other)
@@ -62,6 +65,9 @@ pub unsorted_plans : ((one other : Shape) → HasValidParts one → HasValidPart
     → (ps : List Filed) → ArePlanRows ps heads volumes → (IsStrictlySortedBy filed_cmp ps → ⊥)
     → FailsHeads t other Plan
 unsorted_plans one_shape t other heads volumes one two ps are off =
-    inr (inl (inl refl, λ qs sorted more. off (subst (IsStrictlySortedBy filed_cmp)
-    (one_plans one_shape qs ps (plans_within qs more.within) (plans_within ps are.within)
-    (sym more.plans ∙ sym one ∙ are.plans) (sym more.areas ∙ sym two ∙ are.areas)) sorted)))
+    inr (inl (
+      inl refl,
+      λ qs sorted more. off (subst (IsStrictlySortedBy filed_cmp)
+          (one_plans one_shape qs ps (plans_within qs more.within) (plans_within ps are.within)
+          (sym more.plans ∙ sym one ∙ are.plans) (sym more.areas ∙ sym two ∙ are.areas)) sorted),
+    ))
