@@ -1,6 +1,6 @@
 -- Access: what a look at the path of a file that can't be had finds, and what is told of it.
 use Rattle.std.specs.Prelude.{◌≡◌, ℕ, ◌==◌, Bool, true, false, if◌then◌else◌, List, [], ◌∷◌, ◌++◌, codes}
-use Rattle.std.specs.Prelude.{bytes_eq, nat_eq, Option, None, Some, Result, Ok, Err, is_ok}
+use Rattle.std.specs.Prelude.{bytes_eq, nat_eq, Option, None, Some, option_map, Result, Ok, Err, is_ok}
 use Rattle.std.specs.List.{starts_with}
 use Rattle.std.specs.declared.io.ErrorKind.{ErrorKind}
 use Rattle.std.specs.declared.io.ErrorKind.TheVariants as kind
@@ -135,6 +135,10 @@ denial_text denial.Busy = codes "in use by another program"
 denial_text denial.HotJournal = codes "a journal of SQLite beside it: open it with sqlite3 first"
 denial_text denial.Unopened = codes "no right to its log or folder, a second name, or a disk that fails"
 
+-- why a file can't be had, whatever it holds, if so
+abbrev pub access_cause : Answers → List ℕ → Option (List ℕ)
+access_cause it path = option_map denial_text (access_denial it path)
+
 -- of a file that can be had, and is refused for what it holds
 abbrev pub start_text : Start → List ℕ
 start_text start.Database =
@@ -159,6 +163,11 @@ refusal_text (state.Filled (Err it)) = denial_text it
 abbrev pub taken_text : Bool → List ℕ
 taken_text true = codes "a name that SQLite reads otherwise than as a path"
 taken_text false = codes "it is there already"
+
+-- nothing is there, where a file is made
+abbrev pub is_free : FileState → Bool
+is_free state.Free = true
+is_free _ = false
 
 -- its pages may be damaged: their sums are tested
 abbrev pub may_be_damaged : FileState → Bool

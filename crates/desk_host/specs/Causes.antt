@@ -1,9 +1,11 @@
--- Causes: what is told of an error of the operating system at a file of operators, or at a folder of records.
-use Rattle.std.specs.Prelude.{ℕ, List, codes, Option, None, Some}
+-- Causes: what is told of an error of the operating system at a file of operators, at a folder of records, or at
+-- a file that can't be had.
+use Rattle.std.specs.Prelude.{◌≡◌, ◌⊎◌, ℕ, Bool, true, false, List, [], ◌∷◌, codes, Option, None, Some}
 use Rattle.std.specs.declared.io.ErrorKind.{ErrorKind}
 use Rattle.std.specs.declared.io.ErrorKind.TheVariants as kind
 use Rattle.desk_recording.specs.declared.tail.TailFault.{TailFault}
 use Rattle.desk_recording.specs.declared.tail.TailFault.TheVariants as tail
+use Rattle.desk_host.specs.Naming.{Failed, Follows, Steps, Tried}
 use Rattle.desk_host.specs.declared.folders.Unkept.{Unkept}
 use Rattle.desk_host.specs.declared.folders.Unkept.TheVariants as unkept
 use Rattle.desk_host.specs.declared.operators.Unread.{Unread}
@@ -42,3 +44,10 @@ abbrev pub unkept_tail : TailFault → Option (List ℕ)
 unkept_tail tail.OutOfMemory = None
 unkept_tail tail.Read = Some (codes "its last record can't be read")
 unkept_tail tail.NoRecord = Some (codes "its last record is none of a desk")
+
+-- why SQLite refuses a file, by whether there is none, and what is told of what was found: where there is none, one
+-- is made for a trial, and if it can't be, that is told; else no folder is asked
+abbrev pub IsCauseBy : Bool → List ℕ → List ℕ → Steps → List ℕ → Type 0
+IsCauseBy true found path steps text =
+    (Follows steps (Tried path ∷ []) × (text ≡ found)) ⊎ Follows steps (Failed ∷ [])
+IsCauseBy false found path steps text = (text ≡ found) × (steps.after ≡ steps.before)

@@ -1,6 +1,8 @@
 -- FoundLogs: what the answers of the operating system say of a file and its log.
-use Rattle.std.specs.Prelude.{ℕ, ◌==◌, Bool, true, false, nat_le, not, if◌then◌else◌, List, Option, None, Some}
+use Rattle.std.specs.Prelude.{◌≡◌, ℕ, ◌==◌, Bool, true, false, nat_le, not, if◌then◌else◌, List, Option, None, Some}
 use Rattle.std.specs.Prelude.{Result, Ok, Err}
+use Rattle.std.specs.Option.{IsSomeAnd}
+use Rattle.std.specs.declared.io.Read as read
 use Rattle.std.specs.declared.io.ErrorKind.{ErrorKind}
 use Rattle.std.specs.declared.io.ErrorKind.TheVariants as kind
 use Rattle.db_file.specs.Commits.{least_with_commit}
@@ -10,6 +12,8 @@ use Rattle.desk_line.specs.declared.failure.Failure.TheVariants as failure
 use Rattle.desk_host.specs.Answers.{Answers}
 use Rattle.desk_host.specs.Naming.{log_of}
 use Rattle.desk_host.specs.declared.files.Found.{Found}
+use Rattle.desk_host.specs.declared.logs.FoundLog.{FoundLog}
+use Rattle.desk_host.specs.declared.logs.FoundLog.TheVariants as log
 use Rattle.desk_host.specs.declared.state.Denial.{Denial}
 use Rattle.desk_host.specs.declared.state.Denial.TheVariants as denial
 
@@ -56,3 +60,36 @@ has_commit it path = may_have_commit (size_at it (log_of path))
 abbrev pub is_judged : Answers → List ℕ → List ℕ → List ℕ → Bool
 is_judged it path real log = if size_at it real == 0 then false
     else (if may_be_damaged (size_at it log) then not (is_held (it.unheld path)) else false)
+
+-- a path whose file can be opened, by why it can't be
+abbrev pub opened_by : List ℕ → Option ErrorKind → Option (List ℕ)
+opened_by path None = Some path
+opened_by path (Some error) = None
+
+-- the path of the log of a file that has to be judged, if it has one that can be opened: beside the file to
+-- which a link leads
+abbrev pub if_opened : Answers → List ℕ → Bool → Option (List ℕ)
+if_opened it log true = opened_by log (it.unread log)
+if_opened it log false = None
+
+abbrev pub judged_by : Answers → List ℕ → Result (List ℕ) ErrorKind → Option (List ℕ)
+judged_by it path (Ok real) = if_opened it (log_of real) (is_judged it path real (log_of real))
+judged_by it path (Err error) = None
+
+abbrev pub judged_log : Answers → List ℕ → Option (List ℕ)
+judged_log it path = judged_by it path (it.real path)
+
+-- that log is open; or there is none
+abbrev pub IsLogBeside : {R : Type 0} → read.Ghosts R → Answers → List ℕ → Option R → Type 0
+IsLogBeside r it path None = judged_log it path ≡ None
+IsLogBeside r it path (Some file) = IsSomeAnd (judged_log it path) (λ log. r.remaining file ≡ it.bytes log)
+
+-- the log of a file is there without it
+abbrev pub is_alone : Answers → List ℕ → Bool
+is_alone it path = if is_gone (it.found path) then has_commit it path else false
+
+-- what a look for the log of a file finds
+abbrev pub IsLogAt : {R : Type 0} → read.Ghosts R → Answers → List ℕ → FoundLog R → Type 0
+IsLogAt r it path log.Alone = is_alone it path ≡ true
+IsLogAt r it path log.Nothing = (is_alone it path ≡ false) × IsLogBeside r it path None
+IsLogAt r it path (log.Log file) = (is_alone it path ≡ false) × IsLogBeside r it path (Some file)

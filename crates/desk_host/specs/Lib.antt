@@ -3,6 +3,7 @@ pub mod Telling
 pub mod Causes
 pub mod Naming
 pub mod FolderSteps
+pub mod Journals
 pub mod Scratch
 pub mod Paths
 pub mod Access

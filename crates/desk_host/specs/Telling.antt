@@ -15,6 +15,14 @@ pub record Tells (writes : Course (Option (List ℕ))) : Type 0 where
 unfoldable pub line_of : List ℕ → List ℕ → List ℕ
 line_of path text = codes "uss_desk: " ++ (path ++ (codes ": " ++ (text ++ codes "\n")))
 
+abbrev pub unenrolled_text : List ℕ
+unenrolled_text = codes "no operator is enrolled, so each request is answered 403"
+
+-- the line that tells that a desk has no operator, by the path of its file, if it has one
+abbrev pub unenrolled_line : Option (List ℕ) → List ℕ
+unenrolled_line (Some path) = line_of path unenrolled_text
+unenrolled_line None = line_of (codes "in memory") unenrolled_text
+
 -- a line is written, whole or up to the write that broke off
 abbrev pub IsWrittenUpTo : {E : Type 0} → List ℕ → Option (Cut E) → Course (Option (List ℕ)) → Type 0
 IsWrittenUpTo line None writes = Appends writes.before writes.after line

@@ -1,9 +1,11 @@
 //! Why a file can't be had, as it is told: by what a look at its path found, and nothing of what its tables
 //! hold.
 
-ghost use Rattle.std.specs.Prelude.{◌≡◌, IfSome};
+ghost use Rattle.std.specs.Prelude.{◌≡◌, IfSome, option_map};
 ghost use Rattle.desk_program.specs.Outside.{bytes_written};
 ghost use Rattle.desk_host.specs.Access as spec;
+ghost use Rattle.desk_host.specs.Causes.{IsCauseBy};
+ghost use Rattle.desk_host.specs.Openings.{OpensAtMost};
 ghost use Rattle.desk_host.specs.Telling.{Tells};
 ghost use Rattle.desk_host.specs.Naming.{Free, TakesIfNone};
 ghost use Rattle.desk_host.specs.FolderSteps.{steps_of};
@@ -52,7 +54,10 @@ pub fn tell_store<E: Write>(
 {
     match pages_of(&LocalHost::new(rt), path, state) {
         Some(count) => tell_pages(rt.alloc(), name, count, errors),
-        None => tell_of(rt.alloc(), name, cause_of(rt, path, state), errors),
+        None => {
+            let cause = cause_of(&mut LocalFolder::new(rt), path, state);
+            tell_of(rt.alloc(), name, cause, errors);
+        }
     }
 }
 
@@ -90,17 +95,38 @@ fn tell_pages<E: Write>(alloc: Global, path: &str, count: u64, errors: &mut E)
 }
 
 // Why SQLite refuses a file. Where there is none, one is made for a trial, which tells why it can't be.
-fn cause_of(rt: &HostRuntime, path: &str, state: FileState) -> &'static str {
-    let tried = match state {
-        FileState::Free => LocalFolder::new(rt).try_file(path),
-        _ => None,
-    };
-    tried.unwrap_or(refusal_text(state))
+fn cause_of<P: Folder>(folder: &mut P, path: &str, state: FileState) -> &'static str
+    ensures { IsCauseBy (spec.is_free state) (spec.refusal_text state) path.now
+        (steps_of P.Folder folder.old folder.new) result.now }
+{
+    if !is_free(state) {
+        return refusal_text(state);
+    }
+    match folder.try_file(path) {
+        Some(cause) => cause,
+        None => refusal_text(state),
+    }
+}
+
+// Whether nothing is there, where a file is made.
+fn is_free(state: FileState) -> bool
+    ensures { result ≡ spec.is_free state }
+{
+    matches!(state, FileState::Free)
 }
 
 /// Why a file can't be had, whatever it holds.
 pub fn access_cause(rt: &HostRuntime, path: &str) -> Option<&'static str> {
-    match probe_access(&mut LocalHost::new(rt), path) {
+    cause_at(&mut LocalHost::new(rt), path)
+}
+
+/// The same, of the files of any machine.
+pub fn cause_at<F: HostFiles>(files: &mut F, path: &str) -> Option<&'static str>
+    ensures answer { IfSome (F.answers files.old) (λ it.
+        option_map (λ cause. cause.now) result ≡ spec.access_cause it path.now) }
+    ensures opens { OpensAtMost F.HostFiles path.now files.old files.new }
+{
+    match probe_access(files, path) {
         Some(denial) => Some(denial_text(denial)),
         None => None,
     }

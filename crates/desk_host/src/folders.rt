@@ -1,6 +1,11 @@
 //! The folder of a desk's records: the files in it, and how a new one gets its name. No clause tells what the
 //! operating system did.
 
+ghost use Rattle.std.specs.Prelude.{◌≡◌, IfOk, string_bytes};
+ghost use Rattle.std.specs.Char.{is_ascii_digit};
+ghost use Rattle.std.specs.List.{list_all};
+ghost use Rattle.desk_host.specs.Journals as spec;
+
 use crate::naming::{OWNER_ALONE, READ_ONLY, TAKEN, sync_folder};
 use desk_recording::{Tail, TailEnd, TailFault, read_tail};
 use std::alloc::{AllocError, Global};
@@ -114,11 +119,28 @@ fn record_number(name: &str) -> Option<u64> {
 }
 
 // Whether a text is digits alone, and has one.
-fn are_digits(text: &str) -> bool {
-    !text.is_empty() && text.as_bytes().iter().all(|byte| byte.is_ascii_digit())
+#[tactic(auto, unfolding(crate::specs::Journals::are_digits))]
+fn are_digits(text: &str) -> bool
+    ensures { result ≡ spec.are_digits text.now }
+{
+    if text.is_empty() {
+        return false;
+    }
+    all_digits(text.as_bytes())
 }
 
-fn path_in(alloc: Global, folder: &str, name: &str) -> Result<String, AllocError> {
+// Whether all bytes are digits.
+fn all_digits(bytes: &[u8]) -> bool
+    ensures { result ≡ list_all is_ascii_digit bytes.now }
+{
+    bytes.iter().all(|byte| byte.is_ascii_digit())
+}
+
+// The path of what has this name in a folder.
+#[tactic(auto, unfolding(crate::specs::Journals::path_in))]
+fn path_in(alloc: Global, folder: &str, name: &str) -> Result<String, AllocError>
+    ensures { IfOk result (λ path. string_bytes path ≡ spec.path_in folder.now name.now) }
+{
     format!(in alloc; "{folder}/{name}")
 }
 
@@ -193,12 +215,23 @@ pub fn make_part(rt: &HostRuntime, folder: &str, number: u64) -> Result<File, Un
 /// As `Unkept` says.
 pub fn name_part(rt: &HostRuntime, folder: &str, number: u64, second: u64) -> Result<(), Unkept> {
     let part = part_of(rt.alloc(), folder, number)?;
-    let name = format!(in rt.alloc(); "{folder}/{number:010}-{second}{ENDING}")?;
+    let name = name_of(rt.alloc(), folder, number, second)?;
     fs::rename(rt, &part, &name)?;
     Ok(sync_folder(rt, &name)?)
 }
 
+// The path of a record of this number that begins at this second.
+#[tactic(auto, unfolding(crate::specs::Journals::name_of))]
+fn name_of(alloc: Global, folder: &str, number: u64, second: u64) -> Result<String, AllocError>
+    ensures { IfOk result (λ path. string_bytes path ≡ spec.name_of folder.now number second) }
+{
+    format!(in alloc; "{folder}/{number:010}-{second}{ENDING}")
+}
+
 // The path that a new record has before it gets its name.
-fn part_of(alloc: Global, folder: &str, number: u64) -> Result<String, AllocError> {
+#[tactic(auto, unfolding(crate::specs::Journals::part_of))]
+fn part_of(alloc: Global, folder: &str, number: u64) -> Result<String, AllocError>
+    ensures { IfOk result (λ path. string_bytes path ≡ spec.part_of folder.now number) }
+{
     format!(in alloc; "{folder}/.new-{number:010}")
 }

@@ -1,8 +1,10 @@
 //! Where the WAL of a file is, and whether it has to be judged. The operating system is asked before the file
 //! is opened.
 
-ghost use Rattle.std.specs.Prelude.{◌≡◌, IfOk, IfSome};
+ghost use Rattle.std.specs.Prelude.{◌≡◌, IfErr, IfOk, IfSome};
+ghost use Rattle.desk_line.specs.declared.failure.Failure.TheVariants.{Memory};
 ghost use Rattle.desk_host.specs.FoundLogs as spec;
+ghost use Rattle.desk_host.specs.FoundLogs.{IsLogAt, IsLogBeside};
 ghost use Rattle.desk_host.specs.Openings.{OpensAtMost};
 
 use crate::damage::{may_be_damaged, may_have_commit};
@@ -34,7 +36,11 @@ pub fn find_log<F: HostFiles>(
     alloc: Global,
     files: &mut F,
     path: &str,
-) -> Result<FoundLog<F::File>, Failure> {
+) -> Result<FoundLog<F::File>, Failure>
+    ensures answer { IfSome (F.answers files.old) (λ it. IfOk result (IsLogAt F.File.Read it path.now)) }
+    ensures fault { IfErr result (λ f. f ≡ Memory) }
+    ensures opens { OpensAtMost F.HostFiles path.now files.old files.new }
+{
     if is_gone(files.find(path)) && has_commit(alloc, files, path)? {
         return Ok(FoundLog::Alone);
     }
@@ -61,7 +67,11 @@ fn log_beside<F: HostFiles>(
     alloc: Global,
     files: &mut F,
     path: &str,
-) -> Result<Option<F::File>, Failure> {
+) -> Result<Option<F::File>, Failure>
+    ensures answer { IfSome (F.answers files.old) (λ it. IfOk result (IsLogBeside F.File.Read it path.now)) }
+    ensures fault { IfErr result (λ f. f ≡ Memory) }
+    ensures opens { OpensAtMost F.HostFiles path.now files.old files.new }
+{
     let Some(real) = if_there(files.real(path))? else {
         return Ok(None);
     };

@@ -1,6 +1,6 @@
 //! Lines for the administrator on the standard error: `uss_desk: NAME: TEXT`.
 
-ghost use Rattle.std.specs.Prelude.{◌≡◌, IfOk, string_bytes};
+ghost use Rattle.std.specs.Prelude.{◌≡◌, IfOk, option_map, string_bytes};
 ghost use Rattle.desk_program.specs.Outside.{bytes_written};
 ghost use Rattle.desk_host.specs.Telling as spec;
 ghost use Rattle.desk_host.specs.Telling.{IsWrittenIfRoom, IsWrittenUpTo, Tells};
@@ -9,6 +9,9 @@ use desk_ends::{Cut, write_whole};
 use desk_line::malformed_word;
 use std::alloc::{AllocError, Global};
 use std::io::Write;
+
+// What is told of a desk without an operator.
+const UNENROLLED: &str = "no operator is enrolled, so each request is answered 403";
 
 /// Prints `uss_desk: PATH: TEXT`. A fault of the writer is passed over, and so is want of memory.
 #[tactic(auto, using(crate::proofs::TellLemmas::tells_noted))]
@@ -58,8 +61,12 @@ pub fn tell_malformed<E: Write>(alloc: Global, words: &[String], errors: &mut E)
 
 /// Tells that a desk has no operator: that in the file at the path, or one in memory. A fault of the stream
 /// is passed over.
-pub fn tell_unenrolled(rt: &HostRuntime, path: Option<&str>) {
-    let place = path.unwrap_or("in memory");
-    let text = "no operator is enrolled, so each request is answered 403";
-    tell_of(rt.alloc(), place, text, &mut rt.stderr());
+pub fn tell_unenrolled<E: Write>(alloc: Global, path: Option<&str>, errors: &mut E)
+    ensures { IsWrittenIfRoom (spec.unenrolled_line (option_map (λ path. path.now) path.entry))
+        (bytes_written E.Write errors.old errors.new) }
+{
+    match path {
+        Some(path) => tell_of(alloc, path, UNENROLLED, errors),
+        None => tell_of(alloc, "in memory", UNENROLLED, errors),
+    }
 }
