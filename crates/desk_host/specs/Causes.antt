@@ -1,5 +1,5 @@
--- Causes: what is told of an error of the operating system at a file of operators, at a folder of records, or at
--- a file that can't be had.
+-- Causes: what is told of an error of the operating system at a file of operators, at a folder of records,
+-- or at a file that can't be had.
 use Rattle.std.specs.Prelude.{◌≡◌, ◌⊎◌, ℕ, Bool, true, false, List, [], ◌∷◌, codes, Option, None, Some}
 use Rattle.std.specs.declared.io.ErrorKind.{ErrorKind}
 use Rattle.std.specs.declared.io.ErrorKind.TheVariants as kind
@@ -45,8 +45,8 @@ unkept_tail tail.OutOfMemory = None
 unkept_tail tail.Read = Some (codes "its last record can't be read")
 unkept_tail tail.NoRecord = Some (codes "its last record is none of a desk")
 
--- why SQLite refuses a file, by whether there is none, and what is told of what was found: where there is none, one
--- is made for a trial, and if it can't be, that is told; else no folder is asked
+-- why SQLite refuses a file, by whether there is none, and what is told of what was found: where there is
+-- none, one is made for a trial, and if it can't be, that is told; else no folder is asked
 abbrev pub IsCauseBy : Bool → List ℕ → List ℕ → Steps → List ℕ → Type 0
 IsCauseBy true found path steps text =
     (Follows steps (Tried path ∷ []) × (text ≡ found)) ⊎ Follows steps (Failed ∷ [])

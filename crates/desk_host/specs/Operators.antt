@@ -1,6 +1,11 @@
--- Operators: the file of enrolments that a keeper changes while a desk serves.
-use Rattle.std.specs.Prelude.{◌≡◌, ◌⊎◌, ⊤, ℕ, List, [], ◌∷◌, Option, None, Some, IsSome, Result, Ok, Err}
-use Rattle.desk_line.specs.Register.{enrolments_on, lines_of}
+-- Operators: the file of enrolments that an administrator changes while a desk serves.
+use Rattle.std.specs.Prelude.{◌≡◌, ◌⊎◌, ⊤, ℕ, Bool, false, ◌==◌, if◌then◌else◌, List, [], ◌∷◌, ◌++◌, codes, decimal, length}
+use Rattle.std.specs.Prelude.{Option, None, Some, IsSome, Result, Ok, Err}
+use Rattle.std.specs.Option.{is_none}
+use Rattle.std.specs.Fs.{IsFile, file_type, metadata_len}
+use Rattle.std.specs.declared.fs.attrs.Metadata.{Metadata}
+use Rattle.desk_host.specs.Causes.{unread_text}
+use Rattle.desk_line.specs.Register.{enrolment_on, enrolments_on, lines_of}
 use Rattle.desk_line.specs.declared.line.Enrolment.{Enrolment}
 use Rattle.desk_wire.specs.Passage.{Course, course}
 use Rattle.desk_program.specs.Serving.{Grows}
@@ -17,6 +22,22 @@ pub data Asking : Type 0 where
 abbrev pub ok_of : {A E : Type 0} → Result A E → Option A
 ok_of (Ok it) = Some it
 ok_of (Err e) = None
+
+-- what is said of a file gives its length, if it is one; else why it is not read
+abbrev pub IsStampOf : Metadata → Result Stamp Unread → Type 0
+IsStampOf said (Ok stamp) = IsFile (file_type said) × (stamp.len ≡ metadata_len said)
+IsStampOf said (Err fault) = ¬ IsFile (file_type said) × (unread_text fault ≡ Some (codes "no file"))
+
+-- a line is neither empty nor an enrolment
+abbrev pub is_unread : List ℕ → Bool
+is_unread line = if length line == 0 then false else is_none (enrolment_on line)
+
+-- what is told of a line that can't be read, and of those past the first ones
+unfoldable pub unread_line : ℕ → List ℕ
+unread_line number = codes "line " ++ (decimal number ++ codes " is not NAME CEILING, and passed over")
+
+unfoldable pub more_lines : ℕ → List ℕ
+more_lines count = decimal count ++ codes " more such lines"
 
 -- enrolments are those on the lines of the text that is read at a path
 pub record AreEnrolmentsRead (path : List ℕ) (files : Course (Option (List Asking)))

@@ -1,5 +1,9 @@
 -- Ways: in which way the file of a look or of a copy is read.
-use Rattle.std.specs.Prelude.{◌≡◌, ℕ, ◌==◌, Bool, true, false, if◌then◌else◌, Option, None, Some}
+use Rattle.std.specs.Prelude.{◌≡◌, ◌⊎◌, ℕ, ◌==◌, Bool, true, false, if◌then◌else◌, List, Option, None, Some, Result, Ok, Err}
+use Rattle.std.specs.declared.io.ErrorKind.{ErrorKind}
+use Rattle.desk_host.specs.Access.{is_no_path}
+use Rattle.desk_host.specs.Answers.{Answers}
+use Rattle.desk_host.specs.FoundLogs.{has_commit}
 use Rattle.desk_host.specs.declared.ways.Way.{Way}
 use Rattle.desk_host.specs.declared.ways.Way.TheVariants as way
 
@@ -28,3 +32,25 @@ untested way.Itself status = None
 untested way.Damaged status = None
 untested way.Disordered status = None
 untested (way.Unsummed count) status = if status == 0 then Some count else None
+
+-- the log of a file may have a commit that recovery takes, or that can't be known: by where the file lies
+abbrev pub has_changes_by : Answers → List ℕ → Result (List ℕ) ErrorKind → Bool
+has_changes_by it path (Ok real) = if has_commit it real then it.recovered path else false
+has_changes_by it path (Err error) = true
+
+abbrev pub has_changes : Answers → List ℕ → Bool
+has_changes it path = has_changes_by it path (it.real path)
+
+-- so; or memory ran out for the name of the log, and recovery tells that alone
+abbrev pub HasChanges : Answers → List ℕ → Bool → Type 0
+HasChanges it path now = (now ≡ has_changes it path) ⊎ (now ≡ it.recovered path)
+
+-- the way in which a file is read, by whether its log is damaged, and whether it has changes
+abbrev pub way_with : Answers → List ℕ → Bool → Bool → Way
+way_with it path true changed = way.Damaged
+way_with it path false changed = if is_no_path path then way.Itself
+    else (if changed then way.Itself else way_for false (it.unsummed path) (it.disordered path))
+
+abbrev pub IsWayAt : Answers → List ℕ → Bool → Way → Type 0
+IsWayAt it path damaged now = (now ≡ way_with it path damaged (has_changes it path))
+    ⊎ (now ≡ way_with it path damaged (it.recovered path))

@@ -9,7 +9,7 @@ ghost use Rattle.desk_host.specs.Access as spec;
 ghost use Rattle.desk_host.specs.Answers.{Answers, IsFoundAs, by_ok, error_of};
 
 use crate::state::Denial;
-use db_file::pages_without_sums;
+use db_file::{has_other_order, pages_without_sums, takes_commit};
 use sqlite::Unknown;
 use sqlite_std_file::OpenError;
 use std::fs::{self, File, Metadata, OpenOptions};
@@ -94,6 +94,15 @@ pub trait HostFiles {
     /// How many pages of a database end with another checksum than theirs, if that can be known.
     fn unsummed(&self, path: &str) -> Option<u64>
         ensures { IfSome (answers self.now) (λ it. result ≡ it.unsummed path.now) };
+
+    /// Whether a database lists the tables of a desk in another order than the desk's own.
+    fn is_disordered(&self, path: &str) -> bool
+        ensures { IfSome (answers self.now) (λ it. result ≡ it.disordered path.now) };
+
+    /// Whether recovery takes a commit of the log of a file, or that can't be known. Of a log that was cut
+    /// off in the midst of its first commit it takes none.
+    fn takes_commit(&self, path: &str) -> bool
+        ensures { IfSome (answers self.now) (λ it. result ≡ it.recovered path.now) };
 }
 
 /// The machine on which the program runs, of which nothing is known.
@@ -151,6 +160,17 @@ impl HostFiles for LocalHost<'_> {
 
     fn unsummed(&self, path: &str) -> Option<u64> {
         pages_without_sums(self.rt, path)
+    }
+
+    fn is_disordered(&self, path: &str) -> bool {
+        has_other_order(self.rt, path)
+    }
+
+    fn takes_commit(&self, path: &str) -> bool {
+        match sqlite_std_file::open(self.rt, path, Unknown) {
+            Ok(mut files) => takes_commit(self.rt.alloc(), &mut files).unwrap_or(true),
+            Err(_) => true,
+        }
     }
 }
 

@@ -1,17 +1,22 @@
 //! The file of enrolments that the keeper changes while a desk serves: lines `NAME CEILING`.
 
-ghost use Rattle.std.specs.Prelude.{◌≡◌, List, [], ◌∷◌, IfErr, IfOk, None, Option, option_map, string_bytes};
+ghost use Rattle.std.specs.Prelude.{◌≡◌, List, [], ◌∷◌, IfErr, IfOk, MatchResult, None, Option, option_map, string_bytes};
+ghost use Rattle.std.specs.IoError.{error_kind};
 ghost use Rattle.desk_line.specs.Lines.{AreEnrolments};
 ghost use Rattle.desk_wire.specs.Passage.{course};
+ghost use Rattle.desk_program.specs.Outside.{bytes_written};
 ghost use Rattle.desk_program.specs.Serving.{Grows};
-ghost use Rattle.desk_host.specs.Operators.{AreEnrolmentsRead, AreNews, Asking, HasUnreadCause, Read, Stamped, ok_of};
+ghost use Rattle.desk_host.specs.Causes.{unread_by, unread_text};
+ghost use Rattle.desk_host.specs.Operators as spec;
+ghost use Rattle.desk_host.specs.Operators.{AreEnrolmentsRead, AreNews, Asking, HasUnreadCause, IsStampOf, Read, Stamped, ok_of};
+ghost use Rattle.desk_host.specs.Telling.{IsWrittenIfRoom, line_of};
 
 use crate::telling::tell_of;
 use desk_line::{Enrolment, Failure, enrolment_on, enrolments_on, lines_of};
 use desk_program::Register;
 use std::alloc::{AllocError, Global};
-use std::fs::{self, File};
-use std::io::{self, ErrorKind, Read};
+use std::fs::{self, File, Metadata};
+use std::io::{self, ErrorKind, Read, Write};
 use std::time::SystemTime;
 
 /// The most bytes of the file: 1 MiB.
@@ -227,7 +232,15 @@ impl<F: TextFiles + Drop> Register for OperatorsFile<'_, F> {
 
 // When the file at a path was changed last, and its length.
 fn stamp_of(rt: &HostRuntime, path: &str) -> Result<Stamp, Unread> {
-    let found = fs::metadata(rt, path)?;
+    stamp_by(fs::metadata(rt, path))
+}
+
+// The same, by what the operating system says of the file.
+fn stamp_by(found: io::Result<Metadata>) -> Result<Stamp, Unread>
+    ensures { MatchResult found (λ said. IsStampOf said result)
+        (λ error. IfErr result (λ fault. unread_text fault ≡ unread_by (error_kind error))) }
+{
+    let found = found?;
     if !found.is_file() {
         return Err(Unread::Cause("no file"));
     }
@@ -257,31 +270,68 @@ fn tell_lines(rt: &HostRuntime, path: &str, lines: &[&str]) -> Result<(), AllocE
         if is_unread(line) {
             unread = unread.saturating_add(1);
             if unread <= TOLD_LINES {
-                tell_line(rt, path, number)?;
+                tell_line(rt.alloc(), path, number, &mut rt.stderr())?;
             }
         }
     }
     if unread > TOLD_LINES {
-        tell_more(rt, path, unread - TOLD_LINES)?;
+        tell_more(rt.alloc(), path, unread - TOLD_LINES, &mut rt.stderr())?;
     }
     Ok(())
 }
 
 // Whether a line is neither empty nor an enrolment.
-fn is_unread(line: &str) -> bool {
-    !line.is_empty() && enrolment_on(line).is_none()
+fn is_unread(line: &str) -> bool
+    ensures { result ≡ spec.is_unread line.now }
+{
+    if line.is_empty() {
+        return false;
+    }
+    enrolment_on(line).is_none()
 }
 
-fn tell_line(rt: &HostRuntime, path: &str, number: u32) -> Result<(), AllocError> {
-    let alloc = rt.alloc();
-    let text = format!(in alloc; "line {number} is not NAME CEILING, and passed over")?;
-    tell_of(alloc, path, &text, &mut rt.stderr());
+// Tells that a line can't be read.
+fn tell_line<E: Write>(
+    alloc: Global,
+    path: &str,
+    number: u32,
+    errors: &mut E,
+) -> Result<(), AllocError>
+    ensures told { IfOk result (λ _. IsWrittenIfRoom (line_of path.now (spec.unread_line number))
+        (bytes_written E.Write errors.old errors.new)) }
+    ensures untold { IfErr result (λ _. E.contents errors.new ≡ E.contents errors.old) }
+{
+    let text = line_text(alloc, number)?;
+    tell_of(alloc, path, &text, errors);
     Ok(())
 }
 
-fn tell_more(rt: &HostRuntime, path: &str, count: u32) -> Result<(), AllocError> {
-    let alloc = rt.alloc();
-    let text = format!(in alloc; "{count} more such lines")?;
-    tell_of(alloc, path, &text, &mut rt.stderr());
+#[tactic(auto, unfolding(crate::specs::Operators::unread_line))]
+fn line_text(alloc: Global, number: u32) -> Result<String, AllocError>
+    ensures { IfOk result (λ text. string_bytes text ≡ spec.unread_line number) }
+{
+    format!(in alloc; "line {number} is not NAME CEILING, and passed over")
+}
+
+// Tells that there are more lines that can't be read.
+fn tell_more<E: Write>(
+    alloc: Global,
+    path: &str,
+    count: u32,
+    errors: &mut E,
+) -> Result<(), AllocError>
+    ensures told { IfOk result (λ _. IsWrittenIfRoom (line_of path.now (spec.more_lines count))
+        (bytes_written E.Write errors.old errors.new)) }
+    ensures untold { IfErr result (λ _. E.contents errors.new ≡ E.contents errors.old) }
+{
+    let text = more_text(alloc, count)?;
+    tell_of(alloc, path, &text, errors);
     Ok(())
+}
+
+#[tactic(auto, unfolding(crate::specs::Operators::more_lines))]
+fn more_text(alloc: Global, count: u32) -> Result<String, AllocError>
+    ensures { IfOk result (λ text. string_bytes text ≡ spec.more_lines count) }
+{
+    format!(in alloc; "{count} more such lines")
 }

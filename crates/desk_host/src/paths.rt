@@ -1,6 +1,6 @@
 //! The paths of a desk's files in the folders of the operating system.
 
-ghost use Rattle.std.specs.Prelude.{◌≡◌, [], ◌∷◌, IfErr, IfOk, IfSome, List, None, Option, string_bytes};
+ghost use Rattle.std.specs.Prelude.{◌≡◌, [], ◌∷◌, IfErr, IfOk, IfSome, List, None, Option, string_bytes, true};
 ghost use Rattle.std.specs.Prelude.{unwrap_or};
 ghost use Rattle.desk_line.specs.Lines.{file_of};
 ghost use Rattle.desk_line.specs.declared.failure.Failure.TheVariants.{Memory};
@@ -103,7 +103,11 @@ fn log_beside<F: HostFiles>(alloc: Global, files: &F, file: &str) -> Result<Stri
 
 impl LocalPaths<'_> {
     // Tells that a file isn't at its path any more, if nothing was told.
-    fn tell_once(&mut self, text: &str) {
+    fn tell_once(&mut self, text: &str)
+        ensures told { self.new.is_told ≡ true }
+        ensures same { (self.new.held_file ≡ self.old.held_file)
+            × (self.new.held_log ≡ self.old.held_log) × (self.new.log ≡ self.old.log) }
+    {
         if !self.is_told {
             self.is_told = true;
             tell_of(self.rt.alloc(), self.file, text, &mut self.rt.stderr());

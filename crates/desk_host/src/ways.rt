@@ -1,15 +1,14 @@
 //! The way in which the file of a look or of a copy is read: itself, or by a twin, if another program spoilt
 //! it or put its tables in another order. It is decided before the file is opened as a desk's.
 
-ghost use Rattle.std.specs.Prelude.{◌≡◌};
+ghost use Rattle.std.specs.Prelude.{◌≡◌, IfSome};
 ghost use Rattle.desk_host.specs.Ways as spec;
+ghost use Rattle.desk_host.specs.Ways.{HasChanges, IsWayAt};
 
-use crate::files::LocalHost;
+use crate::files::{HostFiles, LocalHost};
 use crate::logs::has_commit;
 use crate::naming::is_no_path;
-use db_file::{has_other_order, pages_without_sums, takes_commit};
-use sqlite::Unknown;
-use std::fs;
+use std::alloc::Global;
 
 /// The way in which a file is read.
 #[derive(Clone, Copy, Debug, PartialEq, Eq)]
@@ -50,14 +49,23 @@ impl Way {
 /// The way in which the file at a path is read, whose log may be damaged. One whose log may have a commit is
 /// read as it is: its pages may stand in the log anew.
 pub fn way_to(rt: &HostRuntime, path: &str, is_damaged: bool) -> Way {
-    if is_damaged || is_no_path(path) || has_changes(rt, path) {
-        return way_for(is_damaged, None, false);
+    way_at(rt.alloc(), &LocalHost::new(rt), path, is_damaged)
+}
+
+// The same, of the files of any machine.
+fn way_at<F: HostFiles>(alloc: Global, files: &F, path: &str, is_damaged: bool) -> Way
+    ensures { IfSome (F.answers files.now) (λ it. IsWayAt it path.now is_damaged result) }
+{
+    if is_damaged {
+        return way_for(true, None, false);
     }
-    way_for(
-        is_damaged,
-        pages_without_sums(rt, path),
-        has_other_order(rt, path),
-    )
+    if is_no_path(path) {
+        return Way::Itself;
+    }
+    if has_changes(alloc, files, path) {
+        return Way::Itself;
+    }
+    way_for(false, files.unsummed(path), files.is_disordered(path))
 }
 
 // The way, by whether the log is damaged, how many pages end with another sum than theirs, and whether the
@@ -75,22 +83,15 @@ fn way_for(is_damaged: bool, unsummed: Option<u64>, is_disordered: bool) -> Way
     }
 }
 
-// Whether the log of a file may have a commit, or that can't be known.
-fn has_changes(rt: &HostRuntime, path: &str) -> bool {
-    match fs::canonicalize(rt, path) {
-        Ok(real) => {
-            has_commit(rt.alloc(), &LocalHost::new(rt), real.as_str()).unwrap_or(true)
-                && may_take_commit(rt, path)
-        }
-        Err(_) => true,
-    }
-}
-
-// Whether recovery takes a commit of the log of the file at a path, or that can't be known. Of a log that was
-// cut off in the midst of its first commit it takes none.
-fn may_take_commit(rt: &HostRuntime, path: &str) -> bool {
-    match sqlite_std_file::open(rt, path, Unknown) {
-        Ok(mut files) => takes_commit(rt.alloc(), &mut files).unwrap_or(true),
-        Err(_) => true,
+// Whether the log of a file may have a commit that recovery takes, or that can't be known.
+fn has_changes<F: HostFiles>(alloc: Global, files: &F, path: &str) -> bool
+    ensures { IfSome (F.answers files.now) (λ it. HasChanges it path.now result) }
+{
+    let Ok(real) = files.real(path) else {
+        return true;
+    };
+    match has_commit(alloc, files, &real) {
+        Ok(false) => false,
+        _ => files.takes_commit(path),
     }
 }
