@@ -100,7 +100,8 @@ impl<'s> Session<'s> {
     // Tells that no operator is enrolled, if that is known of the desk, and the command names none.
     fn tell_if_unenrolled(&self) {
         if self.roll.is_empty() && enrols_none(self.words, self.enrolments) {
-            tell_unenrolled(self.rt, self.words.database.path());
+            let path = self.words.database.path();
+            tell_unenrolled(self.rt.alloc(), path, &mut self.rt.stderr());
         }
     }
 
