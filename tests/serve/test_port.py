@@ -14,6 +14,7 @@ from collections.abc import Iterator
 from concurrent.futures import ThreadPoolExecutor
 
 import pytest
+from harness import requests
 from harness.program import run
 from harness.rows import Rows
 from harness.serving import Served
@@ -110,6 +111,18 @@ def test_two_lives(rows: Rows, room: pathlib.Path) -> None:
             rows.equal("the plan in the file", SHOWN, asked(*alfa, f"{desk.url}{PLAN}"))
         rows.equal("after 24 of 25 connections", None, desk.process.poll())
         rows.equal("the last connection", READY, asked(*alfa, f"{desk.url}/status"))
+
+
+def test_closed_streams(rows: Rows, room: pathlib.Path) -> None:
+    """If standard input and standard error are closed at the start, no client is sent a line for the administrator."""
+    operators = room / "operators"
+    operators.write_text("alfa 100\n", encoding="utf-8")
+    closed = ["sh", "-c", 'exec "$@" <&- 2>&-', "sh"]
+    with Served("--operators", str(operators), under=closed) as desk:
+        for number in range(3):
+            operators.write_text(f"alfa 100\nbravo {'x' * (number + 1)}\n", encoding="utf-8")
+            answer = desk.ask(requests.status("alfa"))
+            rows.equal(f"answer {number}", b"HTTP/1.1 200 OK\r\n", answer[:17])
 
 
 # ---- clients that stall
