@@ -18,7 +18,7 @@ from keeping.given import TOMORROW
 
 pytestmark = pytest.mark.alone
 
-SOME, ALL, SPANS, CELLS = 4, 40, 25_000, 100_000
+SOME, ALL, SPANS, CELLS = 4, 40, 25_000, 200_000
 """So many of the operators for which the unit's memory is reckoned, and the spans and cells that each may have."""
 NAMES = [f"op{number}" for number in range(SOME)]
 

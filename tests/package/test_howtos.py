@@ -236,7 +236,7 @@ def options(rows: Rows, machine: Machine) -> None:
     run(machine, *commands("operate.md", "Equal priorities"))
     rows.equal("started again", True, listens(machine))
     told = machine.sh("tr '\\0' ' ' < /proc/$(systemctl show --property=MainPID --value uss_desk)/cmdline")
-    wanted = "--equal 10,20 --spans 25000 --cells 100000 --operators /etc/uss_desk/operators --record /"
+    wanted = "--equal 10,20 --spans 25000 --cells 200000 --operators /etc/uss_desk/operators --record /"
     rows.has("the desk's options", wanted, told)
     rows.has("a restart", "listening 127.0.0.1:8080", run(machine, *commands("operate.md", "Start and stop")))
     rows.equal("started once more", True, listens(machine))
