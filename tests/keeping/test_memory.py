@@ -20,6 +20,8 @@ pytestmark = pytest.mark.alone
 
 SOME, ALL, SPANS, CELLS = 4, 40, 25_000, 200_000
 """So many of the operators for which the unit's memory is reckoned, and the spans and cells that each may have."""
+CLOSED = CELLS // 32_768 - 1
+"""So many closed plans fit beside one of as many cells, the most that a plan may have."""
 NAMES = [f"op{number}" for number in range(SOME)]
 
 
@@ -38,9 +40,8 @@ def answered(port: int, operator: str, asked: bytes) -> int | str:
 
 
 def closed_ones(operator: str, plan: bytes) -> Iterator[bytes]:
-    """PUTs and DELETEs by which an operator has closed plans, of the cells of this one, which is put later: as many as
-    fit beside it."""
-    for number in range(100, 100 + CELLS // (crowds.VOLUMES * 1024) - 1):
+    """PUTs and DELETEs by which an operator has closed plans, of the cells of this one, which is put later."""
+    for number in range(100, 100 + CLOSED):
         yield plan.replace(plan.split()[1], f"/flight_plans/{plan_id(number)}".encode(), 1)
         yield delete(operator, plan_id(number))
 
@@ -64,7 +65,7 @@ def test_within_memory(rows: Rows, room: pathlib.Path) -> None:
             rows.equal(f"plans in life {life}", [200 if life else 404] * SOME, told)
             for name, plan in () if life else zip(NAMES, plans):
                 told = [answered(desk.port, name, asked) for asked in closed_ones(name, plan)]
-                rows.equal(f"closed plans of {name}", [200] * 4, told)
+                rows.equal(f"closed plans of {name}", [200] * 2 * CLOSED, told)
             again = plans[: 1 if life else SOME]
             told = [answered(desk.port, name, asked) for name, asked in zip(NAMES, again)]
             rows.equal(f"PUTs in life {life}", [200] * len(again), told)

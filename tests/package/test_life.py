@@ -230,7 +230,7 @@ def options(rows: Rows, machine: Machine, word: str) -> None:
     machine.sh("systemctl try-restart uss_desk")
     listens(machine, word)
     told = machine.sh(f"tr '\\0' ' ' < /proc/{process(machine)[0]}/cmdline")
-    wanted = "--requests 1000000 --equal 10,20 --spans 25000 --cells 100000 bravo=50"
+    wanted = "--requests 1000000 --equal 10,20 --spans 25000 --cells 200000 bravo=50"
     rows.has("options of /etc/default/uss_desk", wanted, told)
 
 
