@@ -110,7 +110,7 @@ impl<R: Read + Drop, W: Write + Drop> Port for InputPort<R, W> {
         ensures listens { Listens untold untold _number (is_ok result) }
         ensures fault { IfErr result IsDenied }
         ensures ok { result ≡ Ok (tt {0}) }
-        ensures ended { self.new.ended ≡ self.old.ended }
+        ensures stays { self.new ≡ self.old }
     {
         Ok(())
     }
@@ -121,7 +121,7 @@ impl<R: Read + Drop, W: Write + Drop> Port for InputPort<R, W> {
         ensures same { OnErr result (Denies untold untold) }
         ensures fault { IfErr result IsDenied }
         ensures none { IsOkAnd result (λ news. news.items ≡ []) }
-        ensures ended { self.new.ended ≡ self.old.ended }
+        ensures stays { self.new ≡ self.old }
     {
         Ok(Vec::new(alloc))
     }
@@ -136,6 +136,9 @@ impl<R: Read + Drop, W: Write + Drop> Port for InputPort<R, W> {
         ensures given { IfOk result (λ c. (c.moment ≡ self.old.moment)
             × IsTaken (R.remaining self.old.input) (R.remaining self.new.input)
             (cursor_inner c.input).items) }
+        ensures output { self.new.output ≡ self.old.output }
+        ensures moment { self.new.moment ≡ self.old.moment }
+        ensures framed { self.new.is_unframed ≡ self.old.is_unframed }
         ensures ended { IfErr result (λ f. (f ≡ Failure.Network) × IsSome self.new.ended) }
         ensures cause { self.old.ended ≡ None → IfSome self.new.ended (HandsOutNone self.old.is_unframed
             (R.remaining self.old.input)) }
@@ -169,6 +172,8 @@ impl<R: Read + Drop, W: Write + Drop> Port for InputPort<R, W> {
         ensures ok { result ≡ Ok (tt {0}) }
         ensures sent { EndsInput output.items (course (W.contents self.old.output)
             (W.contents self.new.output)) self.old.ended self.new.ended }
+        ensures input { self.new.input ≡ self.old.input }
+        ensures moment { self.new.moment ≡ self.old.moment }
         ensures framed { self.new.is_unframed ≡ not outcome.is_whole }
     {
         self.is_unframed = !outcome.is_whole;
