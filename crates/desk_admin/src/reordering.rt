@@ -18,7 +18,8 @@ use crate::keeping::look_in;
 use crate::twins::{Found, Judged};
 use db_file::has_other_order;
 use desk_host::access::access_cause;
-use desk_host::naming::{Folder, LocalFolder};
+use desk_host::files::LocalHost;
+use desk_host::naming::Folder;
 use desk_host::scratch::{Twin, make_twin, remove_twin};
 use desk_host::telling::tell_of;
 use desk_host::ways::{Way, way_to};
@@ -60,7 +61,7 @@ pub fn reorder_for(rt: &HostRuntime, database: &Database, takes_old: bool) -> Re
         way: way_to(rt, path, false),
         takes_old,
     };
-    let mut folder = LocalFolder::new(rt);
+    let mut folder = LocalHost::new(rt);
     done_of(reorder(rt, &mut folder, file, Unknown, &mut rt.stderr()))
 }
 

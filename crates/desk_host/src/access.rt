@@ -11,7 +11,7 @@ ghost use Rattle.desk_host.specs.Naming.{Free, TakesIfNone};
 ghost use Rattle.desk_host.specs.FolderSteps.{steps_of};
 
 use crate::files::{HostFiles, LocalHost};
-use crate::naming::{Folder, IN_USE, LocalFolder, READ_ONLY, TAKEN, is_no_path};
+use crate::naming::{Folder, IN_USE, READ_ONLY, TAKEN, is_no_path};
 use crate::probing::probe_access;
 use crate::state::{Denial, FileState, Missing, Start};
 use crate::telling::tell_of;
@@ -55,7 +55,7 @@ pub fn tell_store<E: Write>(
     match pages_of(&LocalHost::new(rt), path, state) {
         Some(count) => tell_pages(rt.alloc(), name, count, errors),
         None => {
-            let cause = cause_of(&mut LocalFolder::new(rt), path, state);
+            let cause = cause_of(&mut LocalHost::new(rt), path, state);
             tell_of(rt.alloc(), name, cause, errors);
         }
     }

@@ -108,7 +108,7 @@ pub trait HostFiles {
 /// The machine on which the program runs, of which nothing is known.
 #[derive(Drop)]
 pub struct LocalHost<'s> {
-    rt: &'s HostRuntime,
+    pub(crate) rt: &'s HostRuntime,
 }
 
 impl<'s> LocalHost<'s> {

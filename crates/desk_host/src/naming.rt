@@ -76,30 +76,16 @@ pub trait Folder {
         ensures { Takes (course (steps self.old) (steps self.new)) result (Ordered path.now) };
 }
 
-/// The folders of the operating system, of whose steps nothing is told.
-#[derive(Drop)]
-pub struct LocalFolder<'s> {
-    rt: &'s HostRuntime,
-}
-
-impl<'s> LocalFolder<'s> {
-    /// The folders of this run.
-    pub fn new(rt: &'s HostRuntime) -> LocalFolder<'s> {
-        LocalFolder { rt }
-    }
-}
-
-impl<'s> Folder for LocalFolder<'s> {
+impl Folder for LocalHost<'_> {
     fn is_free(&mut self, path: &str) -> bool {
         !is_no_path(path) && matches!(fs::exists(self.rt, path), Ok(false))
     }
 
     fn clear(&mut self, source: &str, part: &str, log: &str) -> Option<&'static str> {
-        let host = LocalHost::new(self.rt);
-        if is_missing(&host, part) && is_missing(&host, log) {
+        if is_missing(self, part) && is_missing(self, log) {
             return None;
         }
-        if is_left(&host, source, part) && is_left(&host, source, log) {
+        if is_left(self, source, part) && is_left(self, source, log) {
             clear_left(self.rt, part, log)
         } else {
             Some(TAKEN)

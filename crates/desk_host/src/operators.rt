@@ -11,6 +11,7 @@ ghost use Rattle.desk_host.specs.Operators as spec;
 ghost use Rattle.desk_host.specs.Operators.{AreEnrolmentsRead, AreNews, Asking, HasUnreadCause, IsStampOf, Read, Stamped, ok_of};
 ghost use Rattle.desk_host.specs.Telling.{IsWrittenIfRoom, line_of};
 
+use crate::files::LocalHost;
 use crate::telling::tell_of;
 use desk_line::{Enrolment, Failure, enrolment_on, enrolments_on, lines_of};
 use desk_program::Register;
@@ -93,20 +94,7 @@ pub trait TextFiles {
             (Read path.now (option_map string_bytes (ok_of result)) ∷ []) };
 }
 
-/// The files of the operating system, of which nothing is told.
-#[derive(Drop)]
-pub struct LocalFiles<'s> {
-    rt: &'s HostRuntime,
-}
-
-impl<'s> LocalFiles<'s> {
-    /// The files of this run.
-    pub fn new(rt: &'s HostRuntime) -> LocalFiles<'s> {
-        LocalFiles { rt }
-    }
-}
-
-impl<'s> TextFiles for LocalFiles<'s> {
+impl TextFiles for LocalHost<'_> {
     fn stamp(&mut self, path: &str) -> Result<Stamp, Unread> {
         stamp_of(self.rt, path)
     }

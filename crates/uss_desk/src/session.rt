@@ -16,7 +16,8 @@ use crate::running::run_line;
 use desk_admin::reordering::reorder_for;
 use desk_admin::unopened::or_failure;
 use desk_host::damage::look_before;
-use desk_host::operators::{LocalFiles, OperatorsFile, operators_of};
+use desk_host::files::LocalHost;
+use desk_host::operators::{OperatorsFile, operators_of};
 use desk_host::paths::{LocalPaths, Paths, paths_at};
 use desk_host::telling::tell_unenrolled;
 use desk_line::{Action, DeskArgs, Enrolment, Failure};
@@ -34,7 +35,7 @@ struct Session<'s> {
     // the operators that it enrols first
     enrolments: &'s [Enrolment],
     streams: Streams<BufReader<Stdin>, Stdout, Stderr>,
-    register: OperatorsFile<'s, LocalFiles<'s>>,
+    register: OperatorsFile<'s, LocalHost<'s>>,
     // the folder of its journal, if it keeps one
     folder: Option<RecordFolder<'s>>,
     roll: Roll,
@@ -52,7 +53,7 @@ impl<'s> Session<'s> {
         let Ok(input) = BufReader::new(rt.alloc(), rt.stdin()) else {
             return Err(Failure::Memory);
         };
-        let register = operators_of(rt, LocalFiles::new(rt), words.operators.as_deref())?;
+        let register = operators_of(rt, LocalHost::new(rt), words.operators.as_deref())?;
         let paths = paths_at(rt, &words.database)?;
         reorder_for(rt, &words.database, false)?;
         let folder = folder_for(rt, words, action)?;
