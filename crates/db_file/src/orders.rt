@@ -1,6 +1,6 @@
 //! The order in which a file lists its tables and indexes, by its first page.
 
-ghost use Rattle.std.specs.Prelude.{◌≡◌, ◌≤◌, ◌<◌, ◌++◌, length, take, is_some, IfOk, IfSome, None, OnOk, Some, false, true};
+ghost use Rattle.std.specs.Prelude.{◌≡◌, ◌≤◌, ◌<◌, ◌++◌, length, take, is_some, IfOk, IfSome, IsErr, None, OnOk, Some, false, true};
 ghost use Rattle.std.specs.Fmt.{option_append};
 ghost use Rattle.std.specs.Io.KnownBytes.{Appends};
 ghost use Rattle.sqlite_wal.specs.PageSize.{IsPageSize, bytes_of, size_in_file};
@@ -361,7 +361,18 @@ fn read_in_order<R: Read>(file: &mut R, page: &mut [u8]) -> io::Result<()>
 /// order than the desk takes; not if it can't be read. One with a log is not told by it: its first page may
 /// stand in the log anew.
 pub fn has_other_order(rt: &HostRuntime, path: &str) -> bool {
-    match open_regular(rt, path) {
+    is_other_file(open_regular(rt, path))
+}
+
+// The same of a file that was opened; not if it wasn't, or can't be read.
+fn is_other_file<R: Read + Drop>(opened: io::Result<R>) -> bool
+    ensures unread { IsErr opened → result ≡ false }
+    ensures said { IfOk opened (λ file. IfSome (R.remaining file) (λ bytes.
+        IsPageSize (size_in_file bytes) → result ≡ true → spec.has_other_order bytes ≡ true)) }
+    ensures sized { IfOk opened (λ file. IfSome (R.remaining file) (λ bytes.
+        ¬ IsPageSize (size_in_file bytes) → result ≡ false)) }
+{
+    match opened {
         Ok(mut file) => matches!(reads_disordered(&mut file), Ok(true)),
         Err(_) => false,
     }

@@ -1,36 +1,69 @@
 //! The sums on the pages of a database, as SQLite's cksumvfs has them: the last eight bytes of each page. The
 //! desk keeps them, and sqlite3 doesn't.
 
-ghost use Rattle.std.specs.Prelude.{◌≡◌, ◌≤◌, drop, length, None, Some, take, true, IfOk, IfSome, OnOk};
+ghost use Rattle.std.specs.Prelude.{◌≡◌, ◌≤◌, drop, length, None, Some, take, true, IfNone, IfOk, IfSome, IsErr, IsErrAnd, IsOk, OnOk};
+ghost use Rattle.std.specs.Fs.{IsFile, file_type};
 ghost use Rattle.std.specs.Io.KnownBytes.{Appends};
+ghost use Rattle.std.specs.IoError.{error_kind};
+ghost use Rattle.std.specs.declared.io.ErrorKind.TheVariants.{Unsupported};
 ghost use Rattle.sqlite_wal.specs.PageSize.{IsPageSize, bytes_of, size_in_file};
 ghost use Rattle.db_file.specs.Header.{keeps_sums};
 ghost use Rattle.db_file.specs.Sums as spec;
 
 use crate::db_header::{HEADER, MAX_PAGE, SUM, keeps_sums, page_size_in};
 use sqlite_wal::{PageSize, checksum_of};
-use std::fs::{self, File};
+use std::fs::{self, File, Metadata};
 use std::io::{self, ErrorKind, Read, Write};
 
 /// Whether the pages of the database at a path have sums; they haven't if it can't be looked at.
 pub fn has_sums(rt: &HostRuntime, path: &str) -> bool {
-    summed_size(rt, path).is_some()
+    summed_size(open_regular(rt, path)).is_some()
 }
 
 /// How many pages of the database at a path have another sum than theirs. None if its pages have no sums, or
 /// can't be read.
 pub fn pages_without_sums(rt: &HostRuntime, path: &str) -> Option<u64> {
-    let size = summed_size(rt, path)?;
+    let size = summed_size(open_regular(rt, path))?;
     let len = fs::metadata(rt, path).ok()?.len();
-    let mut file = File::open(rt, path).ok()?;
-    count_unsummed(&mut file, size, len).ok()
+    unsummed(File::open(rt, path), size, len)
 }
 
-// The size of a page of the database at a path, if its pages have sums.
-fn summed_size(rt: &HostRuntime, path: &str) -> Option<PageSize> {
+// How many pages of a file that was opened, of so many bytes, have another sum than theirs; none if it wasn't
+// opened, or can't be read.
+fn unsummed<R: Read + Drop>(opened: io::Result<R>, size: PageSize, len: u64) -> Option<u64>
+    ensures unread { IsErr opened → result ≡ None }
+    ensures counted { IfSome result (λ unsummed. IfOk opened (λ file. IfSome (R.remaining file) (λ bytes.
+        length bytes ≡ len → unsummed ≡ spec.unsummed_in (bytes_of size) bytes))) }
+{
+    match opened {
+        Ok(mut file) => count_unsummed(&mut file, size, len).ok(),
+        Err(_) => None,
+    }
+}
+
+// The size of a page of a file that was opened, if its pages have sums; none if it wasn't opened, or can't be
+// read.
+fn summed_size<R: Read + Drop>(opened: io::Result<R>) -> Option<PageSize>
+    ensures unread { IsErr opened → result ≡ None }
+    ensures sized { IfSome result (λ size. IfOk opened (λ file. IfSome (R.remaining file) (λ bytes.
+        (keeps_sums bytes ≡ true) × (bytes_of size ≡ size_in_file bytes)))) }
+{
+    match opened {
+        Ok(mut file) => reads_summed(&mut file).ok()?,
+        Err(_) => None,
+    }
+}
+
+// The size of a page by the first bytes of a file, if its pages have sums.
+fn reads_summed<R: Read>(file: &mut R) -> io::Result<Option<PageSize>>
+    ensures some { IfOk result (λ found. IfSome found (λ size. IfSome (R.remaining file.old) (λ bytes.
+        (keeps_sums bytes ≡ true) × (bytes_of size ≡ size_in_file bytes)))) }
+    ensures none { IfOk result (λ found. IfNone found (IfSome (R.remaining file.old) (λ bytes.
+        keeps_sums bytes ≡ true → ¬ IsPageSize (size_in_file bytes)))) }
+{
     let mut header = [0u8; HEADER];
-    open_regular(rt, path).ok()?.read_exact(&mut header).ok()?;
-    summed_size_in(&header)
+    file.read_exact(&mut header)?;
+    Ok(summed_size_in(&header))
 }
 
 // The size of a page by the header of a database, if its pages have sums.
@@ -52,10 +85,20 @@ fn summed_size_in(header: &[u8; HEADER]) -> Option<PageSize>
 ///
 /// What the opening failed with; `Unsupported` if it is no regular file.
 pub fn open_regular(rt: &HostRuntime, path: &str) -> io::Result<File> {
-    if !fs::metadata(rt, path)?.is_file() {
-        return Err(io::Error::from(ErrorKind::Unsupported));
-    }
+    refuse_irregular(&fs::metadata(rt, path)?)?;
     File::open(rt, path)
+}
+
+// Refuses what is no regular file.
+fn refuse_irregular(found: &Metadata) -> io::Result<()>
+    ensures file { IsFile (file_type found.now) → IsOk result }
+    ensures other { ¬ IsFile (file_type found.now) → IsErrAnd result (λ e. error_kind e ≡ Unsupported) }
+{
+    if found.is_file() {
+        Ok(())
+    } else {
+        Err(io::Error::from(ErrorKind::Unsupported))
+    }
 }
 
 /// Copies a file of so many bytes page by page, each with its sum in the place of its last bytes.
