@@ -20,7 +20,7 @@ from documents import lines_of_the_program, words_and_statuses  # noqa: E402
 
 pytestmark = pytest.mark.alone
 
-EXITS = CRATES / "desk_line" / "specs" / "Exits.antt"
+EXITS = CRATES / "desk_cli" / "specs" / "Exits.antt"
 Words = set[tuple[str, int]]
 """Words of failures, each with its status."""
 # A line's words as bash sees them, and what its completion offers.

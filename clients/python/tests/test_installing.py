@@ -9,7 +9,7 @@ import pytest
 import uss_desk_client
 
 TOP = Path(__file__).resolve().parents[3]
-COMMAND = TOP / "crates" / "desk_line" / "src" / "command.rt"
+COMMAND = TOP / "crates" / "desk_cli" / "src" / "command.rt"
 
 
 def test_all_clients_have_the_version_of_the_program() -> None:

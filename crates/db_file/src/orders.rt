@@ -1,6 +1,7 @@
 //! The order in which a file lists its tables and indexes, by its first page.
 
-ghost use Rattle.std.specs.Prelude.{◌≡◌, ◌≤◌, ◌<◌, ◌++◌, length, take, is_some, IfOk, IfSome, IsErr, None, OnOk, Some, false, true};
+ghost use Rattle.std.specs.Prelude.{◌≡◌, ◌≤◌, ◌<◌, ◌++◌, length, take, is_some, IfOk, IfSome, IsErr};
+ghost use Rattle.std.specs.Prelude.{None, OnOk, Some, false, true};
 ghost use Rattle.std.specs.Fmt.{option_append};
 ghost use Rattle.std.specs.Io.KnownBytes.{Appends};
 ghost use Rattle.sqlite_wal.specs.PageSize.{IsPageSize, bytes_of, size_in_file};

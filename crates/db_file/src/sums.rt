@@ -1,7 +1,8 @@
 //! The sums on the pages of a database, as SQLite's cksumvfs has them: the last eight bytes of each page. The
 //! desk keeps them, and sqlite3 doesn't.
 
-ghost use Rattle.std.specs.Prelude.{◌≡◌, ◌≤◌, drop, length, None, Some, take, true, IfNone, IfOk, IfSome, IsErr, IsErrAnd, IsOk, OnOk};
+ghost use Rattle.std.specs.Prelude.{◌≡◌, ◌≤◌, drop, length, None, Some, take, true, IfNone, IfOk};
+ghost use Rattle.std.specs.Prelude.{IfSome, IsErr, IsErrAnd, IsOk, OnOk};
 ghost use Rattle.std.specs.Fs.{IsFile, file_type};
 ghost use Rattle.std.specs.Io.KnownBytes.{Appends};
 ghost use Rattle.std.specs.IoError.{error_kind};

@@ -11,19 +11,19 @@ use Rattle.sqlite.specs.Files.{over_files}
 use Rattle.sqlite.specs.Held.{Held}
 use Rattle.desk_store.specs.World.{World}
 use Rattle.desk_wire.specs.Passage.{course}
-use Rattle.desk_line.specs.Exits.{Ending, FailsWith}
+use Rattle.desk_cli.specs.Exits.{Ending, FailsWith}
 use Rattle.desk_program.specs.declared.looking.CheckedFile.{CheckedFile}
 use Rattle.desk_tables.specs.Copying.{AreHoldingsOf, IsMadeIn, LooksIn}
 use Rattle.desk_tables.specs.Leaving.{IsSettledAt}
 use Rattle.desk_tables.specs.Store.{Shown}
-use Rattle.desk_tables.specs.declared.opening.looking.Holdings.{Holdings}
-use Rattle.desk_line.specs.declared.failure.Failure.TheVariants as failure
-use Rattle.desk_line.specs.declared.line.Database.{Database}
+use Rattle.desk_tables.specs.declared.opening.looking.DbStats.{DbStats}
+use Rattle.desk_cli.specs.declared.failure.ErrorCode.TheVariants as failure
+use Rattle.desk_cli.specs.declared.line.Database.{Database}
 use Rattle.desk_tables.specs.Closing.{IsLeftUnclosed}
-use Rattle.desk_tables.specs.declared.closing.Unclosed.{Unclosed}
+use Rattle.desk_tables.specs.declared.closing.CheckpointError.{CheckpointError}
 use Rattle.desk_tables.specs.declared.opening.files.CopyFault.{CopyFault}
 use Rattle.desk_tables.specs.declared.opening.files.FilesFault.{FilesFault}
-use Rattle.desk_admin.specs.declared.unopened.Unopened.{Unopened}
+use Rattle.desk_admin.specs.declared.unopened.OpenError.{OpenError}
 use Rattle.desk_admin.specs.FilesTold.{CopyEnd, FailsAtFiles, FailsBy, FailsToCopy, FailsToLook, FailsToRead, IsAsCopied, IsCopyMade, IsNamedIf, IsNamedNow, IsReadAs, IsUncopied, IsUntold, TellsHoldings}
 use Rattle.desk_host.specs.Telling.{Tells}
 use Rattle.desk_host.specs.Naming.{Follows, Step, Steps, Synced, free_steps, named_steps}
@@ -34,7 +34,7 @@ use Rattle.desk_host.proofs.NameLemmas.{failed_after, follows_both, unnamed_afte
 use Rattle.desk_admin.proofs.UnopenedLemmas.{fails_over}
 
 -- what refused the files refuses them in the program
-pub refused_fails : {D : Type 0} {g : disk.Ghosts D} (image : Image) (it : Unopened D g)
+pub refused_fails : {D : Type 0} {g : disk.Ghosts D} (image : Image) (it : OpenError D g)
     (refused : FilesFault D g) → it.failure ≡ open_failure refused.fault
     → IsSomeAnd it.refused (λ s. s.value ≡ refused)
     → AreNotRead image refused.fault refused.connection → FailsToRead image it
@@ -43,13 +43,13 @@ refused_fails image it refused failure same says =
 
 -- what is not read in a file is not told of a database
 pub look_fails : {D V : Type 0} {g : disk.Ghosts D} (image : Image) (database : Database)
-    (r : Result V (Unopened D g)) → IfErr r (FailsToRead image)
+    (r : Result V (OpenError D g)) → IfErr r (FailsToRead image)
     → IfErr r (FailsToLook image database)
 look_fails image database (Ok v) fails = tt
 look_fails image database (Err it) fails = inr fails
 
 module _ {D : Type 0} {g : disk.Ghosts D} (image : Image) (database : Database)
-    (it : Unopened D g)
+    (it : OpenError D g)
   where
     -- a failure is told after its cause, and nothing is printed
     pub untold : (end : Ending) (between out : Option (List ℕ)) → FailsToLook image database it
@@ -68,7 +68,7 @@ module _ {D E : Type 0} {g : disk.Ghosts D} {k : disk.Ghosts E} (image other : I
   refused_copy it fault by are = inl (record { fault = fault; by = by; are = are })
 
   -- nor is what can't be closed
-  pub fails_closing : (store : Shown (FileStore E k)) (unclosed : Unclosed E k) → IsMadeIn other store.held
+  pub fails_closing : (store : Shown (FileStore E k)) (unclosed : CheckpointError E k) → IsMadeIn other store.held
       → IsLeftUnclosed store.held unclosed
       → FailsAtFiles {g = g} {k = k} image other
       (record { failure = failure.Store; unread = None; unmade = None; unclosed = Some unclosed })
@@ -112,7 +112,7 @@ module _ (old mid new : Option (List Step)) (to : List ℕ) (free : Follows (cou
 
 -- what was read is told as it was counted
 pub read_as : {D : Type 0} {g : disk.Ghosts D} (image : Image) (left : Held (FileStore D g))
-    (file : CheckedFile) (holdings : Holdings) → file.is_old ≡ holdings.is_old
+    (file : CheckedFile) (holdings : DbStats) → file.is_old ≡ holdings.is_old
     → ((w : World) → AreHoldingsOf holdings w → TellsHoldings file w)
     → ((w : World) × AreHoldingsOf holdings w × LooksIn image left holdings.is_old w)
     → IsReadAs image left file
@@ -124,7 +124,7 @@ read_as {g = g} image left file holdings same counted found = record {
 
 -- what is known of a copy, apart and together
 pub stored_as : {D E : Type 0} {g : disk.Ghosts D} {k : disk.Ghosts E} (image other : Image)
-    (r : Result (Held (FileStore D g) × (Shown (FileStore E k) × Holdings)) (CopyFault D E g k))
+    (r : Result (Held (FileStore D g) × (Shown (FileStore E k) × DbStats)) (CopyFault D E g k))
     → IfOk r (λ c. AreHoldingsOf c.1.1 c.1.0.world × LooksIn image c.0 c.1.1.is_old c.1.0.world)
     → IfOk r (λ c. IsMadeIn other c.1.0.held)
     → IfOk r (λ c. IsSettledAt over_files c.1.0.held c.1.0.world)
@@ -135,7 +135,7 @@ stored_as image other (Err e) looks made settled = tt
 
 -- a store of a content was made in new files and closed
 pub copy_made : {D E : Type 0} {g : disk.Ghosts D} (k : disk.Ghosts E) (image other : Image)
-    (left : Held (FileStore D g)) (files : Files E) (counts : Holdings) (store : Shown (FileStore E k))
+    (left : Held (FileStore D g)) (files : Files E) (counts : DbStats) (store : Shown (FileStore E k))
     → IsStoredAs image other (left, (store, counts))
     → (AreClean k files.log files.db → IsClosedInto store.held files)
     → IsCopyMade k image other (left, (files, counts))

@@ -3,15 +3,15 @@ use Rattle.std.proofs.Common.{◌≡◌, ℕ, List, Option, subst}
 use Rattle.sqlite_disk.specs.declared.Disk as disk
 use Rattle.sqlite_wal.specs.Recovery.{Image}
 use Rattle.desk_wire.specs.Passage.{course}
-use Rattle.desk_line.specs.declared.line.Database.{Database}
-use Rattle.desk_line.specs.Exits.{ending}
-use Rattle.desk_line.specs.declared.failure.Exit.{Exit}
+use Rattle.desk_cli.specs.declared.line.Database.{Database}
+use Rattle.desk_cli.specs.Exits.{ending}
+use Rattle.desk_cli.specs.declared.failure.ExitReport.{ExitReport}
 use Rattle.desk_admin.specs.FilesTold.{CopyOutcome, IsCopied}
 use Rattle.desk_host.specs.Naming.{Steps}
 
 -- what was told before a copy is as it was before its twin was made
 pub copied_from : {D E X : Type 0} {g : disk.Ghosts D} {k : disk.Ghosts E} (image other : Image)
-    (database : Database) (steps : Steps) (exit : Exit X) (before after told out now : Option (List ℕ))
+    (database : Database) (steps : Steps) (exit : ExitReport X) (before after told out now : Option (List ℕ))
     (copied : CopyOutcome g k) → after ≡ before
     → IsCopied image other database
     (record { steps = steps; writes = course out now; end = ending exit after told }) copied

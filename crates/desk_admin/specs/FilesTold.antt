@@ -1,4 +1,4 @@
--- FilesTold: what a keeper is told of a file, and what is copied of it.
+-- FilesTold: what an administrator is told of a file, and what is copied of it.
 use Rattle.std.specs.Prelude.{◌≡◌, ℕ, List, [], length, Option, Result, Ok, Err, ◌⊎◌, None}
 use Rattle.std.specs.Option.{IsSomeAnd}
 use Rattle.sqlite_disk.specs.declared.Disk as disk
@@ -11,31 +11,31 @@ use Rattle.sqlite.specs.Files.{over_files}
 use Rattle.sqlite.specs.Held.{Held}
 use Rattle.desk_store.specs.World.{World}
 use Rattle.desk_wire.specs.Passage.{Course, course}
-use Rattle.desk_line.specs.declared.failure.Failure.{Failure}
-use Rattle.desk_line.specs.declared.failure.Failure.TheVariants as failure
-use Rattle.desk_line.specs.declared.line.Database.{Database}
-use Rattle.desk_line.specs.Exits.{Ending, FailsWith}
+use Rattle.desk_cli.specs.declared.failure.ErrorCode.{ErrorCode}
+use Rattle.desk_cli.specs.declared.failure.ErrorCode.TheVariants as failure
+use Rattle.desk_cli.specs.declared.line.Database.{Database}
+use Rattle.desk_cli.specs.Exits.{Ending, FailsWith}
 use Rattle.desk_program.specs.Looking.{IsTextPrinted, checked_line, copied_line}
 use Rattle.desk_program.specs.declared.looking.CheckedFile.{CheckedFile}
 use Rattle.desk_tables.specs.Counting.{HaveSpanRows, IsMostCells, IsMostSpans}
 use Rattle.desk_tables.specs.Closing.{IsLeftUnclosed}
 use Rattle.desk_tables.specs.Copying.{AreHoldingsOf, AreNotCopied, AreNotRead, IsMadeIn, LooksIn, live_count}
-use Rattle.desk_tables.specs.declared.closing.Unclosed.{Unclosed}
+use Rattle.desk_tables.specs.declared.closing.CheckpointError.{CheckpointError}
 use Rattle.desk_tables.specs.declared.opening.files.CopyFault.{CopyFault}
 use Rattle.desk_tables.specs.declared.opening.files.CopyFault.TheVariants as copy
 use Rattle.desk_tables.specs.declared.opening.files.FilesFault.{FilesFault}
 use Rattle.desk_tables.specs.declared.opening.open.OpenFault.TheVariants as opening
 use Rattle.desk_tables.specs.Leaving.{IsSettledAt}
-use Rattle.desk_tables.specs.declared.opening.looking.Holdings.{Holdings}
-use Rattle.desk_admin.specs.declared.keeping.Uncopied.{Uncopied}
-use Rattle.desk_admin.specs.declared.unopened.Unopened.{Unopened}
-use Rattle.desk_admin.specs.KeeperOutside.{KeeperOutside}
+use Rattle.desk_tables.specs.declared.opening.looking.DbStats.{DbStats}
+use Rattle.desk_admin.specs.declared.keeping.CopyError.{CopyError}
+use Rattle.desk_admin.specs.declared.unopened.OpenError.{OpenError}
+use Rattle.desk_admin.specs.AdminOutside.{AdminOutside}
 use Rattle.desk_host.specs.Naming.{Follows, HasFailedStep, IsNamed, IsUnnamed, Steps, Synced, free_steps, named_steps}
 use Rattle.desk_host.specs.Telling.{Tells}
 use Rattle.desk_admin.specs.Unopened.{open_failure, FailsOver, IsInMemory, IsUnreadFor}
 
 -- why is told, and then the line of the failure, with which it ends
-pub record FailsTelling (f : Failure) (end : Ending) : Type 0 where
+pub record FailsTelling (f : ErrorCode) (end : Ending) : Type 0 where
   pub between : Option (List ℕ)
   pub cause : Tells (course end.before between)
   pub fails : FailsWith f (record end { before = between })
@@ -58,16 +58,16 @@ module _ {D : Type 0} {g : disk.Ghosts D} (image : Image) where
 
   -- why files are not read: memory ran out; or what the connection showed that read them, or that they were
   -- not opened
-  abbrev pub FailsToRead : Unopened D g → Type 0
+  abbrev pub FailsToRead : OpenError D g → Type 0
   FailsToRead it = IsUnreadFor it opening.OutOfMemory
       ⊎ FailsOver (λ files. AreNotRead image files.fault files.connection) it
 
   -- why no content is told of a database: it is in memory, or its files are not read
-  abbrev pub FailsToLook : Database → Unopened D g → Type 0
+  abbrev pub FailsToLook : Database → OpenError D g → Type 0
   FailsToLook database it = (IsInMemory database × IsUnreadFor it opening.Store) ⊎ FailsToRead it
 
   -- a failure is told, and nothing is printed
-  pub record IsUntold (database : Database) (end : Ending) (it : Unopened D g)
+  pub record IsUntold (database : Database) (end : Ending) (it : OpenError D g)
       (writes : Course (Option (List ℕ))) : Type 0 where
     pub look : FailsToLook database it
     pub told : FailsTelling it.failure end
@@ -82,14 +82,14 @@ module _ {D : Type 0} {g : disk.Ghosts D} (image : Image) where
 
   -- what they hold is told, or a failure is
   abbrev pub IsChecked :
-      Database → Ending → Result (Held (FileStore D g)) (Unopened D g) → Course (Option (List ℕ)) → Type 0
+      Database → Ending → Result (Held (FileStore D g)) (OpenError D g) → Course (Option (List ℕ)) → Type 0
   IsChecked database end (Ok left) writes = IsFileTold end left writes
   IsChecked database end (Err it) writes = IsUntold database end it writes
 
 -- ---- a copy
 
 -- nothing was asked of files, or they were not refused, and this is the failure
-pub record FailsUntried {R M U : Type 0} (f : Failure) (it : Uncopied R M U) : Type 0 where
+pub record FailsUntried {R M U : Type 0} (f : ErrorCode) (it : CopyError R M U) : Type 0 where
   pub failure : it.failure ≡ f
   pub unread : it.unread ≡ None
   pub unmade : it.unmade ≡ None
@@ -97,12 +97,12 @@ pub record FailsUntried {R M U : Type 0} (f : Failure) (it : Uncopied R M U) : T
 
 -- why files were not copied
 abbrev pub CopyEnd : {D E : Type 0} → disk.Ghosts D → disk.Ghosts E → Type 0
-CopyEnd {D} {E} g k = Uncopied (FilesFault D g) (FilesFault E k) (Unclosed E k)
+CopyEnd {D} {E} g k = CopyError (FilesFault D g) (FilesFault E k) (CheckpointError E k)
 
 -- this fault of files is the failure
 abbrev pub FailsBy :
     {D E U : Type 0} {g : disk.Ghosts D} {k : disk.Ghosts E} → CopyFault D E g k
-    → Uncopied (FilesFault D g) (FilesFault E k) U → Type 0
+    → CopyError (FilesFault D g) (FilesFault E k) U → Type 0
 FailsBy (copy.Unread files) it =
     (it.failure ≡ open_failure files.fault) × IsSomeAnd it.unread (λ s. s.value ≡ files)
 FailsBy (copy.Unmade files source) it =
@@ -132,7 +132,7 @@ module _ {D E : Type 0} {g : disk.Ghosts D} {k : disk.Ghosts E} (image other : I
       ⊎ ((HasFailedStep steps × FailsUntried failure.Store it) ⊎ FailsAtFiles it))
 
   -- a failure is told, and nothing is printed
-  pub record IsUncopied (database : Database) (o : KeeperOutside) (it : CopyEnd g k) : Type 0 where
+  pub record IsUncopied (database : Database) (o : AdminOutside) (it : CopyEnd g k) : Type 0 where
     pub why : FailsToCopy database o.steps it
     pub told : FailsTelling it.failure o.end
     pub unprinted : o.writes.after ≡ o.writes.before
@@ -140,7 +140,7 @@ module _ {D E : Type 0} {g : disk.Ghosts D} {k : disk.Ghosts E} (image other : I
 module _ {D E : Type 0} {g : disk.Ghosts D} (k : disk.Ghosts E) (image other : Image) where
   -- a connection to files that held this leaves them, and new files, whose log is empty, have their content:
   -- a store of it was made there and closed
-  pub record IsCopyMade (copies : Held (FileStore D g) × (Files E × Holdings)) : Type 0 where
+  pub record IsCopyMade (copies : Held (FileStore D g) × (Files E × DbStats)) : Type 0 where
     pub w : World
     pub held : Held (FileStore E k)
     pub counted : AreHoldingsOf copies.1.1 w
@@ -151,17 +151,17 @@ module _ {D E : Type 0} {g : disk.Ghosts D} (k : disk.Ghosts E) (image other : I
 
 -- the connection to files that were copied, the new files and what was counted; or why they were not copied
 abbrev pub CopyOutcome : {D E : Type 0} → disk.Ghosts D → disk.Ghosts E → Type 0
-CopyOutcome {D} {E} g k = Result (Held (FileStore D g) × (Files E × Holdings)) (CopyEnd g k)
+CopyOutcome {D} {E} g k = Result (Held (FileStore D g) × (Files E × DbStats)) (CopyEnd g k)
 
 module _ {D E : Type 0} {g : disk.Ghosts D} {k : disk.Ghosts E} (image other : Image) where
   -- how much was copied is told; or a failure is
-  abbrev pub IsCopied : Database → KeeperOutside → CopyOutcome g k → Type 0
+  abbrev pub IsCopied : Database → AdminOutside → CopyOutcome g k → Type 0
   IsCopied database o (Ok copies) = IsCopyMade k image other copies
       × IsTextPrinted (copied_line copies.1.1.operators copies.1.1.plans) o.end o.writes.before o.writes.after
   IsCopied database o (Err it) = IsUncopied image other database o it
 
 -- why nothing is copied, once the files were asked for: they refused it; or a step failed, and alone is told
-abbrev pub IsAsCopied : {A R M U : Type 0} → Result A (Uncopied R M U) → Steps → Uncopied R M U → Type 0
+abbrev pub IsAsCopied : {A R M U : Type 0} → Result A (CopyError R M U) → Steps → CopyError R M U → Type 0
 IsAsCopied copied steps it = (copied ≡ Err it) ⊎ (HasFailedStep steps × FailsUntried failure.Store it)
 
 -- what is copied gets its name; or no file gets one, or the file gets its own, whole, and its folder can't be

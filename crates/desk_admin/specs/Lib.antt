@@ -1,6 +1,6 @@
--- Read first: Unopened, FilesTold, Twins, Reordering.
+-- Read first: OpenError, FilesTold, Twins, Reordering.
 pub mod Unopened
-pub mod KeeperOutside
+pub mod AdminOutside
 pub mod Stored
 pub mod FilesTold
 pub mod Twins

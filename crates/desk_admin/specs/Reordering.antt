@@ -7,13 +7,13 @@ use Rattle.sqlite_wal.specs.Recovery.{Image}
 use Rattle.sqlite_store.specs.declared.store.FileStore.{FileStore}
 use Rattle.sqlite.specs.Held.{Held}
 use Rattle.desk_wire.specs.Passage.{Course, course}
-use Rattle.desk_line.specs.declared.failure.Failure.{Failure}
-use Rattle.desk_line.specs.declared.failure.Failure.TheVariants as failure
-use Rattle.desk_line.specs.Exits.{IsLineBreakdown}
+use Rattle.desk_cli.specs.declared.failure.ErrorCode.{ErrorCode}
+use Rattle.desk_cli.specs.declared.failure.ErrorCode.TheVariants as failure
+use Rattle.desk_cli.specs.Exits.{IsLineBreakdown}
 use Rattle.desk_program.specs.declared.looking.CheckedFile.{CheckedFile}
-use Rattle.desk_admin.specs.declared.unopened.Unopened.{Unopened}
-use Rattle.desk_host.specs.declared.ways.Way.{Way}
-use Rattle.desk_host.specs.declared.ways.Way.TheVariants as way
+use Rattle.desk_admin.specs.declared.unopened.OpenError.{OpenError}
+use Rattle.desk_host.specs.declared.ways.ReadMode.{ReadMode}
+use Rattle.desk_host.specs.declared.ways.ReadMode.TheVariants as way
 use Rattle.desk_admin.specs.FilesTold.{FailsToRead, IsReadAs}
 use Rattle.desk_host.specs.Telling.{IsWrittenIfRoom, Tells, line_of}
 use Rattle.desk_host.specs.Naming.{Failed, Follows, Ordered, Step, Steps}
@@ -24,12 +24,12 @@ abbrev pub reordered_text : List ℕ
 reordered_text = codes "its tables are put in a desk's own order"
 
 -- a file is put in order, or that can't be done
-abbrev pub IsOrderedOr : List ℕ → Result ⊤ Failure → Steps → Type 0
+abbrev pub IsOrderedOr : List ℕ → Result ⊤ ErrorCode → Steps → Type 0
 IsOrderedOr path (Ok done) steps = Follows steps (Ordered path ∷ [])
 IsOrderedOr path (Err f) steps = (f ≡ failure.Store) × Follows steps (Failed ∷ [])
 
 -- so, if its twin was admitted; else nothing is asked of it, and this is the failure
-abbrev pub IsOrderedIf : List ℕ → Result ⊤ Failure → Result ⊤ Failure → Steps → Type 0
+abbrev pub IsOrderedIf : List ℕ → Result ⊤ ErrorCode → Result ⊤ ErrorCode → Steps → Type 0
 IsOrderedIf path (Ok it) done steps = IsOrderedOr path done steps
 IsOrderedIf path (Err f) done steps = (done ≡ Err f) × (steps.after ≡ steps.before)
 
@@ -41,7 +41,7 @@ module _ {D : Type 0} {g : disk.Ghosts D} (image : Image) (takes : Bool) where
     pub taken : takes ≡ false → file.is_old ≡ false
 
   -- it was read as a desk's, and the line doesn't take it, as it has rows of schema 1
-  pub record IsTooOld (left : Held (FileStore D g)) (f : Failure) : Type 0 where
+  pub record IsTooOld (left : Held (FileStore D g)) (f : ErrorCode) : Type 0 where
     pub file : CheckedFile
     pub read : IsReadAs image left file
     pub untaken : takes ≡ false
@@ -50,42 +50,42 @@ module _ {D : Type 0} {g : disk.Ghosts D} (image : Image) (takes : Bool) where
 
   -- a twin is admitted, or not, by what it showed
   abbrev pub IsAdmitted :
-      Result ⊤ Failure → Result (Held (FileStore D g)) (Unopened D g) → Type 0
+      Result ⊤ ErrorCode → Result (Held (FileStore D g)) (OpenError D g) → Type 0
   IsAdmitted (Ok it) (Ok left) = IsTaken left
   IsAdmitted (Err f) (Ok left) = IsTooOld left f
   IsAdmitted admitted (Err unread) = FailsToRead image unread × (admitted ≡ Err unread.failure)
 
 module _ {D : Type 0} {g : disk.Ghosts D} (image : Image) (path : List ℕ) (takes : Bool) where
   -- a twin is admitted or not, and is removed; then the file is put in order, if it was
-  pub record IsOrderedByTwin (done : Result ⊤ Failure)
-      (judged : Result (Held (FileStore D g)) (Unopened D g)) (steps : Steps) : Type 0 where
-    pub admitted : Result ⊤ Failure
+  pub record IsOrderedByTwin (done : Result ⊤ ErrorCode)
+      (judged : Result (Held (FileStore D g)) (OpenError D g)) (steps : Steps) : Type 0 where
+    pub admitted : Result ⊤ ErrorCode
     pub between : Option (List Step)
     pub is : IsAdmitted image takes admitted judged
     pub removed : AreRemoved (twin_of path) (course steps.before between)
     pub ordered : IsOrderedIf path admitted done (course between steps.after)
 
   -- so, once it was made of the file
-  pub record WasJudged (done : Result ⊤ Failure)
-      (judged : Result (Held (FileStore D g)) (Unopened D g)) (steps : Steps) : Type 0 where
+  pub record WasJudged (done : Result ⊤ ErrorCode)
+      (judged : Result (Held (FileStore D g)) (OpenError D g)) (steps : Steps) : Type 0 where
     pub from : Option (List Step)
     pub made : Follows (course steps.before from) (making path (twin_of path) true)
     pub ordered : IsOrderedByTwin done judged (course from steps.after)
 
   -- what is done of a disordered file: so, or there is no twin
   abbrev pub IsReordered :
-      Result ⊤ Failure → Option (Result (Held (FileStore D g)) (Unopened D g)) → Steps → Type 0
+      Result ⊤ ErrorCode → Option (Result (Held (FileStore D g)) (OpenError D g)) → Steps → Type 0
   IsReordered done (Some judged) steps = WasJudged done judged steps
   IsReordered done None steps = IsErrAnd done (λ f. IsLineBreakdown f × IsUntwinned (twin_of path) steps f)
 
   -- nothing is done of any other
   abbrev pub IsLeftAlone :
-      Result ⊤ Failure → Option (Result (Held (FileStore D g)) (Unopened D g)) → Steps → Type 0
+      Result ⊤ ErrorCode → Option (Result (Held (FileStore D g)) (OpenError D g)) → Steps → Type 0
   IsLeftAlone done judged steps = (done ≡ Ok tt) × (judged ≡ None) × (steps.after ≡ steps.before)
 
   abbrev pub IsReorderedIf :
-      Way → Result ⊤ Failure → Option (Result (Held (FileStore D g)) (Unopened D g)) → Steps → Type 0
-  IsReorderedIf way.Disordered done judged steps = IsReordered done judged steps
+      ReadMode → Result ⊤ ErrorCode → Option (Result (Held (FileStore D g)) (OpenError D g)) → Steps → Type 0
+  IsReorderedIf way.OtherOrder done judged steps = IsReordered done judged steps
   IsReorderedIf _ done judged steps = IsLeftAlone done judged steps
 
 -- the line that tells that a file was put in order
@@ -94,7 +94,7 @@ reordered_line path = line_of path reordered_text
 
 -- of a file that was put in order that is told, of one that is left nothing, and else why
 abbrev pub IsReorderTold :
-    {X : Type 0} → List ℕ → Result ⊤ Failure → Option X → Course (Option (List ℕ)) → Type 0
+    {X : Type 0} → List ℕ → Result ⊤ ErrorCode → Option X → Course (Option (List ℕ)) → Type 0
 IsReorderTold path (Ok done) None writes = writes.after ≡ writes.before
 IsReorderTold path (Ok done) (Some judged) writes = IsWrittenIfRoom (reordered_line path) writes
 IsReorderTold path (Err f) judged writes = Tells writes

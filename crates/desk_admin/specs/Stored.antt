@@ -7,12 +7,12 @@ use Rattle.sqlite.specs.Held.{Held}
 use Rattle.desk_tables.specs.Copying.{AreHoldingsOf, IsMadeIn, LooksIn}
 use Rattle.desk_tables.specs.Leaving.{IsSettledAt}
 use Rattle.desk_tables.specs.Store.{Shown}
-use Rattle.desk_tables.specs.declared.opening.looking.Holdings.{Holdings}
+use Rattle.desk_tables.specs.declared.opening.looking.DbStats.{DbStats}
 
 -- a connection to files that held this leaves them, and a store of what they hold, with its numbers, was made
 -- in new files that held the other
 pub record IsStoredAs {D E : Type 0} {g : disk.Ghosts D} {k : disk.Ghosts E} (image other : Image)
-    (copied : Held (FileStore D g) × (Shown (FileStore E k) × Holdings)) : Type 0 where
+    (copied : Held (FileStore D g) × (Shown (FileStore E k) × DbStats)) : Type 0 where
   pub counted : AreHoldingsOf copied.1.1 copied.1.0.world
   pub looks : LooksIn image copied.0 copied.1.1.is_old copied.1.0.world
   pub made : IsMadeIn other copied.1.0.held

@@ -6,21 +6,21 @@ use Rattle.sqlite_wal.specs.Recovery.{Image}
 use Rattle.sqlite_store.specs.declared.store.FileStore.{FileStore}
 use Rattle.sqlite.specs.Held.{Held}
 use Rattle.desk_wire.specs.Passage.{Course, course}
-use Rattle.desk_line.specs.declared.failure.Failure.{Failure}
-use Rattle.desk_line.specs.declared.failure.Failure.TheVariants as failure
-use Rattle.desk_line.specs.declared.line.Copying.{Copying as CopyWords}
-use Rattle.desk_line.specs.declared.line.Database.{Database}
-use Rattle.desk_line.specs.Exits.{Ending, FailsWith, IsLineBreakdown}
-use Rattle.desk_line.specs.Lines.{file_of}
+use Rattle.desk_cli.specs.declared.failure.ErrorCode.{ErrorCode}
+use Rattle.desk_cli.specs.declared.failure.ErrorCode.TheVariants as failure
+use Rattle.desk_cli.specs.declared.line.CopyArgs.{CopyArgs as CopyWords}
+use Rattle.desk_cli.specs.declared.line.Database.{Database}
+use Rattle.desk_cli.specs.Exits.{Ending, FailsWith, IsLineBreakdown}
+use Rattle.desk_cli.specs.Lines.{file_of}
 use Rattle.desk_program.specs.Looking.{IsTextPrinted, checked_line}
 use Rattle.desk_program.specs.declared.looking.CheckedFile.{CheckedFile}
-use Rattle.desk_admin.specs.declared.unopened.Unopened.{Unopened}
+use Rattle.desk_admin.specs.declared.unopened.OpenError.{OpenError}
 use Rattle.desk_admin.specs.declared.twins.Rows.{Rows}
 use Rattle.desk_admin.specs.declared.twins.Rows.TheVariants as rows
-use Rattle.desk_host.specs.declared.ways.Way.{Way}
-use Rattle.desk_host.specs.declared.ways.Way.TheVariants as way
+use Rattle.desk_host.specs.declared.ways.ReadMode.{ReadMode}
+use Rattle.desk_host.specs.declared.ways.ReadMode.TheVariants as way
 use Rattle.desk_admin.specs.FilesTold.{CopyOutcome, FailsTelling, FailsToRead, IsCopied, IsNamedIf, IsReadAs}
-use Rattle.desk_admin.specs.KeeperOutside.{KeeperOutside}
+use Rattle.desk_admin.specs.AdminOutside.{AdminOutside}
 use Rattle.desk_host.specs.Naming.{Follows, LeavesOthers, Step, Steps}
 use Rattle.desk_host.specs.Scratch.{AreRemoved, IsUntwinned, making, twin_of}
 use Rattle.desk_host.specs.Telling.{IsWrittenIfRoom, line_of}
@@ -48,11 +48,11 @@ abbrev pub order_line : List ℕ → List ℕ
 order_line path = line_of path order_text
 
 -- what is told of a file that is read in a way, by a twin whose rows are a desk's
-abbrev pub taken_line : List ℕ → Way → Option (List ℕ)
+abbrev pub taken_line : List ℕ → ReadMode → Option (List ℕ)
 taken_line path way.Itself = None
 taken_line path way.Damaged = None
-taken_line path (way.Unsummed pages) = Some (rows_line path pages rows.OfADesk)
-taken_line path way.Disordered = Some (order_line path)
+taken_line path (way.BadChecksums pages) = Some (rows_line path pages rows.OfADesk)
+taken_line path way.OtherOrder = Some (order_line path)
 
 -- so, if there is a line
 abbrev pub IsNotedIf : Option (List ℕ) → Course (Option (List ℕ)) → Type 0
@@ -60,8 +60,8 @@ IsNotedIf None writes = writes.after ≡ writes.before
 IsNotedIf (Some line) writes = IsWrittenIfRoom line writes
 
 -- there is no twin, which is told, and nothing is printed
-pub record FailsUntwinned (twin : List ℕ) (o : KeeperOutside) : Type 0 where
-  pub failure : Failure
+pub record FailsUntwinned (twin : List ℕ) (o : AdminOutside) : Type 0 where
+  pub failure : ErrorCode
   pub is : IsLineBreakdown failure
   pub untwinned : IsUntwinned twin o.steps failure
   pub told : FailsTelling failure o.end
@@ -74,20 +74,20 @@ pub record FailsNoted (path : List ℕ) (pages : ℕ) (end : Ending) : Type 0 wh
   pub fails : FailsWith failure.Store (record end { before = between })
 
 -- by why they could not be read: want of memory says nothing of them
-abbrev pub AreRowsRefused : List ℕ → ℕ → Failure → Ending → Type 0
+abbrev pub AreRowsRefused : List ℕ → ℕ → ErrorCode → Ending → Type 0
 AreRowsRefused path pages f end = ((f ≡ failure.Memory) × FailsWith failure.Memory end)
     ⊎ ((f ≢ failure.Memory) × FailsNoted path pages end)
 
 -- so, if its pages lack their sums; else why is told, and then this failure
-abbrev pub IsTwinRefused : List ℕ → Way → Failure → Ending → Type 0
+abbrev pub IsTwinRefused : List ℕ → ReadMode → ErrorCode → Ending → Type 0
 IsTwinRefused path way.Itself f end = FailsTelling f end
 IsTwinRefused path way.Damaged f end = FailsTelling f end
-IsTwinRefused path (way.Unsummed pages) f end = AreRowsRefused path pages f end
-IsTwinRefused path way.Disordered f end = FailsTelling f end
+IsTwinRefused path (way.BadChecksums pages) f end = AreRowsRefused path pages f end
+IsTwinRefused path way.OtherOrder f end = FailsTelling f end
 
 -- ---- a look
 
-module _ {D : Type 0} {g : disk.Ghosts D} (image : Image) (path : List ℕ) (way : Way) where
+module _ {D : Type 0} {g : disk.Ghosts D} (image : Image) (path : List ℕ) (way : ReadMode) where
   -- the rows of a file are a desk's, and what is told of its way is told, and what they are
   pub record IsTakenByRows (left : Held (FileStore D g)) (end : Ending) (writes : Course (Option (List ℕ)))
       : Type 0 where
@@ -99,7 +99,7 @@ module _ {D : Type 0} {g : disk.Ghosts D} (image : Image) (path : List ℕ) (way
         writes.before writes.after
 
   -- they can't be read as a desk's, and nothing is printed
-  pub record IsRefusedByRows (it : Unopened D g) (end : Ending) (writes : Course (Option (List ℕ)))
+  pub record IsRefusedByRows (it : OpenError D g) (end : Ending) (writes : Course (Option (List ℕ)))
       : Type 0 where
     pub look : FailsToRead image it
     pub told : IsTwinRefused path way it.failure end
@@ -107,11 +107,11 @@ module _ {D : Type 0} {g : disk.Ghosts D} (image : Image) (path : List ℕ) (way
 
   -- the one or the other, by what the twin showed
   abbrev pub IsJudged :
-      Result (Held (FileStore D g)) (Unopened D g) → Ending → Course (Option (List ℕ)) → Type 0
+      Result (Held (FileStore D g)) (OpenError D g) → Ending → Course (Option (List ℕ)) → Type 0
   IsJudged (Ok left) end writes = IsTakenByRows left end writes
   IsJudged (Err it) end writes = IsRefusedByRows it end writes
 
-  abbrev pub IsJudgedIf : Option (Result (Held (FileStore D g)) (Unopened D g)) → KeeperOutside → Type 0
+  abbrev pub IsJudgedIf : Option (Result (Held (FileStore D g)) (OpenError D g)) → AdminOutside → Type 0
   IsJudgedIf None o = FailsUntwinned (twin_of path) o
   IsJudgedIf (Some judged) o = IsJudged judged o.end o.writes
 
@@ -124,22 +124,22 @@ pub record WasTwin (source twin : List ℕ) (mended : Bool) (steps : Steps) : Ty
 -- ---- a copy
 
 -- that the sums were not tested is told, if the copy of such a file was made
-abbrev pub IsTestTold : List ℕ → Way → ℕ → Course (Option (List ℕ)) → Type 0
+abbrev pub IsTestTold : List ℕ → ReadMode → ℕ → Course (Option (List ℕ)) → Type 0
 IsTestTold path way status writes = MatchOption (untested way status) (writes.after ≡ writes.before)
     (λ pages. IsWrittenIfRoom (rows_line path pages rows.TestedAlone) writes)
 
 -- a database in memory has no file
-pub record HasNoFile (database : Database) (o : KeeperOutside) : Type 0 where
+pub record HasNoFile (database : Database) (o : AdminOutside) : Type 0 where
   pub is : IsInMemory database
   pub fails : FailsWith failure.Store o.end
   pub undone : o.steps.after ≡ o.steps.before
   pub unprinted : o.writes.after ≡ o.writes.before
 
 module _ {D E : Type 0} {g : disk.Ghosts D} {k : disk.Ghosts E} (image other : Image) (words : CopyWords)
-    (way : Way)
+    (way : ReadMode)
   where
     -- a twin is made of the file that the words name; it is copied, as a file is; and it is removed
-    pub record IsCopiedByTwin (copied : CopyOutcome g k) (o : KeeperOutside) : Type 0 where
+    pub record IsCopiedByTwin (copied : CopyOutcome g k) (o : AdminOutside) : Type 0 where
       pub source : List ℕ
       pub from : Option (List Step)
       pub until : Option (List Step)
@@ -155,7 +155,7 @@ module _ {D E : Type 0} {g : disk.Ghosts D} {k : disk.Ghosts E} (image other : I
       pub noted : IsTestTold source way o.end.status (course told o.end.now)
 
     -- so; or there is no twin, or no file, which is told, and nothing is printed or copied
-    abbrev pub IsCopiedByTwinIf : Option (CopyOutcome g k) → KeeperOutside → Type 0
+    abbrev pub IsCopiedByTwinIf : Option (CopyOutcome g k) → AdminOutside → Type 0
     IsCopiedByTwinIf None o =
         FailsUntwinned (twin_of (string_bytes words.to)) o ⊎ HasNoFile words.database o
     IsCopiedByTwinIf (Some copied) o = IsCopiedByTwin copied o

@@ -1,30 +1,31 @@
--- Unopened: what a database that can't be opened means.
+-- OpenError: what a database that can't be opened means.
 use Rattle.std.specs.Prelude.{◌≡◌, None, Result, Ok, Err}
 use Rattle.std.specs.Option.{IsSomeAnd}
 use Rattle.sqlite_disk.specs.declared.Disk as disk
-use Rattle.desk_line.specs.declared.failure.Failure.{Failure}
-use Rattle.desk_line.specs.declared.failure.Failure.TheVariants as failure
-use Rattle.desk_line.specs.Lines.{file_of}
-use Rattle.desk_line.specs.declared.line.Database.{Database}
+use Rattle.desk_cli.specs.declared.failure.ErrorCode.{ErrorCode}
+use Rattle.desk_cli.specs.declared.failure.ErrorCode.TheVariants as failure
+use Rattle.desk_cli.specs.Lines.{file_of}
+use Rattle.desk_cli.specs.declared.line.Database.{Database}
 use Rattle.desk_tables.specs.declared.opening.files.FilesFault.{FilesFault}
 use Rattle.desk_tables.specs.declared.opening.open.OpenFault.{OpenFault}
 use Rattle.desk_tables.specs.declared.opening.open.OpenFault.TheVariants as opening
-use Rattle.desk_admin.specs.declared.unopened.Unopened.{Unopened}
+use Rattle.desk_admin.specs.declared.unopened.OpenError.{OpenError}
 
 -- why a program ends at a database that can't be opened
-abbrev pub open_failure : OpenFault → Failure
+abbrev pub open_failure : OpenFault → ErrorCode
 open_failure opening.OutOfMemory = failure.Memory
 open_failure opening.Store = failure.Store
 open_failure opening.NotADesk = failure.NotADesk
 open_failure opening.OldSchema = failure.OldSchema
 
 -- the failure is that of this fault, and no files were asked for
-pub record IsUnreadFor {D : Type 0} {g : disk.Ghosts D} (it : Unopened D g) (fault : OpenFault) : Type 0 where
+pub record IsUnreadFor {D : Type 0} {g : disk.Ghosts D} (it : OpenError D g)
+    (fault : OpenFault) : Type 0 where
   pub failure : it.failure ≡ open_failure fault
   pub refused : it.refused ≡ None
 
 -- the failure is that of files that were refused, of which this is so
-pub record FailsOver {D : Type 0} {g : disk.Ghosts D} (Refused : FilesFault D g → Type 0) (it : Unopened D g)
+pub record FailsOver {D : Type 0} {g : disk.Ghosts D} (Refused : FilesFault D g → Type 0) (it : OpenError D g)
     : Type 0 where
   pub files : FilesFault D g
   pub are : IsSomeAnd it.refused (λ s. s.value ≡ files)
@@ -32,7 +33,7 @@ pub record FailsOver {D : Type 0} {g : disk.Ghosts D} (Refused : FilesFault D g 
   pub refused : Refused files
 
 -- what was opened, or the failure alone
-abbrev pub or_failure : {D T : Type 0} {g : disk.Ghosts D} → Result T (Unopened D g) → Result T Failure
+abbrev pub or_failure : {D T : Type 0} {g : disk.Ghosts D} → Result T (OpenError D g) → Result T ErrorCode
 or_failure (Ok it) = Ok it
 or_failure (Err unread) = Err unread.failure
 

@@ -6,23 +6,28 @@ ghost use Rattle.desk_program.specs.Outside.{bytes_written};
 ghost use Rattle.desk_host.specs.Telling.{Tells};
 
 use db_file::order_text;
+use desk_cli::{Database, ErrorCode};
 use desk_host::access::tell_store;
 use desk_host::probing::probe;
 use desk_host::telling::tell_of;
-use desk_host::ways::{Way, way_to};
-use desk_line::{Database, Failure};
-use desk_tables::{Named, PartFault, Unreached, part_at};
+use desk_host::ways::{ReadMode, read_mode};
+use desk_tables::{InvalidPart, Named, NotOpened, part_at};
 use sqlite::Unknown;
 use sqlite_disk::Disk;
 use std::io::Write;
 
 /// Tells why a database can't be opened by a line that makes its file where there is none.
 #[tactic(auto, using(desk_host::proofs::TellLemmas::tells_nothing))]
-pub fn tell_made<E: Write>(rt: &HostRuntime, database: &Database, failure: Failure, errors: &mut E)
+pub fn tell_made<E: Write>(
+    rt: &HostRuntime,
+    database: &Database,
+    failure: ErrorCode,
+    errors: &mut E,
+)
     ensures { Tells (bytes_written E.Write errors.old errors.new) }
 {
     match (database, failure) {
-        (Database::File(path), Failure::Store) => {
+        (Database::File(path), ErrorCode::Store) => {
             tell_store(rt, path, path, probe(rt, path, true), errors);
         }
         _ => tell_database(rt, database, failure, errors),
@@ -34,7 +39,7 @@ pub fn tell_made<E: Write>(rt: &HostRuntime, database: &Database, failure: Failu
 pub fn tell_database<E: Write>(
     rt: &HostRuntime,
     database: &Database,
-    failure: Failure,
+    failure: ErrorCode,
     errors: &mut E,
 )
     ensures { Tells (bytes_written E.Write errors.old errors.new) }
@@ -48,13 +53,13 @@ pub fn tell_database<E: Write>(
 /// Tells why the file at a path can't be opened: `uss_desk: NAME: CAUSE`. A fault of the writer is passed
 /// over.
 #[tactic(auto, using(desk_host::proofs::TellLemmas::tells_nothing))]
-pub fn tell<E: Write>(rt: &HostRuntime, path: &str, name: &str, failure: Failure, errors: &mut E)
+pub fn tell<E: Write>(rt: &HostRuntime, path: &str, name: &str, failure: ErrorCode, errors: &mut E)
     ensures { Tells (bytes_written E.Write errors.old errors.new) }
 {
     let cause = match failure {
-        Failure::Store => return tell_store(rt, path, name, probe(rt, path, false), errors),
-        Failure::NotADesk => desk_cause(rt, path),
-        Failure::OldSchema => "rows of schema 1: migrate it",
+        ErrorCode::Store => return tell_store(rt, path, name, probe(rt, path, false), errors),
+        ErrorCode::NotADesk => desk_cause(rt, path),
+        ErrorCode::OldSchema => "rows of schema 1: migrate it",
         _ => return,
     };
     tell_of(rt.alloc(), name, cause, errors);
@@ -62,7 +67,7 @@ pub fn tell<E: Write>(rt: &HostRuntime, path: &str, name: &str, failure: Failure
 
 // Why a file holds no desk, if that is found once more.
 fn desk_cause(rt: &HostRuntime, path: &str) -> &'static str {
-    if way_to(rt, path, false) == Way::Disordered {
+    if read_mode(rt, path, false) == ReadMode::OtherOrder {
         return order_text();
     }
     match part_of(part_at(rt, path, Unknown)) {
@@ -72,7 +77,7 @@ fn desk_cause(rt: &HostRuntime, path: &str) -> &'static str {
 }
 
 // The part that was named of files, on whatever disk they are. They are closed.
-fn part_of<D: Disk + Drop>(named: Result<Named<D>, Unreached<D>>) -> Option<PartFault>
+fn part_of<D: Disk + Drop>(named: Result<Named<D>, NotOpened<D>>) -> Option<InvalidPart>
     ensures named { IfOk named (λ it. result ≡ it.part) }
     ensures none { IfErr named (λ _. result ≡ None) }
 {
@@ -83,19 +88,19 @@ fn part_of<D: Disk + Drop>(named: Result<Named<D>, Unreached<D>>) -> Option<Part
 }
 
 // Which part of a file is that of no desk.
-fn part_cause(part: PartFault) -> &'static str {
+fn part_cause(part: InvalidPart) -> &'static str {
     match part {
-        PartFault::NoTable => "no table",
-        PartFault::OtherTables => "other tables than a desk's",
-        PartFault::BothSchemas => "rows of schema 1 beside rows of schema 2",
-        PartFault::Operator => "rows of no content in operator",
-        PartFault::Plan => "rows of no content in plan",
-        PartFault::Plans => "plans of no operator, or too many of one, in plan",
-        PartFault::Volume => "rows of no content in volume2",
-        PartFault::Cover => "covers of no content in volume2",
-        PartFault::Span => "rows of no content in span2",
-        PartFault::OldVolume => "rows of no content in volume",
-        PartFault::OldSpan => "rows of no content in span",
-        PartFault::OldPlan => "plans beyond the limits of schema 1 in volume",
+        InvalidPart::NoTable => "no table",
+        InvalidPart::OtherTables => "other tables than a desk's",
+        InvalidPart::BothSchemas => "rows of schema 1 beside rows of schema 2",
+        InvalidPart::Operator => "rows of no content in operator",
+        InvalidPart::Plan => "rows of no content in plan",
+        InvalidPart::Plans => "plans of no operator, or too many of one, in plan",
+        InvalidPart::Volume => "rows of no content in volume2",
+        InvalidPart::Cover => "covers of no content in volume2",
+        InvalidPart::Span => "rows of no content in span2",
+        InvalidPart::OldVolume => "rows of no content in volume",
+        InvalidPart::OldSpan => "rows of no content in span",
+        InvalidPart::OldPlan => "plans beyond the limits of schema 1 in volume",
     }
 }

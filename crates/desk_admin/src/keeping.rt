@@ -1,4 +1,4 @@
-//! What a keeper does to a file: a look at what it holds, and a copy of it.
+//! What an administrator does to a file: a look at what it holds, and a copy of it.
 
 ghost use Rattle.std.specs.Prelude.{◌≡◌, ℕ, [], List, IfErr, IfOk, Ok, OnErr, OnOk, string_bytes};
 ghost use Rattle.sqlite_wal.specs.Files.{image_at};
@@ -13,21 +13,21 @@ ghost use Rattle.desk_admin.specs.FilesTold.{FailsUntried, IsChecked, IsCopied, 
 ghost use Rattle.desk_admin.specs.FilesTold.{IsAsCopied, IsNamedNow, TellsHoldings};
 ghost use Rattle.desk_host.specs.Telling.{Tells};
 ghost use Rattle.desk_admin.specs.Stored.{IsStoredAs};
-ghost use Rattle.desk_admin.specs.KeeperOutside.{keeper_outside};
+ghost use Rattle.desk_admin.specs.AdminOutside.{admin_outside};
 ghost use Rattle.desk_host.specs.Naming.{AreNames, ChangesOwn, Follows, GivesUp, HasFailedStep, IsNotFree};
 ghost use Rattle.desk_host.specs.Naming.{IsUnnamed, LeavesOthers, Synced, TakesAll, free_steps, named_steps};
 ghost use Rattle.desk_host.specs.FolderSteps.{steps_of};
 
 use crate::causes::{tell, tell_database};
-use crate::unopened::{Unopened, Unread, open_failure};
+use crate::unopened::{OpenError, Unread, open_failure};
 use db_file::has_sums;
-use desk_host::naming::{Folder, Names, name_with, names_of, put_in_place};
+use desk_cli::{CopyArgs, Database, ErrorCode, ExitReport, report_exit};
+use desk_host::naming::{Folder, NewFile, name_with, names_of, put_in_place};
 use desk_host::room::make_room;
 use desk_host::telling::tell_of;
-use desk_line::{Copying, Database, Exit, Failure, conclude};
 use desk_program::{CheckedFile, print_checked, print_copied};
 use desk_tables::{
-    Copied, CopyFault, FilesFault, Holdings, OpenFault, Unclosed, copy_from, look_at,
+    CheckpointError, Copied, CopyFault, DbStats, FilesFault, OpenFault, copy_from, look_at,
 };
 use sqlite::{Connection, FileFrom, FileStore, Files, Start};
 use sqlite_disk::Disk;
@@ -41,13 +41,13 @@ pub type Look<F> = Connection<FileStore<FileFrom<F>>>;
 
 /// What was copied from files of a disk `D` to files of `N`: the connection to the first, the new files, and
 /// what they hold.
-pub type Copies<D, N> = (Connection<FileStore<D>>, (Files<N>, Holdings));
+pub type Copies<D, N> = (Connection<FileStore<D>>, (Files<N>, DbStats));
 
 /// Why nothing was copied. What refused it is closed, and clauses alone read what it was.
 #[derive(Drop)]
-pub struct Uncopied<R, M, U: Drop> {
+pub struct CopyError<R, M, U: Drop> {
     /// The failure with which the line ends.
-    pub failure: Failure,
+    pub failure: ErrorCode,
     /// What refused the files that were to be copied, if they were refused.
     pub unread: Option<Snapshot<R>>,
     /// What refused the new files, if they were refused.
@@ -57,14 +57,14 @@ pub struct Uncopied<R, M, U: Drop> {
 }
 
 /// Why files of a disk `D` were not copied to files of `N`.
-pub type CopyEnd<D, N> = Uncopied<FilesFault<D>, FilesFault<N>, Unclosed<N>>;
+pub type CopyEnd<D, N> = CopyError<FilesFault<D>, FilesFault<N>, CheckpointError<N>>;
 
-impl<D: Disk + Drop, N: Disk + Drop> Uncopied<FilesFault<D>, FilesFault<N>, Unclosed<N>> {
+impl<D: Disk + Drop, N: Disk + Drop> CopyError<FilesFault<D>, FilesFault<N>, CheckpointError<N>> {
     // No files were asked for, or their names failed.
-    fn untried(failure: Failure) -> CopyEnd<D, N>
+    fn untried(failure: ErrorCode) -> CopyEnd<D, N>
         ensures { FailsUntried failure result }
     {
-        Uncopied {
+        CopyError {
             failure,
             unread: None,
             unmade: None,
@@ -74,14 +74,14 @@ impl<D: Disk + Drop, N: Disk + Drop> Uncopied<FilesFault<D>, FilesFault<N>, Uncl
 }
 
 impl<D: Disk + Drop, N: Disk + Drop> From<AllocError>
-    for Uncopied<FilesFault<D>, FilesFault<N>, Unclosed<N>> {
-    ghost use Rattle.desk_line.specs.declared.failure.Failure.TheVariants.{Memory};
+    for CopyError<FilesFault<D>, FilesFault<N>, CheckpointError<N>> {
+    ghost use Rattle.desk_cli.specs.declared.failure.ErrorCode.TheVariants.{Memory};
     ghost use Rattle.desk_admin.specs.FilesTold.{FailsUntried};
 
     ghost from_gives = { λ _ it. FailsUntried Memory it };
 
     fn from(_error: AllocError) -> CopyEnd<D, N> {
-        Uncopied::untried(Failure::Memory)
+        CopyError::untried(ErrorCode::Memory)
     }
 }
 
@@ -90,13 +90,13 @@ fn refused_copy<D: Disk + Drop, N: Disk + Drop>(refused: &CopyFault<D, N>) -> Co
     ensures { FailsBy refused.now result }
 {
     match refused {
-        CopyFault::Unread(files) => Uncopied {
+        CopyFault::Unread(files) => CopyError {
             failure: open_failure(&files.fault),
             unread: Some(Snapshot::of(files)),
             unmade: None,
             unclosed: None,
         },
-        CopyFault::Unmade(files, _) => Uncopied {
+        CopyFault::Unmade(files, _) => CopyError {
             failure: open_failure(&files.fault),
             unread: None,
             unmade: Some(Snapshot::of(files)),
@@ -105,7 +105,7 @@ fn refused_copy<D: Disk + Drop, N: Disk + Drop>(refused: &CopyFault<D, N>) -> Co
     }
 }
 
-/// What a keeper's line writes to.
+/// What an administrator's command writes to.
 #[derive(Drop)]
 pub struct Writers<W: Drop, E: Drop> {
     /// What it prints to.
@@ -125,7 +125,7 @@ pub struct Starts<F: Drop, N: Drop> {
 
 // What is known of a file beside what it holds.
 #[derive(Clone, Copy)]
-struct Bulk {
+struct FileStats {
     has_sums: bool,
     size: u64,
     log: u64,
@@ -139,7 +139,7 @@ pub fn check_file<F: Start, W: Write + Drop, E: Write + Drop>(
     database: &Database,
     start: F,
     writers: &mut Writers<W, E>,
-) -> (Exit<E>, Result<Look<F>, Unread<F>>)
+) -> (ExitReport<E>, Result<Look<F>, Unread<F>>)
     ensures { IsChecked (image_at F.Start) database.now
         (ended E.Write result.0 writers.old.errors writers.new.errors) result.1
         (bytes_written W.Write writers.old.output writers.new.output) }
@@ -158,7 +158,10 @@ pub fn check_file<F: Start, W: Write + Drop, E: Write + Drop>(
 
 /// The exit status of a look. What was looked at, on whatever disk it is, is closed.
 pub fn status_checked<D: Disk + Drop, E>(
-    checked: (Exit<E>, Result<Connection<FileStore<D>>, Unopened<D>>),
+    checked: (
+        ExitReport<E>,
+        Result<Connection<FileStore<D>>, OpenError<D>>,
+    ),
 ) -> u8
     ensures { result ≡ checked.0.status }
 {
@@ -170,13 +173,13 @@ pub fn status_checked<D: Disk + Drop, E>(
 fn tell_unread<E: Write>(
     rt: &HostRuntime,
     database: &Database,
-    failure: Failure,
+    failure: ErrorCode,
     errors: &mut E,
-) -> Exit<E>
+) -> ExitReport<E>
     ensures { FailsTelling failure (ended E.Write result errors.old errors.new) }
 {
     tell_database(rt, database, failure, errors);
-    conclude(errors, Err(failure))
+    report_exit(errors, Err(failure))
 }
 
 // What a database holds, with the connection with which it was read.
@@ -191,7 +194,7 @@ fn look_for<F: Start>(
 {
     match database {
         Database::File(path) => look_in(rt, path, start),
-        Database::InMemory => Err(Unopened::unread(OpenFault::Store)),
+        Database::InMemory => Err(OpenError::unread(OpenFault::Store)),
     }
 }
 
@@ -212,12 +215,12 @@ pub fn look_in<F: Start>(
     let bulk = bulk_of(rt, path)?;
     match look_at(rt, path, start) {
         Ok((connection, holdings)) => Ok((connection, told_of(&holdings, bulk))),
-        Err(refused) => Err(Unopened::of(refused)),
+        Err(refused) => Err(OpenError::of(refused)),
     }
 }
 
 // What is told of a file.
-fn told_of(holdings: &Holdings, bulk: Bulk) -> CheckedFile
+fn told_of(holdings: &DbStats, bulk: FileStats) -> CheckedFile
     ensures counted { (w : World) → AreHoldingsOf holdings.now w → TellsHoldings result w }
     ensures schema { result.is_old ≡ holdings.now.is_old }
 {
@@ -237,9 +240,9 @@ fn told_of(holdings: &Holdings, bulk: Bulk) -> CheckedFile
 
 // How large a file and its log are, and whether its pages have sums; nothing if it can't be looked at. To be
 // called while no connection has it: that this closes the file would take the connection's lock away.
-fn bulk_of(rt: &HostRuntime, path: &str) -> Result<Bulk, AllocError> {
+fn bulk_of(rt: &HostRuntime, path: &str) -> Result<FileStats, AllocError> {
     let log = name_with(rt.alloc(), path, "-wal")?;
-    Ok(Bulk {
+    Ok(FileStats {
         has_sums: has_sums(rt, path),
         size: size_of(rt, path),
         log: size_of(rt, &log),
@@ -261,15 +264,15 @@ fn size_of(rt: &HostRuntime, path: &str) -> u64 {
 pub fn copy_file<F: Start, N: Start, P: Folder, W: Write + Drop, E: Write + Drop>(
     rt: &HostRuntime,
     folder: &mut P,
-    words: &Copying,
+    words: &CopyArgs,
     twin: Option<&str>,
     starts: Starts<F, N>,
     writers: &mut Writers<W, E>,
 ) -> (
-    Exit<E>,
+    ExitReport<E>,
     Result<Copies<FileFrom<F>, FileFrom<N>>, CopyEnd<FileFrom<F>, FileFrom<N>>>,
 )
-    ensures copied { IsCopied (image_at F.Start) (image_at N.Start) words.now.database (keeper_outside W.Write
+    ensures copied { IsCopied (image_at F.Start) (image_at N.Start) words.now.database (admin_outside W.Write
         E.Write writers.old writers.new (steps_of P.Folder folder.old folder.new) result.0) result.1 }
     ensures named { IsNamedIf result.1 (string_bytes words.now.to) (steps_of P.Folder folder.old folder.new) }
     ensures own { LeavesOthers (string_bytes words.now.to) (steps_of P.Folder folder.old folder.new) }
@@ -285,7 +288,7 @@ pub fn copy_file<F: Start, N: Start, P: Folder, W: Write + Drop, E: Write + Drop
             (exit, Ok(copies))
         }
         Err(uncopied) => (
-            conclude(&mut writers.errors, Err(uncopied.failure)),
+            report_exit(&mut writers.errors, Err(uncopied.failure)),
             Err(uncopied),
         ),
     }
@@ -293,7 +296,7 @@ pub fn copy_file<F: Start, N: Start, P: Folder, W: Write + Drop, E: Write + Drop
 
 /// The exit status of a copy. What was copied, on whatever disk it is, is closed.
 pub fn status_copied<D: Disk + Drop, N: Disk + Drop, E>(
-    copied: (Exit<E>, Result<Copies<D, N>, CopyEnd<D, N>>),
+    copied: (ExitReport<E>, Result<Copies<D, N>, CopyEnd<D, N>>),
 ) -> u8
     ensures { result ≡ copied.0.status }
 {
@@ -304,10 +307,10 @@ pub fn status_copied<D: Disk + Drop, N: Disk + Drop, E>(
 // Prints how much was copied.
 fn print_holdings<W: Write, E: Write>(
     alloc: Global,
-    holdings: &Holdings,
+    holdings: &DbStats,
     output: &mut W,
     errors: &mut E,
-) -> Exit<E>
+) -> ExitReport<E>
     ensures { IsTextPrinted (copied_line holdings.now.operators holdings.now.plans)
         (ended E.Write result errors.old errors.new) (W.contents output.old) (W.contents output.new) }
 {
@@ -320,7 +323,7 @@ fn print_holdings<W: Write, E: Write>(
 fn copy_for<F: Start, N: Start, P: Folder, E: Write>(
     rt: &HostRuntime,
     folder: &mut P,
-    words: &Copying,
+    words: &CopyArgs,
     twin: Option<&str>,
     starts: Starts<F, N>,
     errors: &mut E,
@@ -335,11 +338,11 @@ fn copy_for<F: Start, N: Start, P: Folder, E: Write>(
     ensures own { LeavesOthers (string_bytes words.now.to) (steps_of P.Folder folder.old folder.new) }
 {
     let Database::File(path) = &words.database else {
-        return Err(Uncopied::untried(Failure::Store));
+        return Err(CopyError::untried(ErrorCode::Store));
     };
     let names = names_of(rt.alloc(), &words.to)?;
     if let Err(failure) = make_room_or_tell(rt.alloc(), folder, path, &names, errors) {
-        return Err(Uncopied::untried(failure));
+        return Err(CopyError::untried(failure));
     }
     let source = Source::of(path, twin);
     let copied = copy_closed(rt, source.path, &names.part, starts);
@@ -369,7 +372,7 @@ fn keep_copy<D: Disk + Drop, N: Disk + Drop, P: Folder, E: Write>(
     rt: &HostRuntime,
     folder: &mut P,
     source: Source<'_>,
-    names: &Names,
+    names: &NewFile,
     copied: Result<Copies<D, N>, CopyEnd<D, N>>,
     errors: &mut E,
 ) -> Result<Copies<D, N>, CopyEnd<D, N>>
@@ -390,7 +393,7 @@ fn keep_copy<D: Disk + Drop, N: Disk + Drop, P: Folder, E: Write>(
         }
     };
     if let Err(failure) = publish_copy(rt.alloc(), folder, names, errors) {
-        return Err(Uncopied::untried(failure));
+        return Err(CopyError::untried(failure));
     }
     Ok(copies)
 }
@@ -400,9 +403,9 @@ fn keep_copy<D: Disk + Drop, N: Disk + Drop, P: Folder, E: Write>(
 fn publish_copy<P: Folder, E: Write>(
     alloc: Global,
     folder: &mut P,
-    names: &Names,
+    names: &NewFile,
     errors: &mut E,
-) -> Result<(), Failure>
+) -> Result<(), ErrorCode>
     ensures quiet { OnOk result (E.contents errors.new ≡ E.contents errors.old) }
     ensures told { Tells (bytes_written E.Write errors.old errors.new) }
     ensures named { (to : List ℕ) → AreNames to names.now
@@ -411,7 +414,7 @@ fn publish_copy<P: Folder, E: Write>(
         → OnErr result (IsUnnamed [] to (steps_of P.Folder folder.old folder.new)) }
     ensures own { (to : List ℕ) → AreNames to names.now
         → TakesAll (ChangesOwn to) (steps_of P.Folder folder.old folder.new) }
-    ensures failed { IfErr result (λ f. (f ≡ Failure.Store)
+    ensures failed { IfErr result (λ f. (f ≡ ErrorCode.Store)
         × HasFailedStep (steps_of P.Folder folder.old folder.new)) }
 {
     if put_in_place(folder, names) {
@@ -419,7 +422,7 @@ fn publish_copy<P: Folder, E: Write>(
     }
     let cause = "it can't be given its name, or its folder can't be synced";
     tell_of(alloc, &names.to, cause, errors);
-    Err(Failure::Store)
+    Err(ErrorCode::Store)
 }
 
 // Copies what the file at a path holds to new files at another, and closes these.
@@ -464,8 +467,8 @@ fn close_copy<D: Disk + Drop, N: Disk + Drop>(
     let (connection, (store, holdings)) = copied;
     match store.close() {
         Ok(files) => Ok((connection, (files, holdings))),
-        Err(unclosed) => Err(Uncopied {
-            failure: Failure::Store,
+        Err(unclosed) => Err(CopyError {
+            failure: ErrorCode::Store,
             unread: None,
             unmade: None,
             unclosed: Some(unclosed),
@@ -480,22 +483,22 @@ fn make_room_or_tell<P: Folder, E: Write>(
     alloc: Global,
     folder: &mut P,
     source: &str,
-    names: &Names,
+    names: &NewFile,
     errors: &mut E,
-) -> Result<(), Failure>
+) -> Result<(), ErrorCode>
     ensures quiet { OnOk result (E.contents errors.new ≡ E.contents errors.old) }
     ensures told { Tells (bytes_written E.Write errors.old errors.new) }
     ensures free { (to : List ℕ) → AreNames to names.now
         → OnOk result (Follows (steps_of P.Folder folder.old folder.new) (free_steps to)) }
     ensures refused { (to : List ℕ) → AreNames to names.now
-        → IfErr result (λ f. (f ≡ Failure.Store)
+        → IfErr result (λ f. (f ≡ ErrorCode.Store)
         × IsNotFree to (steps_of P.Folder folder.old folder.new)) }
 {
     match make_room(folder, source, names) {
         Ok(()) => Ok(()),
         Err(taken) => {
             tell_of(alloc, taken.path, taken.cause, errors);
-            Err(Failure::Store)
+            Err(ErrorCode::Store)
         }
     }
 }
@@ -506,8 +509,8 @@ fn give_up<P: Folder, E: Write>(
     rt: &HostRuntime,
     folder: &mut P,
     source: Source<'_>,
-    names: &Names,
-    failure: Failure,
+    names: &NewFile,
+    failure: ErrorCode,
     errors: &mut E,
 )
     ensures told { Tells (bytes_written E.Write errors.old errors.new) }
@@ -518,7 +521,7 @@ fn give_up<P: Folder, E: Write>(
         tell(rt, source.path, source.name, failure, errors);
         return;
     }
-    if let Failure::Store = failure {
+    if let ErrorCode::Store = failure {
         let cause = "it can't be written: a full disk, or one that fails";
         tell_of(rt.alloc(), &names.to, cause, errors);
     }

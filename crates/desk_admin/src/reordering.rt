@@ -17,13 +17,13 @@ use crate::causes::tell;
 use crate::keeping::look_in;
 use crate::twins::{Found, Judged};
 use db_file::has_other_order;
+use desk_cli::{Database, ErrorCode};
 use desk_host::access::access_cause;
 use desk_host::files::LocalHost;
 use desk_host::naming::Folder;
-use desk_host::scratch::{Twin, make_twin, remove_twin};
+use desk_host::scratch::{ScratchCopy, make_twin, remove_twin};
 use desk_host::telling::tell_of;
-use desk_host::ways::{Way, way_to};
-use desk_line::{Database, Failure};
+use desk_host::ways::{ReadMode, read_mode};
 use sqlite::{FileFrom, Start, Unknown};
 use sqlite_disk::Disk;
 use std::alloc::Global;
@@ -34,11 +34,11 @@ const UNWRITTEN: &str = "it can't be written: a full disk, or one that fails";
 
 /// A file that a line is about to open.
 #[derive(Clone, Copy)]
-pub struct Incoming<'p> {
+pub struct ReorderTarget<'p> {
     /// Its path.
     pub path: &'p str,
     /// The way in which it would be read.
-    pub way: Way,
+    pub way: ReadMode,
     /// Whether the line takes a file of schema 1.
     pub takes_old: bool,
 }
@@ -49,16 +49,20 @@ pub struct Incoming<'p> {
 /// # Errors
 ///
 /// Why it can't be put in order, which is told.
-pub fn reorder_for(rt: &HostRuntime, database: &Database, takes_old: bool) -> Result<(), Failure> {
+pub fn reorder_for(
+    rt: &HostRuntime,
+    database: &Database,
+    takes_old: bool,
+) -> Result<(), ErrorCode> {
     let Some(path) = database.path() else {
         return Ok(());
     };
     if !has_other_order(rt, path) {
         return Ok(());
     }
-    let file = Incoming {
+    let file = ReorderTarget {
         path,
-        way: way_to(rt, path, false),
+        way: read_mode(rt, path, false),
         takes_old,
     };
     let mut folder = LocalHost::new(rt);
@@ -67,8 +71,8 @@ pub fn reorder_for(rt: &HostRuntime, database: &Database, takes_old: bool) -> Re
 
 /// What came of it. The twin that was read, on whatever disk it is, is closed.
 pub fn done_of<D: Disk + Drop>(
-    reordered: (Result<(), Failure>, Option<Judged<D>>),
-) -> Result<(), Failure>
+    reordered: (Result<(), ErrorCode>, Option<Judged<D>>),
+) -> Result<(), ErrorCode>
     ensures { result ≡ reordered.0 }
 {
     let (done, _) = reordered;
@@ -86,18 +90,18 @@ pub fn done_of<D: Disk + Drop>(
 pub fn reorder<F: Start, P: Folder, E: Write>(
     rt: &HostRuntime,
     folder: &mut P,
-    file: Incoming<'_>,
+    file: ReorderTarget<'_>,
     start: F,
     errors: &mut E,
-) -> (Result<(), Failure>, Option<Judged<FileFrom<F>>>)
+) -> (Result<(), ErrorCode>, Option<Judged<FileFrom<F>>>)
     ensures reordered { IsReorderedIf (image_at F.Start) file.entry.path.now file.entry.takes_old
         file.entry.way result.0 result.1 (steps_of P.Folder folder.old folder.new) }
     ensures told { IsReorderTold file.entry.path.now result.0 result.1
         (bytes_written E.Write errors.old errors.new) }
 {
     match file.way {
-        Way::Disordered => reorder_by_twin(rt, folder, file, start, errors),
-        Way::Itself | Way::Damaged | Way::Unsummed(_) => (Ok(()), None),
+        ReadMode::OtherOrder => reorder_by_twin(rt, folder, file, start, errors),
+        ReadMode::Itself | ReadMode::Damaged | ReadMode::BadChecksums(_) => (Ok(()), None),
     }
 }
 
@@ -105,10 +109,10 @@ pub fn reorder<F: Start, P: Folder, E: Write>(
 fn reorder_by_twin<F: Start, P: Folder, E: Write>(
     rt: &HostRuntime,
     folder: &mut P,
-    file: Incoming<'_>,
+    file: ReorderTarget<'_>,
     start: F,
     errors: &mut E,
-) -> (Result<(), Failure>, Option<Judged<FileFrom<F>>>)
+) -> (Result<(), ErrorCode>, Option<Judged<FileFrom<F>>>)
     ensures reordered { IsReordered (image_at F.Start) file.entry.path.now file.entry.takes_old
         result.0 result.1 (steps_of P.Folder folder.old folder.new) }
     ensures told { IsReorderTold file.entry.path.now result.0 result.1
@@ -128,11 +132,11 @@ fn reorder_by_twin<F: Start, P: Folder, E: Write>(
 fn order_by_twin<D: Disk + Drop, P: Folder, E: Write>(
     rt: &HostRuntime,
     folder: &mut P,
-    file: Incoming<'_>,
-    twin: &Twin,
+    file: ReorderTarget<'_>,
+    twin: &ScratchCopy,
     found: Found<D>,
     errors: &mut E,
-) -> (Result<(), Failure>, Judged<D>)
+) -> (Result<(), ErrorCode>, Judged<D>)
     ensures ordered { (image : Image) → IfOk found (λ it. IsReadAs image it.0 it.1)
         → IfErr found (FailsToRead image) → AreTwins file.entry.path.now twin.now
         → IsOrderedByTwin image file.entry.path.now file.entry.takes_old result.0 result.1
@@ -153,11 +157,11 @@ fn order_by_twin<D: Disk + Drop, P: Folder, E: Write>(
 // The twin is still there.
 fn judge<D: Disk + Drop, E: Write>(
     rt: &HostRuntime,
-    file: Incoming<'_>,
+    file: ReorderTarget<'_>,
     twin: &str,
     found: Found<D>,
     errors: &mut E,
-) -> (Result<(), Failure>, Judged<D>)
+) -> (Result<(), ErrorCode>, Judged<D>)
     ensures admitted { (image : Image) → IfOk found (λ it. IsReadAs image it.0 it.1)
         → IfErr found (FailsToRead image) → IsAdmitted image file.entry.takes_old result.0 result.1 }
     ensures quiet { OnOk result.0 (E.contents errors.new ≡ E.contents errors.old) }
@@ -166,8 +170,8 @@ fn judge<D: Disk + Drop, E: Write>(
     match found {
         Ok((connection, read)) => {
             if is_too_old(file.takes_old, read.is_old) {
-                tell(rt, twin, file.path, Failure::OldSchema, errors);
-                return (Err(Failure::OldSchema), Ok(connection));
+                tell(rt, twin, file.path, ErrorCode::OldSchema, errors);
+                return (Err(ErrorCode::OldSchema), Ok(connection));
             }
             (Ok(()), Ok(connection))
         }
@@ -184,7 +188,7 @@ fn order<P: Folder, E: Write>(
     folder: &mut P,
     path: &str,
     errors: &mut E,
-) -> Result<(), Failure>
+) -> Result<(), ErrorCode>
     ensures ordered { IsOrderedOr path.now result (steps_of P.Folder folder.old folder.new) }
     ensures noted { OnOk result (IsWrittenIfRoom (spec.reordered_line path.now)
         (bytes_written E.Write errors.old errors.new)) }
@@ -193,7 +197,7 @@ fn order<P: Folder, E: Write>(
     if !folder.order(path) {
         let cause = access_cause(rt, path).unwrap_or(UNWRITTEN);
         tell_of(rt.alloc(), path, cause, errors);
-        return Err(Failure::Store);
+        return Err(ErrorCode::Store);
     }
     tell_reordered(rt.alloc(), path, errors);
     Ok(())

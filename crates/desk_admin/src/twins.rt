@@ -6,7 +6,7 @@ ghost use Rattle.sqlite_wal.specs.Files.{image_at};
 ghost use Rattle.sqlite_wal.specs.Recovery.{Image};
 ghost use Rattle.desk_program.specs.Outside.{bytes_written, ended};
 ghost use Rattle.desk_admin.specs.FilesTold.{FailsTelling, FailsToRead, IsReadAs};
-ghost use Rattle.desk_admin.specs.KeeperOutside.{keeper_outside};
+ghost use Rattle.desk_admin.specs.AdminOutside.{admin_outside};
 ghost use Rattle.desk_host.specs.FolderSteps.{steps_of};
 ghost use Rattle.desk_host.specs.Scratch.{twin_of};
 ghost use Rattle.desk_admin.specs.Twins as spec;
@@ -17,13 +17,13 @@ ghost use Rattle.desk_host.specs.Ways.{is_mended};
 
 use crate::causes::tell;
 use crate::keeping::{Copies, CopyEnd, Look, Starts, Writers, copy_file, look_in};
-use crate::unopened::{Unopened, Unread};
+use crate::unopened::{OpenError, Unread};
 use db_file::order_text;
+use desk_cli::{CopyArgs, Database, ErrorCode, ExitReport, report_exit};
 use desk_host::naming::Folder;
 use desk_host::scratch::{make_twin, remove_twin};
 use desk_host::telling::{tell_line, tell_of};
-use desk_host::ways::Way;
-use desk_line::{Copying, Database, Exit, Failure, conclude};
+use desk_host::ways::ReadMode;
 use desk_program::{CheckedFile, print_checked};
 use sqlite::{Connection, FileFrom, FileStore, Start};
 use sqlite_disk::Disk;
@@ -54,10 +54,10 @@ impl Rows {
 }
 
 /// A connection with which the files of a disk `D` were looked at, or what refused them.
-pub type Judged<D> = Result<Connection<FileStore<D>>, Unopened<D>>;
+pub type Judged<D> = Result<Connection<FileStore<D>>, OpenError<D>>;
 
 /// So, with what the files hold.
-pub type Found<D> = Result<(Connection<FileStore<D>>, CheckedFile), Unopened<D>>;
+pub type Found<D> = Result<(Connection<FileStore<D>>, CheckedFile), OpenError<D>>;
 
 /// Prints what a file holds, read in its way by a twin beside it, and answers how that ended and the
 /// connection to the twin, or why it can't be read; nothing if there is no twin. What its rows are, if its
@@ -67,11 +67,11 @@ pub fn check_by_twin<F: Start, P: Folder, W: Write + Drop, E: Write + Drop>(
     rt: &HostRuntime,
     folder: &mut P,
     path: &str,
-    way: Way,
+    way: ReadMode,
     start: F,
     writers: &mut Writers<W, E>,
-) -> (Exit<E>, Option<Result<Look<F>, Unread<F>>>)
-    ensures judged { IsJudgedIf (image_at F.Start) path.now way result.1 (keeper_outside W.Write E.Write
+) -> (ExitReport<E>, Option<Result<Look<F>, Unread<F>>>)
+    ensures judged { IsJudgedIf (image_at F.Start) path.now way result.1 (admin_outside W.Write E.Write
         writers.old writers.new (steps_of P.Folder folder.old folder.new) result.0) }
     ensures twin { IfSome result.1 (λ _. WasTwin path.now (twin_of path.now) (is_mended way)
         (steps_of P.Folder folder.old folder.new)) }
@@ -85,7 +85,7 @@ pub fn check_by_twin<F: Start, P: Folder, W: Write + Drop, E: Write + Drop>(
         &mut writers.errors,
     ) {
         Ok(twin) => twin,
-        Err(failure) => return (conclude(&mut writers.errors, Err(failure)), None),
+        Err(failure) => return (report_exit(&mut writers.errors, Err(failure)), None),
     };
     let found = look_in(rt, &twin.path, start);
     let (exit, judged) = tell_found(rt, path, &twin.path, way, found, writers);
@@ -94,7 +94,7 @@ pub fn check_by_twin<F: Start, P: Folder, W: Write + Drop, E: Write + Drop>(
 }
 
 /// The exit status of a look by a twin. What was looked at, on whatever disk it is, is closed.
-pub fn status_judged<D: Disk + Drop, E>(judged: (Exit<E>, Option<Judged<D>>)) -> u8
+pub fn status_judged<D: Disk + Drop, E>(judged: (ExitReport<E>, Option<Judged<D>>)) -> u8
     ensures { result ≡ judged.0.status }
 {
     let (exit, _) = judged;
@@ -106,10 +106,10 @@ fn tell_found<D: Disk + Drop, W: Write + Drop, E: Write + Drop>(
     rt: &HostRuntime,
     path: &str,
     twin: &str,
-    way: Way,
+    way: ReadMode,
     found: Found<D>,
     writers: &mut Writers<W, E>,
-) -> (Exit<E>, Judged<D>)
+) -> (ExitReport<E>, Judged<D>)
     ensures { (image : Image) → IfOk found (λ it. IsReadAs image it.0 it.1) → IfErr found (FailsToRead image)
         → IsJudged image path.now way result.1 (ended E.Write result.0 writers.old.errors writers.new.errors)
         (bytes_written W.Write writers.old.output writers.new.output) }
@@ -128,13 +128,13 @@ fn tell_found<D: Disk + Drop, W: Write + Drop, E: Write + Drop>(
 }
 
 // Tells of a file whose twin is a desk's what is told of its way.
-fn tell_taken<E: Write>(alloc: Global, path: &str, way: Way, errors: &mut E)
+fn tell_taken<E: Write>(alloc: Global, path: &str, way: ReadMode, errors: &mut E)
     ensures { IsNotedIf (spec.taken_line path.now way) (bytes_written E.Write errors.old errors.new) }
 {
     match way {
-        Way::Unsummed(pages) => tell_rows(alloc, path, pages, Rows::OfADesk, errors),
-        Way::Disordered => tell_order(alloc, path, errors),
-        Way::Itself | Way::Damaged => {}
+        ReadMode::BadChecksums(pages) => tell_rows(alloc, path, pages, Rows::OfADesk, errors),
+        ReadMode::OtherOrder => tell_order(alloc, path, errors),
+        ReadMode::Itself | ReadMode::Damaged => {}
     }
 }
 
@@ -143,15 +143,15 @@ fn refuse<E: Write>(
     rt: &HostRuntime,
     path: &str,
     twin: &str,
-    way: Way,
-    failure: Failure,
+    way: ReadMode,
+    failure: ErrorCode,
     errors: &mut E,
-) -> Exit<E>
+) -> ExitReport<E>
     ensures { IsTwinRefused path.now way failure (ended E.Write result errors.old errors.new) }
 {
     match way {
-        Way::Unsummed(pages) => refuse_rows(rt.alloc(), path, pages, failure, errors),
-        Way::Itself | Way::Damaged | Way::Disordered => {
+        ReadMode::BadChecksums(pages) => refuse_rows(rt.alloc(), path, pages, failure, errors),
+        ReadMode::Itself | ReadMode::Damaged | ReadMode::OtherOrder => {
             refuse_as(rt, path, twin, failure, errors)
         }
     }
@@ -162,13 +162,13 @@ fn refuse_as<E: Write>(
     rt: &HostRuntime,
     path: &str,
     twin: &str,
-    failure: Failure,
+    failure: ErrorCode,
     errors: &mut E,
-) -> Exit<E>
+) -> ExitReport<E>
     ensures { FailsTelling failure (ended E.Write result errors.old errors.new) }
 {
     tell(rt, twin, path, failure, errors);
-    conclude(errors, Err(failure))
+    report_exit(errors, Err(failure))
 }
 
 // Tells that the rows of a twin are no desk's, if it wasn't memory that ran out, and the word of the failure.
@@ -176,16 +176,16 @@ fn refuse_rows<E: Write>(
     alloc: Global,
     path: &str,
     pages: u64,
-    failure: Failure,
+    failure: ErrorCode,
     errors: &mut E,
-) -> Exit<E>
+) -> ExitReport<E>
     ensures { AreRowsRefused path.now pages failure (ended E.Write result errors.old errors.new) }
 {
     match failure {
-        Failure::Memory => conclude(errors, Err(Failure::Memory)),
+        ErrorCode::Memory => report_exit(errors, Err(ErrorCode::Memory)),
         _ => {
             tell_rows(alloc, path, pages, Rows::OfNoDesk, errors);
-            conclude(errors, Err(Failure::Store))
+            report_exit(errors, Err(ErrorCode::Store))
         }
     }
 }
@@ -196,19 +196,22 @@ fn refuse_rows<E: Write>(
 pub fn copy_by_twin<F: Start, N: Start, P: Folder, W: Write + Drop, E: Write + Drop>(
     rt: &HostRuntime,
     folder: &mut P,
-    words: &Copying,
-    way: Way,
+    words: &CopyArgs,
+    way: ReadMode,
     starts: Starts<F, N>,
     writers: &mut Writers<W, E>,
 ) -> (
-    Exit<E>,
+    ExitReport<E>,
     Option<Result<Copies<FileFrom<F>, FileFrom<N>>, CopyEnd<FileFrom<F>, FileFrom<N>>>>,
 )
-    ensures { IsCopiedByTwinIf (image_at F.Start) (image_at N.Start) words.now way result.1 (keeper_outside
+    ensures { IsCopiedByTwinIf (image_at F.Start) (image_at N.Start) words.now way result.1 (admin_outside
         W.Write E.Write writers.old writers.new (steps_of P.Folder folder.old folder.new) result.0) }
 {
     let Database::File(path) = &words.database else {
-        return (conclude(&mut writers.errors, Err(Failure::Store)), None);
+        return (
+            report_exit(&mut writers.errors, Err(ErrorCode::Store)),
+            None,
+        );
     };
     let twin = match make_twin(
         rt.alloc(),
@@ -219,7 +222,7 @@ pub fn copy_by_twin<F: Start, N: Start, P: Folder, W: Write + Drop, E: Write + D
         &mut writers.errors,
     ) {
         Ok(twin) => twin,
-        Err(failure) => return (conclude(&mut writers.errors, Err(failure)), None),
+        Err(failure) => return (report_exit(&mut writers.errors, Err(failure)), None),
     };
     let (exit, copied) = copy_file(rt, folder, words, Some(&twin.path), starts, writers);
     remove_twin(folder, &twin);
@@ -229,7 +232,7 @@ pub fn copy_by_twin<F: Start, N: Start, P: Folder, W: Write + Drop, E: Write + D
 
 /// The exit status of a copy by a twin. What was copied, on whatever disk it is, is closed.
 pub fn status_twinned<D: Disk + Drop, N: Disk + Drop, E>(
-    copied: (Exit<E>, Option<Result<Copies<D, N>, CopyEnd<D, N>>>),
+    copied: (ExitReport<E>, Option<Result<Copies<D, N>, CopyEnd<D, N>>>),
 ) -> u8
     ensures { result ≡ copied.0.status }
 {
@@ -238,7 +241,7 @@ pub fn status_twinned<D: Disk + Drop, N: Disk + Drop, E>(
 }
 
 // Tells that the rows alone were tested of a file that was copied with this status.
-fn tell_tested<E: Write>(alloc: Global, path: &str, way: Way, status: u8, errors: &mut E)
+fn tell_tested<E: Write>(alloc: Global, path: &str, way: ReadMode, status: u8, errors: &mut E)
     ensures { IsTestTold path.now way status (bytes_written E.Write errors.old errors.new) }
 {
     if let Some(pages) = way.untested(status) {

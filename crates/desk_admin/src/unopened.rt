@@ -2,12 +2,12 @@
 
 ghost use Rattle.std.specs.Prelude.{◌≡◌};
 ghost use Rattle.std.specs.Option.{IsSomeAnd};
-ghost use Rattle.desk_line.specs.Exits.{failure_word};
+ghost use Rattle.desk_cli.specs.Exits.{failure_word};
 ghost use Rattle.desk_tables.specs.OpenWords.{open_word};
 ghost use Rattle.desk_admin.specs.Unopened as spec;
 ghost use Rattle.desk_admin.specs.Unopened.{IsUnreadFor};
 
-use desk_line::Failure;
+use desk_cli::ErrorCode;
 use desk_tables::{FilesFault, OpenFault};
 use sqlite::FileFrom;
 use sqlite_disk::Disk;
@@ -16,52 +16,52 @@ use std::snapshot::Snapshot;
 
 /// Why a database was not opened. What refused it is closed, and clauses alone read what it was.
 #[derive(Drop)]
-pub struct Unopened<D: Disk> {
+pub struct OpenError<D: Disk> {
     /// The failure with which the line ends.
-    pub failure: Failure,
+    pub failure: ErrorCode,
     /// What refused the files, if files were asked for.
     pub refused: Option<Snapshot<FilesFault<D>>>,
 }
 
-impl<D: Disk + Drop> Unopened<D> {
+impl<D: Disk + Drop> OpenError<D> {
     /// Files were refused. Their connection is closed, so that they can be looked at again.
-    pub fn of(refused: FilesFault<D>) -> Unopened<D>
+    pub fn of(refused: FilesFault<D>) -> OpenError<D>
         ensures failure { result.failure ≡ spec.open_failure refused.fault }
         ensures refused { IsSomeAnd result.refused (λ s. s.value ≡ refused) }
     {
-        Unopened {
+        OpenError {
             failure: open_failure(&refused.fault),
             refused: Some(Snapshot::of(&refused)),
         }
     }
 
     /// No files were asked for.
-    pub fn unread(fault: OpenFault) -> Unopened<D>
+    pub fn unread(fault: OpenFault) -> OpenError<D>
         ensures { IsUnreadFor result fault }
     {
-        Unopened {
+        OpenError {
             failure: open_failure(&fault),
             refused: None,
         }
     }
 }
 
-impl<D: Disk + Drop> From<AllocError> for Unopened<D> {
+impl<D: Disk + Drop> From<AllocError> for OpenError<D> {
     ghost use Rattle.desk_tables.specs.declared.opening.open.OpenFault.TheVariants.{OutOfMemory};
     ghost use Rattle.desk_admin.specs.Unopened.{IsUnreadFor};
 
     ghost from_gives = { λ _ it. IsUnreadFor it OutOfMemory };
 
-    fn from(_error: AllocError) -> Unopened<D> {
-        Unopened::unread(OpenFault::OutOfMemory)
+    fn from(_error: AllocError) -> OpenError<D> {
+        OpenError::unread(OpenFault::OutOfMemory)
     }
 }
 
 /// Why files were not opened, where `F` stands for what they held.
-pub type Unread<F> = Unopened<FileFrom<F>>;
+pub type Unread<F> = OpenError<FileFrom<F>>;
 
 /// What was opened over files, on whatever disk they are, or the failure alone.
-pub fn or_failure<D: Disk + Drop, T>(opened: Result<T, Unopened<D>>) -> Result<T, Failure>
+pub fn or_failure<D: Disk + Drop, T>(opened: Result<T, OpenError<D>>) -> Result<T, ErrorCode>
     ensures { result ≡ spec.or_failure opened }
 {
     match opened {
@@ -71,14 +71,14 @@ pub fn or_failure<D: Disk + Drop, T>(opened: Result<T, Unopened<D>>) -> Result<T
 }
 
 /// The failure with which the program ends if a database can't be opened: its word is that of `open_word`.
-pub fn open_failure(fault: &OpenFault) -> Failure
+pub fn open_failure(fault: &OpenFault) -> ErrorCode
     ensures failure { result ≡ spec.open_failure fault.now }
     ensures word { failure_word result ≡ open_word fault.now }
 {
     match fault {
-        OpenFault::OutOfMemory => Failure::Memory,
-        OpenFault::Store => Failure::Store,
-        OpenFault::NotADesk => Failure::NotADesk,
-        OpenFault::OldSchema => Failure::OldSchema,
+        OpenFault::OutOfMemory => ErrorCode::Memory,
+        OpenFault::Store => ErrorCode::Store,
+        OpenFault::NotADesk => ErrorCode::NotADesk,
+        OpenFault::OldSchema => ErrorCode::OldSchema,
     }
 }

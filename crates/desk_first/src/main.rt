@@ -4,10 +4,11 @@
 
 ghost use Rattle.std.specs.Prelude.{◌≡◌, ◌||◌};
 ghost use Rattle.std.specs.Option.{is_some};
-ghost use Rattle.desk_line.specs.Lines.{IsPlay, file_of};
+ghost use Rattle.desk_cli.specs.Lines.{IsPlay, file_of};
 
-use desk_line::{
-    Failure, Line, Play, WordsFault, conclude, print_line, read_words, report, report_malformed,
+use desk_cli::{
+    ErrorCode, Line, Play, WordsFault, print_line, read_words, report, report_exit,
+    report_malformed,
 };
 use desk_program::play;
 use desk_run::Desk;
@@ -20,7 +21,7 @@ use std::process::ExitCode;
 fn main(rt: HostRuntime) -> ExitCode {
     let status = match given_words(&rt) {
         Some(words) => run_words(&rt, rt.alloc(), words),
-        None => fail(&rt, Failure::Memory),
+        None => fail(&rt, ErrorCode::Memory),
     };
     ExitCode::from(status)
 }
@@ -37,13 +38,13 @@ fn run_words(rt: &HostRuntime, alloc: Global, words: Vec<String>) -> u8 {
         Ok(line @ (Line::Token(_) | Line::Cover(_))) => {
             print_line(alloc, &line, &mut rt.stdout(), &mut rt.stderr()).status
         }
-        Ok(_) => fail(rt, Failure::Store),
+        Ok(_) => fail(rt, ErrorCode::Store),
         Err(WordsFault::Words(error)) => match error.print(rt) {
             Ok(()) => error.exit_code() as u8,
-            Err(_) => fail(rt, Failure::Write),
+            Err(_) => fail(rt, ErrorCode::Write),
         },
         Err(WordsFault::Value) => fail_for_a_word(rt),
-        Err(WordsFault::OutOfMemory) => fail(rt, Failure::Memory),
+        Err(WordsFault::OutOfMemory) => fail(rt, ErrorCode::Memory),
     }
 }
 
@@ -52,7 +53,7 @@ fn play_here(rt: &HostRuntime, alloc: Global, line: &Play) -> u8
     requires { IsPlay line.now }
 {
     if keeps(line) {
-        return fail(rt, Failure::Store);
+        return fail(rt, ErrorCode::Store);
     }
     let mut errors = rt.stderr();
     if line.desk.enrolments.is_empty() {
@@ -64,7 +65,7 @@ fn play_here(rt: &HostRuntime, alloc: Global, line: &Play) -> u8
         );
     }
     let Ok(mut input) = BufReader::new(alloc, rt.stdin()) else {
-        return fail(rt, Failure::Memory);
+        return fail(rt, ErrorCode::Memory);
     };
     let mut desk = Desk::new(ListStore::new(alloc));
     play(
@@ -90,10 +91,10 @@ fn fail_for_a_word(rt: &HostRuntime) -> u8 {
     if let Some(words) = given_words(rt) {
         report_malformed(rt.alloc(), &words, &mut rt.stderr());
     }
-    fail(rt, Failure::Value)
+    fail(rt, ErrorCode::Value)
 }
 
 // Prints the error code of a failure, and answers its exit status.
-fn fail(rt: &HostRuntime, failure: Failure) -> u8 {
-    conclude(&mut rt.stderr(), Err(failure)).status
+fn fail(rt: &HostRuntime, failure: ErrorCode) -> u8 {
+    report_exit(&mut rt.stderr(), Err(failure)).status
 }

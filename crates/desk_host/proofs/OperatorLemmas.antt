@@ -2,7 +2,7 @@
 use Rattle.std.proofs.Common.{◌≡◌, inr, List, [], ◌∷◌, ℕ, Option, None, sym, subst}
 use Rattle.desk_wire.specs.Passage.{course}
 use Rattle.desk_program.specs.Serving.{Grows}
-use Rattle.desk_line.specs.declared.line.Enrolment.{Enrolment}
+use Rattle.desk_cli.specs.declared.line.Enrolment.{Enrolment}
 use Rattle.desk_host.specs.Operators.{AreNewsAt, Asking, IsFileUnread, Stamped}
 use Rattle.desk_host.specs.declared.operators.Stamp.{Stamp}
 

@@ -2,7 +2,7 @@
 use Rattle.std.proofs.Common.{ℕ, List, [], ◌++◌, take, Option, None, Some, inl, inr, subst, sym}
 use Rattle.std.proofs.KnownBytes.{Appends-nil, Appends-trans}
 use Rattle.std.specs.Io.KnownBytes.{Appends}
-use Rattle.desk_ends.specs.declared.writing.Cut.{Cut}
+use Rattle.io_ends.specs.declared.writing.WriteError.{WriteError}
 use Rattle.desk_wire.specs.Passage.{Course, course}
 use Rattle.desk_host.specs.Telling.{IsWrittenIfRoom, IsWrittenUpTo, Tells}
 
@@ -19,7 +19,7 @@ tells_both {old} {between} {now} first next = record {
 }
 
 -- a line is written, or broken off
-pub noted : {E : Type 0} (line : List ℕ) (cut : Option (Cut E)) (writes : Course (Option (List ℕ)))
+pub noted : {E : Type 0} (line : List ℕ) (cut : Option (WriteError E)) (writes : Course (Option (List ℕ)))
     → IsWrittenUpTo line cut writes → IsWrittenIfRoom line writes
 noted line None writes whole = inr (inl whole)
 noted line (Some cut) writes off = inr (inr (cut.fault, off))

@@ -3,11 +3,11 @@ use Rattle.std.specs.Prelude.{◌≡◌, ◌⊎◌, ℕ, Bool, true, false, if�
 use Rattle.std.specs.Prelude.{Option, IfSome, Result, Ok, Err}
 use Rattle.std.specs.declared.io.Read as read
 use Rattle.std.specs.declared.io.Write as write
-use Rattle.desk_ends.specs.declared.writing.Cut.{Cut}
+use Rattle.io_ends.specs.declared.writing.WriteError.{WriteError}
 use Rattle.desk_wire.specs.Passage.{Course}
 use Rattle.desk_program.specs.Outside.{bytes_written}
-use Rattle.desk_line.specs.declared.failure.Failure.{Failure}
-use Rattle.desk_line.specs.declared.failure.Failure.TheVariants as failure
+use Rattle.desk_cli.specs.declared.failure.ErrorCode.{ErrorCode}
+use Rattle.desk_cli.specs.declared.failure.ErrorCode.TheVariants as failure
 use Rattle.db_file.specs.Damage.{IsDamaged}
 use Rattle.db_file.specs.Reads.{IsUnjudged}
 use Rattle.desk_host.specs.Telling.{IsWrittenIfRoom, IsWrittenUpTo, line_of}
@@ -24,7 +24,7 @@ damage_line path frame commits =
     ++ (decimal commits ++ codes " commits from there on can't be read\n")))))
 
 -- a log is damaged, and that is told, up to the write that broke off
-pub record IsLossTold {E : Type 0} (path log : List ℕ) (cut : Option (Cut E))
+pub record IsLossTold {E : Type 0} (path log : List ℕ) (cut : Option (WriteError E))
     (writes : Course (Option (List ℕ))) : Type 0 where
   pub frame : ℕ
   pub commits : ℕ
@@ -53,7 +53,7 @@ HasUnlookedCause log unlooked.OutOfMemory =
 HasUnlookedCause log (unlooked.Unread fault) = IsUnjudged log fault
 
 -- whether a command is begun at a file, by what came of the look at its log, and whether that is damaged
-abbrev pub admission_of : {E : Type 0} → Result (Look E) Unlooked → Result Bool Failure
+abbrev pub admission_of : {E : Type 0} → Result (Look E) Unlooked → Result Bool ErrorCode
 admission_of (Ok look) = if look.is_admitted then Ok look.is_damaged else Err failure.DamagedLog
 admission_of (Err unlooked.OutOfMemory) = Err failure.Memory
 admission_of (Err (unlooked.Unread fault)) = Err failure.Store
@@ -63,7 +63,7 @@ abbrev pub alone_text : List ℕ
 alone_text = codes "its log is there without it: was it moved or removed while a desk ran?"
 
 -- a look at a log, of which this came
-pub record HasLooked (E : Type 0) (copied : Bool) (path log : List ℕ) (result : Result Bool Failure)
+pub record HasLooked (E : Type 0) (copied : Bool) (path log : List ℕ) (result : Result Bool ErrorCode)
     (writes : Course (Option (List ℕ))) : Type 0 where
   pub look : Result (Look E) Unlooked
   pub looked : IsLookedAt copied path log look writes
@@ -72,7 +72,7 @@ pub record HasLooked (E : Type 0) (copied : Bool) (path log : List ℕ) (result 
 -- what comes of the log that was found: a file is refused whose log is there without it, and that is told;
 -- else a log is looked at, if there is one
 abbrev pub IsJudged :
-    {R E : Type 0} → read.Ghosts R → write.Ghosts E → Bool → List ℕ → FoundLog R → Result Bool Failure
+    {R E : Type 0} → read.Ghosts R → write.Ghosts E → Bool → List ℕ → FoundLog R → Result Bool ErrorCode
     → E → E → Type 0
 IsJudged r w copied path found.Alone result before now =
     (result ≡ Err failure.Store) × IsWrittenIfRoom (line_of path alone_text) (bytes_written w before now)

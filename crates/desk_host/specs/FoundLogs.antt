@@ -7,8 +7,8 @@ use Rattle.std.specs.declared.io.ErrorKind.{ErrorKind}
 use Rattle.std.specs.declared.io.ErrorKind.TheVariants as kind
 use Rattle.db_file.specs.Commits.{least_with_commit}
 use Rattle.db_file.specs.Damage.{least_damaged}
-use Rattle.desk_line.specs.declared.failure.Failure.{Failure}
-use Rattle.desk_line.specs.declared.failure.Failure.TheVariants as failure
+use Rattle.desk_cli.specs.declared.failure.ErrorCode.{ErrorCode}
+use Rattle.desk_cli.specs.declared.failure.ErrorCode.TheVariants as failure
 use Rattle.desk_host.specs.Answers.{Answers}
 use Rattle.desk_host.specs.Naming.{log_of}
 use Rattle.desk_host.specs.declared.files.Found.{Found}
@@ -36,12 +36,12 @@ is_held (Some denial.Busy) = true
 is_held _ = false
 
 -- nothing is reached, or memory ran out, by the kind of the error
-abbrev pub unreached_by : {T : Type 0} → ErrorKind → Result (Option T) Failure
+abbrev pub unreached_by : {T : Type 0} → ErrorKind → Result (Option T) ErrorCode
 unreached_by kind.OutOfMemory = Err failure.Memory
 unreached_by _ = Ok None
 
 -- what was found, or nothing
-abbrev pub if_there : {T : Type 0} → Result T ErrorKind → Result (Option T) Failure
+abbrev pub if_there : {T : Type 0} → Result T ErrorKind → Result (Option T) ErrorCode
 if_there (Ok it) = Ok (Some it)
 if_there (Err kind) = unreached_by kind
 

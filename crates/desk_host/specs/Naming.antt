@@ -2,7 +2,7 @@
 use Rattle.std.specs.Prelude.{◌≡◌, ◌⊎◌, ⊤, ℕ, Bool, true, false, List, [], ◌∷◌, ◌++◌, All, codes, Option, None, Some, string_bytes}
 use Rattle.desk_wire.specs.Passage.{Course}
 use Rattle.desk_program.specs.Serving.{Grows}
-use Rattle.desk_host.specs.declared.naming.Names.{Names}
+use Rattle.desk_host.specs.declared.naming.NewFile.{NewFile}
 
 -- a step: a path is looked at, and there is nothing; what a copy that was cut off left at two paths, a file
 -- and its log, is gone; a file is made there for a trial, and is gone again; a file is read, and its twin
@@ -46,7 +46,7 @@ abbrev pub part_of : List ℕ → List ℕ
 part_of path = path ++ codes ".part"
 
 -- the names of a new file and of its log, and those that they have first
-pub record AreNames (to : List ℕ) (names : Names) : Type 0 where
+pub record AreNames (to : List ℕ) (names : NewFile) : Type 0 where
   pub to_is : string_bytes names.to ≡ to
   pub to_log_is : string_bytes names.to_log ≡ log_of to
   pub part_is : string_bytes names.part ≡ part_of to

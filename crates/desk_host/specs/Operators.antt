@@ -5,8 +5,8 @@ use Rattle.std.specs.Option.{is_none}
 use Rattle.std.specs.Fs.{IsFile, file_type, metadata_len}
 use Rattle.std.specs.declared.fs.attrs.Metadata.{Metadata}
 use Rattle.desk_host.specs.Causes.{unread_text}
-use Rattle.desk_line.specs.Register.{enrolment_on, enrolments_on, lines_of}
-use Rattle.desk_line.specs.declared.line.Enrolment.{Enrolment}
+use Rattle.desk_cli.specs.Register.{enrolment_on, enrolments_on, lines_of}
+use Rattle.desk_cli.specs.declared.line.Enrolment.{Enrolment}
 use Rattle.desk_wire.specs.Passage.{Course, course}
 use Rattle.desk_program.specs.Serving.{Grows}
 use Rattle.desk_host.specs.declared.operators.Stamp.{Stamp}

@@ -1,4 +1,4 @@
--- Paths: what is asked of the paths of a desk's files before a change is made.
+-- OpenPaths: what is asked of the paths of a desk's files before a change is made.
 use Rattle.std.specs.Prelude.{◌≡◌, ◌⊎◌, ℕ, Bool, true, false, List, [], ◌∷◌, Option, None, Some, Result, Ok, Err}
 use Rattle.std.specs.declared.io.ErrorKind.{ErrorKind}
 use Rattle.desk_wire.specs.Passage.{Course}
@@ -7,7 +7,7 @@ use Rattle.desk_host.specs.Answers.{Answers}
 use Rattle.desk_host.specs.Naming.{log_of}
 use Rattle.desk_host.specs.declared.files.Found.{Found}
 use Rattle.desk_host.specs.declared.files.Identity.{Identity}
-use Rattle.desk_host.specs.declared.paths.LocalPaths.{LocalPaths}
+use Rattle.desk_host.specs.declared.paths.LocalOpenPaths.{LocalOpenPaths}
 
 -- a look at a path: whether that of the database file, or that of its log, leads to the file that is open
 pub data Look : Type 0 where
@@ -37,7 +37,7 @@ abbrev pub identity_at : Answers → List ℕ → Option Identity
 identity_at it path = identity_of (it.found path)
 
 -- the paths of a file of which nothing is held yet
-pub record IsUnheldAt (file : List ℕ) (paths : LocalPaths) : Type 0 where
+pub record IsUnheldAt (file : List ℕ) (paths : LocalOpenPaths) : Type 0 where
   pub path : paths.file.now ≡ file
   pub no_file : paths.held_file ≡ None
   pub no_log : paths.held_log ≡ None

@@ -1,9 +1,9 @@
 -- Scratch: what is asked of folders for the twin of a file: a copy that is read in its place, and removed.
 use Rattle.std.specs.Prelude.{◌≡◌, ◌⊎◌, ℕ, Bool, List, [], ◌∷◌, ◌++◌, codes, string_bytes, Option}
 use Rattle.desk_wire.specs.Passage.{course}
-use Rattle.desk_line.specs.declared.failure.Failure.{Failure}
-use Rattle.desk_line.specs.declared.failure.Failure.TheVariants as failure
-use Rattle.desk_host.specs.declared.scratch.Twin.{Twin}
+use Rattle.desk_cli.specs.declared.failure.ErrorCode.{ErrorCode}
+use Rattle.desk_cli.specs.declared.failure.ErrorCode.TheVariants as failure
+use Rattle.desk_host.specs.declared.scratch.ScratchCopy.{ScratchCopy}
 use Rattle.desk_host.specs.Naming.{Cleared, Failed, Follows, Removed, Step, Steps, Takes, Twinned, log_of}
 
 -- the name of a twin
@@ -11,7 +11,7 @@ abbrev pub twin_of : List ℕ → List ℕ
 twin_of path = path ++ codes ".twin"
 
 -- the names of the twin beside a path, and of its log
-pub record AreTwins (path : List ℕ) (twin : Twin) : Type 0 where
+pub record AreTwins (path : List ℕ) (twin : ScratchCopy) : Type 0 where
   pub path_is : string_bytes twin.path ≡ twin_of path
   pub log_is : string_bytes twin.log ≡ log_of (twin_of path)
 
@@ -40,6 +40,6 @@ pub record IsMakingBrokenOff (twin : List ℕ) (steps : Steps) : Type 0 where
 
 -- there is no twin, with this failure: memory ran out, and nothing was done; what is at its name can't be
 -- removed; or its making broke off
-abbrev pub IsUntwinned : List ℕ → Steps → Failure → Type 0
+abbrev pub IsUntwinned : List ℕ → Steps → ErrorCode → Type 0
 IsUntwinned twin steps f = ((f ≡ failure.Memory) × (steps.after ≡ steps.before))
     ⊎ (Follows steps (Failed ∷ []) ⊎ IsMakingBrokenOff twin steps)

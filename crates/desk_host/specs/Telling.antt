@@ -1,9 +1,9 @@
 -- Telling: what is told to the administrator on the standard error.
 use Rattle.std.specs.Prelude.{◌≡◌, ◌⊎◌, ℕ, List, ◌++◌, codes, Option, None, Some}
 use Rattle.std.specs.Io.KnownBytes.{Appends}
-use Rattle.desk_ends.specs.Writing.{BreaksOff}
-use Rattle.desk_ends.specs.declared.writing.Cut.{Cut}
-use Rattle.desk_ends.specs.declared.writing.WriteFault.{WriteFault}
+use Rattle.io_ends.specs.Writing.{BreaksOff}
+use Rattle.io_ends.specs.declared.writing.WriteError.{WriteError}
+use Rattle.io_ends.specs.declared.writing.WriteFault.{WriteFault}
 use Rattle.desk_wire.specs.Passage.{Course}
 
 -- some text is told, of which nothing is said, and nothing else
@@ -24,7 +24,7 @@ unenrolled_line (Some path) = line_of path unenrolled_text
 unenrolled_line None = line_of (codes "in memory") unenrolled_text
 
 -- a line is written, whole or up to the write that broke off
-abbrev pub IsWrittenUpTo : {E : Type 0} → List ℕ → Option (Cut E) → Course (Option (List ℕ)) → Type 0
+abbrev pub IsWrittenUpTo : {E : Type 0} → List ℕ → Option (WriteError E) → Course (Option (List ℕ)) → Type 0
 IsWrittenUpTo line None writes = Appends writes.before writes.after line
 IsWrittenUpTo line (Some cut) writes = BreaksOff line writes.before writes.after cut.fault
 

@@ -2,8 +2,8 @@
 use Rattle.std.specs.Prelude.{ℕ, Bool, true, false, List, codes, Option, None, Some}
 use Rattle.std.specs.declared.io.ErrorKind.{ErrorKind}
 use Rattle.std.specs.declared.io.ErrorKind.TheVariants as kind
-use Rattle.desk_host.specs.declared.pairs.TwinFault.{TwinFault}
-use Rattle.desk_host.specs.declared.pairs.TwinFault.TheVariants as fault
+use Rattle.desk_host.specs.declared.pairs.ScratchFault.{ScratchFault}
+use Rattle.desk_host.specs.declared.pairs.ScratchFault.TheVariants as fault
 
 -- why a file can't be made where there is none, by the kind of the error
 abbrev pub unmade_text : ErrorKind → List ℕ
@@ -17,10 +17,10 @@ unmade_text kind.QuotaExceeded = codes "a full disk"
 unmade_text _ = codes "it can't be made"
 
 -- what is reported, and whether it is of the file itself; nothing where memory ran out
-abbrev pub fault_text : TwinFault → Option (Bool × List ℕ)
+abbrev pub fault_text : ScratchFault → Option (Bool × List ℕ)
 fault_text fault.OutOfMemory = None
 fault_text (fault.Source cause) = Some (true, cause.now)
-fault_text (fault.Twin cause) = Some (false, cause.now)
+fault_text (fault.ScratchCopy cause) = Some (false, cause.now)
 
 -- the same of a file that can't be read, and of one that can't be copied, by the kind of the error
 abbrev pub source_text : ErrorKind → Option (Bool × List ℕ)

@@ -4,34 +4,34 @@ use Rattle.std.specs.declared.io.ErrorKind.{ErrorKind}
 use Rattle.desk_host.specs.Access.{is_no_path}
 use Rattle.desk_host.specs.Answers.{Answers}
 use Rattle.desk_host.specs.FoundLogs.{has_commit}
-use Rattle.desk_host.specs.declared.ways.Way.{Way}
-use Rattle.desk_host.specs.declared.ways.Way.TheVariants as way
+use Rattle.desk_host.specs.declared.ways.ReadMode.{ReadMode}
+use Rattle.desk_host.specs.declared.ways.ReadMode.TheVariants as way
 
 -- by whether its tables are a desk's in another order than the desk takes
-abbrev pub way_by_order : Bool → Way
-way_by_order disordered = if disordered then way.Disordered else way.Itself
+abbrev pub way_by_order : Bool → ReadMode
+way_by_order disordered = if disordered then way.OtherOrder else way.Itself
 
 -- by whether its log is damaged, how many of its pages end with another sum than theirs, if that is known,
 -- and that
-abbrev pub way_for : Bool → Option ℕ → Bool → Way
+abbrev pub way_for : Bool → Option ℕ → Bool → ReadMode
 way_for true unsummed disordered = way.Damaged
 way_for false None disordered = way_by_order disordered
-way_for false (Some count) disordered = if count == 0 then way_by_order disordered else way.Unsummed count
+way_for false (Some count) disordered = if count == 0 then way_by_order disordered else way.BadChecksums count
 
 -- its twin is mended: its tables are put in a desk's own order, if they are a desk's in another, and its
 -- pages get their sums, if they have sums
-abbrev pub is_mended : Way → Bool
+abbrev pub is_mended : ReadMode → Bool
 is_mended way.Itself = false
 is_mended way.Damaged = false
-is_mended (way.Unsummed count) = true
-is_mended way.Disordered = true
+is_mended (way.BadChecksums count) = true
+is_mended way.OtherOrder = true
 
 -- how many pages are told of, if it was copied well: their sums were not tested
-abbrev pub untested : Way → ℕ → Option ℕ
+abbrev pub untested : ReadMode → ℕ → Option ℕ
 untested way.Itself status = None
 untested way.Damaged status = None
-untested way.Disordered status = None
-untested (way.Unsummed count) status = if status == 0 then Some count else None
+untested way.OtherOrder status = None
+untested (way.BadChecksums count) status = if status == 0 then Some count else None
 
 -- the log of a file may have a commit that recovery takes, or that can't be known: by where the file lies
 abbrev pub has_changes_by : Answers → List ℕ → Result (List ℕ) ErrorKind → Bool
@@ -46,11 +46,11 @@ abbrev pub HasChanges : Answers → List ℕ → Bool → Type 0
 HasChanges it path now = (now ≡ has_changes it path) ⊎ (now ≡ it.recovered path)
 
 -- the way in which a file is read, by whether its log is damaged, and whether it has changes
-abbrev pub way_with : Answers → List ℕ → Bool → Bool → Way
+abbrev pub way_with : Answers → List ℕ → Bool → Bool → ReadMode
 way_with it path true changed = way.Damaged
 way_with it path false changed = if is_no_path path then way.Itself
     else (if changed then way.Itself else way_for false (it.unsummed path) (it.disordered path))
 
-abbrev pub IsWayAt : Answers → List ℕ → Bool → Way → Type 0
+abbrev pub IsWayAt : Answers → List ℕ → Bool → ReadMode → Type 0
 IsWayAt it path damaged now = (now ≡ way_with it path damaged (has_changes it path))
     ⊎ (now ≡ way_with it path damaged (it.recovered path))

@@ -14,8 +14,8 @@ use crate::files::LocalHost;
 use crate::logs::{FoundLog, find_log};
 use crate::telling::{tell_line, tell_of};
 use db_file::{LogFault, Verdict, commits_are_long, damaged_is_long, judge_log};
-use desk_ends::Cut;
-use desk_line::{Database, Failure};
+use desk_cli::{Database, ErrorCode};
+use io_ends::WriteError;
 use std::alloc::{AllocError, Global};
 use std::io::{Read, Write};
 
@@ -36,7 +36,7 @@ pub struct Look<E> {
     /// Whether it is damaged.
     pub is_damaged: bool,
     /// Where the line that tells its damage was broken off, if it was.
-    pub cut: Option<Cut<E>>,
+    pub cut: Option<WriteError<E>>,
 }
 
 /// Why nothing is known of a log.
@@ -71,7 +71,7 @@ pub fn look_before<E: Write>(
     database: &Database,
     is_copied: bool,
     errors: &mut E,
-) -> Result<bool, Failure> {
+) -> Result<bool, ErrorCode> {
     let Some(path) = database.path() else {
         return Ok(false);
     };
@@ -87,13 +87,13 @@ fn judge_found<R: Read + Drop, E: Write>(
     is_copied: bool,
     found: FoundLog<R>,
     errors: &mut E,
-) -> Result<bool, Failure>
+) -> Result<bool, ErrorCode>
     ensures { IsJudged R.Read E.Write is_copied path.now found result errors.old errors.new }
 {
     match found {
         FoundLog::Alone => {
             tell_of(alloc, path, LOG_ALONE, errors);
-            Err(Failure::Store)
+            Err(ErrorCode::Store)
         }
         FoundLog::Nothing => Ok(false),
         FoundLog::Log(mut log) => {
@@ -103,14 +103,14 @@ fn judge_found<R: Read + Drop, E: Write>(
 }
 
 // Whether a command is begun at a file, by what came of the look at its log, and whether that is damaged.
-fn admission_of<E>(look: Result<Look<E>, Unlooked>) -> Result<bool, Failure>
+fn admission_of<E>(look: Result<Look<E>, Unlooked>) -> Result<bool, ErrorCode>
     ensures { result ≡ spec.admission_of look }
 {
     match look {
         Ok(look) if look.is_admitted => Ok(look.is_damaged),
-        Ok(_) => Err(Failure::DamagedLog),
-        Err(Unlooked::OutOfMemory) => Err(Failure::Memory),
-        Err(Unlooked::Unread(_)) => Err(Failure::Store),
+        Ok(_) => Err(ErrorCode::DamagedLog),
+        Err(Unlooked::OutOfMemory) => Err(ErrorCode::Memory),
+        Err(Unlooked::Unread(_)) => Err(ErrorCode::Store),
     }
 }
 
@@ -156,7 +156,7 @@ fn tell_damage<E: Write>(
     frame: u64,
     commits: u64,
     errors: &mut E,
-) -> Result<Option<Cut<E>>, AllocError>
+) -> Result<Option<WriteError<E>>, AllocError>
     ensures told { IfOk result (λ cut. IsWrittenUpTo (spec.damage_line path.now frame commits) cut
         (bytes_written E.Write errors.old errors.new)) }
     ensures untold { IfErr result (λ _. E.contents errors.new ≡ E.contents errors.old) }

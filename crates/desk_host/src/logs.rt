@@ -2,7 +2,7 @@
 //! is opened.
 
 ghost use Rattle.std.specs.Prelude.{◌≡◌, IfErr, IfOk, IfSome};
-ghost use Rattle.desk_line.specs.declared.failure.Failure.TheVariants.{Memory};
+ghost use Rattle.desk_cli.specs.declared.failure.ErrorCode.TheVariants.{Memory};
 ghost use Rattle.desk_host.specs.FoundLogs as spec;
 ghost use Rattle.desk_host.specs.FoundLogs.{IsLogAt, IsLogBeside};
 ghost use Rattle.desk_host.specs.Openings.{OpensAtMost};
@@ -11,7 +11,7 @@ use crate::damage::{may_be_damaged, may_have_commit};
 use crate::files::{Found, HostFiles};
 use crate::naming::name_with;
 use crate::state::Denial;
-use desk_line::Failure;
+use desk_cli::ErrorCode;
 use std::alloc::{AllocError, Global};
 use std::io::ErrorKind;
 
@@ -36,7 +36,7 @@ pub fn find_log<F: HostFiles>(
     alloc: Global,
     files: &mut F,
     path: &str,
-) -> Result<FoundLog<F::File>, Failure>
+) -> Result<FoundLog<F::File>, ErrorCode>
     ensures answer { IfSome (F.answers files.old) (λ it. IfOk result (IsLogAt F.File.Read it path.now)) }
     ensures fault { IfErr result (λ f. f ≡ Memory) }
     ensures opens { OpensAtMost F.HostFiles path.now files.old files.new }
@@ -67,7 +67,7 @@ fn log_beside<F: HostFiles>(
     alloc: Global,
     files: &mut F,
     path: &str,
-) -> Result<Option<F::File>, Failure>
+) -> Result<Option<F::File>, ErrorCode>
     ensures answer { IfSome (F.answers files.old) (λ it. IfOk result (IsLogBeside F.File.Read it path.now)) }
     ensures fault { IfErr result (λ f. f ≡ Memory) }
     ensures opens { OpensAtMost F.HostFiles path.now files.old files.new }
@@ -137,12 +137,12 @@ fn size_of(found: Result<Found, ErrorKind>) -> u64
 }
 
 // What was found; nothing if it isn't there or can't be reached, which to open it tells.
-fn if_there<T: Drop>(found: Result<T, ErrorKind>) -> Result<Option<T>, Failure>
+fn if_there<T: Drop>(found: Result<T, ErrorKind>) -> Result<Option<T>, ErrorCode>
     ensures { result ≡ spec.if_there found }
 {
     match found {
         Ok(it) => Ok(Some(it)),
-        Err(ErrorKind::OutOfMemory) => Err(Failure::Memory),
+        Err(ErrorKind::OutOfMemory) => Err(ErrorCode::Memory),
         Err(_) => Ok(None),
     }
 }

@@ -11,7 +11,7 @@ ghost use Rattle.desk_host.specs.Naming.{Removed, Renamed, Step, Synced, Takes, 
 ghost use Rattle.desk_host.specs.Naming.{named_steps};
 
 use crate::files::{HostFiles, LocalHost};
-use crate::pairs::{TwinFault, write_twin};
+use crate::pairs::{ScratchFault, write_twin};
 use crate::paths::is_at;
 use db_file::{is_in_order, put_in_order};
 use sqlite::Unknown;
@@ -53,7 +53,7 @@ pub trait Folder {
 
     /// Makes the twin of a file at a path where there is nothing, mended (`is_mended`) or, beside that of its
     /// log, as it is; and answers why that could not be done, if so.
-    fn twin(&mut self, source: &str, twin: &str, is_mended: bool) -> Option<TwinFault>
+    fn twin(&mut self, source: &str, twin: &str, is_mended: bool) -> Option<ScratchFault>
         ensures { TakesIfNone (course (steps self.old) (steps self.new)) result
             (Twinned source.now twin.now is_mended) };
 
@@ -103,7 +103,7 @@ impl Folder for LocalHost<'_> {
         }
     }
 
-    fn twin(&mut self, source: &str, twin: &str, is_mended: bool) -> Option<TwinFault> {
+    fn twin(&mut self, source: &str, twin: &str, is_mended: bool) -> Option<ScratchFault> {
         write_twin(self.rt, source, twin, is_mended).err()
     }
 
@@ -208,7 +208,7 @@ pub fn sync_folder(rt: &HostRuntime, path: &str) -> io::Result<()> {
 
 /// The names of a new file and of its log: those that they get at last, and those that they have before.
 #[derive(Drop)]
-pub struct Names {
+pub struct NewFile {
     /// That of the file.
     pub to: String,
     /// That of its log.
@@ -224,11 +224,11 @@ pub struct Names {
 /// # Errors
 ///
 /// `AllocError` if memory runs out.
-pub fn names_of(alloc: Global, to: &str) -> Result<Names, AllocError>
+pub fn names_of(alloc: Global, to: &str) -> Result<NewFile, AllocError>
     ensures { IfOk result (AreNames to.now) }
 {
     let part = name_with(alloc, to, ".part")?;
-    Ok(Names {
+    Ok(NewFile {
         to: name_with(alloc, to, "")?,
         to_log: name_with(alloc, to, "-wal")?,
         part_log: name_with(alloc, &part, "-wal")?,
@@ -250,7 +250,7 @@ pub fn name_with(alloc: Global, path: &str, end: &str) -> Result<String, AllocEr
 /// Gives a file that is whole its name, and syncs its folder. Its log, which is empty, goes. Whether all of
 /// that was done.
 #[tactic(auto, using(crate::proofs::NameLemmas::fails_after))]
-pub fn put_in_place<N: Folder>(folder: &mut N, names: &Names) -> bool
+pub fn put_in_place<N: Folder>(folder: &mut N, names: &NewFile) -> bool
     ensures named { (to : List ℕ) → AreNames to names.now → result ≡ true
         → Follows (course (N.steps folder.old) (N.steps folder.new)) (named_steps to (Synced to)) }
     ensures unnamed { (to : List ℕ) → AreNames to names.now → result ≡ false

@@ -1,8 +1,8 @@
-//! The file of enrolments that the keeper changes while a desk serves: lines `NAME CEILING`.
+//! The file of enrolments that the administrator changes while a desk serves: lines `NAME CEILING`.
 
 ghost use Rattle.std.specs.Prelude.{◌≡◌, List, [], ◌∷◌, IfErr, IfOk, MatchResult, None, Option, option_map, string_bytes};
 ghost use Rattle.std.specs.IoError.{error_kind};
-ghost use Rattle.desk_line.specs.Lines.{AreEnrolments};
+ghost use Rattle.desk_cli.specs.Lines.{AreEnrolments};
 ghost use Rattle.desk_wire.specs.Passage.{course};
 ghost use Rattle.desk_program.specs.Outside.{bytes_written};
 ghost use Rattle.desk_program.specs.Serving.{Grows};
@@ -13,8 +13,8 @@ ghost use Rattle.desk_host.specs.Telling.{IsWrittenIfRoom, line_of};
 
 use crate::files::LocalHost;
 use crate::telling::tell_of;
-use desk_line::{Enrolment, Failure, enrolment_on, enrolments_on, lines_of};
-use desk_program::Register;
+use desk_cli::{Enrolment, ErrorCode, enrolment_on, enrolments_on, lines_of};
+use desk_program::EnrolmentSource;
 use std::alloc::{AllocError, Global};
 use std::fs::{self, File, Metadata};
 use std::io::{self, ErrorKind, Read, Write};
@@ -70,7 +70,7 @@ impl From<io::Error> for Unread {
     }
 }
 
-/// The files of texts that a keeper changes while a desk serves.
+/// The files of texts that an administrator changes while a desk serves.
 pub trait TextFiles {
     /// What was asked of them, in its order, if it is known.
     ghost asked: { Self → Option (List Asking) } = { λ _. None };
@@ -106,7 +106,7 @@ impl TextFiles for LocalHost<'_> {
 
 /// A file of enrolments, or none. What can't be read of it is told on the standard error.
 #[derive(Drop)]
-pub struct OperatorsFile<'r, F: Drop> {
+pub struct EnrolmentFile<'r, F: Drop> {
     rt: &'r HostRuntime,
     files: F,
     path: Option<&'r str>,
@@ -118,8 +118,8 @@ pub struct OperatorsFile<'r, F: Drop> {
     told: Option<&'static str>,
 }
 
-/// The file of enrolments at a path, if there is one, read once, so that its keeper is told which lines can't
-/// be read.
+/// The file of enrolments at a path, if there is one, read once, so that the administrator is told which
+/// lines can't be read.
 ///
 /// # Errors
 ///
@@ -128,11 +128,11 @@ pub fn operators_of<'r, F: TextFiles + Drop>(
     rt: &'r HostRuntime,
     files: F,
     path: Option<&'r str>,
-) -> Result<OperatorsFile<'r, F>, Failure>
+) -> Result<EnrolmentFile<'r, F>, ErrorCode>
     ensures { IfOk result (λ file.
         option_map (λ path. path.now) file.path ≡ option_map (λ path. path.now) path.entry) }
 {
-    let mut file = OperatorsFile {
+    let mut file = EnrolmentFile {
         rt,
         files,
         path,
@@ -145,15 +145,15 @@ pub fn operators_of<'r, F: TextFiles + Drop>(
     };
     match file.read_file(rt.alloc(), path) {
         Ok(_) => Ok(file),
-        Err(Unread::Memory) => Err(Failure::Memory),
+        Err(Unread::Memory) => Err(ErrorCode::Memory),
         Err(Unread::Cause(cause)) => {
             tell_of(rt.alloc(), path, cause, &mut rt.stderr());
-            Err(Failure::Read)
+            Err(ErrorCode::Read)
         }
     }
 }
 
-impl<F: TextFiles + Drop> OperatorsFile<'_, F> {
+impl<F: TextFiles + Drop> EnrolmentFile<'_, F> {
     // The operators of the file. Lines that can't be read are told once.
     fn read_file(&mut self, alloc: Global, path: &str) -> Result<Vec<Enrolment>, Unread>
         ensures small { IfOk result (λ enrolments. AreEnrolments enrolments.items) }
@@ -186,11 +186,11 @@ impl<F: TextFiles + Drop> OperatorsFile<'_, F> {
     }
 }
 
-impl<F: TextFiles + Drop> Register for OperatorsFile<'_, F> {
+impl<F: TextFiles + Drop> EnrolmentSource for EnrolmentFile<'_, F> {
     #[tactic(auto, using(crate::proofs::OperatorLemmas::no_news))]
-    fn look(&mut self, alloc: Global) -> Result<Vec<Enrolment>, Failure>
+    fn look(&mut self, alloc: Global) -> Result<Vec<Enrolment>, ErrorCode>
         ensures small { IfOk result (λ news. AreEnrolments news.items) }
-        ensures fault { IfErr result (λ f. f ≡ Failure.Memory) }
+        ensures fault { IfErr result (λ f. f ≡ ErrorCode.Memory) }
         ensures news { IfOk result (λ news. AreNews (option_map (λ path. path.now) self.old.path)
             (course self.old.seen self.new.seen) (course (F.asked self.old.files) (F.asked self.new.files))
             news.items) }
@@ -208,7 +208,7 @@ impl<F: TextFiles + Drop> Register for OperatorsFile<'_, F> {
                 self.told = None;
                 Ok(enrolments)
             }
-            Err(Unread::Memory) => Err(Failure::Memory),
+            Err(Unread::Memory) => Err(ErrorCode::Memory),
             Err(Unread::Cause(cause)) => {
                 self.seen = None;
                 self.tell_once(path, cause);

@@ -17,23 +17,23 @@ use std::os::unix::fs::OpenOptionsExt;
 
 /// Why a file has no twin.
 #[derive(Clone, Copy, Debug, PartialEq, Eq)]
-pub enum TwinFault {
+pub enum ScratchFault {
     /// Memory ran out.
     OutOfMemory,
     /// The file can't be had, for this cause.
     Source(&'static str),
     /// The twin can't be made, for this cause.
-    Twin(&'static str),
+    ScratchCopy(&'static str),
 }
 
-impl From<AllocError> for TwinFault {
+impl From<AllocError> for ScratchFault {
     ghost use Rattle.std.specs.Prelude.{◌≡◌, IfSome};
-    ghost use Rattle.desk_host.specs.declared.pairs.TwinFault.TheVariants.{OutOfMemory};
+    ghost use Rattle.desk_host.specs.declared.pairs.ScratchFault.TheVariants.{OutOfMemory};
 
     ghost from_gives = { λ _ fault. fault ≡ OutOfMemory };
 
-    fn from(_error: AllocError) -> TwinFault {
-        TwinFault::OutOfMemory
+    fn from(_error: AllocError) -> ScratchFault {
+        ScratchFault::OutOfMemory
     }
 }
 
@@ -46,13 +46,13 @@ const UNREAD: &str = "it can't be read";
 ///
 /// # Errors
 ///
-/// As `TwinFault` says. What was made by then is left.
+/// As `ScratchFault` says. What was made by then is left.
 pub fn write_twin(
     rt: &HostRuntime,
     source: &str,
     twin: &str,
     is_mended: bool,
-) -> Result<(), TwinFault> {
+) -> Result<(), ScratchFault> {
     let host = LocalHost::new(rt);
     let log = match host.real(source) {
         Ok(real) => name_with(rt.alloc(), &real, "-wal")?,
@@ -71,8 +71,8 @@ pub fn write_twin(
                 write_pair(rt, source, &log, twin)
             }
         }
-        Err(OpenError::OutOfMemory) => Err(TwinFault::OutOfMemory),
-        Err(_) => Err(TwinFault::Source(access_cause(rt, source).unwrap_or(UNREAD))),
+        Err(OpenError::OutOfMemory) => Err(ScratchFault::OutOfMemory),
+        Err(_) => Err(ScratchFault::Source(access_cause(rt, source).unwrap_or(UNREAD))),
     }
 }
 
@@ -88,14 +88,14 @@ fn is_empty<F: HostFiles>(files: &F, path: &str) -> bool
 
 // Copies a file, mended. It is opened once, and closed after all else: its closing lets go
 // of it.
-fn write_mended(rt: &HostRuntime, source: &str, twin: &str) -> Result<(), TwinFault> {
+fn write_mended(rt: &HostRuntime, source: &str, twin: &str) -> Result<(), ScratchFault> {
     let mut file = File::open(rt, source).map_err(|error| source_fault(error.kind()))?;
     let mut made = new_file(rt, twin)?;
     copy_mended(&mut file, &mut made).map_err(|error| copy_fault(error.kind()))
 }
 
 // Copies a file and its log. Both are closed after all else.
-fn write_pair(rt: &HostRuntime, source: &str, log: &str, twin: &str) -> Result<(), TwinFault> {
+fn write_pair(rt: &HostRuntime, source: &str, log: &str, twin: &str) -> Result<(), ScratchFault> {
     let twin_log = format!(in rt.alloc(); "{twin}-wal")?;
     let mut file = File::open(rt, source).map_err(|error| source_fault(error.kind()))?;
     let mut changes = File::open(rt, log).map_err(|error| source_fault(error.kind()))?;
@@ -106,7 +106,7 @@ fn write_pair(rt: &HostRuntime, source: &str, log: &str, twin: &str) -> Result<(
 }
 
 // Makes a file where there is nothing, its owner's alone.
-fn new_file(rt: &HostRuntime, path: &str) -> Result<File, TwinFault> {
+fn new_file(rt: &HostRuntime, path: &str) -> Result<File, ScratchFault> {
     OpenOptions::new()
         .write(true)
         .create_new(true)
@@ -114,29 +114,31 @@ fn new_file(rt: &HostRuntime, path: &str) -> Result<File, TwinFault> {
         .open(rt, path)
         .map_err(|error| {
             match error.kind() {
-                ErrorKind::OutOfMemory => TwinFault::OutOfMemory,
-                kind => TwinFault::Twin(unmade_text(kind)),
+                ErrorKind::OutOfMemory => ScratchFault::OutOfMemory,
+                kind => ScratchFault::ScratchCopy(unmade_text(kind)),
             }
         })
 }
 
 // Why a file can't be read.
-fn source_fault(kind: ErrorKind) -> TwinFault
+fn source_fault(kind: ErrorKind) -> ScratchFault
     ensures { spec.fault_text result ≡ spec.source_text kind }
 {
     match kind {
-        ErrorKind::OutOfMemory => TwinFault::OutOfMemory,
-        _ => TwinFault::Source(UNREAD),
+        ErrorKind::OutOfMemory => ScratchFault::OutOfMemory,
+        _ => ScratchFault::Source(UNREAD),
     }
 }
 
 // Why a file can't be copied.
-fn copy_fault(kind: ErrorKind) -> TwinFault
+fn copy_fault(kind: ErrorKind) -> ScratchFault
     ensures { spec.fault_text result ≡ spec.copy_text kind }
 {
     match kind {
-        ErrorKind::OutOfMemory => TwinFault::OutOfMemory,
-        ErrorKind::StorageFull | ErrorKind::QuotaExceeded => TwinFault::Twin("a full disk"),
-        _ => TwinFault::Twin("it can't be written, or what it is made of can't be read"),
+        ErrorKind::OutOfMemory => ScratchFault::OutOfMemory,
+        ErrorKind::StorageFull | ErrorKind::QuotaExceeded => ScratchFault::ScratchCopy(
+            "a full disk",
+        ),
+        _ => ScratchFault::ScratchCopy("it can't be written, or what it is made of can't be read"),
     }
 }

@@ -2,8 +2,8 @@
 
 ghost use Rattle.std.specs.Prelude.{◌≡◌, [], ◌∷◌, IfErr, IfOk, IfSome, List, None, Option, string_bytes, true};
 ghost use Rattle.std.specs.Prelude.{unwrap_or};
-ghost use Rattle.desk_line.specs.Lines.{file_of};
-ghost use Rattle.desk_line.specs.declared.failure.Failure.TheVariants.{Memory};
+ghost use Rattle.desk_cli.specs.Lines.{file_of};
+ghost use Rattle.desk_cli.specs.declared.failure.ErrorCode.TheVariants.{Memory};
 ghost use Rattle.desk_host.specs.LeftFiles as left;
 ghost use Rattle.desk_program.specs.Serving.{Grows};
 ghost use Rattle.desk_host.specs.Paths as spec;
@@ -12,12 +12,12 @@ ghost use Rattle.desk_host.specs.Paths.{File, IsUnheldAt, Log, Look};
 use crate::files::{HostFiles, Identity, LocalHost};
 use crate::naming::name_with;
 use crate::telling::tell_of;
-use desk_line::{Database, Failure};
+use desk_cli::{Database, ErrorCode};
 use std::alloc::Global;
 use std::io::ErrorKind;
 
 /// The paths of a desk's database file and of its log, while the desk has both open.
-pub trait Paths {
+pub trait OpenPaths {
     /// What was looked at, in its order, if it is known.
     ghost looks: { Self → Option (List Look) } = { λ _. None };
 
@@ -38,7 +38,7 @@ pub trait Paths {
 #[derive(Clone, Copy)]
 pub struct NoPaths;
 
-impl Paths for NoPaths {
+impl OpenPaths for NoPaths {
     fn hold(&mut self) {}
 
     fn has_file(&mut self) -> bool {
@@ -53,7 +53,7 @@ impl Paths for NoPaths {
 /// The paths of a file and of its log. That one doesn't lead to the file that is open is told on the
 /// standard error, once.
 #[derive(Drop)]
-pub struct LocalPaths<'r> {
+pub struct LocalOpenPaths<'r> {
     rt: &'r HostRuntime,
     file: &'r str,
     log: String,
@@ -68,17 +68,20 @@ pub struct LocalPaths<'r> {
 /// # Errors
 ///
 /// `Memory` if memory runs out.
-pub fn paths_at<'r>(rt: &'r HostRuntime, database: &'r Database) -> Result<LocalPaths<'r>, Failure>
+pub fn paths_at<'r>(
+    rt: &'r HostRuntime,
+    database: &'r Database,
+) -> Result<LocalOpenPaths<'r>, ErrorCode>
     ensures { IfOk result (λ paths. IsUnheldAt (unwrap_or (file_of database.entry.now) []) paths) }
 {
     paths_beside(rt, database.path().unwrap_or(""))
 }
 
 // The paths of a file.
-fn paths_beside<'r>(rt: &'r HostRuntime, file: &'r str) -> Result<LocalPaths<'r>, Failure>
+fn paths_beside<'r>(rt: &'r HostRuntime, file: &'r str) -> Result<LocalOpenPaths<'r>, ErrorCode>
     ensures { IfOk result (λ paths. IsUnheldAt file.entry.now paths) }
 {
-    Ok(LocalPaths {
+    Ok(LocalOpenPaths {
         rt,
         file,
         log: log_beside(rt.alloc(), &LocalHost::new(rt), file)?,
@@ -89,19 +92,19 @@ fn paths_beside<'r>(rt: &'r HostRuntime, file: &'r str) -> Result<LocalPaths<'r>
 }
 
 // The path of the log of a file, which is beside the file to which a link leads.
-fn log_beside<F: HostFiles>(alloc: Global, files: &F, file: &str) -> Result<String, Failure>
+fn log_beside<F: HostFiles>(alloc: Global, files: &F, file: &str) -> Result<String, ErrorCode>
     ensures log { IfOk result (λ log. IfSome (F.answers files.now) (λ it.
         string_bytes log ≡ spec.log_at it file.now)) }
     ensures fault { IfErr result (λ f. f ≡ Memory) }
 {
     match files.real(file) {
         Ok(real) => Ok(name_with(alloc, &real, "-wal")?),
-        Err(ErrorKind::OutOfMemory) => Err(Failure::Memory),
+        Err(ErrorKind::OutOfMemory) => Err(ErrorCode::Memory),
         Err(_) => Ok(name_with(alloc, file, "-wal")?),
     }
 }
 
-impl LocalPaths<'_> {
+impl LocalOpenPaths<'_> {
     // Tells that a file isn't at its path any more, if nothing was told.
     fn tell_once(&mut self, text: &str)
         ensures told { self.new.is_told ≡ true }
@@ -115,7 +118,7 @@ impl LocalPaths<'_> {
     }
 }
 
-impl Paths for LocalPaths<'_> {
+impl OpenPaths for LocalOpenPaths<'_> {
     fn hold(&mut self) {
         if self.held_file.is_none() {
             self.held_file = identity_at(&LocalHost::new(self.rt), self.file);

@@ -5,7 +5,7 @@ ghost use Rattle.desk_host.specs.Naming.{AreNames, Cleared, Follows, Free, IsNot
 ghost use Rattle.desk_host.specs.FolderSteps.{steps_of};
 
 use crate::access::new_cause;
-use crate::naming::{Folder, Names};
+use crate::naming::{Folder, NewFile};
 
 /// What stands in the way of a new file.
 #[derive(Clone, Copy, Debug, PartialEq, Eq)]
@@ -25,7 +25,7 @@ pub struct Taken<'n> {
 pub fn make_room<'n, P: Folder>(
     folder: &mut P,
     source: &str,
-    names: &'n Names,
+    names: &'n NewFile,
 ) -> Result<(), Taken<'n>>
     ensures free { (to : List ℕ) → AreNames to names.now
         → OnOk result (Follows (steps_of P.Folder folder.old folder.new) (free_steps to)) }

@@ -1,7 +1,7 @@
 //! Twins: copies of files that are read in their place and are removed afterwards.
 
 ghost use Rattle.std.specs.Prelude.{◌≡◌, IfErr, IfOk, List, OnOk, ℕ};
-ghost use Rattle.desk_line.specs.Exits.{IsLineBreakdown};
+ghost use Rattle.desk_cli.specs.Exits.{IsLineBreakdown};
 ghost use Rattle.desk_program.specs.Outside.{bytes_written};
 ghost use Rattle.desk_host.specs.Naming.{Follows};
 ghost use Rattle.desk_host.specs.FolderSteps.{steps_of};
@@ -9,28 +9,28 @@ ghost use Rattle.desk_host.specs.Scratch.{AreRemoved, AreTwins, IsUntwinned, mak
 ghost use Rattle.desk_host.specs.Telling.{Tells};
 
 use crate::naming::{Folder, name_with};
-use crate::pairs::TwinFault;
+use crate::pairs::ScratchFault;
 use crate::telling::tell_of;
-use desk_line::Failure;
+use desk_cli::ErrorCode;
 use std::alloc::{AllocError, Global};
 use std::io::Write;
 
 /// The names of a twin and of its log.
 #[derive(Drop)]
-pub struct Twin {
+pub struct ScratchCopy {
     /// That of the twin.
     pub path: String,
     /// That of its log.
     pub log: String,
 }
 
-impl Twin {
+impl ScratchCopy {
     // The names beside a path.
-    fn beside(alloc: Global, path: &str) -> Result<Twin, AllocError>
+    fn beside(alloc: Global, path: &str) -> Result<ScratchCopy, AllocError>
         ensures { IfOk result (AreTwins path.now) }
     {
         let twin = name_with(alloc, path, ".twin")?;
-        Ok(Twin {
+        Ok(ScratchCopy {
             log: name_with(alloc, &twin, "-wal")?,
             path: twin,
         })
@@ -49,7 +49,7 @@ pub fn make_twin<P: Folder, E: Write>(
     beside: &str,
     is_mended: bool,
     errors: &mut E,
-) -> Result<Twin, Failure>
+) -> Result<ScratchCopy, ErrorCode>
     ensures made { IfOk result (λ twin. AreTwins beside.now twin × Follows
         (steps_of P.Folder folder.old folder.new) (making source.now (twin_of beside.now) is_mended)) }
     ensures unmade { IfErr result (IsUntwinned (twin_of beside.now)
@@ -58,10 +58,10 @@ pub fn make_twin<P: Folder, E: Write>(
     ensures quiet { OnOk result (E.contents errors.new ≡ E.contents errors.old) }
     ensures told { Tells (bytes_written E.Write errors.old errors.new) }
 {
-    let twin = Twin::beside(alloc, beside)?;
+    let twin = ScratchCopy::beside(alloc, beside)?;
     if let Some(cause) = folder.clear(source, &twin.path, &twin.log) {
         tell_of(alloc, &twin.path, cause, errors);
-        return Err(Failure::Store);
+        return Err(ErrorCode::Store);
     }
     match folder.twin(source, &twin.path, is_mended) {
         None => Ok(twin),
@@ -77,22 +77,22 @@ fn tell_fault<E: Write>(
     alloc: Global,
     source: &str,
     twin: &str,
-    fault: TwinFault,
+    fault: ScratchFault,
     errors: &mut E,
-) -> Failure
+) -> ErrorCode
     ensures failure { IsLineBreakdown result }
     ensures told { Tells (bytes_written E.Write errors.old errors.new) }
 {
     match fault {
-        TwinFault::OutOfMemory => return Failure::Memory,
-        TwinFault::Source(cause) => tell_of(alloc, source, cause, errors),
-        TwinFault::Twin(cause) => tell_of(alloc, twin, cause, errors),
+        ScratchFault::OutOfMemory => return ErrorCode::Memory,
+        ScratchFault::Source(cause) => tell_of(alloc, source, cause, errors),
+        ScratchFault::ScratchCopy(cause) => tell_of(alloc, twin, cause, errors),
     }
-    Failure::Store
+    ErrorCode::Store
 }
 
 /// Removes a twin and its log, as far as they are there.
-pub fn remove_twin<P: Folder>(folder: &mut P, twin: &Twin)
+pub fn remove_twin<P: Folder>(folder: &mut P, twin: &ScratchCopy)
     ensures { (path : List ℕ) → AreTwins path twin.now
         → AreRemoved (twin_of path) (steps_of P.Folder folder.old folder.new) }
 {

@@ -5,8 +5,8 @@ ghost use Rattle.desk_program.specs.Outside.{bytes_written};
 ghost use Rattle.desk_host.specs.Telling as spec;
 ghost use Rattle.desk_host.specs.Telling.{IsWrittenIfRoom, IsWrittenUpTo, Tells};
 
-use desk_ends::{Cut, write_whole};
-use desk_line::malformed_word;
+use desk_cli::bad_argument;
+use io_ends::{WriteError, write_whole};
 use std::alloc::{AllocError, Global};
 use std::io::Write;
 
@@ -39,7 +39,7 @@ pub fn line_of(alloc: Global, path: &str, text: &str) -> Result<String, AllocErr
 
 /// Prints a line, and answers where it was broken off, if it was.
 #[tactic(auto, using(crate::proofs::TellLemmas::noted))]
-pub fn tell_line<E: Write>(line: &str, errors: &mut E) -> Option<Cut<E>>
+pub fn tell_line<E: Write>(line: &str, errors: &mut E) -> Option<WriteError<E>>
     ensures cut { IsWrittenUpTo line.now result (bytes_written E.Write errors.old errors.new) }
     ensures line { IsWrittenIfRoom line.now (bytes_written E.Write errors.old errors.new) }
 {
@@ -54,7 +54,7 @@ pub fn tell_line<E: Write>(line: &str, errors: &mut E) -> Option<Cut<E>>
 pub fn tell_malformed<E: Write>(alloc: Global, words: &[String], errors: &mut E)
     ensures { Tells (bytes_written E.Write errors.old errors.new) }
 {
-    if let Some((word, cause)) = malformed_word(alloc, words) {
+    if let Some((word, cause)) = bad_argument(alloc, words) {
         tell_of(alloc, word, cause, errors);
     }
 }

@@ -12,26 +12,26 @@ use std::alloc::Global;
 
 /// The way in which a file is read.
 #[derive(Clone, Copy, Debug, PartialEq, Eq)]
-pub enum Way {
+pub enum ReadMode {
     /// As it is.
     Itself,
     /// By a twin of it and of its log, which is damaged.
     Damaged,
     /// By a twin whose pages have their sums: so many of its own have others.
-    Unsummed(u64),
+    BadChecksums(u64),
     /// By a twin that lists its tables in a desk's own order: it lists them in another.
-    Disordered,
+    OtherOrder,
 }
 
-impl Way {
+impl ReadMode {
     /// Whether the twin is mended: its tables are put in a desk's own order, if they are a desk's in another,
     /// and its pages get their sums, if they have sums.
     pub fn is_mended(self) -> bool
         ensures { result ≡ spec.is_mended self }
     {
         match self {
-            Way::Unsummed(_) | Way::Disordered => true,
-            Way::Itself | Way::Damaged => false,
+            ReadMode::BadChecksums(_) | ReadMode::OtherOrder => true,
+            ReadMode::Itself | ReadMode::Damaged => false,
         }
     }
 
@@ -40,7 +40,7 @@ impl Way {
         ensures { result ≡ spec.untested self status }
     {
         match self {
-            Way::Unsummed(count) if status == 0 => Some(count),
+            ReadMode::BadChecksums(count) if status == 0 => Some(count),
             _ => None,
         }
     }
@@ -48,38 +48,38 @@ impl Way {
 
 /// The way in which the file at a path is read, whose log may be damaged. One whose log may have a commit is
 /// read as it is: its pages may stand in the log anew.
-pub fn way_to(rt: &HostRuntime, path: &str, is_damaged: bool) -> Way {
+pub fn read_mode(rt: &HostRuntime, path: &str, is_damaged: bool) -> ReadMode {
     way_at(rt.alloc(), &LocalHost::new(rt), path, is_damaged)
 }
 
 // The same, of the files of any machine.
-fn way_at<F: HostFiles>(alloc: Global, files: &F, path: &str, is_damaged: bool) -> Way
+fn way_at<F: HostFiles>(alloc: Global, files: &F, path: &str, is_damaged: bool) -> ReadMode
     ensures { IfSome (F.answers files.now) (λ it. IsWayAt it path.now is_damaged result) }
 {
     if is_damaged {
         return way_for(true, None, false);
     }
     if is_no_path(path) {
-        return Way::Itself;
+        return ReadMode::Itself;
     }
     if has_changes(alloc, files, path) {
-        return Way::Itself;
+        return ReadMode::Itself;
     }
     way_for(false, files.unsummed(path), files.is_disordered(path))
 }
 
 // The way, by whether the log is damaged, how many pages end with another sum than theirs, and whether the
 // tables are a desk's in another order.
-fn way_for(is_damaged: bool, unsummed: Option<u64>, is_disordered: bool) -> Way
+fn way_for(is_damaged: bool, unsummed: Option<u64>, is_disordered: bool) -> ReadMode
     ensures { result ≡ spec.way_for is_damaged unsummed is_disordered }
 {
     if is_damaged {
-        return Way::Damaged;
+        return ReadMode::Damaged;
     }
     match unsummed {
-        Some(count) if count != 0 => Way::Unsummed(count),
-        _ if is_disordered => Way::Disordered,
-        _ => Way::Itself,
+        Some(count) if count != 0 => ReadMode::BadChecksums(count),
+        _ if is_disordered => ReadMode::OtherOrder,
+        _ => ReadMode::Itself,
     }
 }
 

@@ -3,18 +3,18 @@ use Rattle.std.proofs.Common.{◌≡◌, ◌≢◌, ◌<◌, ℕ, List, [], Opti
 use Rattle.std.proofs.lemmas.List.{take-append-drop}
 use Rattle.std.specs.Io.KnownBytes.{Appends}
 use Rattle.std.specs.Result.{IsErrAnd}
-use Rattle.desk_ends.specs.Writing.{BreaksOff}
-use Rattle.desk_ends.specs.declared.writing.WriteFault.{WriteFault}
-use Rattle.desk_line.specs.declared.failure.Failure.{Failure}
-use Rattle.desk_line.specs.Exits.{IsAnnounced}
-use Rattle.desk_line.specs.Written.{HasBegun}
-use Rattle.desk_line.specs.declared.failure.Failure.TheVariants as failure
+use Rattle.io_ends.specs.Writing.{BreaksOff}
+use Rattle.io_ends.specs.declared.writing.PartialWrite.{PartialWrite}
+use Rattle.desk_cli.specs.declared.failure.ErrorCode.{ErrorCode}
+use Rattle.desk_cli.specs.Exits.{IsAnnounced}
+use Rattle.desk_cli.specs.Written.{HasBegun}
+use Rattle.desk_cli.specs.declared.failure.ErrorCode.TheVariants as failure
 
 some_left : (n : ℕ) (bytes : List ℕ) → n < length bytes → drop n bytes ≢ []
 some_left n bytes short none = omega (arith, short, ap length none, length-drop n bytes)
 
 -- what a write that broke off leaves
-pub begun_part : (bytes : List ℕ) (out now : Option (List ℕ)) (fault : WriteFault)
+pub begun_part : (bytes : List ℕ) (out now : Option (List ℕ)) (fault : PartialWrite)
     → BreaksOff bytes out now fault → HasBegun bytes out now
 begun_part bytes out now fault off = record {
   begun = take fault.sent bytes;
@@ -25,20 +25,20 @@ begun_part bytes out now fault off = record {
 }
 
 -- the printing of a line, by what came of it
-pub announced_by : {A : Type 0} (done : Result A Failure) (line : List ℕ) (out now : Option (List ℕ))
+pub announced_by : {A : Type 0} (done : Result A ErrorCode) (line : List ℕ) (out now : Option (List ℕ))
     → OnOk done (Appends out now line) → IfErr done (λ f. (f ≡ failure.Write) × HasBegun line out now)
     → IsAnnounced done line out now
 announced_by (Ok d) line out now ok err = ok
 announced_by (Err f) line out now ok err = inr (inr err)
 
 -- a failure before anything is printed
-pub announced_none : {A : Type 0} (done : Result A Failure) (P : Failure → Type 0) (line : List ℕ)
+pub announced_none : {A : Type 0} (done : Result A ErrorCode) (P : ErrorCode → Type 0) (line : List ℕ)
     (out : Option (List ℕ)) → IsErrAnd done P → IsAnnounced done line out out
 announced_none (Ok d) P line out is = absurd is
 announced_none (Err e) P line out is = inr (inl refl)
 
 -- a failure that is handed on
-pub announced_same : {A B : Type 0} (one : Result A Failure) (whole : Result B Failure) (f : Failure)
+pub announced_same : {A B : Type 0} (one : Result A ErrorCode) (whole : Result B ErrorCode) (f : ErrorCode)
     (line : List ℕ) (out now : Option (List ℕ)) → one ≡ Err f → IsErrAnd whole (λ e. e ≡ f)
     → IsAnnounced one line out now → IsAnnounced whole line out now
 announced_same one (Ok d) f line out now was is h = absurd is
@@ -47,7 +47,7 @@ announced_same {A} {B} one (Err e) f line out now was is h =
     (subst (λ r. IsAnnounced r line out now) was h)
 
 -- the line is printed, whatever follows
-pub announced_whole : {A : Type 0} (done : Result A Failure) (line : List ℕ) (out now : Option (List ℕ))
+pub announced_whole : {A : Type 0} (done : Result A ErrorCode) (line : List ℕ) (out now : Option (List ℕ))
     → Appends out now line → IsAnnounced done line out now
 announced_whole (Ok d) line out now h = h
 announced_whole (Err f) line out now h = inl h

@@ -5,14 +5,14 @@ use Rattle.desk_store.specs.declared.store.PlanStore.{Ghosts}
 use Rattle.desk_store.specs.StoreFaults.{HasRisen}
 use Rattle.desk_run.specs.declared.fault.DeskFault.{DeskFault}
 use Rattle.desk_run.specs.declared.fault.DeskFault.TheVariants as desk
-use Rattle.desk_ends.specs.declared.serving.Served.{Served}
-use Rattle.desk_ends.specs.declared.serving.Served.TheVariants.{Answered, End}
-use Rattle.desk_ends.specs.declared.serving.ServeFault.{ServeFault}
-use Rattle.desk_ends.specs.declared.serving.ServeFault.TheVariants.{Read, Write, CutShort, OutOfMemory}
-use Rattle.desk_line.specs.declared.failure.Failure.{Failure}
-use Rattle.desk_line.specs.declared.failure.Failure.TheVariants.{Store, Broken, Memory}
-use Rattle.desk_line.specs.declared.failure.Failure.TheVariants as failure
-use Rattle.desk_line.specs.Exits.{Ending, EndsWith, enrolment_failure, failure_at}
+use Rattle.io_ends.specs.declared.serving.Served.{Served}
+use Rattle.io_ends.specs.declared.serving.Served.TheVariants.{Answered, End}
+use Rattle.io_ends.specs.declared.serving.ServeFault.{ServeFault}
+use Rattle.io_ends.specs.declared.serving.ServeFault.TheVariants.{Read, Write, CutShort, OutOfMemory}
+use Rattle.desk_cli.specs.declared.failure.ErrorCode.{ErrorCode}
+use Rattle.desk_cli.specs.declared.failure.ErrorCode.TheVariants.{Store, Broken, Memory}
+use Rattle.desk_cli.specs.declared.failure.ErrorCode.TheVariants as failure
+use Rattle.desk_cli.specs.Exits.{Ending, EndsWith, enrolment_failure, failure_at}
 use Rattle.desk_program.specs.EndCauses.{HasCause, IsEndCounted}
 use Rattle.desk_run.specs.DeskWorld.{Parts}
 use Rattle.std.specs.Result.{IsErrAnd}
@@ -26,17 +26,17 @@ store_told desk.UnknownOperator is = cc
 store_told desk.NoSuchPlan is = cc
 store_told desk.Ceiling is = cc
 
-pub enrolment_counted : {A : Type 0} (fault : DeskFault) (f : Failure) (old new : ℕ)
+pub enrolment_counted : {A : Type 0} (fault : DeskFault) (f : ErrorCode) (old new : ℕ)
     → f ≡ enrolment_failure fault → (fault ≡ desk.Store → HasRisen old new)
     → IsEndCounted {A = A} (Err f) old new
 enrolment_counted {A} fault f old new is cause store =
     cause (store_told fault (sym is ∙ same_failure store)) where
-      same_failure : ◌≡◌ {A = Result A Failure} (Err f) (Err Store) → f ≡ Store
+      same_failure : ◌≡◌ {A = Result A ErrorCode} (Err f) (Err Store) → f ≡ Store
       same_failure e = cc
 
 module _ {S : Type 0} {g : Ghosts S} {old new : Parts S} where
   -- a line that ends so
-  pub ends_counted : (fault : DeskFault) (f : Failure) (end : Ending) → f ≡ enrolment_failure fault
+  pub ends_counted : (fault : DeskFault) (f : ErrorCode) (end : Ending) → f ≡ enrolment_failure fault
       → (fault ≡ desk.Store → HasRisen (g.faults old.store) (g.faults new.store))
       → EndsWith {A = ⊤} (Err f) end → HasCause g old new end
   ends_counted fault f end is cause ends = record {
@@ -74,45 +74,45 @@ denied_no_store (inr (inr (inl e))) = cc
 denied_no_store (inr (inr (inr (inl e)))) = cc
 denied_no_store (inr (inr (inr (inr e)))) = cc
 
-same_failure : {A : Type 0} (f : Failure) → ◌≡◌ {A = Result A Failure} (Err f) (Err Store) → f ≡ Store
+same_failure : {A : Type 0} (f : ErrorCode) → ◌≡◌ {A = Result A ErrorCode} (Err f) (Err Store) → f ≡ Store
 same_failure f e = cc
 
 -- nor does the close of one
-pub served_counted : {A : Type 0} (done : Result A Failure) (served : Result Served ServeFault)
-    (closed : Result ⊤ Failure) (old new : ℕ) → IfErr closed IsDenied
+pub served_counted : {A : Type 0} (done : Result A ErrorCode) (served : Result Served ServeFault)
+    (closed : Result ⊤ ErrorCode) (old new : ℕ) → IfErr closed IsDenied
     → failing done ≡ first_failure (failure_at served) (failing closed) → IsEndCounted done old new
 served_counted (Ok d) served closed old new denied is store = cc
 served_counted (Err f) served closed old new denied is store =
     absurd (by (failure_at served) closed refl denied (ap Some (sym (same_failure f store)) ∙ is)) where
-      some_same : {g : Failure} → Some Store ≡ Some g → g ≡ Store
+      some_same : {g : ErrorCode} → Some Store ≡ Some g → g ≡ Store
       some_same e = cc
 
-      by : (at : Option Failure) (closed : Result ⊤ Failure) → failure_at served ≡ at → IfErr closed IsDenied
+      by : (at : Option ErrorCode) (closed : Result ⊤ ErrorCode) → failure_at served ≡ at → IfErr closed IsDenied
           → Some Store ≡ first_failure at (failing closed) → ⊥
       by None (Ok d) same denied e = cc
       by None (Err g) same denied e = denied_no_store (subst IsDenied (some_same e) denied)
       by (Some g) closed same denied e = at_no_store served (same ∙ sym e)
 
 -- nor does the machine
-pub denied_counted : {A : Type 0} (done : Result A Failure) (f : Failure) (old new : ℕ)
+pub denied_counted : {A : Type 0} (done : Result A ErrorCode) (f : ErrorCode) (old new : ℕ)
     → IsErrAnd done (λ e. e ≡ f) → IsDenied f → IsEndCounted done old new
 denied_counted (Ok d) f old new is denied store = cc
 denied_counted (Err e) f old new is denied store =
     absurd (denied_no_store (subst IsDenied (sym is ∙ same_failure e store) denied))
 
 -- an operator of news that could not be listed
-pub news_counted : {A : Type 0} (done : Result A Failure) (fault : DeskFault) (old new : ℕ)
+pub news_counted : {A : Type 0} (done : Result A ErrorCode) (fault : DeskFault) (old new : ℕ)
     → IsErrAnd done (λ e. e ≡ enrolment_failure fault) → (fault ≡ desk.Store → HasRisen old new)
     → IsEndCounted done old new
 news_counted (Ok d) fault old new is cause store = cc
 news_counted (Err f) fault old new is cause store = enrolment_counted fault f old new is cause store
 
 -- what was counted later was counted
-pub counted_later : {A : Type 0} (done : Result A Failure) (old mid new : ℕ) → old ≤ mid
+pub counted_later : {A : Type 0} (done : Result A ErrorCode) (old mid new : ℕ) → old ≤ mid
     → IsEndCounted done mid new → IsEndCounted done old new
 counted_later done old mid new more h store few = omega (arith, more, h store few)
 
-pub counted_on : {A B : Type 0} (one : Result A Failure) (whole : Result B Failure) (f : Failure)
+pub counted_on : {A B : Type 0} (one : Result A ErrorCode) (whole : Result B ErrorCode) (f : ErrorCode)
     (old mid new : ℕ) → one ≡ Err f → IsErrAnd whole (λ e. e ≡ f) → old ≤ mid → IsEndCounted one mid new
     → IsEndCounted whole old new
 counted_on one (Ok d) f old mid new was is more h store = cc

@@ -6,26 +6,26 @@ use Rattle.desk_run.specs.DeskWorld.{DeskWorld, enrolled}
 use Rattle.desk_run.specs.declared.fault.DeskFault.{DeskFault}
 use Rattle.desk_run.specs.CallFaults.{IsBreakdown as IsDeskBreakdown}
 use Rattle.desk_wire.specs.Passage.{course, passed}
-use Rattle.desk_line.specs.declared.failure.Failure.{Failure}
-use Rattle.desk_line.specs.declared.line.Enrolment.{Enrolment}
-use Rattle.desk_line.specs.declared.line.Play.{Play as PlayWords}
-use Rattle.desk_line.specs.Exits.{Ending, EndsWith, FailsWith, IsBrokenDown, IsLineBreakdown, enrolment_failure}
+use Rattle.desk_cli.specs.declared.failure.ErrorCode.{ErrorCode}
+use Rattle.desk_cli.specs.declared.line.Enrolment.{Enrolment}
+use Rattle.desk_cli.specs.declared.line.Play.{Play as PlayWords}
+use Rattle.desk_cli.specs.Exits.{Ending, EndsWith, FailsWith, IsBrokenDown, IsLineBreakdown, enrolment_failure}
 use Rattle.desk_program.specs.Enrolling.{AreListedSoFar, on_terms}
 use Rattle.desk_program.specs.Keeping.{FindsEnrolled}
 use Rattle.desk_program.specs.PlayLines.{IsNotPlayed}
 
 -- what it is told as
-pub told_breakdown : (fault : DeskFault) (f : Failure) → f ≡ enrolment_failure fault → IsDeskBreakdown fault
+pub told_breakdown : (fault : DeskFault) (f : ErrorCode) → f ≡ enrolment_failure fault → IsDeskBreakdown fault
     → IsLineBreakdown f
 told_breakdown fault f is (inl memory) = inl (is ∙ ap enrolment_failure memory)
 told_breakdown fault f is (inr store) = inr (is ∙ ap enrolment_failure store)
 
-ends_broken : (f : Failure) (end : Ending) → IsLineBreakdown f → EndsWith {A = ⊤} (Err f) end
+ends_broken : (f : ErrorCode) (end : Ending) → IsLineBreakdown f → EndsWith {A = ⊤} (Err f) end
     → IsBrokenDown end
 ends_broken f end (inl memory) ends = inl (subst (λ v. FailsWith v end) memory ends)
 ends_broken f end (inr store) ends = inr (subst (λ v. FailsWith v end) store ends)
 
-pub broken_down : (fault : DeskFault) (f : Failure) (end : Ending) → f ≡ enrolment_failure fault
+pub broken_down : (fault : DeskFault) (f : ErrorCode) (end : Ending) → f ≡ enrolment_failure fault
     → IsDeskBreakdown fault → EndsWith {A = ⊤} (Err f) end → IsBrokenDown end
 broken_down fault f end is down ends = ends_broken f end (told_breakdown fault f is down) ends
 
@@ -39,7 +39,7 @@ found_enrolled before e end out w found down only (inr is) = inl is
 
 -- nothing is played then
 pub not_played : (H : Type 0) (play : PlayWords) (end : Ending) (old out : Option (List ℕ))
-    (w after : DeskWorld) (fault : DeskFault) (f : Failure) → f ≡ enrolment_failure fault
+    (w after : DeskWorld) (fault : DeskFault) (f : ErrorCode) → f ≡ enrolment_failure fault
     → IsDeskBreakdown fault → EndsWith {A = ⊤} (Err f) end
     → AreListedSoFar H play.desk.enrolments.items (on_terms w play.desk.terms) after
     → IsNotPlayed H play end (passed old old out out) w after

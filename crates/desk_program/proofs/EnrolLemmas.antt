@@ -7,7 +7,7 @@ use Rattle.desk_run.specs.DeskWorld.{DeskWorld, enrolled}
 use Rattle.desk_run.specs.declared.fault.DeskFault.{DeskFault}
 use Rattle.desk_run.specs.declared.fault.DeskFault.TheVariants.{Store}
 use Rattle.desk_run.proofs.lemmas.Crash.{risen_since}
-use Rattle.desk_line.specs.declared.line.Enrolment.{Enrolment}
+use Rattle.desk_cli.specs.declared.line.Enrolment.{Enrolment}
 use Rattle.desk_program.specs.Enrolling.{AreListedSoFar, HasListed, with_operators}
 
 -- some, and then one more

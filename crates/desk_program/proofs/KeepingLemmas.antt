@@ -9,17 +9,17 @@ use Rattle.desk_store.specs.StoreFaults.{IsHonest}
 use Rattle.desk_store.specs.World.{World}
 use Rattle.desk_store.specs.Crashes.{LeavesNoMore, LeavesOldOr, LeavesOnly}
 use Rattle.desk_run.specs.DeskWorld.{DeskWorld, Parts, enrolled, world_of}
-use Rattle.desk_ends.specs.declared.playing.PlayEnd.{PlayEnd}
+use Rattle.io_ends.specs.declared.playing.PlayEnd.{PlayEnd}
 use Rattle.desk_wire.specs.Given.{told_in_play}
 use Rattle.desk_wire.specs.RequestsKept.{IsCertain, IsFoundNow, IsKept, IsLeftBy}
 use Rattle.desk_wire.specs.Passage.{Passage, course}
 use Rattle.desk_wire.specs.Playing.{HasPlayed}
 use Rattle.desk_wire.specs.OneRequest.{HasServed, IsTaken}
-use Rattle.desk_line.specs.declared.failure.Failure.{Failure}
-use Rattle.desk_line.specs.declared.line.Enrolment.{Enrolment}
-use Rattle.desk_line.specs.declared.line.Play.{Play as PlayWords}
-use Rattle.desk_line.specs.declared.line.Serve.{Serve as ServeWords}
-use Rattle.desk_line.specs.Exits.{Ending, EndsWith, failure_after, failure_at}
+use Rattle.desk_cli.specs.declared.failure.ErrorCode.{ErrorCode}
+use Rattle.desk_cli.specs.declared.line.Enrolment.{Enrolment}
+use Rattle.desk_cli.specs.declared.line.Play.{Play as PlayWords}
+use Rattle.desk_cli.specs.declared.line.Serve.{Serve as ServeWords}
+use Rattle.desk_cli.specs.Exits.{Ending, EndsWith, failure_after, failure_at}
 use Rattle.desk_program.specs.Enrolling.{AreEnrolled, HasListed, on_terms, with_operators}
 use Rattle.desk_program.specs.Keeping.{AreKept, AreKeptSoFar, FindsListed, FindsNews, IsFoundServed, IsLeftByOne, IsPlayKept, IsPortKept}
 use Rattle.desk_program.specs.PlayLines.{done_unless}
@@ -142,7 +142,7 @@ both_found xs ys last u v w before mid found first (inr p) = by (first p.1)
 
 -- so many connections, and then others
 module _ {A B C : Type 0} where
-  pub both_kept : {S : Type 0} (g : Ghosts S) (d : A) (then : Result B Failure) (whole : Result C Failure)
+  pub both_kept : {S : Type 0} (g : Ghosts S) (d : A) (then : Result B ErrorCode) (whole : Result C ErrorCode)
       (m k n : ℕ) (a b c : Traffic) (begun between left : Parts S)
       → (IsHonest (g.doubt left.store) → IsHonest (g.doubt between.store))
       → AreKept {A = A} g (Ok d) m (course a b) begun between
@@ -197,7 +197,7 @@ module _ {A B C : Type 0} where
       }
 
 -- nothing is taken
-pub none_kept : {A S : Type 0} (g : Ghosts S) (done : Result A Failure) (count : ℕ) (old new : Traffic)
+pub none_kept : {A S : Type 0} (g : Ghosts S) (done : Result A ErrorCode) (count : ℕ) (old new : Traffic)
     (desk : Parts S) → Denies old new → (IsOpen old.recorded → OnOk done (IsOpen new.recorded))
     → EndsAfter done count [] None → AreKept g done count (course old new) desk desk
 none_kept g done count old new desk denies still ends = record {
@@ -207,18 +207,18 @@ none_kept g done count old new desk denies still ends = record {
 }
 
 -- news are brought, and no connection is taken then
-last_news : {A : Type 0} (H : Type 0) (done : Result A Failure) (f : Failure) (news : List Enrolment)
+last_news : {A : Type 0} (H : Type 0) (done : Result A ErrorCode) (f : ErrorCode) (news : List Enrolment)
     (w after : DeskWorld) → IsErrAnd done (λ e. e ≡ f) → EndsAtNews H f news w after
     → IsLastNews H (Some news) done w after
 last_news H (Ok d) f news w after is ends = absurd is
 last_news H (Err e) f news w after is ends = subst (λ v. EndsAtNews H v news w after) (sym is) ends
 
-ends_news : {A : Type 0} (done : Result A Failure) (f : Failure) (news : List Enrolment)
+ends_news : {A : Type 0} (done : Result A ErrorCode) (f : ErrorCode) (news : List Enrolment)
     → IsErrAnd done (λ e. e ≡ f) → EndsAfter done 1 [] (Some news)
 ends_news (Ok d) f news is = absurd is
 ends_news (Err e) f news is = tt
 
-pub news_kept : {A S : Type 0} (g : Ghosts S) (done : Result A Failure) (f : Failure)
+pub news_kept : {A S : Type 0} (g : Ghosts S) (done : Result A ErrorCode) (f : ErrorCode)
     (news : List Enrolment) (old mid new : Traffic) (begun left : Parts S)
     → IsErrAnd done (λ e. e ≡ f) → BringsNews old mid news → Denies mid new
     → EndsAtNews (IsHonest (g.doubt left.store)) f news (world_of g.content begun) (world_of g.content left)
@@ -309,8 +309,8 @@ after_news x w listed after before mid found news (inr p) = by (news p.1)
     by (inl is) = inl (inl (is ∙ ap (λ v. Some v.content) (sym p.0)))
     by (inr q) = inr (p.0 ∙ q.0, q.1)
 
-pub one_kept : {A S : Type 0} (g : Ghosts S) (done : Result A Failure) (x : Exchange)
-    (closed : Result ⊤ Failure) (old new : Traffic) (begun listed left : Parts S)
+pub one_kept : {A S : Type 0} (g : Ghosts S) (done : Result A ErrorCode) (x : Exchange)
+    (closed : Result ⊤ ErrorCode) (old new : Traffic) (begun listed left : Parts S)
     → new.listened ≡ old.listened → Grows old.taken new.taken (x.arrival ∷ [])
     → Grows old.closed new.closed (x.parting ∷ []) → IsUnsent old x.out
     → x.parting.outcome ≡ outcome_of x.served → Grows old.news new.news (x.news ∷ [])
@@ -368,7 +368,7 @@ found_served xs last w after before found only (inl is) = is
 found_served xs last w after before found only (inr p) =
     inl (only p.1 ∙ ap (λ x. Some x.content) (sym p.0))
 
-module _ {A S : Type 0} (g : Ghosts S) (done : Result A Failure) (serve : ServeWords) (w : DeskWorld) where
+module _ {A S : Type 0} (g : Ghosts S) (done : Result A ErrorCode) (serve : ServeWords) (w : DeskWorld) where
   pub port_kept : (begun left : Parts S) → IsHonest (g.doubt left.store)
       → (IsHonest (g.doubt left.store)
       → world_of g.content begun ≡ with_operators (on_terms w serve.desk.terms) serve.desk.enrolments.items)
@@ -398,7 +398,7 @@ module _ {A S : Type 0} (g : Ghosts S) (done : Result A Failure) (serve : ServeW
       → world_of g.content desk ≡ with_operators (on_terms w serve.desk.terms) serve.desk.enrolments.items)
       → ((found : Option World) → g.may_leave desk.store found
       → found ≡ Some (world_of g.content desk).content)
-      → (f : Failure) (old new : Traffic) → IsErrAnd done (λ e. e ≡ f) → IsDenied f
+      → (f : ErrorCode) (old new : Traffic) → IsErrAnd done (λ e. e ≡ f) → IsDenied f
       → IsAskedToListen old new serve.port → (found : Option World) → g.may_leave desk.store found
       → IsPortKept (IsHonest (g.doubt desk.store)) done serve (course old new) w (world_of g.content desk)
       found

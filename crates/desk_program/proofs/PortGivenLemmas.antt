@@ -9,14 +9,14 @@ use Rattle.std.proofs.lemmas.List.Elements.{All-head, All-tail, All-take}
 use Rattle.std.proofs.Math.Seq.{take-length}
 use Rattle.desk_store.specs.World.{Listed, World, ceiling_of, own, text_cmp}
 use Rattle.desk_store.specs.Changes.{list_operator, with_operator}
-use Rattle.desk_reading.specs.Requests.{asked}
+use Rattle.request_parser.specs.Requests.{asked}
 use Rattle.desk_run.specs.DeskWorld.{DeskWorld, enrolled, side}
 use Rattle.desk_run.specs.Sides.{OwnAlike}
 use Rattle.desk_run.proofs.lemmas.TwoRun.{same_name}
-use Rattle.desk_ends.specs.declared.serving.Served.{Served}
-use Rattle.desk_ends.specs.declared.serving.Served.TheVariants.{Answered, End}
-use Rattle.desk_ends.specs.declared.serving.ServeFault.{ServeFault}
-use Rattle.desk_ends.specs.declared.serving.ServeFault.TheVariants.{Read, Write, CutShort, OutOfMemory}
+use Rattle.io_ends.specs.declared.serving.Served.{Served}
+use Rattle.io_ends.specs.declared.serving.Served.TheVariants.{Answered, End}
+use Rattle.io_ends.specs.declared.serving.ServeFault.{ServeFault}
+use Rattle.io_ends.specs.declared.serving.ServeFault.TheVariants.{Read, Write, CutShort, OutOfMemory}
 use Rattle.desk_wire.specs.declared.response.ServerError.{ServerError}
 use Rattle.desk_wire.specs.AllAnswers.{Sent}
 use Rattle.desk_wire.specs.Bytes.{IsAnsweredSo, text_for}
@@ -24,8 +24,8 @@ use Rattle.desk_wire.specs.Headline.{LookAlike, sender}
 use Rattle.desk_wire.specs.OneRequest.{HasServed, IsTaken, IsUntouched}
 use Rattle.desk_wire.specs.Passage.{Course, course}
 use Rattle.desk_wire.proofs.HeadlineLemmas.{headline, same_text}
-use Rattle.desk_line.specs.declared.failure.Failure.{Failure}
-use Rattle.desk_line.specs.declared.line.Enrolment.{Enrolment}
+use Rattle.desk_cli.specs.declared.failure.ErrorCode.{ErrorCode}
+use Rattle.desk_cli.specs.declared.line.Enrolment.{Enrolment}
 use Rattle.desk_program.specs.Enrolling.{AreEnrolled, with_operators}
 use Rattle.desk_program.specs.PortGiven.{IsWhole}
 use Rattle.desk_program.specs.PortTurns.{AreTurns, HasTurns, IsGiven, IsSent, ListsLast, Sends, Turn, caller, left_by, sent_in, world_by, world_met}
@@ -162,7 +162,7 @@ all_fresh : (closed : Option (List Parting)) → IsSome closed → (xs : List Ex
 all_fresh None some xs h = let shut : IsSome {T = List Parting} None = some in cc
 all_fresh (Some partings) some xs h = h
 
-last_listed : {A : Type 0} (H : Type 0) → H → (last : Option (List Enrolment)) (done : Result A Failure)
+last_listed : {A : Type 0} (H : Type 0) → H → (last : Option (List Enrolment)) (done : Result A ErrorCode)
     (w after : DeskWorld) → IsLastNews H last done w after → ListsLast last w after
 last_listed H p None done w after h = h
 last_listed H p (Some news) (Ok d) w after h = absurd h
@@ -171,7 +171,7 @@ last_listed H p (Some news) (Err f) w after (inl broken) =
 last_listed H p (Some news) (Err f) w after (inr denied) =
     (length news, all_listed H p news w after denied.1 ∙ ap (with_operators w) (sym (take-length news)))
 
-pub port_turns : {A : Type 0} (H : Type 0) (done : Result A Failure) (count : ℕ) (port : Course Traffic)
+pub port_turns : {A : Type 0} (H : Type 0) (done : Result A ErrorCode) (count : ℕ) (port : Course Traffic)
     (w after : DeskWorld) → AreTaken H done count port w after → H → IsSome port.before.closed
     → HasTurns port w after
 port_turns H done count port w after h p tells =

@@ -5,17 +5,17 @@ use Rattle.std.specs.Result.{IsErrAnd}
 use Rattle.std.proofs.lemmas.List.{length-append, append_assoc, append-nil}
 use Rattle.std.proofs.lemmas.List.Elements.{All-append, All-cons, All-head, All-nil, All-tail}
 use Rattle.desk_run.specs.DeskWorld.{DeskWorld}
-use Rattle.desk_ends.specs.declared.serving.Served.{Served}
-use Rattle.desk_ends.specs.declared.serving.Served.TheVariants.{Answered, End}
-use Rattle.desk_ends.specs.declared.serving.ServeFault.{ServeFault}
-use Rattle.desk_ends.specs.declared.serving.ServeFault.TheVariants.{Read, Write, CutShort, OutOfMemory}
+use Rattle.io_ends.specs.declared.serving.Served.{Served}
+use Rattle.io_ends.specs.declared.serving.Served.TheVariants.{Answered, End}
+use Rattle.io_ends.specs.declared.serving.ServeFault.{ServeFault}
+use Rattle.io_ends.specs.declared.serving.ServeFault.TheVariants.{Read, Write, CutShort, OutOfMemory}
 use Rattle.desk_wire.specs.Passage.{Course, Passage, course}
 use Rattle.desk_wire.specs.OneRequest.{HasServed, IsReplied}
 use Rattle.desk_wire.specs.declared.response.ServerError.{ServerError}
-use Rattle.desk_line.specs.declared.failure.Failure.{Failure}
-use Rattle.desk_line.specs.Exits.{failure_at}
-use Rattle.desk_line.specs.declared.line.Serve.{Serve as ServeWords}
-use Rattle.desk_line.specs.declared.line.Enrolment.{Enrolment}
+use Rattle.desk_cli.specs.declared.failure.ErrorCode.{ErrorCode}
+use Rattle.desk_cli.specs.Exits.{failure_at}
+use Rattle.desk_cli.specs.declared.line.Serve.{Serve as ServeWords}
+use Rattle.desk_cli.specs.declared.line.Enrolment.{Enrolment}
 use Rattle.desk_program.specs.Enrolling.{AreEnrolled, on_terms, with_operators}
 use Rattle.desk_program.specs.Recorded.{IsCutOff, IsOpen, Noted, Recorded, Ended, Open, RecordsNone, with_news, with_request}
 use Rattle.desk_program.specs.Serving.{AreNoted, AreServed, AreTaken, Denies, EndsAfter, EndsAtNews, EndsDeskBy, Exchange, Grows, IsAskedToListen, IsAtPort, IsDenied, IsLastNews, IsUnsent, Parting, PrintsIfListening, Traffic, failing, first_failure, news_of, outcome_of, passage_of}
@@ -190,7 +190,7 @@ none_last H None d w after h = (refl, h)
 none_last H (Some news) d w after h = absurd h
 
 -- nothing is taken
-pub none : {A : Type 0} (H : Type 0) (done : Result A Failure) (count : ℕ)
+pub none : {A : Type 0} (H : Type 0) (done : Result A ErrorCode) (count : ℕ)
     (old new : Traffic)
     (w after : DeskWorld) → Denies old new → (IsOpen old.recorded → OnOk done (IsOpen new.recorded))
     → after ≡ w → EndsAfter done count [] None → AreTaken H done count (course old new) w after
@@ -213,20 +213,20 @@ none H done count old new w after denies still left ends = record {
 }
 
 -- a failure doesn't end well
-pub not_ok : {A : Type 0} (done : Result A Failure) (f : Failure) (P : Type 0)
+pub not_ok : {A : Type 0} (done : Result A ErrorCode) (f : ErrorCode) (P : Type 0)
     → IsErrAnd done (λ e. e ≡ f) → OnOk done P
 not_ok (Ok d) f P is = absurd is
 not_ok (Err e) f P is = tt
 
 -- one connection is taken, and closed
-pub one_ends : {A : Type 0} (done : Result A Failure) (x : Exchange) (closed : Result ⊤ Failure)
+pub one_ends : {A : Type 0} (done : Result A ErrorCode) (x : Exchange) (closed : Result ⊤ ErrorCode)
     → IfErr closed IsDenied → failing done ≡ first_failure (failure_at x.served) (failing closed)
     → EndsAfter done 1 (x ∷ []) None
 one_ends {A} done x closed denied is = by done (failure_at x.served) closed refl denied is where
-  some_same : {f g : Failure} → Some f ≡ Some g → f ≡ g
+  some_same : {f g : ErrorCode} → Some f ≡ Some g → f ≡ g
   some_same e = cc
 
-  by : (done : Result A Failure) (at : Option Failure) (closed : Result ⊤ Failure) → failure_at x.served ≡ at
+  by : (done : Result A ErrorCode) (at : Option ErrorCode) (closed : Result ⊤ ErrorCode) → failure_at x.served ≡ at
       → IfErr closed IsDenied → failing done ≡ first_failure at (failing closed)
       → EndsAfter done 1 (x ∷ []) None
   by (Ok d) None (Ok c) same denied is = (
@@ -240,8 +240,8 @@ one_ends {A} done x closed denied is = by done (failure_at x.served) closed refl
   by (Err e) (Some f) closed same denied is = inr (same ∙ sym is, refl, refl)
 
 -- it ends well only if its closing did
-pub one_closed : {A : Type 0} (P : Type 0) (done : Result A Failure) (at : Option Failure)
-    (closed : Result ⊤ Failure) → failing done ≡ first_failure at (failing closed) → OnOk closed P
+pub one_closed : {A : Type 0} (P : Type 0) (done : Result A ErrorCode) (at : Option ErrorCode)
+    (closed : Result ⊤ ErrorCode) → failing done ≡ first_failure at (failing closed) → OnOk closed P
     → OnOk done P
 one_closed P (Ok d) None (Ok c) is h = h
 one_closed P (Ok d) None (Err f) is h = cc
@@ -257,7 +257,7 @@ goes_on d e whole m k xs ys one last first then = (
   All-append (λ z. failure_at z.served ≡ None) xs ys first.1 then.1,
 )
 
-pub goes_on_by : {A B C : Type 0} (d : A) (e : B) (whole : C) (then : Result B Failure) → then ≡ Ok e
+pub goes_on_by : {A B C : Type 0} (d : A) (e : B) (whole : C) (then : Result B ErrorCode) → then ≡ Ok e
     → (m k : ℕ) (xs ys : List Exchange) (one last : Option (List Enrolment))
     → EndsAfter {A = A} (Ok d) m xs one → EndsAfter then k ys last
     → EndsAfter {A = C} (Ok whole) (m + k) (xs ++ ys) last
@@ -265,14 +265,14 @@ goes_on_by d e whole then is m k xs ys one last first ends =
     goes_on d e whole m k xs ys one last first (subst (λ r. EndsAfter r k ys last) is ends)
 
 -- a failure is handed on
-pub stops : {A : Type 0} (whole : Result A Failure) (f : Failure) → IsErrAnd whole (λ e. e ≡ f)
+pub stops : {A : Type 0} (whole : Result A ErrorCode) (f : ErrorCode) → IsErrAnd whole (λ e. e ≡ f)
     → (count : ℕ) (xs : List Exchange) (last : Option (List Enrolment)) → EndsDeskBy f xs last
     → EndsAfter whole count xs last
 stops (Ok d) f is count xs last ends = absurd is
 stops (Err e) f is count xs last ends = subst (λ v. EndsDeskBy v xs last) (sym is) ends
 
 -- a failure comes after connections that the desk went on after
-ends_more : (f : Failure) (xs ys : List Exchange) (last : Option (List Enrolment))
+ends_more : (f : ErrorCode) (xs ys : List Exchange) (last : Option (List Enrolment))
     → All (λ x. failure_at x.served ≡ None) xs → EndsDeskBy f ys last → EndsDeskBy f (xs ++ ys) last
 ends_more f [] ys last on ends = ends
 ends_more f (x ∷ xs) ys last on ends = inl (
@@ -280,7 +280,7 @@ ends_more f (x ∷ xs) ys last on ends = inl (
   ends_more f xs ys last (All-tail (λ z. failure_at z.served ≡ None) x xs on) ends,
 )
 
-pub stops_by : {A B C : Type 0} (d : C) (whole : Result A Failure) (f : Failure) (then : Result B Failure)
+pub stops_by : {A B C : Type 0} (d : C) (whole : Result A ErrorCode) (f : ErrorCode) (then : Result B ErrorCode)
     → IsErrAnd whole (λ e. e ≡ f) → then ≡ Err f → (m n k : ℕ) (xs ys : List Exchange)
     (one last : Option (List Enrolment)) → EndsAfter {A = C} (Ok d) m xs one → EndsAfter then k ys last
     → EndsAfter whole n (xs ++ ys) last
@@ -288,15 +288,15 @@ stops_by d whole f then is was m n k xs ys one last first ends = stops whole f i
     (ends_more f xs ys last first.1 (subst (λ r. EndsAfter r k ys last) was ends))
 
 -- so are the last news
-pub last_goes_on : {B C : Type 0} (H : Type 0) (then : Result B Failure) (e : B) (whole : C) → then ≡ Ok e
+pub last_goes_on : {B C : Type 0} (H : Type 0) (then : Result B ErrorCode) (e : B) (whole : C) → then ≡ Ok e
     → (last : Option (List Enrolment)) (w after : DeskWorld) → IsLastNews H last then w after
     → IsLastNews {A = C} H last (Ok whole) w after
 last_goes_on H then e whole is None w after h = h
 last_goes_on H then e whole is (Some news) w after h =
     absurd (subst (λ r. IsLastNews H (Some news) r w after) is h)
 
-pub last_stops : {A B : Type 0} (H : Type 0) (whole : Result A Failure) (f : Failure)
-    (then : Result B Failure) → IsErrAnd whole (λ e. e ≡ f) → then ≡ Err f
+pub last_stops : {A B : Type 0} (H : Type 0) (whole : Result A ErrorCode) (f : ErrorCode)
+    (then : Result B ErrorCode) → IsErrAnd whole (λ e. e ≡ f) → then ≡ Err f
     → (last : Option (List Enrolment)) (w after : DeskWorld) → IsLastNews H last then w after
     → IsLastNews H last whole w after
 last_stops H whole f then is was None w after h = h
@@ -313,7 +313,7 @@ still_heard old mid new number writes same (inl listens) =
 still_heard old mid new number writes same (inr none) = inr none
 
 -- the operators are listed, and no connection is taken
-pub unserved : {A : Type 0} (H : Type 0) (done : Result A Failure) (f : Failure) (serve : ServeWords)
+pub unserved : {A : Type 0} (H : Type 0) (done : Result A ErrorCode) (f : ErrorCode) (serve : ServeWords)
     (old new : Traffic) (w after : DeskWorld) → IsErrAnd done (λ e. e ≡ f)
     → IsDenied f → IsAskedToListen old new serve.port → (H → after ≡ with_operators (on_terms w serve.desk.terms)
     serve.desk.enrolments.items)

@@ -5,11 +5,11 @@ use Rattle.desk_store.specs.StoreFaults.{IsHonest}
 use Rattle.desk_store.specs.StoreFrames.{Remembers}
 use Rattle.desk_run.specs.DeskFrames.{FindsOnly}
 use Rattle.desk_run.specs.DeskWorld.{DeskWorld, Parts, world_of}
-use Rattle.desk_line.specs.declared.failure.Failure.{Failure}
-use Rattle.desk_line.specs.declared.line.Line.{Line}
-use Rattle.desk_line.specs.declared.line.Line.TheVariants as line
-use Rattle.desk_line.specs.Exits.{FailsWith}
-use Rattle.desk_line.specs.Lines.{IsEnrol, IsPlay}
+use Rattle.desk_cli.specs.declared.failure.ErrorCode.{ErrorCode}
+use Rattle.desk_cli.specs.declared.line.Line.{Line}
+use Rattle.desk_cli.specs.declared.line.Line.TheVariants as line
+use Rattle.desk_cli.specs.Exits.{FailsWith}
+use Rattle.desk_cli.specs.Lines.{IsEnrol, IsPlay}
 use Rattle.desk_wire.specs.Passage.{Course, Passage}
 use Rattle.desk_program.specs.EndCauses.{HasCause}
 use Rattle.desk_program.specs.Keeping.{IsLineKept}
@@ -59,6 +59,6 @@ pub record EndsWithStatus {S : Type 0} (g : Ghosts S) (line : Line) (status : �
 
 -- no desk was opened: the line ends with that failure, no connection is taken, nothing is read, and nothing
 -- is written
-abbrev pub IsUnopened : {S : Type 0} → Outside → Option S → Failure → Type 0
+abbrev pub IsUnopened : {S : Type 0} → Outside → Option S → ErrorCode → Type 0
 IsUnopened o left failure = FailsWith failure o.end × (left ≡ None) × (o.port.after ≡ o.port.before)
     × (o.bytes.reads.after ≡ o.bytes.reads.before) × (o.bytes.writes.after ≡ o.bytes.writes.before)

@@ -3,9 +3,9 @@ use Rattle.std.specs.Prelude.{◌≡◌, ◌<◌, ◌⊎◌, ℕ, List, [], ◌�
 use Rattle.std.specs.Io.KnownBytes.{Appends}
 use Rattle.desk_rules.specs.declared.terms.Terms.{Terms}
 use Rattle.desk_run.specs.DeskWorld.{DeskWorld, enrolled}
-use Rattle.desk_ends.specs.Writing.{BreaksOff}
-use Rattle.desk_ends.specs.declared.writing.WriteFault.{WriteFault}
-use Rattle.desk_line.specs.declared.line.Enrolment.{Enrolment}
+use Rattle.io_ends.specs.Writing.{BreaksOff}
+use Rattle.io_ends.specs.declared.writing.PartialWrite.{PartialWrite}
+use Rattle.desk_cli.specs.declared.line.Enrolment.{Enrolment}
 
 -- the desk plans on these terms
 abbrev pub on_terms : DeskWorld → Terms → DeskWorld
@@ -49,7 +49,7 @@ enrolled_line e =
 
 -- the writing of the bytes broke off
 abbrev pub IsCutOff : List ℕ → Option (List ℕ) → Option (List ℕ) → Type 0
-IsCutOff bytes out now = (fault : WriteFault) × BreaksOff bytes out now fault
+IsCutOff bytes out now = (fault : PartialWrite) × BreaksOff bytes out now fault
 
 -- a line is written, whole or up to the write that broke off; or memory ran out for it
 abbrev pub IsWrittenIfRoom : List ℕ → Option (List ℕ) → Option (List ℕ) → Type 0

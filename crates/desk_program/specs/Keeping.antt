@@ -10,13 +10,13 @@ use Rattle.desk_wire.specs.Given.{told_in_play}
 use Rattle.desk_wire.specs.RequestsKept.{IsCertain, IsKept, IsLeftBy}
 use Rattle.desk_wire.specs.Passage.{Course, Passage}
 use Rattle.desk_wire.specs.OneRequest.{HasServed, IsTaken}
-use Rattle.desk_line.specs.declared.failure.Failure.{Failure}
-use Rattle.desk_line.specs.declared.line.Enrolment.{Enrolment}
-use Rattle.desk_line.specs.declared.line.Line.{Line}
-use Rattle.desk_line.specs.declared.line.Line.TheVariants as line
-use Rattle.desk_line.specs.declared.line.Play.{Play as PlayWords}
-use Rattle.desk_line.specs.declared.line.Serve.{Serve as ServeWords}
-use Rattle.desk_line.specs.Exits.{Ending, EndsWith, IsBrokenDown}
+use Rattle.desk_cli.specs.declared.failure.ErrorCode.{ErrorCode}
+use Rattle.desk_cli.specs.declared.line.Enrolment.{Enrolment}
+use Rattle.desk_cli.specs.declared.line.Line.{Line}
+use Rattle.desk_cli.specs.declared.line.Line.TheVariants as line
+use Rattle.desk_cli.specs.declared.line.Play.{Play as PlayWords}
+use Rattle.desk_cli.specs.declared.line.Serve.{Serve as ServeWords}
+use Rattle.desk_cli.specs.Exits.{Ending, EndsWith, IsBrokenDown}
 use Rattle.desk_program.specs.Enrolling.{AreListedSoFar, on_terms, with_operators}
 use Rattle.desk_program.specs.Outside.{Outside}
 use Rattle.desk_program.specs.PlayLines.{IsNotPlayed, IsPlayed}
@@ -87,7 +87,8 @@ IsFoundServed xs last after found =
 
 -- connections are taken at a desk, and that is what may be found then; or, if their requests left all as it
 -- was, what might have been found before
-pub record AreKept {A S : Type 0} (g : Ghosts S) (done : Result A Failure) (count : ℕ) (port : Course Traffic)
+pub record AreKept {A S : Type 0} (g : Ghosts S) (done : Result A ErrorCode) (count : ℕ)
+    (port : Course Traffic)
     (old new : Parts S) : Type 0 where
   pub taken : AreTaken (IsHonest (g.doubt new.store)) done count port (world_of g.content old)
       (world_of g.content new)
@@ -97,7 +98,7 @@ pub record AreKept {A S : Type 0} (g : Ghosts S) (done : Result A Failure) (coun
 
 -- connections are taken once all operators are listed, or an operator could not be listed
 abbrev pub IsPortKept :
-    {A : Type 0} → Type 0 → Result A Failure → ServeWords → Course Traffic → DeskWorld → DeskWorld
+    {A : Type 0} → Type 0 → Result A ErrorCode → ServeWords → Course Traffic → DeskWorld → DeskWorld
     → Option World → Type 0
 IsPortKept H done serve port w after found =
     ((begun : HasBegunServing H done serve port w after)
@@ -108,7 +109,7 @@ IsPortKept H done serve port w after found =
 -- a line of `serve` is carried out, and that is what is found
 pub record IsServeKept (H : Type 0) (serve : ServeWords) (end : Ending) (port : Course Traffic)
     (w after : DeskWorld) (found : Option World) : Type 0 where
-  pub done : Result ⊤ Failure
+  pub done : Result ⊤ ErrorCode
   pub ends : EndsWith done end
   pub kept : IsPortKept H done serve port w after found
 

@@ -1,8 +1,9 @@
--- Looking: the lines that tell a keeper what a file holds and what was copied, and what is printed of them.
+-- Looking: the lines that tell an administrator what a file holds and what was copied, and what is
+-- printed of them.
 use Rattle.std.specs.Prelude.{◌≡◌, ◌⊎◌, ℕ, ◌/◌, ◌%◌, Bool, true, false, List, ◌++◌, codes, decimal, if◌then◌else◌, Option}
 use Rattle.std.specs.Io.KnownBytes.{Appends}
-use Rattle.desk_line.specs.declared.failure.Failure.TheVariants as failure
-use Rattle.desk_line.specs.Exits.{Ending, EndsWell, FailsWith}
+use Rattle.desk_cli.specs.declared.failure.ErrorCode.TheVariants as failure
+use Rattle.desk_cli.specs.Exits.{Ending, EndsWell, FailsWith}
 use Rattle.desk_program.specs.Enrolling.{IsCutOff}
 use Rattle.desk_program.specs.declared.looking.CheckedFile.{CheckedFile}
 

@@ -1,8 +1,8 @@
 -- MovedLine: the line that tells how many plans were moved, and what is printed of it.
 use Rattle.std.specs.Prelude.{◌≡◌, ◌⊎◌, ℕ, List, ◌++◌, codes, decimal, Option}
 use Rattle.std.specs.Io.KnownBytes.{Appends}
-use Rattle.desk_line.specs.declared.failure.Failure.TheVariants as failure
-use Rattle.desk_line.specs.Exits.{Ending, EndsWell, FailsWith}
+use Rattle.desk_cli.specs.declared.failure.ErrorCode.TheVariants as failure
+use Rattle.desk_cli.specs.Exits.{Ending, EndsWell, FailsWith}
 use Rattle.desk_program.specs.Enrolling.{IsCutOff}
 
 unfoldable pub migrated_line : ℕ → List ℕ

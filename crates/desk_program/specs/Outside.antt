@@ -3,8 +3,8 @@ use Rattle.std.specs.Prelude.{ℕ, List, Option}
 use Rattle.std.specs.declared.io.Read as read
 use Rattle.std.specs.declared.io.Write as write
 use Rattle.desk_wire.specs.Passage.{Course, Passage, course, passage}
-use Rattle.desk_line.specs.declared.failure.Exit.{Exit}
-use Rattle.desk_line.specs.Exits.{Ending, ending}
+use Rattle.desk_cli.specs.declared.failure.ExitReport.{ExitReport}
+use Rattle.desk_cli.specs.Exits.{Ending, ending}
 use Rattle.desk_program.specs.declared.running.Streams.{Streams}
 use Rattle.desk_program.specs.Serving.{Traffic, untold}
 
@@ -19,13 +19,13 @@ abbrev pub bytes_written : {W : Type 0} → write.Ghosts W → W → W → Cours
 bytes_written w before after = course (w.contents before) (w.contents after)
 
 -- how a line ended, by its error writer
-abbrev pub ended : {E : Type 0} → write.Ghosts E → Exit E → E → E → Ending
+abbrev pub ended : {E : Type 0} → write.Ghosts E → ExitReport E → E → E → Ending
 ended e exit before now = ending exit (e.contents before) (e.contents now)
 
 -- a line's streams and its port, as they were before and as they are now, and how it ended
 abbrev pub outside :
     {R W E : Type 0} → read.Ghosts R → write.Ghosts W → write.Ghosts E → Streams R W E → Streams R W E
-    → Course Traffic → Exit E → Outside
+    → Course Traffic → ExitReport E → Outside
 outside r w e old new port exit = record {
   bytes = passage r w old.input new.input old.output new.output;
   port = port;

@@ -7,10 +7,10 @@ use Rattle.desk_run.specs.Sides.{OwnAlike}
 use Rattle.desk_wire.specs.AllAnswers.{Sent}
 use Rattle.desk_wire.specs.Headline.{LookAlike, sender}
 use Rattle.desk_wire.specs.Passage.{Course}
-use Rattle.desk_line.specs.declared.failure.Failure.{Failure}
-use Rattle.desk_line.specs.declared.line.Enrolment.{Enrolment}
-use Rattle.desk_line.specs.declared.line.Play.{Play as PlayWords}
-use Rattle.desk_line.specs.declared.line.Serve.{Serve as ServeWords}
+use Rattle.desk_cli.specs.declared.failure.ErrorCode.{ErrorCode}
+use Rattle.desk_cli.specs.declared.line.Enrolment.{Enrolment}
+use Rattle.desk_cli.specs.declared.line.Play.{Play as PlayWords}
+use Rattle.desk_cli.specs.declared.line.Serve.{Serve as ServeWords}
 use Rattle.desk_program.specs.PortPlays.{AreInputsTaken}
 use Rattle.desk_program.specs.PortTurns.{AreTurns, HasTurns, Turn, caller, sent_in, world_met}
 use Rattle.desk_program.specs.Serving.{AreTaken, HasBegunServing, Traffic}
@@ -27,7 +27,7 @@ pub record IsWhole (t : Turn) (r : Sent) : Type 0 where
 -- an operator that sent none and is in no news owns what it did (`quiet`). The same of a line of `serve`, and
 -- of a line of `play` whose requests come from a port, from the world on in which the desk has begun
 pub record PortGiven : Type 0 where
-  pub first : (doubt count : ℕ) (done : Result ⊤ Failure) (port : Course Traffic) (w after : DeskWorld)
+  pub first : (doubt count : ℕ) (done : Result ⊤ ErrorCode) (port : Course Traffic) (w after : DeskWorld)
       → AreTaken (IsHonest doubt) done count port w after → IsHonest doubt → IsSome port.before.closed
       → HasTurns port w after
   pub decided : (p q : Course Traffic) (v w v_after w_after : DeskWorld) (ts us : List Turn)
@@ -40,9 +40,9 @@ pub record PortGiven : Type 0 where
       → All (λ t. caller t ≢ Some operator) turns
       → All (All (λ e. e.operator ≢ operator)) (map (λ t. t.news) turns ++ option_to_list last)
       → OwnAlike operator after w
-  pub served : (doubt : ℕ) (done : Result ⊤ Failure) (serve : ServeWords) (port : Course Traffic)
+  pub served : (doubt : ℕ) (done : Result ⊤ ErrorCode) (serve : ServeWords) (port : Course Traffic)
       (w after : DeskWorld) (h : HasBegunServing (IsHonest doubt) done serve port w after) → IsHonest doubt
       → IsSome port.before.closed → HasTurns port h.begun after
-  pub played : (doubt : ℕ) (done : Result ⊤ Failure) (play : PlayWords) (port : Course Traffic)
+  pub played : (doubt : ℕ) (done : Result ⊤ ErrorCode) (play : PlayWords) (port : Course Traffic)
       (w after : DeskWorld) (h : AreInputsTaken (IsHonest doubt) done play port w after) → IsHonest doubt
       → IsSome port.before.closed → HasTurns port h.begun after

@@ -2,7 +2,7 @@
 -- what they left.
 use Rattle.std.specs.Prelude.{◌≡◌, ◌<◌, ◌⊎◌, ℕ, Bool, true, false, List, [], ◌∷◌, ◌++◌, length, map, take, Option, None, Some, option_and_then, option_map, option_to_list}
 use Rattle.std.specs.List.{slice_get}
-use Rattle.desk_reading.specs.Requests.{asked}
+use Rattle.request_parser.specs.Requests.{asked}
 use Rattle.desk_run.specs.DeskWorld.{DeskWorld}
 use Rattle.desk_wire.specs.declared.response.ServerError.{ServerError}
 use Rattle.desk_wire.specs.AllAnswers.{Sent}
@@ -11,7 +11,7 @@ use Rattle.desk_wire.specs.Headline.{sender}
 use Rattle.desk_wire.specs.OneRequest.{IsTaken}
 use Rattle.desk_wire.specs.Passage.{Course}
 use Rattle.desk_wire.specs.RefusalTexts.{server_error_text}
-use Rattle.desk_line.specs.declared.line.Enrolment.{Enrolment}
+use Rattle.desk_cli.specs.declared.line.Enrolment.{Enrolment}
 use Rattle.desk_program.specs.Enrolling.{with_operators}
 use Rattle.desk_program.specs.Serving.{Arrival, Grows, Parting, Traffic}
 

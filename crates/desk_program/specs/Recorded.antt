@@ -2,12 +2,12 @@
 use Rattle.std.specs.Prelude.{◌≡◌, ◌<◌, ◌⊎◌, ⊤, ℕ, ℤ, nat_abs, length, map, List, [], ◌∷◌, ◌++◌, Bool, true, Option, Some, None, IsTrue}
 use Rattle.std.specs.List.{AllByRecursion}
 use Rattle.desk_rules.specs.Name.{is_operator_name}
-use Rattle.desk_ends.specs.Moments.{IsMoment}
+use Rattle.io_ends.specs.Moments.{IsMoment}
 use Rattle.desk_record.specs.Record.{EntryParts, entries, entry}
 use Rattle.desk_record.specs.declared.kind.Kind.TheVariants as kind
 use Rattle.desk_wire.specs.Streams.{IsRequest}
-use Rattle.desk_line.specs.Lines.{AreEnrolments}
-use Rattle.desk_line.specs.declared.line.Enrolment.{Enrolment}
+use Rattle.desk_cli.specs.Lines.{AreEnrolments}
+use Rattle.desk_cli.specs.declared.line.Enrolment.{Enrolment}
 
 -- the text of a record, and the second of the last request in it
 pub record Noted : Type 0 where

@@ -2,16 +2,16 @@
 use Rattle.std.specs.Prelude.{◌≡◌, ◌≢◌, ◌≤◌, ◌⊎◌, ⊤, ℕ, ℤ, Bool, true, false, List, [], ◌∷◌, ◌++◌, All, map, length, codes, decimal, Option, Some, None, IfSome, option_to_list, Result, Ok, Err, OnOk}
 use Rattle.std.specs.Result.{IsErrAnd}
 use Rattle.desk_run.specs.DeskWorld.{DeskWorld}
-use Rattle.desk_ends.specs.declared.serving.Served.{Served}
-use Rattle.desk_ends.specs.declared.serving.Served.TheVariants.{Answered, End}
-use Rattle.desk_ends.specs.declared.serving.ServeFault.{ServeFault}
+use Rattle.io_ends.specs.declared.serving.Served.{Served}
+use Rattle.io_ends.specs.declared.serving.Served.TheVariants.{Answered, End}
+use Rattle.io_ends.specs.declared.serving.ServeFault.{ServeFault}
 use Rattle.desk_wire.specs.Passage.{Course, Passage, course, passed}
 use Rattle.desk_wire.specs.OneRequest.{HasServed}
-use Rattle.desk_line.specs.declared.failure.Failure.{Failure}
-use Rattle.desk_line.specs.declared.line.Serve.{Serve as ServeWords}
-use Rattle.desk_line.specs.declared.failure.Failure.TheVariants as failure
-use Rattle.desk_line.specs.Exits.{Ending, EndsWith, IsAnnounced, IsLineBreakdown, failure_at}
-use Rattle.desk_line.specs.declared.line.Enrolment.{Enrolment}
+use Rattle.desk_cli.specs.declared.failure.ErrorCode.{ErrorCode}
+use Rattle.desk_cli.specs.declared.line.Serve.{Serve as ServeWords}
+use Rattle.desk_cli.specs.declared.failure.ErrorCode.TheVariants as failure
+use Rattle.desk_cli.specs.Exits.{Ending, EndsWith, IsAnnounced, IsLineBreakdown, failure_at}
+use Rattle.desk_cli.specs.declared.line.Enrolment.{Enrolment}
 use Rattle.desk_program.specs.declared.port.Outcome.{Outcome}
 use Rattle.desk_program.specs.Enrolling.{AreEnrolled, AreListedSoFar, on_terms, with_operators}
 use Rattle.desk_program.specs.Recorded.{IsOpen, Recorded, RecordsAnswer, RecordsNews, RecordsNone, RecordsRequest}
@@ -165,31 +165,31 @@ AreServed H (x ∷ xs) w after =
     × AreServed H xs between after
 
 -- why the desk ends after a result; none if it goes on
-abbrev pub failing : {A : Type 0} → Result A Failure → Option Failure
+abbrev pub failing : {A : Type 0} → Result A ErrorCode → Option ErrorCode
 failing (Ok done) = None
 failing (Err failure) = Some failure
 
 -- the first of two failures, if there is one
-abbrev pub first_failure : Option Failure → Option Failure → Option Failure
+abbrev pub first_failure : Option ErrorCode → Option ErrorCode → Option ErrorCode
 first_failure None then = then
 first_failure (Some failure) then = Some failure
 
 -- the machine denied memory, a write, a connection or the moment; or a request, or the answer to one, can't
 -- be recorded: the client was told that the desk failed
-abbrev pub IsDenied : Failure → Type 0
+abbrev pub IsDenied : ErrorCode → Type 0
 IsDenied f =
     (f ≡ failure.Memory) ⊎ (f ≡ failure.Write) ⊎ (f ≡ failure.Network) ⊎ (f ≡ failure.Clock)
     ⊎ (f ≡ failure.Broken)
 
 -- the news after which no connection was taken: an operator could not be listed, and those before it are;
 -- or all are listed, and the machine denied something
-abbrev pub EndsAtNews : Type 0 → Failure → List Enrolment → DeskWorld → DeskWorld → Type 0
+abbrev pub EndsAtNews : Type 0 → ErrorCode → List Enrolment → DeskWorld → DeskWorld → Type 0
 EndsAtNews H f news w after =
     (IsLineBreakdown f × AreListedSoFar H news w after) ⊎ (IsDenied f × AreEnrolled H news w after)
 
 -- what was told after the last connection that was taken is listed, as far as it could be, if the desk ended
 abbrev pub IsLastNews :
-    {A : Type 0} → Type 0 → Option (List Enrolment) → Result A Failure → DeskWorld → DeskWorld → Type 0
+    {A : Type 0} → Type 0 → Option (List Enrolment) → Result A ErrorCode → DeskWorld → DeskWorld → Type 0
 IsLastNews H None done w after = after ≡ w
 IsLastNews H (Some news) done w after = IsErrAnd done (λ failure. EndsAtNews H failure news w after)
 
@@ -199,7 +199,7 @@ news_of xs last = map (λ x. x.news) xs ++ option_to_list last
 
 -- the failure is what the last of these connections ended the desk with, or came as that was closed or after
 -- it, with the news for which no connection was taken; none before ended the desk
-abbrev pub EndsDeskBy : Failure → List Exchange → Option (List Enrolment) → Type 0
+abbrev pub EndsDeskBy : ErrorCode → List Exchange → Option (List Enrolment) → Type 0
 EndsDeskBy f [] None = IsDenied f
 EndsDeskBy f [] (Some news) = ⊤
 EndsDeskBy f (x ∷ xs) last = ((failure_at x.served ≡ None) × EndsDeskBy f xs last)
@@ -207,14 +207,15 @@ EndsDeskBy f (x ∷ xs) last = ((failure_at x.served ≡ None) × EndsDeskBy f x
 
 -- no more connections are taken, since they are as many as were asked for, and the desk failed at none; or
 -- by why the desk ended
-abbrev pub EndsAfter : {A : Type 0} → Result A Failure → ℕ → List Exchange → Option (List Enrolment) → Type 0
+abbrev pub EndsAfter : {A : Type 0} → Result A ErrorCode → ℕ → List Exchange → Option (List Enrolment)
+    → Type 0
 EndsAfter (Ok done) count exchanges last =
     (length exchanges ≡ count) × All (λ x. failure_at x.served ≡ None) exchanges
 EndsAfter (Err failure) count exchanges last = EndsDeskBy failure exchanges last
 
 -- connections are taken, at most so many, and what is left is what their requests and the news leave. If that
 -- ended well, all that was to be recorded is
-pub record AreTaken {A : Type 0} (H : Type 0) (done : Result A Failure) (count : ℕ)
+pub record AreTaken {A : Type 0} (H : Type 0) (done : Result A ErrorCode) (count : ℕ)
     (port : Course Traffic) (w after : DeskWorld) : Type 0 where
   pub exchanges : List Exchange
   pub last : Option (List Enrolment)
@@ -234,7 +235,7 @@ pub record AreTaken {A : Type 0} (H : Type 0) (done : Result A Failure) (count :
 
 -- the desk plans on the line's terms and its operators are listed, the port is asked to listen at the line's
 -- number, and then connections are taken
-pub record HasBegunServing {A : Type 0} (H : Type 0) (done : Result A Failure) (serve : ServeWords)
+pub record HasBegunServing {A : Type 0} (H : Type 0) (done : Result A ErrorCode) (serve : ServeWords)
     (port : Course Traffic) (w after : DeskWorld) : Type 0 where
   pub begun : DeskWorld
   pub listed : H → begun ≡ with_operators (on_terms w serve.desk.terms) serve.desk.enrolments.items
@@ -243,21 +244,21 @@ pub record HasBegunServing {A : Type 0} (H : Type 0) (done : Result A Failure) (
   pub taken : AreTaken H done serve.connections (course listening port.after) begun after
 
 -- an operator could not be listed: those before it are, and no connection is taken
-pub record IsNotBegun {A : Type 0} (H : Type 0) (done : Result A Failure) (serve : ServeWords)
+pub record IsNotBegun {A : Type 0} (H : Type 0) (done : Result A ErrorCode) (serve : ServeWords)
     (port : Course Traffic) (w after : DeskWorld) : Type 0 where
   pub broken : IsErrAnd done IsLineBreakdown
   pub untaken : port.after ≡ port.before
   pub listed : AreListedSoFar H serve.desk.enrolments.items (on_terms w serve.desk.terms) after
 
 abbrev pub IsAtPort :
-    {A : Type 0} → Type 0 → Result A Failure → ServeWords → Course Traffic → DeskWorld → DeskWorld → Type 0
+    {A : Type 0} → Type 0 → Result A ErrorCode → ServeWords → Course Traffic → DeskWorld → DeskWorld → Type 0
 IsAtPort H done serve port w after =
     HasBegunServing H done serve port w after ⊎ IsNotBegun H done serve port w after
 
 -- a line of `serve` is carried out, prints that it listens, if it does, and ends as that does
 pub record IsLineServed (H : Type 0) (serve : ServeWords) (end : Ending) (port : Course Traffic)
     (writes : Course (Option (List ℕ))) (w after : DeskWorld) : Type 0 where
-  pub done : Result ⊤ Failure
+  pub done : Result ⊤ ErrorCode
   pub ends : EndsWith done end
   pub printed : IsAnnounced done (listening_line serve.port) writes.before writes.after
   pub heard : PrintsIfListening port serve.port writes

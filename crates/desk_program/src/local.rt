@@ -9,10 +9,10 @@ ghost use Rattle.desk_program.specs.Serving as spec;
 ghost use Rattle.desk_program.specs.Serving.{IsDenied, Listens, untold};
 ghost use Rattle.desk_program.specs.Waiting.{moment_at};
 
-use crate::port::{Connection, Outcome, Port, Register};
-use crate::timed::{Timed, discard_extra, discard_rest};
-use desk_ends::{Moment, write_whole};
-use desk_line::{Enrolment, Failure};
+use crate::port::{ClientStream, EnrolmentSource, Outcome, Port};
+use crate::timed::{DeadlineStream, discard_extra, discard_rest};
+use desk_cli::{Enrolment, ErrorCode};
+use io_ends::{Moment, write_whole};
 use std::alloc::{AllocError, Global};
 use std::io::{self, BufReader, ErrorKind, Write};
 use std::net::{Ipv4Addr, Net, OpenListener, OpenStream, TcpListener};
@@ -34,7 +34,7 @@ pub struct LocalPort<'s, N: Net, C, G: Drop, E> {
     waiting: Option<N::Stream>,
 }
 
-impl<'s, N: Net, C: Clock, G: Register + Drop, E: Write> LocalPort<'s, N, C, G, E> {
+impl<'s, N: Net, C: Clock, G: EnrolmentSource + Drop, E: Write> LocalPort<'s, N, C, G, E> {
     /// A port that is not listened at yet. Why it can't be had goes to `errors`; a fault there is passed
     /// over.
     pub fn new(
@@ -61,7 +61,7 @@ impl<'s, N: Net, C: Clock, G: Register + Drop, E: Write> LocalPort<'s, N, C, G, 
     }
 
     // The stream of the next connection: the one that is there, or the next that comes.
-    fn next_stream(&mut self) -> Result<N::Stream, Failure>
+    fn next_stream(&mut self) -> Result<N::Stream, ErrorCode>
         ensures { IfErr result IsDenied }
     {
         if let Some(stream) = self.waiting.take() {
@@ -69,17 +69,17 @@ impl<'s, N: Net, C: Clock, G: Register + Drop, E: Write> LocalPort<'s, N, C, G, 
         }
         match &self.listener {
             Some(listener) => accept_from(listener),
-            None => Err(Failure::Network),
+            None => Err(ErrorCode::Network),
         }
     }
 }
 
-impl<'s, N: Net, C: Clock, G: Register + Drop, E: Write> Port for LocalPort<'s, N, C, G, E> {
-    type Input = BufReader<Timed<'s, N::Stream, C>>;
+impl<'s, N: Net, C: Clock, G: EnrolmentSource + Drop, E: Write> Port for LocalPort<'s, N, C, G, E> {
+    type Input = BufReader<DeadlineStream<'s, N::Stream, C>>;
 
-    type Output = Timed<'s, N::Stream, C>;
+    type Output = DeadlineStream<'s, N::Stream, C>;
 
-    fn listen(&mut self, number: u16) -> Result<(), Failure>
+    fn listen(&mut self, number: u16) -> Result<(), ErrorCode>
         ensures listens { Listens untold untold number (is_ok result) }
         ensures fault { IfErr result IsDenied }
         ensures listener { OnOk result (IsSome self.new.listener) }
@@ -96,12 +96,12 @@ impl<'s, N: Net, C: Clock, G: Register + Drop, E: Write> Port for LocalPort<'s, 
                     port_cause(error.kind()),
                     &mut self.errors,
                 );
-                Err(Failure::Network)
+                Err(ErrorCode::Network)
             }
         }
     }
 
-    fn news(&mut self, alloc: Global) -> Result<Vec<Enrolment>, Failure> {
+    fn news(&mut self, alloc: Global) -> Result<Vec<Enrolment>, ErrorCode> {
         self.waiting = Some(self.next_stream()?);
         self.register.look(alloc)
     }
@@ -109,20 +109,23 @@ impl<'s, N: Net, C: Clock, G: Register + Drop, E: Write> Port for LocalPort<'s, 
     fn take(
         &mut self,
         alloc: Global,
-    ) -> Result<Connection<BufReader<Timed<'s, N::Stream, C>>, Timed<'s, N::Stream, C>>, Failure> {
+    ) -> Result<
+        ClientStream<BufReader<DeadlineStream<'s, N::Stream, C>>, DeadlineStream<'s, N::Stream, C>>,
+        ErrorCode,
+    > {
         let stream = self.next_stream()?;
         let Ok(now) = SystemTime::now(self.clock) else {
-            return Err(Failure::Clock);
+            return Err(ErrorCode::Clock);
         };
         connection_of(alloc, self.clock, now, stream)
     }
 
     fn close(
         &mut self,
-        mut input: BufReader<Timed<'s, N::Stream, C>>,
-        output: Timed<'s, N::Stream, C>,
+        mut input: BufReader<DeadlineStream<'s, N::Stream, C>>,
+        output: DeadlineStream<'s, N::Stream, C>,
         outcome: Outcome,
-    ) -> Result<(), Failure> {
+    ) -> Result<(), ErrorCode> {
         let _ = if outcome.is_whole {
             discard_extra(input.get_mut(), &output)
         } else {
@@ -171,7 +174,7 @@ fn port_cause(kind: ErrorKind) -> &'static str
 }
 
 // The stream of the next connection. Those that are given up before they are taken are passed over.
-fn accept_from<L: OpenListener>(listener: &L) -> Result<L::Stream, Failure>
+fn accept_from<L: OpenListener>(listener: &L) -> Result<L::Stream, ErrorCode>
     ensures { IfErr result IsDenied }
 {
     for accepted in listener.incoming() {
@@ -179,20 +182,20 @@ fn accept_from<L: OpenListener>(listener: &L) -> Result<L::Stream, Failure>
             return Ok(stream);
         }
     }
-    Err(Failure::Network)
+    Err(ErrorCode::Network)
 }
 
 // The stream of a connection that was accepted. None if it was given up before.
-fn stream_of<T: Drop>(accepted: io::Result<T>) -> Result<Option<T>, Failure>
+fn stream_of<T: Drop>(accepted: io::Result<T>) -> Result<Option<T>, ErrorCode>
     ensures ok { IfOk accepted (λ stream. result ≡ Ok (Some stream)) }
     ensures passed { IfErr accepted (λ e. error_kind e ≡ ErrorKind.ConnectionAborted → result ≡ Ok None) }
     ensures ends { IfErr accepted (λ e. error_kind e ≢ ErrorKind.ConnectionAborted
-        → result ≡ Err Failure.Network) }
+        → result ≡ Err ErrorCode.Network) }
 {
     match accepted {
         Ok(stream) => Ok(Some(stream)),
         Err(error) if error.kind() == ErrorKind::ConnectionAborted => Ok(None),
-        Err(_) => Err(Failure::Network),
+        Err(_) => Err(ErrorCode::Network),
     }
 }
 
@@ -202,25 +205,25 @@ fn connection_of<'s, T, C: Clock>(
     clock: &'s C,
     now: SystemTime,
     stream: T,
-) -> Result<Connection<BufReader<Timed<'s, T, C>>, Timed<'s, T, C>>, Failure>
+) -> Result<ClientStream<BufReader<DeadlineStream<'s, T, C>>, DeadlineStream<'s, T, C>>, ErrorCode>
 where
     T: std::io::Read + std::io::Write + OpenStream + Drop,
     ensures moment { IfOk result (λ c. moment_at (system_time_nanos now) ≡ Some c.moment.second) }
     ensures fault { IfErr result IsDenied }
 {
     let Some(moment) = moment_in(now) else {
-        return Err(Failure::Clock);
+        return Err(ErrorCode::Clock);
     };
     let Ok(other) = stream.try_clone() else {
-        return Err(Failure::Network);
+        return Err(ErrorCode::Network);
     };
-    match BufReader::new(alloc, Timed::new(stream, clock)) {
-        Ok(input) => Ok(Connection {
+    match BufReader::new(alloc, DeadlineStream::new(stream, clock)) {
+        Ok(input) => Ok(ClientStream {
             moment,
             input,
-            output: Timed::new(other, clock),
+            output: DeadlineStream::new(other, clock),
         }),
-        Err(_) => Err(Failure::Memory),
+        Err(_) => Err(ErrorCode::Memory),
     }
 }
 

@@ -1,19 +1,19 @@
-//! The lines that tell a keeper what a file holds, and what was copied of it.
+//! The lines that tell an administrator what a file holds, and what was copied of it.
 
 ghost use Rattle.std.specs.Prelude.{◌≡◌, ℕ, IfOk, List, codes, if◌then◌else◌, string_bytes};
-ghost use Rattle.desk_line.specs.Exits.{ending};
+ghost use Rattle.desk_cli.specs.Exits.{ending};
 ghost use Rattle.desk_program.specs.Looking as spec;
 ghost use Rattle.desk_program.specs.Looking.{IsTextPrinted};
 
-use desk_ends::write_whole;
-use desk_line::{Exit, Failure, conclude};
+use desk_cli::{ErrorCode, ExitReport, report_exit};
+use io_ends::write_whole;
 use std::alloc::{AllocError, Global};
 use std::io::Write;
 
 // How many bytes a tenth of a megabyte is.
 const TENTH: u64 = 100_000;
 
-/// What a file of a desk holds, as it is told to a keeper.
+/// What a file of a desk holds, as it is told to an administrator.
 #[derive(Clone, Copy, Debug, PartialEq, Eq)]
 pub struct CheckedFile {
     /// Whether the rows are those of schema 1.
@@ -45,7 +45,7 @@ pub fn print_checked<W: Write, E: Write>(
     file: &CheckedFile,
     output: &mut W,
     errors: &mut E,
-) -> Exit<E>
+) -> ExitReport<E>
     ensures { IsTextPrinted (spec.checked_line file.now)
         (ending result (E.contents errors.old) (E.contents errors.new)) (W.contents output.old)
         (W.contents output.new) }
@@ -61,7 +61,7 @@ pub fn print_copied<W: Write, E: Write>(
     plans: usize,
     output: &mut W,
     errors: &mut E,
-) -> Exit<E>
+) -> ExitReport<E>
     ensures { IsTextPrinted (spec.copied_line operators plans)
         (ending result (E.contents errors.old) (E.contents errors.new)) (W.contents output.old)
         (W.contents output.new) }
@@ -75,17 +75,17 @@ pub(crate) fn print_line<W: Write, E: Write>(
     text: Result<String, AllocError>,
     output: &mut W,
     errors: &mut E,
-) -> Exit<E>
+) -> ExitReport<E>
     ensures { (line : List ℕ) → IfOk text (λ text. string_bytes text ≡ line)
         → IsTextPrinted line (ending result (E.contents errors.old) (E.contents errors.new))
         (W.contents output.old) (W.contents output.new) }
 {
     let Ok(text) = text else {
-        return conclude(errors, Err(Failure::Memory));
+        return report_exit(errors, Err(ErrorCode::Memory));
     };
     match write_whole(output, text.as_bytes()) {
-        Ok(()) => Exit::silent(0),
-        Err(_) => conclude(errors, Err(Failure::Write)),
+        Ok(()) => ExitReport::silent(0),
+        Err(_) => report_exit(errors, Err(ErrorCode::Write)),
     }
 }
 

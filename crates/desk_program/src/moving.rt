@@ -1,12 +1,12 @@
 //! The line that tells how many plans were moved to schema 2.
 
 ghost use Rattle.std.specs.Prelude.{◌≡◌, IfOk, string_bytes};
-ghost use Rattle.desk_line.specs.Exits.{ending};
+ghost use Rattle.desk_cli.specs.Exits.{ending};
 ghost use Rattle.desk_program.specs.MovedLine as spec;
 ghost use Rattle.desk_program.specs.MovedLine.{IsCountPrinted};
 
 use crate::looking::print_line;
-use desk_line::Exit;
+use desk_cli::ExitReport;
 use std::alloc::{AllocError, Global};
 use std::io::Write;
 
@@ -17,7 +17,7 @@ pub fn print_migrated<W: Write, E: Write>(
     count: u32,
     output: &mut W,
     errors: &mut E,
-) -> Exit<E>
+) -> ExitReport<E>
     ensures { IsCountPrinted count (ending result (E.contents errors.old) (E.contents errors.new))
         (W.contents output.old) (W.contents output.new) }
 {

@@ -2,20 +2,20 @@
 
 ghost use Rattle.std.specs.Prelude.{◌≡◌, IfOk, IfErr, OnOk, OnErr};
 ghost use Rattle.std.specs.Result.{is_ok};
-ghost use Rattle.desk_line.specs.Lines.{AreEnrolments};
+ghost use Rattle.desk_cli.specs.Lines.{AreEnrolments};
 ghost use Rattle.desk_program.specs.Recorded.{IsOpen};
 ghost use Rattle.desk_program.specs.Serving.{BringsNews, Closes, Denies, IsDenied, IsFresh, Listens};
 ghost use Rattle.desk_program.specs.Serving.{TakesArrival, Traffic};
 ghost use Rattle.desk_program.specs.Serving.{arrived, parted, untold};
 
-use desk_ends::Moment;
-use desk_line::{Enrolment, Failure};
+use desk_cli::{Enrolment, ErrorCode};
+use io_ends::Moment;
 use std::alloc::Global;
 use std::io::{Read, Write};
 
 /// A connection that was taken.
 #[derive(Drop)]
-pub struct Connection<I, O> {
+pub struct ClientStream<I, O> {
     /// The moment at which it was taken.
     pub moment: Moment,
     /// What comes from the client.
@@ -33,16 +33,16 @@ pub struct Outcome {
     pub is_answered: bool,
 }
 
-/// What the keeper has enrolled while a desk serves.
-pub trait Register {
+/// What the administrator has enrolled while a desk serves.
+pub trait EnrolmentSource {
     /// The operators that are to be enrolled since this was asked last.
     ///
     /// # Errors
     ///
     /// `Memory`.
-    fn look(&mut self, alloc: Global) -> Result<Vec<Enrolment>, Failure>
+    fn look(&mut self, alloc: Global) -> Result<Vec<Enrolment>, ErrorCode>
         ensures small { IfOk result (λ news. AreEnrolments news.items) }
-        ensures fault { IfErr result (λ f. f ≡ Failure.Memory) };
+        ensures fault { IfErr result (λ f. f ≡ ErrorCode.Memory) };
 }
 
 /// A port, from which connections are taken one after the other.
@@ -61,17 +61,17 @@ pub trait Port {
     /// # Errors
     ///
     /// `Network` if the port can't be had.
-    fn listen(&mut self, number: u16) -> Result<(), Failure>
+    fn listen(&mut self, number: u16) -> Result<(), ErrorCode>
         ensures listens { Listens (traffic self.old) (traffic self.new) number (is_ok result) }
         ensures fault { IfErr result IsDenied };
 
-    /// Waits until there is a connection, which `take` takes then, and tells the operators that the keeper
-    /// has had enrolled since this was asked last.
+    /// Waits until there is a connection, which `take` takes then, and tells the operators that the
+    /// administrator has had enrolled since this was asked last.
     ///
     /// # Errors
     ///
     /// `Network` if no connection can be had, `Memory`; `Broken` if what comes can't be recorded.
-    fn news(&mut self, alloc: Global) -> Result<Vec<Enrolment>, Failure>
+    fn news(&mut self, alloc: Global) -> Result<Vec<Enrolment>, ErrorCode>
         ensures small { IfOk result (λ news. AreEnrolments news.items) }
         ensures brings { IfOk result (λ news. BringsNews (traffic self.old) (traffic self.new) news.items) }
         ensures same { OnErr result (Denies (traffic self.old) (traffic self.new)) }
@@ -83,7 +83,7 @@ pub trait Port {
     ///
     /// `Network` if none can be taken, `Clock` if the clock gives no moment in range, `Memory`; `Broken` if
     /// the request can't be recorded: the client was told that the desk failed.
-    fn take(&mut self, alloc: Global) -> Result<Connection<Self::Input, Self::Output>, Failure>
+    fn take(&mut self, alloc: Global) -> Result<ClientStream<Self::Input, Self::Output>, ErrorCode>
         ensures taken { IfOk result (λ c. TakesArrival (traffic self.old) (traffic self.new)
             (arrived c.moment.second (Self.Input.remaining c.input))) }
         ensures unsent { IfOk result (λ c. IsFresh (traffic self.old) (Self.Output.contents c.output)) }
@@ -102,7 +102,7 @@ pub trait Port {
         input: Self::Input,
         output: Self::Output,
         outcome: Outcome,
-    ) -> Result<(), Failure>
+    ) -> Result<(), ErrorCode>
         ensures closed { Closes (traffic self.old) (traffic self.new)
             (parted (Self.Input.remaining input) (Self.Output.contents output) outcome) }
         ensures recorded { OnOk result (IsOpen (traffic self.new).recorded) }

@@ -7,9 +7,9 @@ ghost use Rattle.desk_run.specs.CallFaults.{IsBreakdown, IsStoreCounted};
 ghost use Rattle.desk_store.specs.StoreFrames.{Remembers};
 ghost use Rattle.desk_store.specs.StoreFaults.{IsHonest};
 ghost use Rattle.desk_wire.specs.Passage.{passage};
-ghost use Rattle.desk_line.specs.Exits as spec;
+ghost use Rattle.desk_cli.specs.Exits as spec;
 ghost use Rattle.desk_rules.specs.Limits.{max_priority};
-ghost use Rattle.desk_line.specs.Lines.{AreEnrolments, IsPlay};
+ghost use Rattle.desk_cli.specs.Lines.{AreEnrolments, IsPlay};
 ghost use Rattle.desk_program.specs.EndCauses.{HasCause};
 ghost use Rattle.desk_program.specs.Enrolling as enrolling;
 ghost use Rattle.desk_program.specs.Enrolling.{HasListed, HasListedNews, on_terms};
@@ -17,25 +17,25 @@ ghost use Rattle.desk_program.specs.Keeping.{FindsEnrolled, FindsListed, FindsNe
 ghost use Rattle.desk_program.specs.Outside.{bytes_written, ended};
 ghost use Rattle.desk_program.specs.PlayLines.{IsEnrolled, IsPlayDone, done_unless};
 
-use desk_ends::{PlayEnd, write_whole};
-use desk_line::{Enrolment, Exit, Failure, Play, conclude};
+use desk_cli::{Enrolment, ErrorCode, ExitReport, Play, report_exit};
 use desk_rules::terms::Terms;
 use desk_run::{Desk, DeskFault};
 use desk_store::PlanStore;
 use desk_wire::play_all;
+use io_ends::{PlayEnd, write_whole};
 use std::alloc::{AllocError, Global};
 use std::io::{Read, Write};
 
 // Why a run over the input did not end with the input, by its end.
-fn failure_after(ended: PlayEnd) -> Option<Failure>
+fn failure_after(ended: PlayEnd) -> Option<ErrorCode>
     ensures { result ≡ spec.failure_after ended }
 {
     match ended {
         PlayEnd::End => None,
-        PlayEnd::Unframed => Some(Failure::Unframed),
-        PlayEnd::Broken => Some(Failure::Broken),
-        PlayEnd::Limit => Some(Failure::Limit),
-        PlayEnd::Fault(fault) => Some(Failure::from(fault)),
+        PlayEnd::Unframed => Some(ErrorCode::Unframed),
+        PlayEnd::Broken => Some(ErrorCode::Broken),
+        PlayEnd::Limit => Some(ErrorCode::Limit),
+        PlayEnd::Fault(fault) => Some(ErrorCode::from(fault)),
     }
 }
 
@@ -49,7 +49,7 @@ pub fn play<S: PlanStore, R: Read, W: Write, E: Write>(
     input: &mut R,
     output: &mut W,
     errors: &mut E,
-) -> Exit<E>
+) -> ExitReport<E>
     requires { IsPlay line.now }
     ensures played { IsPlayDone (IsHonest (S.doubt desk.new.store)) line.now
         (ended E.Write result errors.old errors.new) (passage R.Read W.Write input.old input.new
@@ -61,10 +61,10 @@ pub fn play<S: PlanStore, R: Read, W: Write, E: Write>(
     ensures cause { HasCause S.PlanStore desk.old desk.new (ended E.Write result errors.old errors.new) }
 {
     if let Err(fault) = set_up(desk, &line.desk.terms, &line.desk.enrolments) {
-        return conclude(errors, Err(Failure::from(fault)));
+        return report_exit(errors, Err(ErrorCode::from(fault)));
     }
     let played = play_all(alloc, desk, line.moment, input, output);
-    conclude(errors, done_after(played.ended))
+    report_exit(errors, done_after(played.ended))
 }
 
 /// Enrols an operator at a desk, prints the line that says so, which is made first, and answers how that
@@ -75,7 +75,7 @@ pub fn enrol<S: PlanStore, W: Write, E: Write>(
     desk: &mut Desk<S>,
     output: &mut W,
     errors: &mut E,
-) -> Exit<E>
+) -> ExitReport<E>
     requires { enrolment.now.ceiling ≤ max_priority }
     ensures enrolled { IsEnrolled (IsHonest (S.doubt desk.new.store)) enrolment.now
         (ended E.Write result errors.old errors.new) (bytes_written W.Write output.old output.new)
@@ -87,14 +87,14 @@ pub fn enrol<S: PlanStore, W: Write, E: Write>(
     ensures cause { HasCause S.PlanStore desk.old desk.new (ended E.Write result errors.old errors.new) }
 {
     let Ok(text) = enrolled_text(alloc, enrolment) else {
-        return conclude(errors, Err(Failure::Memory));
+        return report_exit(errors, Err(ErrorCode::Memory));
     };
     if let Err(fault) = desk.enrol(&enrolment.operator, enrolment.ceiling) {
-        return conclude(errors, Err(Failure::from(fault)));
+        return report_exit(errors, Err(ErrorCode::from(fault)));
     }
     match write_whole(output, text.as_bytes()) {
-        Ok(()) => Exit::silent(0),
-        Err(_) => conclude(errors, Err(Failure::Write)),
+        Ok(()) => ExitReport::silent(0),
+        Err(_) => report_exit(errors, Err(ErrorCode::Write)),
     }
 }
 
@@ -109,7 +109,7 @@ fn enrolled_text(alloc: Global, enrolment: &Enrolment) -> Result<String, AllocEr
 }
 
 // Whether a run over the input came to the input's end, by its own end.
-fn done_after(ended: PlayEnd) -> Result<(), Failure>
+fn done_after(ended: PlayEnd) -> Result<(), ErrorCode>
     ensures { result ≡ done_unless (spec.failure_after ended) }
 {
     match failure_after(ended) {

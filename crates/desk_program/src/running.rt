@@ -2,7 +2,7 @@
 
 ghost use Rattle.std.specs.Prelude.{IfErr, IfOk};
 ghost use Rattle.std.specs.Option.{IsSomeAnd};
-ghost use Rattle.desk_line.specs.Lines.{IsLine, line_of};
+ghost use Rattle.desk_cli.specs.Lines.{IsLine, line_of};
 ghost use Rattle.desk_wire.specs.Passage.{course, passage};
 ghost use Rattle.desk_program.specs.Outside.{bytes_written, ended, outside, streamed};
 ghost use Rattle.desk_program.specs.CarryingOut.{CarriesOut, EndsWithStatus, IsPortless, IsUnopened};
@@ -10,7 +10,7 @@ ghost use Rattle.desk_program.specs.CarryingOut.{CarriesOut, EndsWithStatus, IsP
 use crate::port::Port;
 use crate::program::{enrol, play};
 use crate::server::serve;
-use desk_line::{Action, Exit, Failure, Line, conclude};
+use desk_cli::{Action, ErrorCode, ExitReport, Line, report_exit};
 use desk_run::Desk;
 use desk_store::PlanStore;
 use std::alloc::Global;
@@ -32,10 +32,10 @@ pub struct Streams<R: Drop, W: Drop, E: Drop> {
 pub fn run_opened<S: PlanStore + Drop, P: Port, R: Read + Drop, W: Write + Drop, E: Write + Drop>(
     alloc: Global,
     action: Action<'_>,
-    opened: Result<Desk<S>, Failure>,
+    opened: Result<Desk<S>, ErrorCode>,
     port: &mut P,
     streams: &mut Streams<R, W, E>,
-) -> (Exit<E>, Option<Desk<S>>)
+) -> (ExitReport<E>, Option<Desk<S>>)
     requires { IsLine (line_of action) }
     ensures opened { IfOk opened (λ desk. IsSomeAnd result.1 (CarriesOut S.PlanStore (line_of action.entry)
         (outside R.Read W.Write E.Write streams.old streams.new
@@ -48,7 +48,7 @@ pub fn run_opened<S: PlanStore + Drop, P: Port, R: Read + Drop, W: Write + Drop,
             let exit = carry_out(alloc, action, &mut desk, port, streams);
             (exit, Some(desk))
         }
-        Err(failure) => (conclude(&mut streams.errors, Err(failure)), None),
+        Err(failure) => (report_exit(&mut streams.errors, Err(failure)), None),
     }
 }
 
@@ -59,7 +59,7 @@ fn carry_out<S: PlanStore, P: Port, R: Read + Drop, W: Write + Drop, E: Write + 
     desk: &mut Desk<S>,
     port: &mut P,
     streams: &mut Streams<R, W, E>,
-) -> Exit<E>
+) -> ExitReport<E>
     requires { IsLine (line_of action) }
     ensures { CarriesOut S.PlanStore (line_of action.entry) (outside R.Read W.Write E.Write streams.old
         streams.new (course (P.traffic port.old) (P.traffic port.new)) result) desk.old desk.new }
@@ -98,7 +98,7 @@ fn carry_out_portless<S: PlanStore, R: Read, W: Write, E: Write>(
     input: &mut R,
     output: &mut W,
     errors: &mut E,
-) -> Exit<E>
+) -> ExitReport<E>
     requires { IsPortless line.now }
     ensures { CarriesOut S.PlanStore line.now (streamed (passage R.Read W.Write input.old input.new output.old
         output.new) (ended E.Write result errors.old errors.new)) desk.old desk.new }

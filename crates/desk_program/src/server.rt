@@ -4,9 +4,9 @@ ghost use Rattle.std.specs.Prelude.{◌≡◌, ◌≤◌, IfOk, IfErr, OnOk, str
 ghost use Rattle.std.specs.Io.KnownBytes.{Appends};
 ghost use Rattle.desk_store.specs.StoreFrames.{Remembers};
 ghost use Rattle.desk_store.specs.StoreFaults.{IsHonest};
-ghost use Rattle.desk_line.specs.Exits.{IsAnnounced, failure_at};
-ghost use Rattle.desk_line.specs.Lines.{IsPlay, IsServe};
-ghost use Rattle.desk_line.specs.Written.{HasBegun};
+ghost use Rattle.desk_cli.specs.Exits.{IsAnnounced, failure_at};
+ghost use Rattle.desk_cli.specs.Lines.{IsPlay, IsServe};
+ghost use Rattle.desk_cli.specs.Written.{HasBegun};
 ghost use Rattle.desk_run.specs.DeskFrames.{FindsOnly};
 ghost use Rattle.desk_run.specs.DeskWorld.{world_of};
 ghost use Rattle.desk_wire.specs.Passage.{course};
@@ -18,13 +18,13 @@ ghost use Rattle.desk_program.specs.Serving as spec;
 ghost use Rattle.desk_program.specs.Serving.{IsAskedToListen, IsAtPort, IsDenied, IsLineServed, failing};
 ghost use Rattle.desk_program.specs.Serving.{PrintsIfListening, first_failure, listening_line};
 
-use crate::port::{Connection, Outcome, Port};
+use crate::port::{ClientStream, Outcome, Port};
 use crate::program::{enrol_news, set_up};
-use desk_ends::{ServeFault, Served, write_whole};
-use desk_line::{Exit, Failure, Play, Serve, conclude};
+use desk_cli::{ErrorCode, ExitReport, Play, Serve, report_exit};
 use desk_run::Desk;
 use desk_store::PlanStore;
 use desk_wire::serve_one;
+use io_ends::{ServeFault, Served, write_whole};
 use std::alloc::{AllocError, Global};
 use std::io::Write;
 
@@ -43,7 +43,7 @@ pub fn serve<S: PlanStore, P: Port, W: Write, E: Write>(
     desk: &mut Desk<S>,
     output: &mut W,
     errors: &mut E,
-) -> Exit<E>
+) -> ExitReport<E>
     requires { IsServe line.now }
     ensures served { IsLineServed (IsHonest (S.doubt desk.new.store)) line.now
         (ended E.Write result errors.old errors.new) (course (P.traffic port.old) (P.traffic port.new))
@@ -55,7 +55,7 @@ pub fn serve<S: PlanStore, P: Port, W: Write, E: Write>(
     ensures remembered { Remembers S.doubt S.faults S.is_shielded desk.old.store desk.new.store }
     ensures cause { HasCause S.PlanStore desk.old desk.new (ended E.Write result errors.old errors.new) }
 {
-    conclude(errors, serve_line(alloc, port, line, desk, output))
+    report_exit(errors, serve_line(alloc, port, line, desk, output))
 }
 
 // Permits the line's priorities, enrols its operators, and serves connections at the port.
@@ -66,7 +66,7 @@ fn serve_line<S: PlanStore, P: Port, W: Write>(
     line: &Serve,
     desk: &mut Desk<S>,
     output: &mut W,
-) -> Result<(), Failure>
+) -> Result<(), ErrorCode>
     requires { IsServe line.now }
     ensures served { IsAtPort (IsHonest (S.doubt desk.new.store)) result line.now (course (P.traffic port.old)
         (P.traffic port.new)) (world_of S.content desk.old) (world_of S.content desk.new) }
@@ -91,7 +91,7 @@ fn listen<P: Port, W: Write>(
     port: &mut P,
     number: u16,
     output: &mut W,
-) -> Result<(), Failure>
+) -> Result<(), ErrorCode>
     ensures fault { IfErr result IsDenied }
     ensures listens { IsAskedToListen (P.traffic port.old) (P.traffic port.new) number }
     ensures heard { PrintsIfListening (course (P.traffic port.old) (P.traffic port.new)) number
@@ -106,9 +106,9 @@ fn listen<P: Port, W: Write>(
 
 // Prints a text.
 #[tactic(auto, using(crate::proofs::BegunLemmas::begun_part))]
-fn print_text<W: Write>(output: &mut W, text: &str) -> Result<(), Failure>
+fn print_text<W: Write>(output: &mut W, text: &str) -> Result<(), ErrorCode>
     ensures ok { OnOk result (Appends (W.contents output.old) (W.contents output.new) text.now) }
-    ensures err { IfErr result (λ f. (f ≡ Failure.Write)
+    ensures err { IfErr result (λ f. (f ≡ ErrorCode.Write)
         × HasBegun text.now (W.contents output.old) (W.contents output.new)) }
 {
     write_whole(output, text.as_bytes())?;
@@ -133,7 +133,7 @@ pub fn play_port<S: PlanStore, P: Port>(
     port: &mut P,
     play: &Play,
     desk: &mut Desk<S>,
-) -> Result<(), Failure>
+) -> Result<(), ErrorCode>
     requires { IsPlay play.now }
     ensures played { IsInputPlayed (IsHonest (S.doubt desk.new.store)) result play.now
         (course (P.traffic port.old) (P.traffic port.new)) (world_of S.content desk.old)
@@ -154,7 +154,7 @@ fn serve_connections<S: PlanStore, P: Port>(
     port: &mut P,
     count: u32,
     desk: &mut Desk<S>,
-) -> Result<(), Failure>
+) -> Result<(), ErrorCode>
     ensures kept { AreKept S.PlanStore result count (course (P.traffic port.old) (P.traffic port.new))
         desk.old desk.new }
     ensures remembered { Remembers S.doubt S.faults S.is_shielded desk.old.store desk.new.store }
@@ -172,7 +172,7 @@ fn serve_connection<S: PlanStore, P: Port>(
     alloc: Global,
     port: &mut P,
     desk: &mut Desk<S>,
-) -> Result<(), Failure>
+) -> Result<(), ErrorCode>
     ensures kept { AreKept S.PlanStore result 1 (course (P.traffic port.old) (P.traffic port.new)) desk.old
         desk.new }
     ensures remembered { Remembers S.doubt S.faults S.is_shielded desk.old.store desk.new.store }
@@ -205,8 +205,8 @@ fn outcome_of(served: &Result<Served, ServeFault>) -> Outcome
 // Whether the desk goes on after what came of a request, and of the close of its connection.
 fn done_after(
     served: Result<Served, ServeFault>,
-    closed: Result<(), Failure>,
-) -> Result<(), Failure>
+    closed: Result<(), ErrorCode>,
+) -> Result<(), ErrorCode>
     ensures { failing result ≡ first_failure (failure_at served) (failing closed) }
 {
     match failure_of(served) {
@@ -217,12 +217,12 @@ fn done_after(
 
 // Why a desk ends after what came of a request: it failed, or memory ran out. It goes on after a fault
 // of one connection.
-fn failure_of(served: Result<Served, ServeFault>) -> Option<Failure>
+fn failure_of(served: Result<Served, ServeFault>) -> Option<ErrorCode>
     ensures { result ≡ failure_at served }
 {
     match served {
-        Ok(Served::Answered { status, .. }) if status == SERVER_ERROR => Some(Failure::Broken),
-        Err(ServeFault::OutOfMemory) => Some(Failure::Memory),
+        Ok(Served::Answered { status, .. }) if status == SERVER_ERROR => Some(ErrorCode::Broken),
+        Err(ServeFault::OutOfMemory) => Some(ErrorCode::Memory),
         _ => None,
     }
 }

@@ -29,19 +29,19 @@ const EXTRA_READS: u32 = 16;
 /// One direction of a connection. All its reads, or all its writes, together have `PATIENCE` seconds from
 /// the first on; then they fail.
 #[derive(Drop)]
-pub struct Timed<'c, T, C> {
+pub struct DeadlineStream<'c, T, C> {
     stream: T,
     clock: &'c C,
     end: Option<Instant>,
 }
 
-impl<'c, T, C> Timed<'c, T, C> {
+impl<'c, T, C> DeadlineStream<'c, T, C> {
     /// A direction of a stream, whose time has not begun.
-    pub(crate) fn new(stream: T, clock: &'c C) -> Timed<'c, T, C>
+    pub(crate) fn new(stream: T, clock: &'c C) -> DeadlineStream<'c, T, C>
         ensures stream { result.stream ≡ stream }
         ensures end { result.end ≡ None }
     {
-        Timed {
+        DeadlineStream {
             stream,
             clock,
             end: None,
@@ -49,7 +49,7 @@ impl<'c, T, C> Timed<'c, T, C> {
     }
 }
 
-impl<T: Read + OpenStream, C: Clock> Read for Timed<'_, T, C> {
+impl<T: Read + OpenStream, C: Clock> Read for DeadlineStream<'_, T, C> {
     ghost remaining = { λ s. T.remaining s.stream };
 
     fn read(&mut self, room: &mut [u8]) -> io::Result<usize>
@@ -64,7 +64,7 @@ impl<T: Read + OpenStream, C: Clock> Read for Timed<'_, T, C> {
     }
 }
 
-impl<T: Write + OpenStream, C: Clock> Write for Timed<'_, T, C> {
+impl<T: Write + OpenStream, C: Clock> Write for DeadlineStream<'_, T, C> {
     ghost contents = { λ s. T.contents s.stream };
 
     fn write(&mut self, bytes: &[u8]) -> io::Result<usize>
@@ -86,8 +86,8 @@ impl<T: Write + OpenStream, C: Clock> Write for Timed<'_, T, C> {
 /// Ends the answer to a request that was not read whole, and reads what is left of the request for a
 /// while: a connection that is closed before all was read takes back what was not delivered yet.
 pub(crate) fn discard_rest<T: Read + OpenStream, C: Clock>(
-    input: &mut Timed<'_, T, C>,
-    output: &Timed<'_, T, C>,
+    input: &mut DeadlineStream<'_, T, C>,
+    output: &DeadlineStream<'_, T, C>,
 ) -> io::Result<()>
     ensures { IfSome input.old.end (λ last. input.new.end ≡ Some last) }
 {
@@ -104,8 +104,8 @@ pub(crate) fn discard_rest<T: Read + OpenStream, C: Clock>(
 /// Ends the answer to a request that was read whole, and drops what has come behind it, without waiting for
 /// more: a connection that is closed before all was read takes back what was not delivered yet.
 pub(crate) fn discard_extra<T: Read + OpenStream, C: Clock>(
-    input: &mut Timed<'_, T, C>,
-    output: &Timed<'_, T, C>,
+    input: &mut DeadlineStream<'_, T, C>,
+    output: &DeadlineStream<'_, T, C>,
 ) -> io::Result<()>
     ensures { input.new.end ≡ input.old.end }
 {
@@ -122,7 +122,7 @@ pub(crate) fn discard_extra<T: Read + OpenStream, C: Clock>(
 
 // Reads, and waits but for a short while.
 fn read_briefly<T: Read + OpenStream, C: Clock>(
-    input: &mut Timed<'_, T, C>,
+    input: &mut DeadlineStream<'_, T, C>,
     room: &mut [u8],
 ) -> io::Result<usize>
     ensures bound { ReadsAtMost result room.new }

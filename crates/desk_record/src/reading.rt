@@ -10,7 +10,7 @@ ghost use Rattle.desk_record.specs.Reading.{IsFailure, LacksEntry, entry_shown, 
 use crate::entry::Entry;
 use crate::line::{LINE, Line, read_line};
 use crate::sums::sum_of;
-use desk_ends::is_interruption;
+use io_ends::is_interruption;
 use std::alloc::{AllocError, Global};
 use std::io::Read;
 

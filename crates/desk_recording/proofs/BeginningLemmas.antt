@@ -2,7 +2,7 @@
 use Rattle.std.proofs.Common.{◌≡◌, ℕ, ◌+◌, List, [], ◌∷◌, ◌++◌, map, refl, sym, ap, ◌∙◌, append_assoc, append-nil, add-one}
 use Rattle.std.specs.Prelude.{option_to_list}
 use Rattle.desk_rules.specs.declared.terms.Terms.{Terms}
-use Rattle.desk_line.specs.declared.line.Enrolment.{Enrolment}
+use Rattle.desk_cli.specs.declared.line.Enrolment.{Enrolment}
 use Rattle.desk_record.specs.Record.{EntryParts, entries, entry}
 use Rattle.desk_record.specs.declared.kind.Kind.TheVariants as kind
 use Rattle.desk_recording.specs.Beginning.{header, limit_entry, permitted_below, permitted_if, record_entry}

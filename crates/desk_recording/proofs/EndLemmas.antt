@@ -3,10 +3,10 @@ use Rattle.std.proofs.Common.{◌≡◌, ◌≢◌, ◌<◌, ◌⊎◌, ◌∙�
 use Rattle.std.specs.Prelude.{⊤}
 use Rattle.std.proofs.lemmas.List.{take-append-drop}
 use Rattle.std.proofs.lemmas.List.Elements.{All-cons, All-head, All-nil, All-tail}
-use Rattle.desk_ends.specs.Moments.{IsMoment}
+use Rattle.io_ends.specs.Moments.{IsMoment}
 use Rattle.desk_record.specs.Record.{EntryParts, entries, entry}
-use Rattle.desk_reading.specs.Readings.{Reading}
-use Rattle.desk_reading.specs.Requests.{asked}
+use Rattle.request_parser.specs.Readings.{Reading}
+use Rattle.request_parser.specs.Requests.{asked}
 use Rattle.desk_rules.specs.declared.call.Asked.{Asked}
 use Rattle.desk_store.specs.World.{World}
 use Rattle.desk_run.specs.DeskWorld.{DeskWorld, enrolled, with_content}
@@ -17,10 +17,10 @@ use Rattle.desk_wire.specs.RequestsKept.{IsCertain}
 use Rattle.desk_wire.specs.Passage.{Course, passed}
 use Rattle.desk_wire.specs.OneRequest.{HasServed}
 use Rattle.desk_wire.specs.Streams.{IsRequest, request_len}
-use Rattle.desk_line.specs.Exits.{failure_at}
-use Rattle.desk_line.specs.Lines.{AreEnrolments}
-use Rattle.desk_line.specs.declared.failure.Failure.{Failure}
-use Rattle.desk_line.specs.declared.line.Enrolment.{Enrolment}
+use Rattle.desk_cli.specs.Exits.{failure_at}
+use Rattle.desk_cli.specs.Lines.{AreEnrolments}
+use Rattle.desk_cli.specs.declared.failure.ErrorCode.{ErrorCode}
+use Rattle.desk_cli.specs.declared.line.Enrolment.{Enrolment}
 use Rattle.desk_program.specs.Enrolling.{AreEnrolled, with_operators}
 use Rattle.desk_program.specs.Keeping.{IsFoundServed, IsLeftByNews, IsLeftUncertain}
 use Rattle.desk_program.specs.Recorded.{AreNamed, Ended, IsAnswerRecorded, IsRecorded, Noted, Open, Recorded, RecordsAnswer, RecordsNone, RecordsRequest, answer_entry, operator_entry, request_entry, with_answer, with_news, with_request}
@@ -162,7 +162,7 @@ news_end n now news later s w left small named none is at = record {
       (ap (λ v. with_operators v news) at.world ∙ is);
 }
 
-last_news_end : (H : Type 0) (h : H) (done : Result ⊤ Failure) (n : Noted) (now : Option Recorded)
+last_news_end : (H : Type 0) (h : H) (done : Result ⊤ ErrorCode) (n : Noted) (now : Option Recorded)
     (news : List Enrolment) (s : State) (w left : DeskWorld) → IsLastNews H (Some news) done w left
     → AreEnrolments news → AreNamed news → RecordsNone (Some (Open (with_news n news))) now → IsPlayedTo s w
     → EndsPlayed n now [] (Some news) s left
@@ -393,10 +393,10 @@ OnlyLast [] last = ⊤
 OnlyLast (x ∷ xs) last = ((failure_at x.served ≡ None) × OnlyLast xs last)
     ⊎ ((failure_at x.served ≢ None) × (xs ≡ []) × (last ≡ None))
 
-some_not_none : (e : Failure) (r : Option Failure) → r ≡ Some e → r ≢ None
+some_not_none : (e : ErrorCode) (r : Option ErrorCode) → r ≡ Some e → r ≢ None
 some_not_none e r is none = let never : Some e ≡ None = sym is ∙ none in cc
 
-only_last : (done : Result ⊤ Failure) (count : ℕ) (xs : List Exchange) (last : Option (List Enrolment))
+only_last : (done : Result ⊤ ErrorCode) (count : ℕ) (xs : List Exchange) (last : Option (List Enrolment))
     → EndsAfter done count xs last → OnlyLast xs last
 only_last (Ok d) count xs last ends = on xs ends.1
   where
@@ -419,7 +419,7 @@ lost_last text [] None now noted = (refl, refl, noted)
 lost_last text [] (Some news) now noted = absurd noted.1
 lost_last text (x ∷ xs) last now noted = absurd noted.3.news
 
-last_left : (H : Type 0) (done : Result ⊤ Failure) (xs : List Exchange) (last : Option (List Enrolment))
+last_left : (H : Type 0) (done : Result ⊤ ErrorCode) (xs : List Exchange) (last : Option (List Enrolment))
     (v between left : DeskWorld) → xs ≡ [] → last ≡ None → AreServed H xs v between
     → IsLastNews H last done between left → left ≡ v
 last_left H done [] None v between left empty without served is = is ∙ served
@@ -428,7 +428,7 @@ last_left H done (x ∷ xs) last v between left empty without served is = cc
 
 module _ (H : Type 0) (h : H) (Ends : (request rest : List ℕ) → IsRequest request
     → request_len (request ++ rest) ≡ Some (length request)) where
-  one_ends : (x : Exchange) (xs : List Exchange) (last : Option (List Enrolment)) (done : Result ⊤ Failure)
+  one_ends : (x : Exchange) (xs : List Exchange) (last : Option (List Enrolment)) (done : Result ⊤ ErrorCode)
       (n : Noted) (answered now : Option Recorded) (s : State) (w listed v between left : DeskWorld)
       (request : List ℕ) → AreEnrolments x.news → AreNamed x.news → AreEnrolled H x.news w listed
       → IsMoment x.arrival.moment → (0 < length request → IsRequest request)
@@ -486,7 +486,7 @@ module _ (H : Type 0) (h : H) (Ends : (request rest : List ℕ) → IsRequest re
       (subst (λ b. HasServed H x.served (passed b x.parting.unread x.out x.parting.sent) listed
       x.arrival.moment v) bytes served))) (left_next Ends x request left bytes whole)))
 
-  pub all_end : (xs : List Exchange) (last : Option (List Enrolment)) (done : Result ⊤ Failure) (n : Noted)
+  pub all_end : (xs : List Exchange) (last : Option (List Enrolment)) (done : Result ⊤ ErrorCode) (n : Noted)
       (now : Option Recorded) (s : State) (w between left : DeskWorld) → AreNoted (Some (Open n)) xs last now
       → AreServed H xs w between → IsLastNews H last done between left → OnlyLast xs last
       → All (λ x. x.parting.outcome ≡ outcome_of x.served) xs → IsPlayedTo s w
@@ -511,7 +511,7 @@ module _ (H : Type 0) (h : H) (Ends : (request rest : List ℕ) → IsRequest re
       (All-tail (λ x. x.parting.outcome ≡ outcome_of x.served) x xs told) here) at
 
   -- connections that were taken, however they ended
-  pub taken_end : (done : Result ⊤ Failure) (count : ℕ) (port : Course Traffic) (w left : DeskWorld)
+  pub taken_end : (done : Result ⊤ ErrorCode) (count : ℕ) (port : Course Traffic) (w left : DeskWorld)
       (n : Noted) (s : State) → (taken : AreTaken {A = ⊤} H done count port w left)
       → port.before.recorded ≡ Some (Open n) → IsPlayedTo s w
       → EndsPlayed n port.after.recorded taken.exchanges taken.last s left
@@ -521,7 +521,7 @@ module _ (H : Type 0) (h : H) (Ends : (request rest : List ℕ) → IsRequest re
       taken.untaken (only_last done count taken.exchanges taken.last taken.ends) taken.told at
 
   -- and what is found then
-  pub taken_found : (done : Result ⊤ Failure) (count : ℕ) (port : Course Traffic) (w left : DeskWorld)
+  pub taken_found : (done : Result ⊤ ErrorCode) (count : ℕ) (port : Course Traffic) (w left : DeskWorld)
       (n : Noted) (s : State) (found : Option World) → (taken : AreTaken {A = ⊤} H done count port w left)
       → IsFoundServed taken.exchanges taken.last left found → port.before.recorded ≡ Some (Open n)
       → IsPlayedTo s w → EndsFound n port.after.recorded taken.exchanges taken.last s left found

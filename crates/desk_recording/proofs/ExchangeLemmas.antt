@@ -3,14 +3,14 @@ use Rattle.std.proofs.Common.{◌≡◌, ◌≢◌, ◌≤◌, ◌<◌, ◌⊎�
 use Rattle.std.proofs.lemmas.Bool.Decides.{nat_tests}
 use Rattle.std.proofs.lemmas.Int.{ints}
 use Rattle.std.proofs.lemmas.List.{length-append}
-use Rattle.desk_ends.specs.Moments.{IsMoment}
-use Rattle.desk_ends.specs.declared.serving.Served.{Served}
-use Rattle.desk_ends.specs.declared.serving.Served.TheVariants.{Answered, End}
-use Rattle.desk_ends.specs.declared.serving.ServeFault.{ServeFault}
-use Rattle.desk_ends.specs.declared.serving.ServeFault.TheVariants.{CutShort, OutOfMemory, Read, Write}
-use Rattle.desk_reading.specs.Framing.{head_len}
-use Rattle.desk_reading.specs.Readings.{Reading}
-use Rattle.desk_reading.specs.Requests.{asked}
+use Rattle.io_ends.specs.Moments.{IsMoment}
+use Rattle.io_ends.specs.declared.serving.Served.{Served}
+use Rattle.io_ends.specs.declared.serving.Served.TheVariants.{Answered, End}
+use Rattle.io_ends.specs.declared.serving.ServeFault.{ServeFault}
+use Rattle.io_ends.specs.declared.serving.ServeFault.TheVariants.{CutShort, OutOfMemory, Read, Write}
+use Rattle.request_parser.specs.Framing.{head_len}
+use Rattle.request_parser.specs.Readings.{Reading}
+use Rattle.request_parser.specs.Requests.{asked}
 use Rattle.desk_rules.specs.declared.call.Asked.{Asked}
 use Rattle.desk_store.specs.World.{World}
 use Rattle.desk_run.specs.DeskWorld.{DeskWorld}
@@ -25,8 +25,8 @@ use Rattle.desk_wire.specs.OneRequest.{HasServed, IsReplied, IsTaken}
 use Rattle.desk_wire.specs.Streams.{IsRequest, front_within, request_len}
 use Rattle.desk_wire.specs.declared.response.ServerError.{ServerError}
 use Rattle.desk_wire.specs.declared.response.ServerError.TheVariants as given
-use Rattle.desk_line.specs.declared.failure.Failure.TheVariants as failure
-use Rattle.desk_line.specs.Exits.{failure_at}
+use Rattle.desk_cli.specs.declared.failure.ErrorCode.TheVariants as failure
+use Rattle.desk_cli.specs.Exits.{failure_at}
 use Rattle.desk_program.specs.Keeping.{IsLeftUncertain}
 use Rattle.desk_program.specs.Serving.{Exchange, is_answered}
 use Rattle.desk_replay.specs.Replaying.{last_moment}

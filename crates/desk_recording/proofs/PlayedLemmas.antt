@@ -8,14 +8,14 @@ use Rattle.std.proofs.lemmas.Slice.Eq.{bytes_eq-Decides}
 use Rattle.desk_rules.specs.Limits.{max_priority}
 use Rattle.desk_rules.specs.Name.{is_operator_name}
 use Rattle.desk_record.specs.Record.{EntryParts, entries, entry}
-use Rattle.desk_reading.specs.Requests.{asked}
+use Rattle.request_parser.specs.Requests.{asked}
 use Rattle.desk_run.specs.DeskWorld.{enrolled}
 use Rattle.desk_wire.specs.Bytes.{makes_change_for, text_for, world_after}
 use Rattle.desk_wire.specs.RefusalTexts.{server_error_text}
 use Rattle.desk_wire.specs.declared.response.ServerError.{ServerError}
 use Rattle.desk_wire.specs.declared.response.ServerError.TheVariants.{OutOfMemory, Store}
-use Rattle.desk_line.specs.Lines.{AreEnrolments}
-use Rattle.desk_line.specs.declared.line.Enrolment.{Enrolment}
+use Rattle.desk_cli.specs.Lines.{AreEnrolments}
+use Rattle.desk_cli.specs.declared.line.Enrolment.{Enrolment}
 use Rattle.desk_program.specs.Enrolling.{with_operators}
 use Rattle.desk_program.specs.Recorded.{AreNamed, answer_entry, operator_entry, request_entry}
 use Rattle.desk_replay.specs.Replaying.{AskingParts, Outcome, State, counted, is_alike, is_failure, last_moment, listed, played, requested, taken, taken_answer, then_taken, with_change}

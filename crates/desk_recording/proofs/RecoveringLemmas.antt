@@ -8,8 +8,8 @@ use Rattle.desk_run.specs.DeskFrames.{FindsOnly}
 use Rattle.desk_run.specs.DeskWorld.{DeskWorld, Parts, world_of}
 use Rattle.desk_run.specs.declared.fault.DeskFault.{DeskFault}
 use Rattle.desk_wire.specs.Passage.{Course, course}
-use Rattle.desk_line.specs.Exits.{IsLineBreakdown, enrolment_failure}
-use Rattle.desk_line.specs.declared.failure.Failure.{Failure}
+use Rattle.desk_cli.specs.Exits.{IsLineBreakdown, enrolment_failure}
+use Rattle.desk_cli.specs.declared.failure.ErrorCode.{ErrorCode}
 use Rattle.desk_program.specs.Enrolling.{AreListedSoFar, on_terms, with_operators}
 use Rattle.desk_replay.specs.Replaying.{StaysSettled}
 use Rattle.desk_recording.specs.Recording.{AddsStep, Step}
@@ -25,7 +25,7 @@ both_added (Some steps) mid new one other first next =
 
 -- all are listed, and then the request is asked, if there is one
 pub recovers : {H G : Type 0} (u : Undone) (world : Course DeskWorld) (listed : DeskWorld)
-    (steps : Course (Option (List Step))) (done : Result ⊤ Failure) → (H → G)
+    (steps : Course (Option (List Step))) (done : Result ⊤ ErrorCode) → (H → G)
     → (G → listed ≡ with_operators (on_terms world.before u.terms) u.missing)
     → AsksAgainIfAny H u.asked (course listed world.after) steps done → Recovers H u world steps done
 recovers u world listed steps (Ok d) down are asks =
@@ -39,7 +39,7 @@ failed_as fault (inr store) = inr (ap enrolment_failure store)
 
 -- one could not be listed
 pub unlisted : {H : Type 0} (u : Undone) (world : Course DeskWorld) (steps : Course (Option (List Step)))
-    (fault : DeskFault) (f : Failure) → f ≡ enrolment_failure fault → call.IsBreakdown fault
+    (fault : DeskFault) (f : ErrorCode) → f ≡ enrolment_failure fault → call.IsBreakdown fault
     → steps.after ≡ steps.before
     → AreListedSoFar H u.missing (on_terms world.before u.terms) world.after
     → Recovers H u world steps (Err f)

@@ -1,13 +1,13 @@
 -- What one step more changes of what a port tells.
 use Rattle.std.proofs.Common.{◌≡◌, ◌<◌, ◌⊎◌, ℕ, ℤ, pos, nat_abs, Bool, true, false, List, [], ◌∷◌, ◌++◌, Option, None, Some, IfSome, length, append-nil, ap, inl, inr, refl, subst, sym, ◌∙◌}
 use Rattle.std.specs.Prelude.{⊤, not, option_map, Result}
-use Rattle.desk_ends.specs.Moments.{IsMoment}
-use Rattle.desk_ends.specs.declared.writing.Cut.{Cut}
+use Rattle.io_ends.specs.Moments.{IsMoment}
+use Rattle.io_ends.specs.declared.writing.WriteError.{WriteError}
 use Rattle.desk_record.specs.Record.{entry}
 use Rattle.desk_wire.specs.Passage.{Course, course}
 use Rattle.desk_wire.specs.Streams.{IsRequest}
-use Rattle.desk_line.specs.Lines.{AreEnrolments}
-use Rattle.desk_line.specs.declared.line.Enrolment.{Enrolment}
+use Rattle.desk_cli.specs.Lines.{AreEnrolments}
+use Rattle.desk_cli.specs.declared.line.Enrolment.{Enrolment}
 use Rattle.desk_program.specs.Recorded.{AreNamed, Ended, IsOpen, Noted, Recorded, RecordsAnswer, RecordsNews, RecordsNone, RecordsRequest, request_entry, with_answer, with_news, with_request}
 use Rattle.desk_program.specs.Serving.{BringsNews, Closes, Denies, Parting, TakesArrival, arrived}
 use Rattle.desk_recording.specs.Recording.{AddsStep, Answered, Asked, Enrolled, HasText, Lost, Notes, NotesOnDisk, SendsKept, Step, arrivals_in, news_in, partings_in, traffic_of}
@@ -225,14 +225,14 @@ closes (Some steps) new recorded after parting (inr is) answer =
     )
 
 kept_or_lost : {W : Type 0} (old new : Option (List Step)) (parting : Parting)
-    (writes : Course (Option (List ℕ))) (done : Result ⊤ (Cut W))
+    (writes : Course (Option (List ℕ))) (done : Result ⊤ (WriteError W))
     → SendsKept (course old new) parting writes done
     → AddsStep old new (Answered parting) ⊎ AddsStep old new (Lost parting)
 kept_or_lost old new parting writes done (inl kept) = inl kept.0
 kept_or_lost old new parting writes done (inr lost) = inr lost.0
 
 module _ {W : Type 0} (old new : Option (List Step)) (noted now : Option Noted) (was_lost is_lost : Bool)
-    (parting : Parting) (answer : List ℕ) (out sent : Option (List ℕ)) (done : Result ⊤ (Cut W)) where
+    (parting : Parting) (answer : List ℕ) (out sent : Option (List ℕ)) (done : Result ⊤ (WriteError W)) where
   pub closes_so : SendsKept (course old new) parting (course out sent) done → parting.sent ≡ Some answer
       → Notes noted now (not is_lost) (λ n. with_answer n answer)
       → (is_lost ≡ false → (was_lost ≡ false) × (parting.outcome.is_answered ≡ true))

@@ -10,14 +10,14 @@ use Rattle.desk_store.specs.StoreFrames.{Remembers}
 use Rattle.desk_store.specs.World.{World}
 use Rattle.desk_run.specs.DeskFrames.{FindsOnly}
 use Rattle.desk_run.specs.DeskWorld.{DeskWorld, Parts, world_of}
-use Rattle.desk_ends.specs.Writing.{BreaksOff}
+use Rattle.io_ends.specs.Writing.{BreaksOff}
 use Rattle.desk_wire.specs.Passage.{Course, course}
 use Rattle.desk_wire.specs.Streams.{IsCut}
-use Rattle.desk_line.specs.declared.failure.Exit.{Exit}
-use Rattle.desk_line.specs.declared.failure.Failure.{Failure}
-use Rattle.desk_line.specs.declared.failure.Failure.TheVariants as failure
-use Rattle.desk_line.specs.declared.line.Play.{Play as PlayWords}
-use Rattle.desk_line.specs.Exits.{Ending, EndsWith, FailsWith}
+use Rattle.desk_cli.specs.declared.failure.ExitReport.{ExitReport}
+use Rattle.desk_cli.specs.declared.failure.ErrorCode.{ErrorCode}
+use Rattle.desk_cli.specs.declared.failure.ErrorCode.TheVariants as failure
+use Rattle.desk_cli.specs.declared.line.Play.{Play as PlayWords}
+use Rattle.desk_cli.specs.Exits.{Ending, EndsWith, FailsWith}
 use Rattle.desk_program.specs.EndCauses.{IsEndCounted}
 use Rattle.desk_program.specs.Outside.{ended}
 use Rattle.desk_program.specs.PortPlays.{IsInputKept, IsInputPlayed}
@@ -40,7 +40,7 @@ HandsOutNone unframed left Unframed = unframed ≡ true
 HandsOutNone unframed left (Unwritten cut) = ⊥
 
 -- how a line ends by why an input hands out no more
-abbrev pub told_as : {R W : Type 0} → InputEnd R W → Result ⊤ Failure
+abbrev pub told_as : {R W : Type 0} → InputEnd R W → Result ⊤ ErrorCode
 told_as AtEnd = Ok (tt {0})
 told_as CutShort = Err failure.CutShort
 told_as (Unread unread) = Err failure.Read
@@ -61,7 +61,7 @@ EndsInput answer writes old new = (Appends writes.before writes.after answer × 
 
 -- how a line ends: as the input or the output did, if one did; else by why no more was played; or at as many
 -- requests as one line answers
-abbrev pub ended_by : Option (Result ⊤ Failure) → Bool → Result ⊤ Failure → Result ⊤ Failure
+abbrev pub ended_by : Option (Result ⊤ ErrorCode) → Bool → Result ⊤ ErrorCode → Result ⊤ ErrorCode
 ended_by (Some ended) unframed done = ended
 ended_by None unframed (Err f) = Err f
 ended_by None true (Ok done) = Err failure.Unframed
@@ -71,7 +71,7 @@ ended_by None false (Ok done) = Err failure.Limit
 -- or the output ended, if one did; whether the place of the next request is not known; what the port told
 -- before and tells after; the end
 pub record InputOutside : Type 0 where
-  pub stopped : Option (Result ⊤ Failure)
+  pub stopped : Option (Result ⊤ ErrorCode)
   pub unframed : Bool
   pub port : Course Traffic
   pub end : Ending
@@ -79,7 +79,7 @@ pub record InputOutside : Type 0 where
 -- by the port before and after, and by the error writer
 abbrev pub input_outside :
     {R W K F E : Type 0} → Ghosts K F → write.Ghosts E → RecordedPort (InputPort R W) K
-    → RecordedPort (InputPort R W) K → Exit E → E → E → InputOutside
+    → RecordedPort (InputPort R W) K → ExitReport E → E → E → InputOutside
 input_outside k e old new exit before now = record {
   stopped = option_map told_as new.port.ended;
   unframed = new.port.is_unframed;
@@ -90,20 +90,20 @@ input_outside k e old new exit before now = record {
 -- the requests of an input are played, and the line ends by that
 pub record IsPlayRecorded (H : Type 0) (play : PlayWords) (o : InputOutside) (w after : DeskWorld) : Type 0
   where
-    pub done : Result ⊤ Failure
+    pub done : Result ⊤ ErrorCode
     pub ends : EndsWith (ended_by o.stopped o.unframed done) o.end
     pub played : IsInputPlayed H done play o.port w after
 
 -- and what is found then
 pub record IsRecordedKept (H : Type 0) (play : PlayWords) (o : InputOutside) (w after : DeskWorld)
     (found : Option World) : Type 0 where
-  pub done : Result ⊤ Failure
+  pub done : Result ⊤ ErrorCode
   pub ends : EndsWith (ended_by o.stopped o.unframed done) o.end
   pub kept : IsInputKept H done play o.port w after found
 
 -- if it ends with a store that failed, and not as the input did, that has counted a fault
 pub record IsRecordedCause (o : InputOutside) (old new : ℕ) : Type 0 where
-  pub done : Result ⊤ Failure
+  pub done : Result ⊤ ErrorCode
   pub ends : EndsWith (ended_by o.stopped o.unframed done) o.end
   pub cause : IsEndCounted done old new
 
@@ -119,5 +119,5 @@ pub record PlaysRecorded {S : Type 0} (g : store.Ghosts S) (play : PlayWords) (o
   pub cause : IsRecordedCause o (g.faults old.store) (g.faults new.store)
 
 -- no desk was opened: the line ends with that failure, and nothing is taken
-abbrev pub IsUnrecorded : {A : Type 0} → InputOutside → Option A → Failure → Type 0
+abbrev pub IsUnrecorded : {A : Type 0} → InputOutside → Option A → ErrorCode → Type 0
 IsUnrecorded o left f = FailsWith f o.end × (left ≡ None) × (o.port.after ≡ o.port.before)

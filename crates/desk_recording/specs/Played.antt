@@ -1,12 +1,12 @@
 -- Played: what a record says that a desk wrote at a port, played again (docs/journal-format.md).
 use Rattle.std.specs.Prelude.{◌≡◌, ◌≢◌, ◌≤◌, ◌⊎◌, length, ℕ, ℤ, nat_abs, List, [], ◌∷◌, ◌++◌, All, map, Option, None, Some, IsSome, Ok}
 use Rattle.desk_record.specs.Record.{EntryParts, entries}
-use Rattle.desk_reading.specs.Requests.{asked}
+use Rattle.request_parser.specs.Requests.{asked}
 use Rattle.desk_store.specs.World.{World}
 use Rattle.desk_run.specs.DeskWorld.{DeskWorld, with_content}
 use Rattle.desk_wire.specs.Bytes.{world_after}
-use Rattle.desk_line.specs.declared.line.Enrolment.{Enrolment}
-use Rattle.desk_line.specs.Exits.{failure_at}
+use Rattle.desk_cli.specs.declared.line.Enrolment.{Enrolment}
+use Rattle.desk_cli.specs.Exits.{failure_at}
 use Rattle.desk_replay.specs.Replaying.{State, played}
 use Rattle.desk_program.specs.Enrolling.{with_operators}
 use Rattle.desk_program.specs.Keeping.{IsFoundServed, IsLeftByNews}

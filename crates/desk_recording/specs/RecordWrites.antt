@@ -1,6 +1,6 @@
 -- RecordWrites: what is done to the file of a record, so that something is kept.
 use Rattle.std.specs.Prelude.{◌≡◌, ◌⊎◌, ⊤, ℕ, Bool, true, false, List, [], ◌∷◌, ◌++◌, map, Option, None, Some, option_map}
-use Rattle.desk_line.specs.declared.line.Enrolment.{Enrolment}
+use Rattle.desk_cli.specs.declared.line.Enrolment.{Enrolment}
 use Rattle.desk_record.specs.Record.{EntryParts, entries, entry}
 use Rattle.desk_program.specs.Recorded.{Noted, answer_entry, operator_entry, request_entry}
 use Rattle.desk_recording.specs.declared.journal.Unwritten.{Unwritten}

@@ -1,9 +1,9 @@
 -- Recording: what a record is asked to keep, in its order, and what a port tells whose connections are kept.
 use Rattle.std.specs.Prelude.{◌≡◌, ◌⊎◌, ⊤, ℕ, ℤ, Bool, true, false, List, [], ◌∷◌, ◌++◌, Option, None, Some, option_map, Result, Ok, Err}
 use Rattle.std.specs.Option.{IsSomeAnd}
-use Rattle.desk_line.specs.declared.line.Enrolment.{Enrolment}
-use Rattle.desk_ends.specs.Writing.{BreaksOff}
-use Rattle.desk_ends.specs.declared.writing.Cut.{Cut}
+use Rattle.desk_cli.specs.declared.line.Enrolment.{Enrolment}
+use Rattle.io_ends.specs.Writing.{BreaksOff}
+use Rattle.io_ends.specs.declared.writing.WriteError.{WriteError}
 use Rattle.desk_wire.specs.Passage.{Course, course}
 use Rattle.desk_wire.specs.RefusalTexts.{server_error_text}
 use Rattle.desk_wire.specs.declared.response.ServerError.TheVariants.{Store}
@@ -84,13 +84,14 @@ abbrev pub parting_of : Parted → Parting
 parting_of connection = parted (Some connection.unread.now) (Some connection.sent.now) connection.outcome
 
 -- the bytes are sent; or their writing to a client of this type broke off, and the first ones are
-abbrev pub Sends : {W : Type 0} → List ℕ → Option (List ℕ) → Option (List ℕ) → Result ⊤ (Cut W) → Type 0
+abbrev pub Sends : {W : Type 0} → List ℕ → Option (List ℕ) → Option (List ℕ) → Result ⊤ (WriteError W)
+    → Type 0
 Sends bytes out now (Ok done) = Appends out now bytes
 Sends bytes out now (Err cut) = BreaksOff bytes out now cut.fault
 
 -- a client is sent the answer that is kept; or it can't be kept, and the client is sent that the desk failed
 abbrev pub SendsKept : {W : Type 0} → Course (Option (List Step)) → Parting → Course (Option (List ℕ))
-    → Result ⊤ (Cut W) → Type 0
+    → Result ⊤ (WriteError W) → Type 0
 SendsKept steps parting writes sent = (AddsStep steps.before steps.after (Answered parting)
     × IsSomeAnd parting.sent (λ answer. Sends answer writes.before writes.after sent))
     ⊎ (AddsStep steps.before steps.after (Lost parting)
@@ -108,7 +109,7 @@ client_of unread sent = record { unread = unread; sent = sent }
 pub record IsClosedBy (W : Type 0) (steps : Course (Option (List Step))) (parting : Parting) (client : Client)
     (port : Course Traffic) : Type 0 where
   pub now : Option (List ℕ)
-  pub sent : Result ⊤ (Cut W)
+  pub sent : Result ⊤ (WriteError W)
   pub sends : SendsKept steps parting (course client.sent now) sent
   pub closes : Closes port.before port.after (parted client.unread now parting.outcome)
 

@@ -4,14 +4,14 @@ use Rattle.std.specs.List.{list_any}
 use Rattle.std.specs.Str.{bytes_eq}
 use Rattle.desk_rules.specs.Limits.{max_priority}
 use Rattle.desk_rules.specs.declared.terms.Terms.{Terms}
-use Rattle.desk_reading.specs.Requests.{asked}
+use Rattle.request_parser.specs.Requests.{asked}
 use Rattle.desk_run.specs.DeskWorld.{DeskWorld}
 use Rattle.desk_wire.specs.Bytes.{text_for, world_after}
 use Rattle.desk_wire.specs.Passage.{Course, course}
-use Rattle.desk_line.specs.declared.failure.Failure.{Failure}
-use Rattle.desk_line.specs.declared.failure.Failure.TheVariants as failure
-use Rattle.desk_line.specs.declared.line.Enrolment.{Enrolment}
-use Rattle.desk_line.specs.Exits.{IsLineBreakdown}
+use Rattle.desk_cli.specs.declared.failure.ErrorCode.{ErrorCode}
+use Rattle.desk_cli.specs.declared.failure.ErrorCode.TheVariants as failure
+use Rattle.desk_cli.specs.declared.line.Enrolment.{Enrolment}
+use Rattle.desk_cli.specs.Exits.{IsLineBreakdown}
 use Rattle.desk_program.specs.Enrolling.{AreListedSoFar, on_terms, with_operators}
 use Rattle.desk_program.specs.Serving.{Parting, parted}
 use Rattle.desk_program.specs.declared.port.Outcome.{Outcome}
@@ -45,13 +45,13 @@ abbrev pub told_again : List ℕ → Parting
 told_again answer = parted (Some []) (Some answer) whole_outcome
 
 -- the failure that is told where what is left undone is not done; and how that ends
-abbrev pub failure_of : {R : Type 0} → Unrecovered R → Failure
+abbrev pub failure_of : {R : Type 0} → Unrecovered R → ErrorCode
 failure_of OutOfMemory = failure.Memory
 failure_of Store = failure.Store
 failure_of Clock = failure.Clock
 failure_of (Unkept lost) = failure.Broken
 
-abbrev pub ended_as : {R : Type 0} → Result ⊤ (Unrecovered R) → Result ⊤ Failure
+abbrev pub ended_as : {R : Type 0} → Result ⊤ (Unrecovered R) → Result ⊤ ErrorCode
 ended_as (Ok done) = Ok done
 ended_as (Err why) = Err (failure_of why)
 
@@ -80,7 +80,7 @@ module _ (H : Type 0) (u : UnansweredParts) (world : Course DeskWorld) (steps : 
 
     -- it is answered again; or memory or the store was denied; or it, or its answer, can't be kept; or its
     -- second is no moment
-    abbrev pub AsksAgain : Result ⊤ Failure → Type 0
+    abbrev pub AsksAgain : Result ⊤ ErrorCode → Type 0
     AsksAgain (Ok done) = IsAskedAgain Answered
     AsksAgain (Err f) =
         (((f ≡ failure.Memory) ⊎ (f ≡ failure.Store)) × IsFailedAgain)
@@ -100,26 +100,26 @@ undone terms missing asked = record { terms = terms; missing = missing; asked = 
 module _ (H : Type 0) where
   -- the request is asked again, if there is one
   abbrev pub AsksAgainIfAny :
-      Option UnansweredParts → Course DeskWorld → Course (Option (List Step)) → Result ⊤ Failure → Type 0
+      Option UnansweredParts → Course DeskWorld → Course (Option (List Step)) → Result ⊤ ErrorCode → Type 0
   AsksAgainIfAny None world steps done =
       IsOkAnd done (λ _. (world.after ≡ world.before) × (steps.after ≡ steps.before))
   AsksAgainIfAny (Some u) world steps done = AsksAgain H u world steps done
 
   -- the desk plans on the record's terms and the operators are listed; then its last request is asked again
   pub record IsRecovered (u : Undone) (world : Course DeskWorld) (steps : Course (Option (List Step)))
-      (done : Result ⊤ Failure) : Type 0 where
+      (done : Result ⊤ ErrorCode) : Type 0 where
     pub listed : DeskWorld
     pub are : H → listed ≡ with_operators (on_terms world.before u.terms) u.missing
     pub asks : AsksAgainIfAny u.asked (course listed world.after) steps done
 
   -- or an operator could not be listed, and nothing is asked
   pub record IsNotRecovered (u : Undone) (world : Course DeskWorld) (steps : Course (Option (List Step)))
-      (f : Failure) : Type 0 where
+      (f : ErrorCode) : Type 0 where
     pub broken : IsLineBreakdown f
     pub kept : steps.after ≡ steps.before
     pub listed : AreListedSoFar H u.missing (on_terms world.before u.terms) world.after
 
   abbrev pub Recovers :
-      Undone → Course DeskWorld → Course (Option (List Step)) → Result ⊤ Failure → Type 0
+      Undone → Course DeskWorld → Course (Option (List Step)) → Result ⊤ ErrorCode → Type 0
   Recovers u world steps (Ok done) = IsRecovered u world steps (Ok done)
   Recovers u world steps (Err f) = IsRecovered u world steps (Err f) ⊎ IsNotRecovered u world steps f

@@ -9,7 +9,7 @@ use Rattle.desk_rules.specs.Permission.{permitted_in}
 use Rattle.desk_rules.specs.Terms.{no_terms}
 use Rattle.desk_rules.specs.declared.permission.PermitFault.{PermitFault}
 use Rattle.desk_rules.specs.declared.terms.Terms.{Terms}
-use Rattle.desk_line.specs.declared.line.Enrolment.{Enrolment}
+use Rattle.desk_cli.specs.declared.line.Enrolment.{Enrolment}
 use Rattle.desk_record.specs.Record.{EntryParts, Fits, entries, entry}
 use Rattle.desk_record.specs.Reading.{IsDamagedRecord, IsTooShort}
 use Rattle.desk_record.specs.declared.kind.Kind.{Kind}

@@ -2,8 +2,8 @@
 use Rattle.std.specs.Prelude.{⊤, Bool, true, false, Option, Some, option_map, Result, Ok, Err}
 use Rattle.std.specs.Option.{is_some}
 use Rattle.std.specs.Io.Cursor.{cursor_remaining}
-use Rattle.desk_line.specs.declared.failure.Failure.{Failure}
-use Rattle.desk_line.specs.declared.failure.Failure.TheVariants.{Broken, Network}
+use Rattle.desk_cli.specs.declared.failure.ErrorCode.{ErrorCode}
+use Rattle.desk_cli.specs.declared.failure.ErrorCode.TheVariants.{Broken, Network}
 use Rattle.desk_program.specs.Recorded.{Ended, Noted, Open, Recorded}
 use Rattle.desk_program.specs.declared.port.Outcome.{Outcome}
 use Rattle.desk_program.specs.Serving.{Parting, Traffic, parted}
@@ -30,12 +30,12 @@ abbrev pub told_of : {P R F : Type 0} → Ghosts R F → RecordedPort P R → Tr
 told_of g port = told_by g port.journal (is_some port.broken)
 
 -- a failure of the port below: it keeps nothing itself, so what it can't keep is no loss of this record
-abbrev pub failure_below : Failure → Failure
+abbrev pub failure_below : ErrorCode → ErrorCode
 failure_below Broken = Network
 failure_below f = f
 
 -- how a connection was closed, by whether something is lost, and by how the port below closed it
-abbrev pub closed_as : Bool → Result ⊤ Failure → Result ⊤ Failure
+abbrev pub closed_as : Bool → Result ⊤ ErrorCode → Result ⊤ ErrorCode
 closed_as true closed = Err Broken
 closed_as false (Ok done) = Ok done
 closed_as false (Err f) = Err (failure_below f)

@@ -8,7 +8,7 @@ ghost use Rattle.desk_program.specs.Recorded.{operator_entry};
 ghost use Rattle.desk_recording.specs.RecordWrites.{Appended, FollowsWrites, StopsWriting};
 
 use crate::journal::{Journal, Unwritten, append_to, sync_to};
-use desk_line::Enrolment;
+use desk_cli::Enrolment;
 use desk_record::{Kind, write_entry};
 use desk_rules::decide::MAX_PRIORITY;
 use desk_rules::permission::Permitted;

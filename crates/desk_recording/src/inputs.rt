@@ -7,7 +7,7 @@ ghost use Rattle.std.specs.Result.{is_ok};
 ghost use Rattle.std.specs.Io.Cursor.{cursor_inner, cursor_remaining};
 ghost use Rattle.desk_wire.specs.OneRequest.{IsTaken};
 ghost use Rattle.desk_wire.specs.Passage.{course};
-ghost use Rattle.desk_line.specs.Lines.{AreEnrolments, IsPlay};
+ghost use Rattle.desk_cli.specs.Lines.{AreEnrolments, IsPlay};
 ghost use Rattle.desk_program.specs.Recorded.{IsOpen};
 ghost use Rattle.desk_program.specs.Serving.{BringsNews, Closes, Denies, IsDenied, IsFresh, Listens, TakesArrival, arrived, parted, untold};
 ghost use Rattle.desk_recording.specs.Inputs as spec;
@@ -16,11 +16,11 @@ ghost use Rattle.desk_recording.specs.Inputs.{EndsInput, HandsOutNone, IsUnrecor
 use crate::port::RecordedPort;
 use crate::receiving::{Unread, Unreceived, receive};
 use crate::record::Record;
-use desk_ends::{Cut, Moment, write_whole};
-use desk_line::{Enrolment, Exit, Failure, Play, conclude};
-use desk_program::{Connection, Outcome, Port, play_port};
+use desk_cli::{Enrolment, ErrorCode, ExitReport, Play, report_exit};
+use desk_program::{ClientStream, Outcome, Port, play_port};
 use desk_run::Desk;
 use desk_store::PlanStore;
+use io_ends::{Moment, WriteError, write_whole};
 use std::alloc::Global;
 use std::io::{Cursor, Read, Write};
 
@@ -38,21 +38,21 @@ pub(crate) enum InputEnd<R, W> {
     /// The place of the next request is not known.
     Unframed,
     /// Its output could not be written.
-    Unwritten(Cut<W>),
+    Unwritten(WriteError<W>),
 }
 
 impl<R, W> InputEnd<R, W> {
     // How a line ends by it.
-    fn told(self) -> Result<(), Failure>
+    fn told(self) -> Result<(), ErrorCode>
         ensures { result ≡ spec.told_as self }
     {
         match self {
             InputEnd::AtEnd => Ok(()),
-            InputEnd::CutShort => Err(Failure::CutShort),
-            InputEnd::Unread(_) => Err(Failure::Read),
-            InputEnd::OutOfMemory => Err(Failure::Memory),
-            InputEnd::Unframed => Err(Failure::Unframed),
-            InputEnd::Unwritten(_) => Err(Failure::Write),
+            InputEnd::CutShort => Err(ErrorCode::CutShort),
+            InputEnd::Unread(_) => Err(ErrorCode::Read),
+            InputEnd::OutOfMemory => Err(ErrorCode::Memory),
+            InputEnd::Unframed => Err(ErrorCode::Unframed),
+            InputEnd::Unwritten(_) => Err(ErrorCode::Write),
         }
     }
 }
@@ -89,14 +89,14 @@ impl<R: Read + Drop, W: Write + Drop> InputPort<R, W> {
     }
 
     // How a line ends after which no more is played.
-    fn ending(&self, done: Result<(), Failure>) -> Result<(), Failure>
+    fn ending(&self, done: Result<(), ErrorCode>) -> Result<(), ErrorCode>
         ensures { result ≡ spec.ended_by (option_map spec.told_as self.now.ended) self.now.is_unframed done }
     {
         match (self.ended, done) {
             (Some(ended), _) => ended.told(),
             (None, Err(failure)) => Err(failure),
-            (None, Ok(())) if self.is_unframed => Err(Failure::Unframed),
-            (None, Ok(())) => Err(Failure::Limit),
+            (None, Ok(())) if self.is_unframed => Err(ErrorCode::Unframed),
+            (None, Ok(())) => Err(ErrorCode::Limit),
         }
     }
 }
@@ -106,7 +106,7 @@ impl<R: Read + Drop, W: Write + Drop> Port for InputPort<R, W> {
 
     type Output = Vec<u8>;
 
-    fn listen(&mut self, _number: u16) -> Result<(), Failure>
+    fn listen(&mut self, _number: u16) -> Result<(), ErrorCode>
         ensures listens { Listens untold untold _number (is_ok result) }
         ensures fault { IfErr result IsDenied }
         ensures ok { result ≡ Ok (tt {0}) }
@@ -115,7 +115,7 @@ impl<R: Read + Drop, W: Write + Drop> Port for InputPort<R, W> {
         Ok(())
     }
 
-    fn news(&mut self, alloc: Global) -> Result<Vec<Enrolment>, Failure>
+    fn news(&mut self, alloc: Global) -> Result<Vec<Enrolment>, ErrorCode>
         ensures small { IfOk result (λ news. AreEnrolments news.items) }
         ensures brings { IfOk result (λ news. BringsNews untold untold news.items) }
         ensures same { OnErr result (Denies untold untold) }
@@ -127,7 +127,7 @@ impl<R: Read + Drop, W: Write + Drop> Port for InputPort<R, W> {
     }
 
     // Long: what a port tells, which request of the input it is, and when the input has ended.
-    fn take(&mut self, alloc: Global) -> Result<Connection<Cursor<Vec<u8>>, Vec<u8>>, Failure>
+    fn take(&mut self, alloc: Global) -> Result<ClientStream<Cursor<Vec<u8>>, Vec<u8>>, ErrorCode>
         ensures taken { IfOk result (λ c. TakesArrival untold untold
             (arrived c.moment.second (cursor_remaining (λ v. Some v.items) c.input))) }
         ensures unsent { IfOk result (λ c. IsFresh untold (Some c.output.items)) }
@@ -139,22 +139,22 @@ impl<R: Read + Drop, W: Write + Drop> Port for InputPort<R, W> {
         ensures output { self.new.output ≡ self.old.output }
         ensures moment { self.new.moment ≡ self.old.moment }
         ensures framed { self.new.is_unframed ≡ self.old.is_unframed }
-        ensures ended { IfErr result (λ f. (f ≡ Failure.Network) × IsSome self.new.ended) }
+        ensures ended { IfErr result (λ f. (f ≡ ErrorCode.Network) × IsSome self.new.ended) }
         ensures cause { self.old.ended ≡ None → IfSome self.new.ended (HandsOutNone self.old.is_unframed
             (R.remaining self.old.input)) }
     {
         if self.ended.is_some() {
-            return Err(Failure::Network);
+            return Err(ErrorCode::Network);
         }
         match next_of(alloc, self.is_unframed, &mut self.input) {
-            Ok(request) => Ok(Connection {
+            Ok(request) => Ok(ClientStream {
                 moment: self.moment,
                 input: Cursor::new(request),
                 output: Vec::new(alloc),
             }),
             Err(ended) => {
                 self.ended = Some(ended);
-                Err(Failure::Network)
+                Err(ErrorCode::Network)
             }
         }
     }
@@ -164,7 +164,7 @@ impl<R: Read + Drop, W: Write + Drop> Port for InputPort<R, W> {
         input: Cursor<Vec<u8>>,
         output: Vec<u8>,
         outcome: Outcome,
-    ) -> Result<(), Failure>
+    ) -> Result<(), ErrorCode>
         ensures closed { Closes untold untold (parted (cursor_remaining (λ v. Some v.items) input)
             (Some output.items) outcome) }
         ensures recorded { OnOk result (IsOpen untold.recorded) }
@@ -212,10 +212,10 @@ fn next_of<R: Read, W>(
 pub fn play_opened<S, R, W, K, E>(
     alloc: Global,
     play: &Play,
-    opened: Result<Desk<S>, Failure>,
+    opened: Result<Desk<S>, ErrorCode>,
     port: &mut RecordedPort<InputPort<R, W>, K>,
     errors: &mut E,
-) -> (Exit<E>, Option<Desk<S>>)
+) -> (ExitReport<E>, Option<Desk<S>>)
 where
     S: PlanStore + Drop,
     R: Read + Drop,
@@ -233,7 +233,7 @@ where
             let exit = play_recorded(alloc, play, &mut desk, port, errors);
             (exit, Some(desk))
         }
-        Err(failure) => (conclude(errors, Err(failure)), None),
+        Err(failure) => (report_exit(errors, Err(failure)), None),
     }
 }
 
@@ -244,11 +244,11 @@ fn play_recorded<S: PlanStore, R: Read + Drop, W: Write + Drop, K: Record + Drop
     desk: &mut Desk<S>,
     port: &mut RecordedPort<InputPort<R, W>, K>,
     errors: &mut E,
-) -> Exit<E>
+) -> ExitReport<E>
     requires { IsPlay play.now }
     ensures { PlaysRecorded S.PlanStore play.now (input_outside K.Record E.Write port.old port.new result
         errors.old errors.new) desk.old desk.new }
 {
     let done = play_port(alloc, port, play, desk);
-    conclude(errors, port.port.ending(done))
+    report_exit(errors, port.port.ending(done))
 }

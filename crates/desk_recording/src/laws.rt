@@ -5,7 +5,7 @@ ghost use Rattle.desk_store.specs.StoreFaults.{IsHonest};
 ghost use Rattle.desk_store.specs.World.{World};
 ghost use Rattle.desk_run.specs.DeskWorld.{DeskWorld};
 ghost use Rattle.desk_wire.specs.Passage.{Course};
-ghost use Rattle.desk_line.specs.declared.failure.Failure.{Failure};
+ghost use Rattle.desk_cli.specs.declared.failure.ErrorCode.{ErrorCode};
 ghost use Rattle.desk_program.specs.Keeping.{IsFoundServed};
 ghost use Rattle.desk_program.specs.Recorded.{Noted, Open};
 ghost use Rattle.desk_program.specs.Serving.{AreTaken, Traffic};
@@ -32,7 +32,7 @@ pub fn recorded()
 /// that. Played as above it differs nowhere, and leaves what the desk left once that has caught up with it:
 /// once the operators are listed and the request carried out that the record has and the desk has not.
 pub fn recorded_to_the_end()
-    ensures { (doubt count : ℕ) (done : Result ⊤ Failure) (port : Course Traffic) (w after : DeskWorld)
+    ensures { (doubt count : ℕ) (done : Result ⊤ ErrorCode) (port : Course Traffic) (w after : DeskWorld)
         (n : Noted) (s : State) → IsHonest doubt →
         (taken : AreTaken {A = ⊤} (IsHonest doubt) done count port w after) →
         port.before.recorded ≡ Some (Open n) → IsPlayedTo s w →
@@ -47,7 +47,7 @@ pub fn recorded_to_the_end()
 /// listed the operators and carried out the request that the record has behind its last answer, even if that
 /// was done before. Or of the last news an operator could not be listed.
 pub fn recorded_and_kept()
-    ensures { (doubt count : ℕ) (done : Result ⊤ Failure) (port : Course Traffic) (w after : DeskWorld)
+    ensures { (doubt count : ℕ) (done : Result ⊤ ErrorCode) (port : Course Traffic) (w after : DeskWorld)
         (n : Noted) (s : State) (found : Option World) → IsHonest doubt →
         (taken : AreTaken {A = ⊤} (IsHonest doubt) done count port w after) →
         IsFoundServed taken.exchanges taken.last after found →

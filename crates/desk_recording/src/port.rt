@@ -8,7 +8,7 @@ ghost use Rattle.std.specs.Io.Cursor.{cursor_inner, cursor_remaining};
 ghost use Rattle.desk_wire.specs.Passage.{course};
 ghost use Rattle.desk_wire.specs.RefusalTexts.{server_error_text};
 ghost use Rattle.desk_wire.specs.declared.response.ServerError.TheVariants.{Store};
-ghost use Rattle.desk_line.specs.Lines.{AreEnrolments};
+ghost use Rattle.desk_cli.specs.Lines.{AreEnrolments};
 ghost use Rattle.desk_program.specs.Recorded.{IsOpen, with_answer};
 ghost use Rattle.desk_program.specs.Serving.{BringsNews, Closes, Denies, IsDenied, IsFresh, Listens};
 ghost use Rattle.desk_program.specs.Serving.{TakesArrival, arrived};
@@ -21,10 +21,10 @@ ghost use Rattle.desk_recording.specs.Telling.{parted_in, told_of};
 use crate::receiving::{Unread, Unreceived, receive};
 use crate::record::{Parted, Record, RecordFault};
 use crate::streams::{Given, Held};
-use desk_ends::{Cut, write_whole};
-use desk_line::{Enrolment, Failure};
-use desk_program::{Connection, Outcome, Port};
+use desk_cli::{Enrolment, ErrorCode};
+use desk_program::{ClientStream, Outcome, Port};
 use desk_wire::ServerError;
+use io_ends::{WriteError, write_whole};
 use std::alloc::{AllocError, Global};
 use std::io::{Cursor, Read, Write};
 
@@ -75,7 +75,7 @@ impl<P: Port + Drop, R: Record + Drop> Port for RecordedPort<P, R> {
 
     ghost traffic = { λ s. told_of R.Record s };
 
-    fn listen(&mut self, number: u16) -> Result<(), Failure>
+    fn listen(&mut self, number: u16) -> Result<(), ErrorCode>
         ensures listens { Listens (told_of R.Record self.old) (told_of R.Record self.new) number
             (is_ok result) }
         ensures asked { Listens (P.traffic self.old.port) (P.traffic self.new.port) number (is_ok result) }
@@ -86,7 +86,7 @@ impl<P: Port + Drop, R: Record + Drop> Port for RecordedPort<P, R> {
     }
 
     #[tactic(auto, using(crate::proofs::StepLemmas::brings_news))]
-    fn news(&mut self, alloc: Global) -> Result<Vec<Enrolment>, Failure>
+    fn news(&mut self, alloc: Global) -> Result<Vec<Enrolment>, ErrorCode>
         ensures small { IfOk result (λ news. AreEnrolments news.items) }
         ensures brings { IfOk result (λ news.
             BringsNews (told_of R.Record self.old) (told_of R.Record self.new) news.items) }
@@ -94,12 +94,12 @@ impl<P: Port + Drop, R: Record + Drop> Port for RecordedPort<P, R> {
         ensures fault { IfErr result IsDenied }
         ensures asked { IfOk result (λ news.
             BringsNews (P.traffic self.old.port) (P.traffic self.new.port) news.items) }
-        ensures broken { IsSome self.old.broken → result ≡ Err Failure.Broken }
-        ensures cause { result ≡ Err Failure.Broken → IsSome self.new.broken }
+        ensures broken { IsSome self.old.broken → result ≡ Err ErrorCode.Broken }
+        ensures cause { result ≡ Err ErrorCode.Broken → IsSome self.new.broken }
         ensures lost { self.new.broken ≡ Some Loss.Unanswered → self.old.broken ≡ Some Loss.Unanswered }
     {
         if self.broken.is_some() {
-            return Err(Failure::Broken);
+            return Err(ErrorCode::Broken);
         }
         let news = match self.port.news(alloc) {
             Ok(news) => news,
@@ -109,7 +109,7 @@ impl<P: Port + Drop, R: Record + Drop> Port for RecordedPort<P, R> {
             Ok(()) => Ok(news),
             Err(fault) => {
                 self.broken = Some(Loss::Unkept(RecordFault::by(fault)));
-                Err(Failure::Broken)
+                Err(ErrorCode::Broken)
             }
         }
     }
@@ -119,7 +119,7 @@ impl<P: Port + Drop, R: Record + Drop> Port for RecordedPort<P, R> {
     fn take(
         &mut self,
         alloc: Global,
-    ) -> Result<Connection<Given<P::Input>, Held<P::Output>>, Failure>
+    ) -> Result<ClientStream<Given<P::Input>, Held<P::Output>>, ErrorCode>
         ensures taken { IfOk result (λ c. TakesArrival (told_of R.Record self.old) (told_of R.Record self.new)
             (arrived c.moment.second (cursor_remaining (λ v. Some v.items) c.input.request))) }
         ensures unsent { IfOk result (λ c. IsFresh (told_of R.Record self.old) (Some c.output.answer.items)) }
@@ -130,12 +130,12 @@ impl<P: Port + Drop, R: Record + Drop> Port for RecordedPort<P, R> {
             (course (P.traffic self.old.port) (P.traffic self.new.port))) }
         ensures waits { IfOk result (λ c.
             IsFresh (P.traffic self.old.port) (P.Output.contents c.output.to)) }
-        ensures broken { IsSome self.old.broken → result ≡ Err Failure.Broken }
-        ensures cause { result ≡ Err Failure.Broken → IsSome self.new.broken }
+        ensures broken { IsSome self.old.broken → result ≡ Err ErrorCode.Broken }
+        ensures cause { result ≡ Err ErrorCode.Broken → IsSome self.new.broken }
         ensures lost { self.new.broken ≡ Some Loss.Unanswered → self.old.broken ≡ Some Loss.Unanswered }
     {
         if self.broken.is_some() {
-            return Err(Failure::Broken);
+            return Err(ErrorCode::Broken);
         }
         let mut taken = match self.port.take(alloc) {
             Ok(taken) => taken,
@@ -143,10 +143,10 @@ impl<P: Port + Drop, R: Record + Drop> Port for RecordedPort<P, R> {
         };
         let Ok(received) = request_of(alloc, &mut taken.input) else {
             let _ = self.port.close(taken.input, taken.output, UNANSWERED);
-            return Err(Failure::Memory);
+            return Err(ErrorCode::Memory);
         };
         match self.journal.keep_request(taken.moment, &received.request) {
-            Ok(()) => Ok(Connection {
+            Ok(()) => Ok(ClientStream {
                 moment: taken.moment,
                 input: Given {
                     request: Cursor::new(received.request),
@@ -162,7 +162,7 @@ impl<P: Port + Drop, R: Record + Drop> Port for RecordedPort<P, R> {
                 self.broken = Some(Loss::Unkept(RecordFault::by(fault)));
                 let _ = refuse(&mut taken.output);
                 let _ = self.port.close(taken.input, taken.output, UNANSWERED);
-                Err(Failure::Broken)
+                Err(ErrorCode::Broken)
             }
         }
     }
@@ -174,13 +174,13 @@ impl<P: Port + Drop, R: Record + Drop> Port for RecordedPort<P, R> {
         input: Given<P::Input>,
         output: Held<P::Output>,
         outcome: Outcome,
-    ) -> Result<(), Failure>
+    ) -> Result<(), ErrorCode>
         ensures closed { Closes (told_of R.Record self.old) (told_of R.Record self.new)
             (parted_in input output outcome) }
         ensures recorded { OnOk result (IsOpen (told_of R.Record self.new).recorded) }
         ensures fault { IfErr result IsDenied }
-        ensures told { IsSome self.new.broken → result ≡ Err Failure.Broken }
-        ensures cause { result ≡ Err Failure.Broken → IsSome self.new.broken }
+        ensures told { IsSome self.new.broken → result ≡ Err ErrorCode.Broken }
+        ensures cause { result ≡ Err ErrorCode.Broken → IsSome self.new.broken }
         ensures lost { self.new.broken ≡ Some Loss.Unanswered
             → (self.old.broken ≡ Some Loss.Unanswered) ⊎ (outcome.is_answered ≡ false) }
         ensures kept { IsClosedBy P.Output (course (R.steps self.old.journal) (R.steps self.new.journal))
@@ -209,21 +209,21 @@ impl<P: Port + Drop, R: Record + Drop> Port for RecordedPort<P, R> {
 }
 
 // A failure of the port below. That port keeps nothing itself.
-fn failure_below(failure: Failure) -> Failure
+fn failure_below(failure: ErrorCode) -> ErrorCode
     ensures { result ≡ spec.failure_below failure }
 {
     match failure {
-        Failure::Broken => Failure::Network,
+        ErrorCode::Broken => ErrorCode::Network,
         _ => failure,
     }
 }
 
 // How a connection was closed, by whether something is lost.
-fn closed_as(is_lost: bool, closed: Result<(), Failure>) -> Result<(), Failure>
+fn closed_as(is_lost: bool, closed: Result<(), ErrorCode>) -> Result<(), ErrorCode>
     ensures { result ≡ spec.closed_as is_lost closed }
 {
     if is_lost {
-        return Err(Failure::Broken);
+        return Err(ErrorCode::Broken);
     }
     match closed {
         Ok(()) => Ok(()),
@@ -238,7 +238,7 @@ fn send_kept<R: Record, W: Write>(
     broken: Option<Loss<R>>,
     connection: Parted<'_>,
     client: &mut W,
-) -> (Option<Loss<R>>, Result<(), Cut<W>>)
+) -> (Option<Loss<R>>, Result<(), WriteError<W>>)
     ensures sends { SendsKept (course (R.steps journal.old) (R.steps journal.new))
         (parting_of connection.entry) (course (W.contents client.old) (W.contents client.new)) result.1 }
     ensures kept { IsNone result.0 →
@@ -313,7 +313,7 @@ fn request_of<R: Read>(alloc: Global, client: &mut R) -> Result<Received<R>, All
 }
 
 // Tells a client that its request, or the answer to it, can't be kept.
-fn refuse<W: Write>(client: &mut W) -> Result<(), Cut<W>>
+fn refuse<W: Write>(client: &mut W) -> Result<(), WriteError<W>>
     ensures { Sends (server_error_text Store) (W.contents client.old) (W.contents client.new) result }
 {
     write_whole(client, ServerError::Store.answer())

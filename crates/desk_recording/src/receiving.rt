@@ -6,8 +6,8 @@ ghost use Rattle.desk_wire.specs.OneRequest.{IsTaken};
 ghost use Rattle.desk_wire.specs.Streams.{IsCut};
 ghost use Rattle.desk_recording.specs.Receiving.{IsStoppedBy};
 
-use desk_ends::ServeFault;
 use desk_wire::receive_request;
+use io_ends::ServeFault;
 use std::alloc::Global;
 use std::io::Read;
 use std::marker::PhantomData;

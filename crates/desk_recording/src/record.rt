@@ -6,9 +6,9 @@ ghost use Rattle.desk_program.specs.Recorded.{AreNamed, Noted, with_answer, with
 ghost use Rattle.desk_recording.specs.Recording.{AddsIf, AddsStep, Answered, Asked, Enrolled, Lost, Notes};
 ghost use Rattle.desk_recording.specs.Recording.{NotesOnDisk, Step, parting_of};
 
-use desk_ends::Moment;
-use desk_line::Enrolment;
+use desk_cli::Enrolment;
 use desk_program::Outcome;
+use io_ends::Moment;
 use std::marker::PhantomData;
 
 /// What came of a connection.

@@ -7,8 +7,8 @@ ghost use Rattle.desk_store.specs.StoreFrames.{Remembers};
 ghost use Rattle.desk_run.specs.CallFaults.{IsBreakdown};
 ghost use Rattle.desk_run.specs.DeskWorld.{world_of};
 ghost use Rattle.desk_wire.specs.Passage.{course};
-ghost use Rattle.desk_line.specs.Exits.{enrolment_failure};
-ghost use Rattle.desk_line.specs.Lines.{AreEnrolments};
+ghost use Rattle.desk_cli.specs.Exits.{enrolment_failure};
+ghost use Rattle.desk_cli.specs.Lines.{AreEnrolments};
 ghost use Rattle.desk_replay.specs.Replaying.{IsOwn, StaysSettled};
 ghost use Rattle.desk_recording.specs.Recording.{AddsStep, Answered, Lost, parting_of};
 ghost use Rattle.desk_recording.specs.Recovering as spec;
@@ -17,8 +17,7 @@ ghost use Rattle.desk_recording.specs.Tail.{unanswered_in, unanswered_shown};
 
 use crate::record::{Parted, Record, RecordFault};
 use crate::tail::Unanswered;
-use desk_ends::Moment;
-use desk_line::{Enrolment, Failure};
+use desk_cli::{Enrolment, ErrorCode};
 use desk_program::{Outcome, set_up};
 use desk_replay::{ReplayFault, answer_one};
 use desk_rules::decide::MAX_PRIORITY;
@@ -26,6 +25,7 @@ use desk_rules::operator::Operator;
 use desk_rules::terms::Terms;
 use desk_run::{Desk, DeskFault};
 use desk_store::PlanStore;
+use io_ends::Moment;
 use std::alloc::{AllocError, Global};
 use volume4d::MAX_SECOND;
 
@@ -42,18 +42,18 @@ pub enum Unrecovered<R> {
     Unkept(RecordFault<R>),
 }
 
-impl<R> From<Unrecovered<R>> for Failure {
+impl<R> From<Unrecovered<R>> for ErrorCode {
     ghost use Rattle.std.specs.Prelude.{◌≡◌};
     ghost use Rattle.desk_recording.specs.Recovering.{failure_of};
 
     ghost from_gives = { λ why failure. failure ≡ failure_of why };
 
-    fn from(why: Unrecovered<R>) -> Failure {
+    fn from(why: Unrecovered<R>) -> ErrorCode {
         match why {
-            Unrecovered::OutOfMemory => Failure::Memory,
-            Unrecovered::Store => Failure::Store,
-            Unrecovered::Clock => Failure::Clock,
-            Unrecovered::Unkept(_) => Failure::Broken,
+            Unrecovered::OutOfMemory => ErrorCode::Memory,
+            Unrecovered::Store => ErrorCode::Store,
+            Unrecovered::Clock => ErrorCode::Clock,
+            Unrecovered::Unkept(_) => ErrorCode::Broken,
         }
     }
 }
@@ -123,7 +123,7 @@ pub fn recover<S: PlanStore, R: Record>(
         (course (R.steps journal.old) (R.steps journal.new)) (ended_as result) }
     ensures remembered { Remembers S.doubt S.faults S.is_shielded desk.old.store desk.new.store }
     ensures kept { OnOk result (StaysSettled S.PlanStore desk.old desk.new) }
-    ensures cause { IfErr result (λ why. spec.failure_of why ≡ Failure.Store
+    ensures cause { IfErr result (λ why. spec.failure_of why ≡ ErrorCode.Store
         → HasRisen (S.faults desk.old.store) (S.faults desk.new.store)) }
 {
     if let Err(fault) = set_up(desk, terms, missing) {
@@ -135,7 +135,7 @@ pub fn recover<S: PlanStore, R: Record>(
 // Why an operator could not be listed.
 fn unlisted<R>(fault: DeskFault) -> Unrecovered<R>
     ensures is { IsBreakdown fault → spec.failure_of result ≡ enrolment_failure fault }
-    ensures cause { IsBreakdown fault → spec.failure_of result ≡ Failure.Store → fault ≡ DeskFault.Store }
+    ensures cause { IsBreakdown fault → spec.failure_of result ≡ ErrorCode.Store → fault ≡ DeskFault.Store }
 {
     match fault {
         DeskFault::OutOfMemory => Unrecovered::OutOfMemory,
@@ -155,7 +155,7 @@ fn ask_if_any<S: PlanStore, R: Record>(
         (course (R.steps journal.old) (R.steps journal.new)) (ended_as result) }
     ensures remembered { Remembers S.doubt S.faults S.is_shielded desk.old.store desk.new.store }
     ensures kept { OnOk result (StaysSettled S.PlanStore desk.old desk.new) }
-    ensures cause { IfErr result (λ why. spec.failure_of why ≡ Failure.Store
+    ensures cause { IfErr result (λ why. spec.failure_of why ≡ ErrorCode.Store
         → HasRisen (S.faults desk.old.store) (S.faults desk.new.store)) }
 {
     match asked {
@@ -177,7 +177,7 @@ fn ask_again<S: PlanStore, R: Record>(
         (course (R.steps journal.old) (R.steps journal.new)) (ended_as result) }
     ensures remembered { Remembers S.doubt S.faults S.is_shielded desk.old.store desk.new.store }
     ensures kept { OnOk result (StaysSettled S.PlanStore desk.old desk.new) }
-    ensures cause { IfErr result (λ why. spec.failure_of why ≡ Failure.Store
+    ensures cause { IfErr result (λ why. spec.failure_of why ≡ ErrorCode.Store
         → HasRisen (S.faults desk.old.store) (S.faults desk.new.store)) }
 {
     let Unanswered { second, request } = asked;
@@ -204,7 +204,7 @@ fn ask_again<S: PlanStore, R: Record>(
 fn keep_again<R: Record>(journal: &mut R, answer: &[u8]) -> Result<(), Unrecovered<R>>
     ensures ok { OnOk result
         (AddsStep (R.steps journal.old) (R.steps journal.new) (Answered (told_again answer.now))) }
-    ensures err { IfErr result (λ why. (spec.failure_of why ≡ Failure.Broken)
+    ensures err { IfErr result (λ why. (spec.failure_of why ≡ ErrorCode.Broken)
         × AddsStep (R.steps journal.old) (R.steps journal.new) (Lost (told_again answer.now))) }
 {
     let connection = told_again(answer);
@@ -233,8 +233,8 @@ fn told_again(answer: &[u8]) -> Parted<'_>
 
 // Why the desk did not answer.
 fn unanswered_by<R>(fault: ReplayFault) -> Unrecovered<R>
-    ensures own { (spec.failure_of result ≡ Failure.Memory) ⊎ (spec.failure_of result ≡ Failure.Store) }
-    ensures cause { IsOwn fault → spec.failure_of result ≡ Failure.Store → fault ≡ ReplayFault.Store }
+    ensures own { (spec.failure_of result ≡ ErrorCode.Memory) ⊎ (spec.failure_of result ≡ ErrorCode.Store) }
+    ensures cause { IsOwn fault → spec.failure_of result ≡ ErrorCode.Store → fault ≡ ReplayFault.Store }
 {
     match fault {
         ReplayFault::OutOfMemory => Unrecovered::OutOfMemory,

@@ -7,7 +7,7 @@ ghost use Rattle.desk_record.specs.Record.{entry};
 ghost use Rattle.desk_recording.specs.Tail as spec;
 ghost use Rattle.desk_recording.specs.Tail.{HasNoTail, IsTail, Notes, StepsTail, nothing_said, said, tail_shown};
 
-use desk_line::Enrolment;
+use desk_cli::Enrolment;
 use desk_record::{Entry, Kind, ReadFault, lengths, read_entry};
 use desk_replay::says_failure;
 use desk_rules::decide::MAX_PRIORITY;

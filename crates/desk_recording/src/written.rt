@@ -13,9 +13,9 @@ ghost use Rattle.desk_recording.specs.RecordWrites.{news_writes, noted_in, reque
 
 use crate::journal::{Journal, Unwritten, append_to, sync_to};
 use crate::record::{Parted, Record};
-use desk_ends::Moment;
-use desk_line::Enrolment;
+use desk_cli::Enrolment;
 use desk_record::{Kind, write_entry};
+use io_ends::Moment;
 use std::alloc::{AllocError, Global};
 
 /// A record that is written to a journal, entry by entry.

@@ -5,7 +5,7 @@ use Rattle.std.specs.List.{AllByRecursion}
 use Rattle.std.specs.Str.{bytes_eq}
 use Rattle.std.proofs.lemmas.Bool.Decides.{nat_tests}
 use Rattle.std.proofs.lemmas.Slice.Eq.{bytes_eq-Decides}
-use Rattle.desk_reading.specs.Requests.{asked}
+use Rattle.request_parser.specs.Requests.{asked}
 use Rattle.desk_wire.specs.AllAnswers.{world_left}
 use Rattle.desk_wire.specs.Bytes.{makes_change_for, text_for, world_after}
 use Rattle.desk_replay.specs.Replaying.{AskingParts, State, taken_answer, asked_now, answered_by, counted, is_failure, is_first, last_moment, played, requested, taken, then_taken, with_change}

@@ -1,9 +1,9 @@
 -- What is written of a line.
 use Rattle.std.proofs.Common.{◌≡◌, ◌≢◌, ◌<◌, ℕ, List, [], Option, ap, drop, length, length-drop, sym, take, arith}
 use Rattle.std.proofs.lemmas.List.{take-append-drop}
-use Rattle.desk_ends.specs.Writing.{BreaksOff}
-use Rattle.desk_ends.specs.declared.writing.WriteFault.{WriteFault}
-use Rattle.desk_line.specs.Written.{HasBegun}
+use Rattle.io_ends.specs.Writing.{BreaksOff}
+use Rattle.io_ends.specs.declared.writing.WriteFault.{WriteFault}
+use Rattle.desk_cli.specs.Written.{HasBegun}
 
 some_left : (n : ℕ) (bytes : List ℕ) → n < length bytes → drop n bytes ≢ []
 some_left n bytes short none = omega (arith, short, ap length none, length-drop n bytes)

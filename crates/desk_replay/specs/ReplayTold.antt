@@ -7,10 +7,10 @@ use Rattle.desk_store.specs.declared.store.PlanStore.{Ghosts}
 use Rattle.desk_store.specs.StoreFaults.{IsHonest}
 use Rattle.desk_run.specs.DeskWorld.{DeskWorld, Parts, world_of}
 use Rattle.desk_wire.specs.Passage.{Course, Passage}
-use Rattle.desk_line.specs.Exits.{EndsWith, Ending, FailsWith}
-use Rattle.desk_line.specs.Written.{HasBegun, HasWritten}
-use Rattle.desk_line.specs.declared.failure.Failure.{Failure}
-use Rattle.desk_line.specs.declared.failure.Failure.TheVariants as failure
+use Rattle.desk_cli.specs.Exits.{EndsWith, Ending, FailsWith}
+use Rattle.desk_cli.specs.Written.{HasBegun, HasWritten}
+use Rattle.desk_cli.specs.declared.failure.ErrorCode.{ErrorCode}
+use Rattle.desk_cli.specs.declared.failure.ErrorCode.TheVariants as failure
 use Rattle.desk_replay.specs.declared.fault.ReplayFault.TheVariants as fault
 use Rattle.desk_replay.specs.declared.stream.ReplayEnd.{ReplayEnd}
 use Rattle.desk_replay.specs.declared.stream.ReplayEnd.TheVariants.{End, Until, Unread, Unplayed}
@@ -18,7 +18,7 @@ use Rattle.desk_replay.specs.Replaying.{State}
 use Rattle.desk_replay.specs.Running.{HasReplayed}
 
 -- what the end of a replay means; none if all was played that was to be
-abbrev pub failure_of_end : ReplayEnd → Option Failure
+abbrev pub failure_of_end : ReplayEnd → Option ErrorCode
 failure_of_end End = None
 failure_of_end Until = None
 failure_of_end (Unread unread.Read) = Some failure.Read
@@ -58,14 +58,14 @@ replayed_line requests changes =
     ++ codes " changes, all answers alike\n")))
 
 -- a line is printed; or a write of it failed, or memory ran out for it
-abbrev pub IsLinePrinted : Result ⊤ Failure → List ℕ → Option (List ℕ) → Option (List ℕ) → Type 0
+abbrev pub IsLinePrinted : Result ⊤ ErrorCode → List ℕ → Option (List ℕ) → Option (List ℕ) → Type 0
 IsLinePrinted (Ok done) line out now = Appends out now line
 IsLinePrinted (Err f) line out now =
     ((f ≡ failure.Write) × HasBegun line out now) ⊎ ((f ≡ failure.Memory) × (now ≡ out))
 
 -- all was played, and the line that tells it is printed
 pub record IsAllPlayed (line : List ℕ) (end : Ending) (writes : Course (Option (List ℕ))) : Type 0 where
-  pub done : Result ⊤ Failure
+  pub done : Result ⊤ ErrorCode
   pub ends : EndsWith done end
   pub printed : IsLinePrinted done line writes.before writes.after
 
@@ -76,7 +76,7 @@ pub record IsLineWritten (line : List ℕ) (out now : Option (List ℕ)) : Type 
 
 -- nothing is printed, and why is told before the word of the failure, up to a write that fails; or not, if
 -- memory ran out for it
-pub record IsFailed (f : Failure) (line : List ℕ) (end : Ending) (writes : Course (Option (List ℕ))) :
+pub record IsFailed (f : ErrorCode) (line : List ℕ) (end : Ending) (writes : Course (Option (List ℕ))) :
     Type 0 where
   pub mid : Option (List ℕ)
   pub told : IsLineWritten line end.before mid ⊎ (mid ≡ end.before)
@@ -85,7 +85,7 @@ pub record IsFailed (f : Failure) (line : List ℕ) (end : Ending) (writes : Cou
 
 -- what is told of a replay, by the failure that its end means
 abbrev pub IsToldBy :
-    Option Failure → List ℕ → List ℕ → Ending → Course (Option (List ℕ)) → Type 0
+    Option ErrorCode → List ℕ → List ℕ → Ending → Course (Option (List ℕ)) → Type 0
 IsToldBy None line cause end writes = IsAllPlayed line end writes
 IsToldBy (Some f) line cause end writes = IsFailed f cause end writes
 
@@ -114,6 +114,6 @@ Replays g until p end left desk = IsSomeAnd left (λ left.
     × (g.is_shielded desk.store → g.is_shielded left.store))
 
 -- no desk was opened: the line ends with that failure, nothing is read, and nothing is written
-abbrev pub IsUnplayed : {S : Type 0} → Passage → Ending → Option S → Failure → Type 0
+abbrev pub IsUnplayed : {S : Type 0} → Passage → Ending → Option S → ErrorCode → Type 0
 IsUnplayed p end left failure = FailsWith failure end × (left ≡ None)
     × (p.reads.after ≡ p.reads.before) × (p.writes.after ≡ p.writes.before)

@@ -10,7 +10,7 @@ use Rattle.desk_rules.specs.declared.permission.PermitFault.{PermitFault}
 use Rattle.desk_record.specs.Record.{EntryParts}
 use Rattle.desk_record.specs.declared.kind.Kind.{Kind}
 use Rattle.desk_record.specs.declared.kind.Kind.TheVariants as kind
-use Rattle.desk_reading.specs.Requests.{asked}
+use Rattle.request_parser.specs.Requests.{asked}
 use Rattle.desk_store.specs.StoreFaults.{IsHonest}
 use Rattle.desk_store.specs.World.{World}
 use Rattle.desk_store.specs.declared.store.PlanStore.{Ghosts}

@@ -5,19 +5,19 @@ ghost use Rattle.desk_store.specs.StoreFaults.{IsHonest};
 ghost use Rattle.desk_store.specs.StoreFrames.{Remembers};
 ghost use Rattle.desk_run.specs.DeskWorld.{world_of};
 ghost use Rattle.desk_wire.specs.Passage.{course, passage};
-ghost use Rattle.desk_line.specs.Exits.{ending};
-ghost use Rattle.desk_line.specs.Written.{HasWritten};
+ghost use Rattle.desk_cli.specs.Exits.{ending};
+ghost use Rattle.desk_cli.specs.Written.{HasWritten};
 ghost use Rattle.desk_replay.specs.ReplayTold as spec;
 ghost use Rattle.desk_replay.specs.ReplayTold.{IsLinePrinted, IsLineWritten, IsReplayTold, IsReplayed};
 ghost use Rattle.desk_replay.specs.ReplayTold.{IsUnplayed, Replays, place_line, replayed_line};
 
 use crate::fault::ReplayFault;
 use crate::stream::{ReplayEnd, Replayed, replay};
-use desk_ends::{Cut, write_whole};
-use desk_line::{Exit, Failure, conclude};
+use desk_cli::{ErrorCode, ExitReport, report_exit};
 use desk_record::ReadFault;
 use desk_run::Desk;
 use desk_store::PlanStore;
+use io_ends::{WriteError, write_whole};
 use std::alloc::{AllocError, Global};
 use std::io::{Read, Write};
 
@@ -28,11 +28,11 @@ use std::io::{Read, Write};
 pub fn replay_opened<S: PlanStore + Drop, R: Read, W: Write, E: Write>(
     alloc: Global,
     until: Option<u64>,
-    opened: Result<Desk<S>, Failure>,
+    opened: Result<Desk<S>, ErrorCode>,
     input: &mut R,
     output: &mut W,
     errors: &mut E,
-) -> (Exit<E>, Option<Desk<S>>)
+) -> (ExitReport<E>, Option<Desk<S>>)
     ensures opened { IfOk opened (Replays S.PlanStore until
         (passage R.Read W.Write input.old input.new output.old output.new)
         (ending result.0 (E.contents errors.old) (E.contents errors.new)) result.1) }
@@ -45,7 +45,7 @@ pub fn replay_opened<S: PlanStore + Drop, R: Read, W: Write, E: Write>(
             let exit = replay_here(alloc, until, &mut desk, input, output, errors);
             (exit, Some(desk))
         }
-        Err(failure) => (conclude(errors, Err(failure)), None),
+        Err(failure) => (report_exit(errors, Err(failure)), None),
     }
 }
 
@@ -57,7 +57,7 @@ fn replay_here<S: PlanStore, R: Read, W: Write, E: Write>(
     input: &mut R,
     output: &mut W,
     errors: &mut E,
-) -> Exit<E>
+) -> ExitReport<E>
     ensures replayed { IsReplayed (IsHonest (S.doubt desk.new.store)) until
         (passage R.Read W.Write input.old input.new output.old output.new)
         (ending result (E.contents errors.old) (E.contents errors.new))
@@ -74,7 +74,7 @@ fn tell_end<W: Write, E: Write>(
     replayed: &Replayed,
     output: &mut W,
     errors: &mut E,
-) -> Exit<E>
+) -> ExitReport<E>
     ensures { IsReplayTold replayed.now.ended replayed.now.progress.requests replayed.now.progress.changes
         replayed.now.place (ending result (E.contents errors.old) (E.contents errors.new))
         (course (W.contents output.old) (W.contents output.new)) }
@@ -82,30 +82,30 @@ fn tell_end<W: Write, E: Write>(
     let requests = replayed.progress.requests;
     let changes = replayed.progress.changes;
     match failure_of_end(replayed.ended) {
-        None => conclude(errors, print_replayed(alloc, requests, changes, output)),
+        None => report_exit(errors, print_replayed(alloc, requests, changes, output)),
         Some(failure) => {
             let cause = cause_of_end(replayed.ended);
             tell_place(alloc, requests, replayed.place, cause, errors);
-            conclude(errors, Err(failure))
+            report_exit(errors, Err(failure))
         }
     }
 }
 
 // Why a replay did not play all that was to be played, by its end.
-fn failure_of_end(ended: ReplayEnd) -> Option<Failure>
+fn failure_of_end(ended: ReplayEnd) -> Option<ErrorCode>
     ensures { result ≡ spec.failure_of_end ended }
 {
     match ended {
         ReplayEnd::End | ReplayEnd::Until => None,
-        ReplayEnd::Unread(ReadFault::Read) => Some(Failure::Read),
-        ReplayEnd::Unread(ReadFault::OutOfMemory) => Some(Failure::Memory),
-        ReplayEnd::Unread(ReadFault::CutShort) => Some(Failure::CutShort),
-        ReplayEnd::Unread(ReadFault::NoRecord) => Some(Failure::NoRecord),
-        ReplayEnd::Unplayed(ReplayFault::OutOfMemory) => Some(Failure::Memory),
-        ReplayEnd::Unplayed(ReplayFault::Store) => Some(Failure::Store),
-        ReplayEnd::Unplayed(ReplayFault::NoRecord) => Some(Failure::NoRecord),
-        ReplayEnd::Unplayed(ReplayFault::NotNext) => Some(Failure::NoRecord),
-        ReplayEnd::Unplayed(ReplayFault::Differs) => Some(Failure::Differs),
+        ReplayEnd::Unread(ReadFault::Read) => Some(ErrorCode::Read),
+        ReplayEnd::Unread(ReadFault::OutOfMemory) => Some(ErrorCode::Memory),
+        ReplayEnd::Unread(ReadFault::CutShort) => Some(ErrorCode::CutShort),
+        ReplayEnd::Unread(ReadFault::NoRecord) => Some(ErrorCode::NoRecord),
+        ReplayEnd::Unplayed(ReplayFault::OutOfMemory) => Some(ErrorCode::Memory),
+        ReplayEnd::Unplayed(ReplayFault::Store) => Some(ErrorCode::Store),
+        ReplayEnd::Unplayed(ReplayFault::NoRecord) => Some(ErrorCode::NoRecord),
+        ReplayEnd::Unplayed(ReplayFault::NotNext) => Some(ErrorCode::NoRecord),
+        ReplayEnd::Unplayed(ReplayFault::Differs) => Some(ErrorCode::Differs),
     }
 }
 
@@ -134,7 +134,7 @@ fn print_replayed<W: Write>(
     requests: u64,
     changes: u64,
     output: &mut W,
-) -> Result<(), Failure>
+) -> Result<(), ErrorCode>
     ensures { IsLinePrinted result (replayed_line requests changes) (W.contents output.old)
         (W.contents output.new) }
 {
@@ -172,7 +172,7 @@ fn place_text(alloc: Global, requests: u64, place: u64, cause: &str) -> Result<S
 
 // Writes a text, and answers where it was broken off, if it was.
 #[tactic(auto, using(crate::proofs::TellingLemmas::begun_part))]
-fn write_told<E: Write>(errors: &mut E, text: &str) -> Option<Cut<E>>
+fn write_told<E: Write>(errors: &mut E, text: &str) -> Option<WriteError<E>>
     ensures { HasWritten (is_some result) text.now (E.contents errors.old) (E.contents errors.new) }
 {
     match write_whole(errors, text.as_bytes()) {

@@ -3,7 +3,7 @@
 ghost use Rattle.std.specs.Prelude.{◌≡◌, ◌⊎◌, IfErr, IfOk, OnErr, OnOk};
 ghost use Rattle.desk_store.specs.StoreFaults.{HasRisen, IsHonest};
 ghost use Rattle.desk_store.specs.StoreFrames.{Remembers};
-ghost use Rattle.desk_reading.specs.Requests.{asked as asked_in};
+ghost use Rattle.request_parser.specs.Requests.{asked as asked_in};
 ghost use Rattle.desk_run.specs.DeskWorld.{DeskWorld, world_of};
 ghost use Rattle.desk_wire.specs.Bytes.{makes_change_for, text_for, world_after};
 ghost use Rattle.desk_wire.specs.Passage.{course};
@@ -16,12 +16,12 @@ ghost use Rattle.desk_replay.specs.declared.fault.ReplayFault.TheVariants as rep
 use crate::fault::ReplayFault;
 use crate::progress::{Asking, Progress};
 use crate::terms::{begin, enrol, limit_cells, limit_spans, permit};
-use desk_ends::Moment;
 use desk_record::{Entry, Kind};
 use desk_run::Desk;
 use desk_store::PlanStore;
-use desk_wire::{Answer, ServerError, full_answer};
+use desk_wire::{Answer, ServerError, answer_with_status};
 use desk_writing::{out_of_memory_answer, store_answer};
+use io_ends::Moment;
 use std::alloc::{AllocError, Global};
 use volume4d::MAX_SECOND;
 
@@ -217,7 +217,7 @@ fn tell_one<S: PlanStore>(
         → HasRisen (S.faults desk.old.store) (S.faults desk.new.store)) }
     ensures remembered { Remembers S.doubt S.faults S.is_shielded desk.old.store desk.new.store }
 {
-    let answer = full_answer(alloc, desk, sent.0, &sent.1)?;
+    let answer = answer_with_status(alloc, desk, sent.0, &sent.1)?;
     match answer.error {
         None => Ok(answer),
         Some(ServerError::Store) => Err(ReplayFault::Store),

@@ -3,11 +3,11 @@
 use crate::slow::{Ending, Pace, SlowReader, SlowWriter};
 use crate::step::Step;
 use anyhow::{Context, bail};
-use desk_ends::{Moment, PlayEnd, ServeFault};
 use desk_rules::operator::Operator;
 use desk_run::Desk;
 use desk_store::{ListStore, PlanStore};
 use desk_wire::{play_all, serve_one};
+use io_ends::{Moment, PlayEnd, ServeFault};
 use std::alloc::Global;
 use std::io::Write;
 

@@ -22,8 +22,8 @@ use Rattle.desk_store.specs.World.{Filed, World}
 use Rattle.desk_store.specs.Content.{IsContent, IsId, IsPlan}
 use Rattle.desk_store.specs.Rivals.{HaveLevel}
 use Rattle.desk_store.proofs.lemmas.Order.{all_append}
-use Rattle.desk_live.specs.declared.near.PlanKey.{PlanKey}
-use Rattle.desk_live.specs.Near.{is_listed, listed_level, listed_top}
+use Rattle.live_index.specs.declared.near.PlanKey.{PlanKey}
+use Rattle.live_index.specs.Near.{is_listed, listed_level, listed_top}
 use Rattle.desk_tables.specs.RivalRows.{HasTakenHelds, HaveTaken, HaveTakenAll, is_asked_of_plan, reach_of}
 use Rattle.desk_tables.specs.ReadsMade.{spans_shown}
 use Rattle.desk_tables.specs.Store.{HeldWorld, Stands}

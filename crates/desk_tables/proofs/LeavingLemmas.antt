@@ -10,7 +10,7 @@ use Rattle.sqlite_catalog.proofs.ReadLemmas.{lists_once}
 use Rattle.sqlite.specs.Tree.{Trees}
 use Rattle.sqlite.specs.Effect.{Database, IsDatabase}
 use Rattle.sqlite.specs.State.{HasCleanDisk}
-use Rattle.desk_tables.specs.declared.opening.path.Unreached.{Unreached}
+use Rattle.desk_tables.specs.declared.opening.path.NotOpened.{NotOpened}
 use Rattle.sqlite.specs.Held.{Held, state}
 use Rattle.sqlite.specs.Files.{over_files, file_state}
 use Rattle.sqlite.proofs.Theorems.{next_run}
@@ -266,7 +266,7 @@ module _ {D E : Type 0} {g : disk.Ghosts D} {k : disk.Ghosts E} (last : Held (Fi
 
     -- of such files neither is told, by a connection that can be read or by none
     pub not_told : (image : Image) → IsImageLeft last image → (e : OpenFault)
-        → (connection : Result (Held (FileStore E k)) (Unreached E k)) → AreRefused image e connection
+        → (connection : Result (Held (FileStore E k)) (NotOpened E k)) → AreRefused image e connection
         → IfOk connection IsLegible → IsUnread e
     not_told image files e (Err it) unread legible = unread.unread
     not_told image files e (Ok left) refused legible =

@@ -32,7 +32,7 @@ use Rattle.sqlite.proofs.Theorems.{opens_again}
 use Rattle.desk_tables.specs.Files.{FindsFirst, IsUnread, IsUnreached}
 use Rattle.desk_tables.specs.Leaving.{IsFoundAfter, IsImageLeft}
 use Rattle.desk_tables.specs.Leftovers.{IsKeptBySqlite, IsLeftOf, MayRemain, RemainsOf}
-use Rattle.desk_tables.specs.declared.opening.path.Unreached.{Unreached}
+use Rattle.desk_tables.specs.declared.opening.path.NotOpened.{NotOpened}
 
 -- what a crash may leave of a file after these calls, the newest first
 abbrev MayStayIn : Bool → List ℕ → List ℕ → Bool → List Event → List ℕ → Type 0
@@ -67,7 +67,7 @@ reserved_is size = elim (cases_eq (size % 16) 8) [
 -- files that were not opened are told so, with what is left of them
 pub unread_if : {D V : Type 0} {g : disk.Ghosts D} (image : Image) (files : Files D)
     → image_of g files ≡ image → ((next : Image) → outcomes g files.log files.db next → next ≡ image)
-    → (r : Result V (Unreached D g))
+    → (r : Result V (NotOpened D g))
     → IfErr r (λ it. IsUnread it.fault)
     → IfErr r (λ it. IsSomeAnd it.left (λ s. IsCleanLeft s.value → LeavesFiles files s.value))
     → IfErr r (IsUnreached image)

@@ -24,7 +24,7 @@ use Rattle.desk_tables.specs.Copying.{AreHoldingsOf, AreNoContentIn, AreNotCopie
 use Rattle.desk_tables.specs.Copying.{LooksIn, ShowsNone}
 use Rattle.desk_tables.specs.declared.opening.files.CopyFault.{CopyFault}
 use Rattle.desk_tables.specs.declared.opening.files.CopyFault.TheVariants as copy
-use Rattle.desk_tables.specs.declared.opening.looking.Holdings.{Holdings}
+use Rattle.desk_tables.specs.declared.opening.looking.DbStats.{DbStats}
 use Rattle.desk_store.specs.World.{World}
 
 none_held : (made : TablesPresent) (old : Bool) (db : Database) → IsMadeTo made db
@@ -79,7 +79,7 @@ module _ {D : Type 0} {g : disk.Ghosts D} (image : Image) where
 
 -- what was read is looked at as it is copied
 pub copied_looks : {D E F : Type 0} {g : disk.Ghosts D} {k : disk.Ghosts E} (image : Image)
-    (r : Result (Held (FileStore D g) × (Shown (FileStore E k) × Holdings)) F) (left : Held (FileStore D g))
+    (r : Result (Held (FileStore D g) × (Shown (FileStore E k) × DbStats)) F) (left : Held (FileStore D g))
     (w : World) (old : Bool) → IfOk r (λ x. x.0 ≡ left) → IfOk r (λ x. x.1.0.world ≡ w)
     → IfOk r (λ x. AreHoldingsOf x.1.1 w) → IfOk r (λ x. x.1.1.is_old ≡ old) → LooksIn image left old w
     → IfOk r (λ x. AreHoldingsOf x.1.1 x.1.0.world × LooksIn image x.0 x.1.1.is_old x.1.0.world)

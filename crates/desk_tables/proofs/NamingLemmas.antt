@@ -11,8 +11,8 @@ use Rattle.desk_rules.specs.Name.{is_operator_name}
 use Rattle.desk_sql.specs.Rows.{Tables}
 use Rattle.desk_store.specs.Content.{IsId}
 use Rattle.desk_store.specs.World.{Filed, Listed, listed_cmp, filed_cmp}
-use Rattle.desk_tables.specs.declared.opening.naming.PartFault.{PartFault}
-use Rattle.desk_tables.specs.declared.opening.naming.PartFault.TheVariants.{Operator, Plan}
+use Rattle.desk_tables.specs.declared.opening.naming.InvalidPart.{InvalidPart}
+use Rattle.desk_tables.specs.declared.opening.naming.InvalidPart.TheVariants.{Operator, Plan}
 use Rattle.desk_tables.specs.Naming.{FailsHeads, IsPlanHead}
 use Rattle.desk_tables.specs.Opening.{AreOperatorRows, ArePlanRows}
 use Rattle.desk_tables.specs.Records.{AreNumbersOf, IsKeyed}
@@ -50,7 +50,7 @@ module _ (head : Row) (operator name id text : List ℕ) (same : name ≡ operat
 
 -- ---- the rows that references show are those of these tables
 
-pub unsorted_operators : (t : Tables) (other : PartFault) (rows : List Row) → rows ≡ t.operators
+pub unsorted_operators : (t : Tables) (other : InvalidPart) (rows : List Row) → rows ≡ t.operators
     → (ls : List Listed) → AreOperatorRows ls rows → (IsStrictlySortedBy listed_cmp ls → ⊥)
     → FailsHeads t other Operator
 unsorted_operators t other rows same ls are off = inl (
@@ -61,7 +61,7 @@ unsorted_operators t other rows same ls are off = inl (
 
 pub unsorted_plans : ((one other : Shape) → HasValidParts one → HasValidParts other
     → footprint_bytes one ≡ footprint_bytes other → one ≡ other)
-    → (t : Tables) (other : PartFault) (heads volumes : List Row) → heads ≡ t.plans → volumes ≡ t.volumes
+    → (t : Tables) (other : InvalidPart) (heads volumes : List Row) → heads ≡ t.plans → volumes ≡ t.volumes
     → (ps : List Filed) → ArePlanRows ps heads volumes → (IsStrictlySortedBy filed_cmp ps → ⊥)
     → FailsHeads t other Plan
 unsorted_plans one_shape t other heads volumes one two ps are off =

@@ -14,7 +14,7 @@ use Rattle.desk_sql.specs.Frames.{OnlyReads}
 use Rattle.desk_rules.specs.Conflict.{at_least}
 use Rattle.desk_store.specs.World.{World, held}
 use Rattle.desk_store.specs.Rivals.{AddsLevel, AreHeldByOthers, HaveLevel}
-use Rattle.desk_live.specs.Regions.{HoldNothingBeside}
+use Rattle.live_index.specs.Regions.{HoldNothingBeside}
 use Rattle.desk_tables.specs.Store.{HeldWorld, Stands}
 use Rattle.desk_tables.proofs.HeldLemmas.{any_level}
 use Rattle.desk_tables.proofs.FrameLemmas.{reads_itself, reads_then}

@@ -318,20 +318,20 @@ bounds_of one_list span_bounds w rows are known =
 
 -- what is known of those that are left is known of all
 abbrev pub AreLeft : {A : Type 0} → (SpanBounds → A → Type 0) → List A → List A → SpanBounds → Type 0
-AreLeft Known all left span_bounds =
-    (n : SpanBounds) → Keeps span_bounds n → AllByRecursion (Known n) left → AllByRecursion (Known n) all
+AreLeft MemoryIndex all left span_bounds =
+    (n : SpanBounds) → Keeps span_bounds n → AllByRecursion (MemoryIndex n) left → AllByRecursion (MemoryIndex n) all
 
-module _ {A : Type 0} (Known : SpanBounds → A → Type 0)
-    (more : (a b : SpanBounds) → Keeps a b → (x : A) → Known a x → Known b x)
-    (all left : List A) (span_bounds : SpanBounds) (before : AreLeft Known all left span_bounds) where
+module _ {A : Type 0} (MemoryIndex : SpanBounds → A → Type 0)
+    (more : (a b : SpanBounds) → Keeps a b → (x : A) → MemoryIndex a x → MemoryIndex b x)
+    (all left : List A) (span_bounds : SpanBounds) (before : AreLeft MemoryIndex all left span_bounds) where
   walk_on : (x : A) (later : List A) → left ≡ x ∷ later → (next : SpanBounds) → Keeps span_bounds next
-      → Known next x → AreLeft Known all later next
+      → MemoryIndex next x → AreLeft MemoryIndex all later next
   walk_on x later is next kept known = λ n above h.
-      before n (λ span was. above span (kept span was)) (subst (AllByRecursion (Known n)) (sym is)
+      before n (λ span was. above span (kept span was)) (subst (AllByRecursion (MemoryIndex n)) (sym is)
       (more next n above x known, h))
 
-  walk_ends : left ≡ [] → AllByRecursion (Known span_bounds) all
-  walk_ends is = before span_bounds (λ span was. was) (subst (AllByRecursion (Known span_bounds)) (sym is) tt)
+  walk_ends : left ≡ [] → AllByRecursion (MemoryIndex span_bounds) all
+  walk_ends is = before span_bounds (λ span was. was) (subst (AllByRecursion (MemoryIndex span_bounds)) (sym is) tt)
 
 known_more : (a b : SpanBounds) → Keeps a b → (row : Row) → IsKnownRow a row → IsKnownRow b row
 known_more a b more row h = λ first last begins ends. more _ (h first last begins ends)

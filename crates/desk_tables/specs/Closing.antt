@@ -5,11 +5,12 @@ use Rattle.sqlite_store.specs.declared.store.FileStore.{FileStore}
 use Rattle.sqlite_store.specs.FileStore.{view}
 use Rattle.sqlite.specs.Files.{FailsToClose, IsClosed}
 use Rattle.sqlite.specs.Held.{Held}
-use Rattle.desk_tables.specs.declared.closing.Unclosed.{Unclosed}
+use Rattle.desk_tables.specs.declared.closing.CheckpointError.{CheckpointError}
 
 -- what was to be closed was rolled back, a crash has no new outcome, and if the disk returned what was
 -- written, memory ran out, the disk failed meanwhile, or the connection was shut before
-pub record IsLeftUnclosed {D : Type 0} {g : disk.Ghosts D} (h : Held (FileStore D g)) (it : Unclosed D g)
+pub record IsLeftUnclosed {D : Type 0} {g : disk.Ghosts D} (h : Held (FileStore D g))
+    (it : CheckpointError D g)
     : Type 0 where
   pub closed : IsClosed h it.left
   pub cause : IsClean (view it.left) → FailsToClose h it.left it.error

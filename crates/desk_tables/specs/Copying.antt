@@ -28,8 +28,8 @@ use Rattle.desk_tables.specs.Moving.{IsOldContentOf, HasNoOldContent, AreNoOldCo
 use Rattle.desk_tables.specs.Files.{FindsFirst, IsOfUnreached, IsUnread}
 use Rattle.desk_tables.specs.declared.opening.files.CopyFault.{CopyFault}
 use Rattle.desk_tables.specs.declared.opening.files.CopyFault.TheVariants as copy
-use Rattle.desk_tables.specs.declared.opening.path.Unreached.{Unreached}
-use Rattle.desk_tables.specs.declared.opening.looking.Holdings.{Holdings}
+use Rattle.desk_tables.specs.declared.opening.path.NotOpened.{NotOpened}
+use Rattle.desk_tables.specs.declared.opening.looking.DbStats.{DbStats}
 use Rattle.desk_tables.specs.declared.opening.open.OpenFault.{OpenFault}
 use Rattle.desk_tables.specs.declared.opening.open.OpenFault.TheVariants.{NotADesk, OldSchema, Store}
 
@@ -62,7 +62,7 @@ live_count ps = length (filter (λ p. is_live p.row.usage) ps)
 
 -- what a content holds: operators, plans, those not closed, rows of spans, those of the operator that has
 -- most, and the cells of the operator that has most of those
-pub record AreHoldingsOf (h : Holdings) (w : World) : Type 0 where
+pub record AreHoldingsOf (h : DbStats) (w : World) : Type 0 where
   pub operators : h.operators ≡ length w.operators
   pub plans : h.plans ≡ length w.plans
   pub live : h.live ≡ live_count w.plans
@@ -129,7 +129,7 @@ module _ {D : Type 0} {g : disk.Ghosts D} (image : Image) (e : OpenFault) where
 
   -- files of which no content is told were read so; or they were not opened, and it isn't said of them that
   -- they have none
-  abbrev pub AreNotRead : Result (Held (FileStore D g)) (Unreached D g) → Type 0
+  abbrev pub AreNotRead : Result (Held (FileStore D g)) (NotOpened D g) → Type 0
   AreNotRead (Ok left) = IsUnreadIn left
   AreNotRead (Err it) = IsOfUnreached image e it
 
@@ -142,7 +142,7 @@ module _ {D : Type 0} {g : disk.Ghosts D} (image : Image) (e : OpenFault) where
     pub unmade : IsUnmade (over_files {D = D} {g = g}) found left e
 
   -- new files in which no store was made; or they were not opened
-  abbrev pub AreNotMade : Result (Held (FileStore D g)) (Unreached D g) → Type 0
+  abbrev pub AreNotMade : Result (Held (FileStore D g)) (NotOpened D g) → Type 0
   AreNotMade (Ok left) = IsUnmadeIn left
   AreNotMade (Err it) = IsOfUnreached image e it
 

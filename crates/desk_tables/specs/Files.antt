@@ -13,7 +13,7 @@ use Rattle.desk_sql.specs.Effects.{IsOpenIfClean, StaysShown}
 use Rattle.desk_store.specs.World.{World}
 use Rattle.desk_tables.specs.declared.opening.open.OpenFault.{OpenFault}
 use Rattle.desk_tables.specs.declared.opening.open.OpenFault.TheVariants.{NotADesk, OldSchema}
-use Rattle.desk_tables.specs.declared.opening.path.Unreached.{Unreached}
+use Rattle.desk_tables.specs.declared.opening.path.NotOpened.{NotOpened}
 use Rattle.desk_tables.specs.LyingDisk.{IsGuarded}
 use Rattle.desk_tables.specs.Leftovers.{IsLeftOf}
 use Rattle.desk_tables.specs.Opening.{BeginsWith, ShowsNoDesk, ShowsOldRows, BlamesDisk}
@@ -68,12 +68,12 @@ IsUnread e = (e ≢ NotADesk) × (e ≢ OldSchema)
 module _ {D : Type 0} {g : disk.Ghosts D} (image : Image) where
   -- files that held this were not opened, and are told so; and if they were both there, what is left of them
   -- is told
-  pub record IsUnreached (it : Unreached D g) : Type 0 where
+  pub record IsUnreached (it : NotOpened D g) : Type 0 where
     pub unread : IsUnread it.fault
     pub left : IfSome it.left (λ s. IsLeftOf image s.value)
 
   -- a fault is that of files that were not opened
-  pub record IsOfUnreached (e : OpenFault) (it : Unreached D g) : Type 0 where
+  pub record IsOfUnreached (e : OpenFault) (it : NotOpened D g) : Type 0 where
     pub same : e ≡ it.fault
     pub unread : IsUnread e
     pub left : IfSome it.left (λ s. IsLeftOf image s.value)
@@ -92,7 +92,7 @@ module _ {D : Type 0} {g : disk.Ghosts D} (image : Image) (e : OpenFault) where
 
   -- files of which no store comes are refused by the connection that is left; or they were not opened, and
   -- nothing in them was read
-  abbrev pub AreRefused : Result (Held (FileStore D g)) (Unreached D g) → Type 0
+  abbrev pub AreRefused : Result (Held (FileStore D g)) (NotOpened D g) → Type 0
   AreRefused (Ok left) = IsRefusedIn left
   AreRefused (Err it) = IsOfUnreached image e it
 
@@ -122,6 +122,6 @@ module _ {D : Type 0} {g : disk.Ghosts D} (image : Image) (e : OpenFault) where
     pub kept : KeepsRows (over_files {D = D} {g = g}) found left
 
   -- files that may hold rows of schema 1 are refused so; or they were not opened
-  abbrev pub AreNotMoved : Result (Held (FileStore D g)) (Unreached D g) → Type 0
+  abbrev pub AreNotMoved : Result (Held (FileStore D g)) (NotOpened D g) → Type 0
   AreNotMoved (Ok left) = IsMoveRefusedIn left
   AreNotMoved (Err it) = IsOfUnreached image e it

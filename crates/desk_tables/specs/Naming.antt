@@ -16,8 +16,9 @@ use Rattle.desk_store.specs.Content.{IsId}
 use Rattle.desk_store.specs.World.{Filed, Listed, listed_cmp, filed_cmp}
 use Rattle.desk_tables.specs.declared.opening.exact.RowFault.{RowFault}
 use Rattle.desk_tables.specs.declared.opening.exact.RowFault.TheVariants as row
-use Rattle.desk_tables.specs.declared.opening.naming.PartFault.{PartFault}
-use Rattle.desk_tables.specs.declared.opening.naming.PartFault.TheVariants.{Operator, Plan, Plans, Cover, Span, OldSpan, OldPlan}
+use Rattle.desk_tables.specs.declared.opening.naming.InvalidPart.{InvalidPart}
+use Rattle.desk_tables.specs.declared.opening.naming.InvalidPart.TheVariants.{Operator, Plan, Plans, Cover}
+use Rattle.desk_tables.specs.declared.opening.naming.InvalidPart.TheVariants.{Span, OldSpan, OldPlan}
 use Rattle.desk_tables.specs.Files.{Finds}
 use Rattle.desk_tables.specs.Moving.{IsOldArea}
 use Rattle.desk_tables.specs.Opening.{AreOperatorRows, ArePlanRows, AreParts, AreShared}
@@ -32,7 +33,7 @@ pub record OnlyReadsIn {D : Type 0} {g : disk.Ghosts D} (image : Image) (left : 
 -- ---- which part is named
 
 -- a part, if its rows are no desk's; none if memory ran out
-abbrev pub if_no_desk : RowFault → PartFault → Option PartFault
+abbrev pub if_no_desk : RowFault → InvalidPart → Option InvalidPart
 if_no_desk row.NoDesk part = Some part
 if_no_desk row.OutOfMemory part = None
 
@@ -49,13 +50,13 @@ ArePlanHeads heads = AllByRecursion IsPlanHead heads
 
 -- these rows of spans were held against plans: they are named if they aren't the plans', and the covers if they
 -- aren't those of the volumes
-abbrev pub FailsSpans : List Filed → List Row → Bool → PartFault → Type 0
+abbrev pub FailsSpans : List Filed → List Row → Bool → InvalidPart → Type 0
 FailsSpans ps rows covered Span = ¬ AreSpanRows ps rows
 FailsSpans ps rows covered Cover = AreSpanRows ps rows × (covered ≡ false)
 FailsSpans ps rows covered _ = ⊥
 
 -- the same of schema 1, which has no covers: plans are named if they are beyond its limits
-abbrev pub FailsOldSpans : List Filed → List Row → PartFault → Type 0
+abbrev pub FailsOldSpans : List Filed → List Row → InvalidPart → Type 0
 FailsOldSpans ps rows OldSpan = ¬ AreSpanRows ps rows
 FailsOldSpans ps rows OldPlan = AreSpanRows ps rows × (¬ AllByRecursion (λ p. IsOldArea p.row.area) ps)
 FailsOldSpans ps rows _ = ⊥
@@ -78,7 +79,7 @@ pub record AreUnshared (t : Tables) : Type 0 where
   pub unshared : ¬ AreShared operators plans
 
 -- the part that is named of rows but for spans and covers: the plans, or else this one for their volumes
-abbrev pub FailsHeads : Tables → PartFault → PartFault → Type 0
+abbrev pub FailsHeads : Tables → InvalidPart → InvalidPart → Type 0
 FailsHeads t other part =
     ((part ≡ Operator) × AreNoOperators t.operators)
     ⊎ ((((part ≡ Plan) ⊎ (part ≡ other)) × AreNoPlans t.plans t.volumes)

@@ -12,7 +12,7 @@ use sqlite_disk::Disk;
 /// Files whose checkpoint failed. Only `close` makes one, after it tried a checkpoint. All that can be done
 /// with them is to drop them, which closes them as they are.
 #[derive(Drop)]
-pub struct Unclosed<D: Disk> {
+pub struct CheckpointError<D: Disk> {
     error: Error,
     left: FileStore<D>,
 }
@@ -23,17 +23,17 @@ impl<D: Disk + Drop> SqliteStore<FileStore<D>> {
     ///
     /// # Errors
     ///
-    /// `Unclosed` if the log can't be copied: memory ran out, the disk failed meanwhile, or the connection
-    /// was shut before. The content is what it was: the files are closed as they are, and are read together
-    /// at the next opening.
-    pub fn close(self) -> Result<Files<D>, Unclosed<D>>
+    /// `CheckpointError` if the log can't be copied: memory ran out, the disk failed meanwhile, or the
+    /// connection was shut before. The content is what it was: the files are closed as they are, and are
+    /// read together at the next opening.
+    pub fn close(self) -> Result<Files<D>, CheckpointError<D>>
         ensures copied { IfOk result (λ files. AreClean D.Disk files.log files.db →
             IsCopied self.held files) }
         ensures unclosed { IfErr result (IsLeftUnclosed self.held) }
     {
         match self.release().close_files() {
             Ok(files) => Ok(files),
-            Err((error, left)) => Err(Unclosed { error, left }),
+            Err((error, left)) => Err(CheckpointError { error, left }),
         }
     }
 }

@@ -11,33 +11,33 @@ use std::marker::Model;
 
 /// The world that a store keeps. It takes no bytes: contracts alone read it.
 #[derive(Drop)]
-pub struct GhostWorld {
+pub struct GhostState {
     pub ghost world: { World },
 }
 
-impl Model for GhostWorld {
+impl Model for GhostState {
     ghost also_owns = { λ _. ftrue };
 }
 
-impl GhostWorld {
+impl GhostState {
     /// The world of no operators and no plans.
-    pub fn new() -> GhostWorld
+    pub fn new() -> GhostState
         ensures { result.world ≡ record { operators = []; plans = [] } }
     {
-        GhostWorld {}
+        GhostState {}
     }
 
     /// The world after a change.
-    pub fn after(_before: &GhostWorld, _change: &Change) -> GhostWorld
+    pub fn after(_before: &GhostState, _change: &Change) -> GhostState
         ensures { result.world ≡ changed_by _change.now _before.now.world }
     {
-        GhostWorld {}
+        GhostState {}
     }
 
     /// The world of a content that was read.
-    pub(crate) fn of(_content: &Content) -> GhostWorld
+    pub(crate) fn of(_content: &Content) -> GhostState
         ensures { result.world ≡ _content.now }
     {
-        GhostWorld {}
+        GhostState {}
     }
 }

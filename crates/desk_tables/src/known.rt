@@ -4,35 +4,35 @@ ghost use Rattle.std.specs.Prelude.{◌≡◌, [], length, IfOk, OnOk};
 ghost use Rattle.std.specs.List.Sorted.{IsStrictlySortedBy};
 ghost use Rattle.desk_store.specs.World.{World, filed_cmp};
 ghost use Rattle.desk_store.specs.StoreChange.{changed_by};
-ghost use Rattle.desk_live.specs.Live.{AreBrought, AreKeptOnce, HasRoomForVolumes};
+ghost use Rattle.live_index.specs.Live.{AreBrought, AreKeptOnce, HasRoomForVolumes};
 ghost use Rattle.operator_index.specs.Roll.{AreAccountsOf, IsReadyFor, accounts_of};
 ghost use Rattle.desk_tables.specs.Known.{Knows};
 ghost use Rattle.desk_tables.specs.SpanBounds.{BringsKnown, Keeps};
 
 use crate::opening::exact::FiledPlan;
 use crate::span_bounds::SpanBounds;
-use desk_live::{Gathering, LiveVolume, LiveVolumes};
 use desk_store::Change;
-use operator_index::{ListedOperator, Roll};
+use live_index::{LiveIndex, LiveIndexBuilder, LiveVolume};
+use operator_index::{ListedOperator, OperatorIndex};
 use std::alloc::{AllocError, Global};
 
 /// How long the spans of live plans are, bounds round each of their volumes, and the roll of operators.
 #[derive(Drop)]
-pub(crate) struct Known {
+pub(crate) struct MemoryIndex {
     pub span_bounds: SpanBounds,
-    pub live: LiveVolumes,
-    pub roll: Roll,
+    pub live: LiveIndex,
+    pub roll: OperatorIndex,
 }
 
-impl Known {
+impl MemoryIndex {
     /// Of no plans.
-    pub(crate) fn new(alloc: Global) -> Known
+    pub(crate) fn new(alloc: Global) -> MemoryIndex
         ensures { Knows result (record { operators = []; plans = [] }) }
     {
-        Known {
+        MemoryIndex {
             span_bounds: SpanBounds::new(),
-            live: LiveVolumes::new(alloc),
-            roll: Roll::new(alloc),
+            live: LiveIndex::new(alloc),
+            roll: OperatorIndex::new(alloc),
         }
     }
 
@@ -75,11 +75,11 @@ impl Known {
 /// # Errors
 ///
 /// `AllocError` if memory runs out.
-pub(crate) fn live_among(alloc: Global, plans: &[FiledPlan]) -> Result<LiveVolumes, AllocError>
+pub(crate) fn live_among(alloc: Global, plans: &[FiledPlan]) -> Result<LiveIndex, AllocError>
     ensures { IfOk result (λ live. (w : World) → IsStrictlySortedBy filed_cmp w.plans
         → w.plans ≡ plans.now → AreKeptOnce live w) }
 {
-    let mut gathering = Gathering::new(alloc);
+    let mut gathering = LiveIndexBuilder::new(alloc);
     for plan in plans {
         gathering.add(&plan.operator, &plan.row)?;
     }
@@ -95,7 +95,7 @@ pub(crate) fn roll_of(
     alloc: Global,
     operators: &[ListedOperator],
     plans: &[FiledPlan],
-) -> Result<Roll, AllocError>
+) -> Result<OperatorIndex, AllocError>
     ensures { IfOk result (λ roll. AreAccountsOf operators.now plans.now (accounts_of roll)) }
 {
     let mut roll = roll_with(alloc, operators)?;
@@ -106,10 +106,10 @@ pub(crate) fn roll_of(
 }
 
 // The roll of operators without plans.
-fn roll_with(alloc: Global, operators: &[ListedOperator]) -> Result<Roll, AllocError>
+fn roll_with(alloc: Global, operators: &[ListedOperator]) -> Result<OperatorIndex, AllocError>
     ensures { IfOk result (λ roll. AreAccountsOf operators.now [] (accounts_of roll)) }
 {
-    let mut roll = Roll::new(alloc);
+    let mut roll = OperatorIndex::new(alloc);
     for listed in operators {
         roll.list(alloc, &listed.operator, listed.ceiling)?;
     }

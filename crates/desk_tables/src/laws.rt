@@ -34,7 +34,7 @@ ghost use Rattle.sqlite_wal.specs.Files.{outcomes};
 ghost use Rattle.sqlite_disk.specs.declared.Files.{Files};
 ghost use Rattle.sqlite.specs.Closing.{IsCopied};
 ghost use Rattle.desk_tables.specs.Closing.{IsLeftUnclosed};
-ghost use Rattle.desk_tables.specs.declared.closing.Unclosed.{Unclosed};
+ghost use Rattle.desk_tables.specs.declared.closing.CheckpointError.{CheckpointError};
 ghost use Rattle.desk_tables.specs.Files.{AreRefused, FindsFirst, IsSummed, IsUnread, OpensIn};
 ghost use Rattle.desk_tables.specs.Files.{OpensMoved};
 ghost use Rattle.desk_tables.specs.declared.opening.open.OpenFault.{OpenFault};
@@ -195,7 +195,7 @@ pub fn a_look_leaves_the_database<D: Disk>()
 /// that could not be copied leaves that content alone, and in files that were given back a start finds no
 /// other.
 pub fn a_close_leaves_the_content<D: Disk, E: Disk>()
-    ensures unclosed { (last : Held (FileStore D D.Disk)) (it : Unclosed D D.Disk) (w : World)
+    ensures unclosed { (last : Held (FileStore D D.Disk)) (it : CheckpointError D D.Disk) (w : World)
         → LeavesOnly w (MayLeave over_files last) → IsLeftUnclosed last it
         → LeavesOnly w (MayLeave over_files (record last { store = it.left })) }
     ensures closed { (last : Held (FileStore D D.Disk)) (files : Files D) (image : Image)

@@ -13,12 +13,12 @@ mod span_bounds;
 mod store;
 mod tables;
 
-pub use closing::Unclosed;
+pub use closing::CheckpointError;
 pub use opening::files::{Copied, CopyFault, FilesFault, Source, copy_from, look_at};
-pub use opening::looking::{Holdings, look_into};
-pub use opening::naming::{Named, PartFault, first_fault, part_at};
+pub use opening::looking::{DbStats, look_into};
+pub use opening::naming::{InvalidPart, Named, first_fault, part_at};
 pub use opening::open::{AdoptFault, OpenFault};
-pub use opening::path::Unreached;
+pub use opening::path::NotOpened;
 pub use opening::word::open_word;
 pub use operator_index::ListedOperator;
 pub use store::SqliteStore;

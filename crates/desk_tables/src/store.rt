@@ -9,16 +9,16 @@ ghost use Rattle.desk_tables.specs.Store.{Stands};
 ghost use Rattle.desk_tables.specs.Known.{Knows};
 ghost use Rattle.desk_tables.specs.Leaving.{IsSettledAt};
 
-use crate::kept::GhostWorld;
-use crate::known::Known;
+use crate::kept::GhostState;
+use crate::known::MemoryIndex;
 use crate::laws::one_content;
 use crate::tables::DeskTables;
-use desk_live::Wanted;
 use desk_rules::operator::Operator;
 use desk_rules::plan::{PlanRow, States};
 use desk_rules::plan_id::PlanId;
 use desk_store::laws::{cells_are_few, spans_are_few};
 use desk_store::{Change, PlanStore, Sizes, StoreFault};
+use live_index::Wanted;
 use operator_index::ListedOperator;
 use sqlite::Connection;
 use sqlite_trees::store::Alter;
@@ -36,7 +36,7 @@ pub struct SqliteStore<S: Alter> {
     tables: DeskTables<S>,
     // the roll of operators, with how many spans and cells each plan takes; and of live plans bounds round
     // each volume, and how long spans are, which is forgotten at an opening alone
-    known: Known,
+    known: MemoryIndex,
     // how many faults of its own it has met, up to the type's last value
     faults: u64,
     // whether an operator was listed when it was opened
@@ -71,8 +71,8 @@ impl<S: Alter> SqliteStore<S> {
     pub(crate) fn with(
         alloc: Global,
         connection: Connection<S>,
-        kept: GhostWorld,
-        known: Known,
+        kept: GhostState,
+        known: MemoryIndex,
         told: StoreFault,
         is_enrolled: bool,
     ) -> SqliteStore<S>

@@ -4,7 +4,7 @@ ghost use Rattle.std.specs.Prelude.{◌≡◌};
 ghost use Rattle.desk_tables.specs.Store.{Stands};
 ghost use Rattle.desk_tables.specs.Leaving.{IsSettledAt};
 
-use crate::kept::GhostWorld;
+use crate::kept::GhostState;
 use crate::laws::one_content;
 use desk_sql::laws::settled_and_sound;
 use desk_store::StoreFault;
@@ -19,7 +19,7 @@ use std::marker::Model;
 #[derive(Drop)]
 pub(crate) struct DeskTables<S: Alter> {
     pub connection: Connection<S>,
-    pub kept: GhostWorld,
+    pub kept: GhostState,
     pub alloc: Global,
     /// What an error of input and output is told as: a disk in memory has one only if it gets no memory.
     pub told: StoreFault,

@@ -1,9 +1,9 @@
 //! A desk, and a request to it with its answer, written by hand.
 
-use desk_ends::Moment;
 use desk_rules::operator::Operator;
 use desk_run::{Desk, DeskFault};
 use desk_store::ListStore;
+use io_ends::Moment;
 use std::alloc::Global;
 
 /// The moment of all calls.

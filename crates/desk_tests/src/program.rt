@@ -3,13 +3,13 @@
 ghost use Rattle.std.specs.Prelude.{◌≡◌, IfOk};
 ghost use Rattle.desk_program.specs.CarryingOut.{IsPortless};
 
-use desk_ends::Moment;
-use desk_line::{Database, DeskArgs, Enrol, Enrolment, Line, Play};
+use desk_cli::{Database, DeskArgs, Enrol, Enrolment, Line, Play};
 use desk_program::with_desk;
 use desk_rules::operator::Operator;
 use desk_rules::terms::Terms;
 use desk_run::Desk;
 use desk_store::{ListStore, PlanStore};
+use io_ends::Moment;
 use std::alloc::Global;
 use std::process::Abort;
 use std::test::Fail;

@@ -2,11 +2,11 @@
 
 ghost use Rattle.std.specs.Prelude.{◌≤◌, IfOk};
 ghost use Rattle.std.specs.Int.{IsInRange};
-ghost use Rattle.desk_line.specs.Lines.{AreEnrolments, IsServe};
+ghost use Rattle.desk_cli.specs.Lines.{AreEnrolments, IsServe};
 
 use crate::given::{COMPLETED, FIRST_PUT, LATE};
-use desk_line::{Database, DeskArgs, Enrolment, Failure, Serve};
-use desk_program::{LocalPort, Register, serve};
+use desk_cli::{Database, DeskArgs, Enrolment, ErrorCode, Serve};
+use desk_program::{EnrolmentSource, LocalPort, serve};
 use desk_rules::operator::Operator;
 use desk_rules::terms::Terms;
 use desk_run::Desk;
@@ -96,8 +96,8 @@ fn alfa_at(wanted: u32) -> AtLook {
     AtLook { looks: 0, wanted }
 }
 
-impl Register for AtLook {
-    fn look(&mut self, alloc: Global) -> Result<Vec<Enrolment>, Failure> {
+impl EnrolmentSource for AtLook {
+    fn look(&mut self, alloc: Global) -> Result<Vec<Enrolment>, ErrorCode> {
         self.looks = self.looks.saturating_add(1);
         match Operator::try_new(b"alfa") {
             Some(operator) if self.looks == self.wanted => {

@@ -1,8 +1,8 @@
 //! Requests at hand, and of readers that are interrupted or fail.
 
 use crate::given::{COMPLETED, FIRST_PUT, MOMENT, desk_of_alfa};
-use desk_ends::{PlayEnd, ServeFault};
 use desk_wire::{AnswersEnd, Played, answer_all, play_all};
+use io_ends::{PlayEnd, ServeFault};
 use std::io::{self, ErrorKind, Read};
 use std::test::Fail;
 

@@ -1,6 +1,6 @@
 //! What `clap` makes of words that it doesn't take, and of a question for help.
 
-use desk_line::{Line, WordsFault, read_words};
+use desk_cli::{Line, WordsFault, read_words};
 use std::alloc::{AllocError, Global};
 use std::test::Fail;
 

@@ -2,9 +2,9 @@
 
 use crate::named::operator_of;
 use anyhow::bail;
-use desk_ends::Moment;
 use desk_run::Desk;
 use desk_store::PlanStore;
+use io_ends::Moment;
 
 /// The moment of all requests of a part without a script (2026-06-01T11:56:40Z).
 pub const MOMENT: Moment = Moment {

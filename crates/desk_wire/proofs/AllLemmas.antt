@@ -6,9 +6,9 @@ use Rattle.desk_wire.specs.AllAnswers.{Sent, answers_to, world_left, AreFirst, A
 use Rattle.desk_wire.proofs.BytesLemmas.{asked_read}
 use Rattle.desk_wire.specs.Bytes.{text_for, world_after, IsDone, IsServerError, IsAnsweredSo}
 use Rattle.desk_rules.specs.declared.call.Asked.{Asked}
-use Rattle.desk_reading.specs.Messages.{MessageParts, message_in}
-use Rattle.desk_reading.specs.Readings.{Reading, or_met}
-use Rattle.desk_reading.specs.Requests.{asked, asked_by}
+use Rattle.request_parser.specs.Messages.{MessageParts, message_in}
+use Rattle.request_parser.specs.Readings.{Reading, or_met}
+use Rattle.request_parser.specs.Requests.{asked, asked_by}
 use Rattle.desk_wire.specs.declared.response.ServerError.{ServerError}
 
 -- the first requests are answered, as many as there are answers

@@ -7,9 +7,9 @@ use Rattle.desk_run.specs.Verdicts.{Told}
 use Rattle.desk_run.specs.Calls.{HasNoReply, IsPending, reply_in, world_committed}
 use Rattle.desk_rules.specs.Replies.{said_in}
 use Rattle.desk_writing.specs.ReplyText.{reply_text}
-use Rattle.desk_reading.specs.Messages.{MessageParts, message_in}
-use Rattle.desk_reading.specs.Readings.{Reading, or_met}
-use Rattle.desk_reading.specs.Requests.{asked, asked_by}
+use Rattle.request_parser.specs.Messages.{MessageParts, message_in}
+use Rattle.request_parser.specs.Readings.{Reading, or_met}
+use Rattle.request_parser.specs.Requests.{asked, asked_by}
 use Rattle.desk_wire.specs.Bytes.{IsDone, makes_change_for, status, status_for, text, world_after}
 
 -- the answer and the change of what was pending

@@ -6,8 +6,8 @@ use Rattle.std.specs.Io.KnownBytes.{Appends}
 use Rattle.desk_store.specs.StoreFaults.{HasRisen}
 use Rattle.desk_run.specs.DeskWorld.{DeskWorld}
 use Rattle.desk_run.proofs.lemmas.Crash.{risen_since}
-use Rattle.desk_ends.specs.declared.serving.Served.{Served}
-use Rattle.desk_ends.specs.declared.serving.Served.TheVariants.{Answered}
+use Rattle.io_ends.specs.declared.serving.Served.{Served}
+use Rattle.io_ends.specs.declared.serving.Served.TheVariants.{Answered}
 use Rattle.desk_wire.specs.declared.response.ServerError.{ServerError}
 use Rattle.desk_wire.specs.declared.response.ServerError.TheVariants.{OutOfMemory, Store}
 use Rattle.desk_wire.specs.Bytes.{IsServerError}

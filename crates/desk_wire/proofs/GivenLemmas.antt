@@ -5,7 +5,7 @@ use Rattle.std.proofs.lemmas.List.{take_all, length-take-le}
 use Rattle.std.proofs.Math.Seq.{take-append_seam, take-length}
 use Rattle.std.specs.List.{slice_get}
 use Rattle.desk_run.specs.DeskWorld.{DeskWorld, side}
-use Rattle.desk_reading.specs.Requests.{asked}
+use Rattle.request_parser.specs.Requests.{asked}
 use Rattle.desk_run.specs.Sides.{OwnAlike, is_from}
 use Rattle.desk_wire.specs.declared.batch.AnswersEnd.{AnswersEnd}
 use Rattle.desk_wire.specs.declared.batch.AnswersEnd.TheVariants.{All, Broken, NoMemory}

@@ -6,8 +6,8 @@ use Rattle.std.specs.Ordering.{is_eq}
 use Rattle.desk_rules.specs.declared.call.Asked.{Asked}
 use Rattle.desk_store.specs.World.{text_cmp}
 use Rattle.desk_run.specs.DeskWorld.{DeskWorld, Side, side, held_in}
-use Rattle.desk_reading.specs.Readings.{Reading}
-use Rattle.desk_reading.specs.Requests.{asked}
+use Rattle.request_parser.specs.Readings.{Reading}
+use Rattle.request_parser.specs.Requests.{asked}
 use Rattle.desk_run.specs.Sides.{OwnAlike, HoldAlike, is_from, beside, along}
 use Rattle.desk_run.proofs.lemmas.Side.{Levels, IsSeenBy, IsKeptBy, after_all, everywhere}
 use Rattle.desk_run.proofs.lemmas.Side.{same_found, same_last, quiet_is}

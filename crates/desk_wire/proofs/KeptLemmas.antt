@@ -6,22 +6,22 @@ use Rattle.std.proofs.lemmas.List.Elements.{recursion_from_All}
 use Rattle.std.specs.Result.{IsErrAnd}
 use Rattle.desk_store.specs.World.{World}
 use Rattle.desk_store.specs.Crashes.{LeavesNoMore, LeavesOldOr, LeavesOnly}
-use Rattle.desk_reading.specs.Messages.{MessageParts, message_in}
-use Rattle.desk_reading.specs.Readings.{Reading, or_met}
-use Rattle.desk_reading.specs.Requests.{asked, asked_by}
+use Rattle.request_parser.specs.Messages.{MessageParts, message_in}
+use Rattle.request_parser.specs.Readings.{Reading, or_met}
+use Rattle.request_parser.specs.Requests.{asked, asked_by}
 use Rattle.desk_rules.specs.declared.call.Asked.{Asked}
 use Rattle.desk_store.specs.declared.store.PlanStore.{Ghosts}
 use Rattle.desk_store.specs.StoreFaults.{IsHonest}
 use Rattle.desk_run.specs.DeskFrames.{Leaves}
 use Rattle.desk_run.specs.DeskWorld.{DeskWorld, Parts, world_of}
 use Rattle.desk_wire.specs.Failing.{desk_fault}
-use Rattle.desk_ends.specs.declared.playing.PlayEnd.{PlayEnd}
-use Rattle.desk_ends.specs.declared.playing.PlayEnd.TheVariants.{End, Unframed, Broken, Limit, Fault}
-use Rattle.desk_ends.specs.declared.serving.Served.{Served}
-use Rattle.desk_ends.specs.declared.serving.Served.TheVariants.{Answered}
-use Rattle.desk_ends.specs.declared.serving.ServeFault.{ServeFault}
-use Rattle.desk_ends.specs.declared.serving.ServeFault.TheVariants.{Read, Write, CutShort, OutOfMemory}
-use Rattle.desk_ends.specs.declared.writing.WriteFault.{WriteFault}
+use Rattle.io_ends.specs.declared.playing.PlayEnd.{PlayEnd}
+use Rattle.io_ends.specs.declared.playing.PlayEnd.TheVariants.{End, Unframed, Broken, Limit, Fault}
+use Rattle.io_ends.specs.declared.serving.Served.{Served}
+use Rattle.io_ends.specs.declared.serving.Served.TheVariants.{Answered}
+use Rattle.io_ends.specs.declared.serving.ServeFault.{ServeFault}
+use Rattle.io_ends.specs.declared.serving.ServeFault.TheVariants.{Read, Write, CutShort, OutOfMemory}
+use Rattle.io_ends.specs.declared.writing.PartialWrite.{PartialWrite}
 use Rattle.desk_wire.specs.declared.response.ServerError.{ServerError}
 use Rattle.desk_wire.specs.AllAnswers.{Sent, answers_to, world_left}
 use Rattle.desk_wire.specs.Bytes.{IsServerError, status_so, world_after}
@@ -61,7 +61,7 @@ pub uncertain_memory : (r : Result Served ServeFault) → IsErrAnd r (λ e. e �
 uncertain_memory (Ok s) is certain = absurd is
 uncertain_memory (Err e) is certain = subst (λ f. IsCertain (Err f)) is certain
 
-pub uncertain_write : (r : Result Served ServeFault) (fault : WriteFault) → IsErrAnd r (λ e. e ≡ Write fault)
+pub uncertain_write : (r : Result Served ServeFault) (fault : PartialWrite) → IsErrAnd r (λ e. e ≡ Write fault)
     → IsCertain r → ⊥
 uncertain_write (Ok s) fault is certain = absurd is
 uncertain_write (Err e) fault is certain = subst (λ z. IsCertain (Err z)) is certain

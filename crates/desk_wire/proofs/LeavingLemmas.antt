@@ -1,7 +1,7 @@
 -- What answering a request leaves, by what its calls left.
 use Rattle.std.proofs.Common.{◌≡◌, ◌≢◌, ℤ, Some, Result, Ok, Err, IfOk, IfErr, arith}
 use Rattle.desk_rules.specs.declared.call.Asked.{Asked}
-use Rattle.desk_reading.specs.Readings.{Reading}
+use Rattle.request_parser.specs.Readings.{Reading}
 use Rattle.desk_run.specs.DeskWorld.{DeskWorld}
 use Rattle.desk_run.specs.declared.fault.DeskFault.TheVariants as desk
 use Rattle.desk_wire.specs.Bytes.{IsDone, IsMadeAnswer, makes_change_for, status_for}

@@ -7,8 +7,8 @@ use Rattle.std.proofs.lemmas.List.Elements.{All-append, All-cons, All-nil}
 use Rattle.std.proofs.lemmas.List.Folds.{concat-append}
 use Rattle.std.specs.List.{concat}
 use Rattle.std.specs.Io.KnownBytes.{Appends, Consumes}
-use Rattle.desk_reading.specs.Requests.{asked}
-use Rattle.desk_reading.specs.Readings.{Reading}
+use Rattle.request_parser.specs.Requests.{asked}
+use Rattle.request_parser.specs.Readings.{Reading}
 use Rattle.desk_rules.specs.declared.call.Asked.{Asked}
 use Rattle.desk_run.specs.DeskWorld.{DeskWorld}
 use Rattle.desk_wire.specs.declared.response.ServerError.{ServerError}

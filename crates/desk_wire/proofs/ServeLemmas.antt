@@ -3,18 +3,18 @@ use Rattle.std.proofs.Common.{◌≡◌, ◌<◌, ℕ, ℤ, Bool, List, ◌++◌
 use Rattle.std.proofs.KnownBytes.{Consumes-trans, Keeps-refl}
 use Rattle.std.specs.Io.KnownBytes.{Consumes}
 use Rattle.std.specs.Result.{IsErrAnd, is_ok}
-use Rattle.desk_reading.specs.Messages.{FrontParts, MessageParts, message_in, message_read}
-use Rattle.desk_reading.specs.Readings.{Reading, or_met}
-use Rattle.desk_reading.specs.Requests.{asked, asked_by}
-use Rattle.desk_reading.specs.declared.message.Message.{Message}
-use Rattle.desk_reading.specs.declared.wire_fault.WireFault.{WireFault}
+use Rattle.request_parser.specs.Messages.{FrontParts, MessageParts, message_in, message_read}
+use Rattle.request_parser.specs.Readings.{Reading, or_met}
+use Rattle.request_parser.specs.Requests.{asked, asked_by}
+use Rattle.request_parser.specs.declared.message.Message.{Message}
+use Rattle.request_parser.specs.declared.wire_fault.WireFault.{WireFault}
 use Rattle.desk_run.specs.DeskWorld.{DeskWorld}
-use Rattle.desk_ends.specs.declared.serving.Served.{Served}
-use Rattle.desk_ends.specs.declared.serving.Served.TheVariants.{Answered}
-use Rattle.desk_ends.specs.declared.serving.ServeFault.{ServeFault}
-use Rattle.desk_ends.specs.declared.serving.ServeFault.TheVariants.{Read, Write, CutShort, OutOfMemory}
-use Rattle.desk_ends.specs.declared.writing.WriteFault.{WriteFault}
-use Rattle.desk_ends.specs.Writing.{BreaksOff}
+use Rattle.io_ends.specs.declared.serving.Served.{Served}
+use Rattle.io_ends.specs.declared.serving.Served.TheVariants.{Answered}
+use Rattle.io_ends.specs.declared.serving.ServeFault.{ServeFault}
+use Rattle.io_ends.specs.declared.serving.ServeFault.TheVariants.{Read, Write, CutShort, OutOfMemory}
+use Rattle.io_ends.specs.declared.writing.PartialWrite.{PartialWrite}
+use Rattle.io_ends.specs.Writing.{BreaksOff}
 use Rattle.desk_wire.specs.declared.response.ServerError.{ServerError}
 use Rattle.desk_wire.specs.Bytes.{IsAnsweredSo, IsServerError, status_so}
 use Rattle.desk_wire.specs.Passage.{passed}
@@ -96,7 +96,7 @@ stopped H cut (Err e) f old new out w moment is stops then_cut =
     by (Write fault) s = absurd s
 
 -- the exit of a `?` that hands on what stopped the writing
-pub broken : (H : Type 0) (r : Result Served ServeFault) (fault : WriteFault)
+pub broken : (H : Type 0) (r : Result Served ServeFault) (fault : PartialWrite)
     (old new out now : Option (List ℕ))
     (w after : DeskWorld) (moment : ℤ) (request answer : List ℕ) (why : Option ServerError)
     → IsErrAnd r (λ e. e ≡ Write fault) → BreaksOff answer out now fault → IsTaken old new request

@@ -11,12 +11,12 @@ use Rattle.std.specs.List.{AllByRecursion, concat, slice_get}
 use Rattle.std.specs.Option.{option_map}
 use Rattle.std.specs.Io.KnownBytes.{Appends, Consumes}
 use Rattle.desk_run.specs.DeskWorld.{DeskWorld, side}
-use Rattle.desk_reading.specs.Requests.{asked}
+use Rattle.request_parser.specs.Requests.{asked}
 use Rattle.desk_run.specs.Sides.{OwnAlike}
-use Rattle.desk_ends.specs.declared.playing.PlayEnd.{PlayEnd}
-use Rattle.desk_ends.specs.declared.playing.PlayEnd.TheVariants.{End, Unframed, Broken, Limit, Fault}
-use Rattle.desk_ends.specs.declared.serving.ServeFault.TheVariants.{Read, Write, CutShort, OutOfMemory}
-use Rattle.desk_ends.specs.declared.writing.WriteFault.{WriteFault}
+use Rattle.io_ends.specs.declared.playing.PlayEnd.{PlayEnd}
+use Rattle.io_ends.specs.declared.playing.PlayEnd.TheVariants.{End, Unframed, Broken, Limit, Fault}
+use Rattle.io_ends.specs.declared.serving.ServeFault.TheVariants.{Read, Write, CutShort, OutOfMemory}
+use Rattle.io_ends.specs.declared.writing.PartialWrite.{PartialWrite}
 use Rattle.desk_wire.specs.declared.response.ServerError.{ServerError}
 use Rattle.desk_wire.specs.AllAnswers.{answers_to, world_left}
 use Rattle.desk_wire.specs.Bytes.{IsAnsweredSo, IsDone, world_after}
@@ -175,7 +175,7 @@ module _ (H : Type 0) (old out : Option (List ℕ)) (w : DeskWorld) (moment : �
   left_off world after request answer None h = inl h.left
   left_off world after request answer (Some error) h = inr h.left
 
-  pub given_off : (count : ℕ) (fault : WriteFault) (input new output now : Option (List ℕ))
+  pub given_off : (count : ℕ) (fault : PartialWrite) (input new output now : Option (List ℕ))
       (world after : DeskWorld)
       → (f : ArePlayed H count (passed old input out output) w moment world)
       → (b : IsBrokenOff H (passed input new output now) world moment after fault)

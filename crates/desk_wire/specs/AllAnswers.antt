@@ -2,14 +2,14 @@
 use Rattle.std.specs.Prelude.{◌≡◌, ◌<◌, ℕ, ℤ, List, [], ◌∷◌, ◌++◌, length, map, take, Vec}
 use Rattle.std.specs.Global.{Global}
 use Rattle.desk_run.specs.DeskWorld.{DeskWorld}
-use Rattle.desk_ends.specs.declared.moment.Moment.{Moment}
+use Rattle.io_ends.specs.declared.moment.Moment.{Moment}
 use Rattle.desk_wire.specs.declared.batch.Answers.{Answers}
 use Rattle.desk_wire.specs.declared.batch.AnswersEnd.{AnswersEnd}
 use Rattle.desk_wire.specs.declared.batch.AnswersEnd.TheVariants.{All, Broken, NoMemory}
 use Rattle.desk_wire.specs.declared.response.ServerError.{ServerError}
 use Rattle.desk_wire.specs.Bytes.{text_for, world_after}
 use Rattle.desk_wire.specs.RefusalTexts.{server_error_text}
-use Rattle.desk_reading.specs.Requests.{asked}
+use Rattle.request_parser.specs.Requests.{asked}
 
 -- the bytes of a request, with its moment
 abbrev pub Sent : Type 0

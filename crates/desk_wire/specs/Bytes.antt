@@ -1,8 +1,8 @@
 -- Bytes: the text that a desk answers to the bytes of one request, and what the request leaves.
 use Rattle.std.specs.Prelude.{◌≡◌, ◌≢◌, ℕ, ℤ, List, Bool, false, Option, Some, None, IfSome, Ok, Err}
 use Rattle.desk_rules.specs.declared.call.Asked.{Asked}
-use Rattle.desk_reading.specs.FaultWords.{fault_status}
-use Rattle.desk_reading.specs.Readings.{Reading}
+use Rattle.request_parser.specs.FaultWords.{fault_status}
+use Rattle.request_parser.specs.Readings.{Reading}
 use Rattle.desk_writing.specs.ReplyText.{reply_text}
 use Rattle.desk_wire.specs.declared.refusal.Refusal.TheVariants.{Fault, UnknownOperator, NoSuchPlan}
 use Rattle.desk_wire.specs.declared.answering.Response.{Response}

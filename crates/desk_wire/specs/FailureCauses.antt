@@ -2,8 +2,8 @@
 use Rattle.std.specs.Prelude.{◌≡◌, ℕ, ⊤, List, [], ◌∷◌, ◌++◌, Option}
 use Rattle.std.specs.Io.KnownBytes.{Appends}
 use Rattle.desk_store.specs.StoreFaults.{HasRisen}
-use Rattle.desk_ends.specs.declared.serving.Served.{Served}
-use Rattle.desk_ends.specs.declared.serving.Served.TheVariants.{Answered, End}
+use Rattle.io_ends.specs.declared.serving.Served.{Served}
+use Rattle.io_ends.specs.declared.serving.Served.TheVariants.{Answered, End}
 use Rattle.desk_wire.specs.declared.batch.Answers.{Answers}
 use Rattle.desk_wire.specs.declared.batch.AnswersEnd.TheVariants.{Broken}
 use Rattle.desk_wire.specs.declared.response.ServerError.{ServerError}

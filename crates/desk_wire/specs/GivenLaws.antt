@@ -3,7 +3,7 @@ use Rattle.std.specs.Prelude.{◌≡◌, ◌<◌, ◌+◌, ℕ, ℤ, List, Some,
 use Rattle.std.specs.List.{slice_get}
 use Rattle.desk_store.specs.StoreFaults.{IsHonest}
 use Rattle.desk_run.specs.DeskWorld.{DeskWorld}
-use Rattle.desk_ends.specs.declared.playing.PlayEnd.{PlayEnd}
+use Rattle.io_ends.specs.declared.playing.PlayEnd.{PlayEnd}
 use Rattle.desk_wire.specs.declared.batch.AnswersEnd.{AnswersEnd}
 use Rattle.desk_wire.specs.AllAnswers.{AreAnswers, AreFirst, Sent}
 use Rattle.desk_wire.specs.Given.{answered, AreGiven, told_in_play}

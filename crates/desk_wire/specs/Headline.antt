@@ -37,8 +37,8 @@ use Rattle.std.specs.Prelude.{◌≡◌, ◌≢◌, ◌+◌, ℕ, List, Option, 
 use Rattle.std.specs.List.{slice_get}
 use Rattle.desk_rules.specs.declared.call.Asked.{Asked}
 use Rattle.desk_run.specs.DeskWorld.{DeskWorld}
-use Rattle.desk_reading.specs.Readings.{Reading}
-use Rattle.desk_reading.specs.Requests.{asked}
+use Rattle.request_parser.specs.Readings.{Reading}
+use Rattle.request_parser.specs.Requests.{asked}
 use Rattle.desk_run.specs.Sides.{OwnAlike, HoldAlike}
 use Rattle.desk_wire.specs.AllAnswers.{Sent, answers_to, world_left}
 

@@ -1,18 +1,18 @@
 -- OneRequest: what comes of one request of a stream.
 use Rattle.std.specs.Prelude.{◌≡◌, ◌≢◌, ℕ, ℤ, ⊤, List, Bool, Option, None, IfSome, Result, Ok, Err}
 use Rattle.std.specs.Io.KnownBytes.{Appends, Consumes, IsAtEnd, Keeps}
-use Rattle.desk_reading.specs.Requests.{asked}
+use Rattle.request_parser.specs.Requests.{asked}
 use Rattle.std.specs.Prelude.{option_map}
 use Rattle.desk_store.specs.declared.store.PlanStore.{Ghosts}
 use Rattle.desk_store.specs.StoreFaults.{IsHonest}
 use Rattle.desk_run.specs.DeskFrames.{Leaves}
 use Rattle.desk_run.specs.DeskWorld.{DeskWorld, Parts, world_of}
-use Rattle.desk_ends.specs.declared.serving.Served.{Served}
-use Rattle.desk_ends.specs.declared.serving.Served.TheVariants.{Answered, End}
-use Rattle.desk_ends.specs.declared.serving.ServeFault.{ServeFault}
-use Rattle.desk_ends.specs.declared.serving.ServeFault.TheVariants.{Read, Write, CutShort, OutOfMemory}
-use Rattle.desk_ends.specs.declared.writing.WriteFault.{WriteFault}
-use Rattle.desk_ends.specs.Writing.{BreaksOff}
+use Rattle.io_ends.specs.declared.serving.Served.{Served}
+use Rattle.io_ends.specs.declared.serving.Served.TheVariants.{Answered, End}
+use Rattle.io_ends.specs.declared.serving.ServeFault.{ServeFault}
+use Rattle.io_ends.specs.declared.serving.ServeFault.TheVariants.{Read, Write, CutShort, OutOfMemory}
+use Rattle.io_ends.specs.declared.writing.PartialWrite.{PartialWrite}
+use Rattle.io_ends.specs.Writing.{BreaksOff}
 use Rattle.desk_wire.specs.declared.response.ServerError.{ServerError}
 use Rattle.desk_wire.specs.Bytes.{IsAnsweredSo, IsServerError, status_so, world_after}
 use Rattle.desk_wire.specs.Failing.{desk_fault}
@@ -50,7 +50,7 @@ pub record IsServed (H : Type 0) (p : Passage) (w : DeskWorld) (moment : ℤ) (a
 
 -- the same, but the writing of the answer broke off
 pub record IsBrokenOff (H : Type 0) (p : Passage) (w : DeskWorld) (moment : ℤ) (after : DeskWorld)
-    (fault : WriteFault) : Type 0 where
+    (fault : PartialWrite) : Type 0 where
   pub request : List ℕ
   pub taken : IsTaken p.reads.before p.reads.after request
   pub answer : List ℕ

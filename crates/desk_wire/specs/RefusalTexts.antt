@@ -1,6 +1,6 @@
 -- The answers to requests that are refused before any rule is asked, and to those that are given up.
 use Rattle.std.specs.Prelude.{ℕ, List, Option, None, codes}
-use Rattle.desk_reading.specs.FaultWords.{fault_allow, fault_status, fault_word}
+use Rattle.request_parser.specs.FaultWords.{fault_allow, fault_status, fault_word}
 use Rattle.desk_writing.specs.Answer.{error_text}
 use Rattle.desk_wire.specs.declared.refusal.Refusal.{Refusal}
 use Rattle.desk_wire.specs.declared.refusal.Refusal.TheVariants.{Fault, UnknownOperator, NoSuchPlan}

@@ -2,13 +2,13 @@
 use Rattle.std.specs.Prelude.{◌≡◌, ◌<◌, ◌≤◌, ◌⊎◌, ℕ, zero, suc, ◌+◌, List, [], ◌∷◌, length, take, drop, Bool, true, nat_lt, if◌then◌else◌, Option, Some, None, option_and_then, Result, Ok, Err}
 use Rattle.std.specs.Option.{option_or}
 use Rattle.std.specs.Result.{is_ok}
-use Rattle.desk_reading.specs.declared.message.Front.{Front}
-use Rattle.desk_reading.specs.declared.wire_fault.WireFault.{WireFault}
-use Rattle.desk_reading.specs.declared.wire_fault.WireFault.TheVariants.{HeadTooLarge}
-use Rattle.desk_reading.specs.Framing.{ends_head, head_len, least}
-use Rattle.desk_reading.specs.Messages.{FrontParts, MessageParts, front_in, front_shown, message_in}
-use Rattle.desk_reading.specs.Readings.{Reading}
-use Rattle.desk_reading.specs.WireLimits.{head_room}
+use Rattle.request_parser.specs.declared.message.Front.{Front}
+use Rattle.request_parser.specs.declared.wire_fault.WireFault.{WireFault}
+use Rattle.request_parser.specs.declared.wire_fault.WireFault.TheVariants.{HeadTooLarge}
+use Rattle.request_parser.specs.Framing.{ends_head, head_len, least}
+use Rattle.request_parser.specs.Messages.{FrontParts, MessageParts, front_in, front_shown, message_in}
+use Rattle.request_parser.specs.Readings.{Reading}
+use Rattle.request_parser.specs.WireLimits.{head_room}
 
 -- how many bytes the first request of a stream has before its body: those of its head, or the first
 -- `room` if no head ends within them. None if the stream ends before

@@ -1,7 +1,7 @@
 -- One operator's part of a run of requests by many, and what is the same for it in two runs.
 use Rattle.std.specs.Prelude.{◌≡◌, ℕ, List, []}
 use Rattle.desk_run.specs.DeskWorld.{DeskWorld, Side, side}
-use Rattle.desk_reading.specs.Requests.{asked}
+use Rattle.request_parser.specs.Requests.{asked}
 use Rattle.desk_run.specs.Sides.{OwnAlike, beside, along}
 use Rattle.desk_wire.specs.Bytes.{world_after}
 use Rattle.desk_wire.specs.AllAnswers.{Sent, answers_to, world_left}

@@ -1,9 +1,9 @@
 //! Requests answered at a desk, from bytes to bytes.
 
 ghost use Rattle.std.specs.Prelude.{◌≡◌, ◌≢◌, false, IfErr, IfOk, OnOk, OnErr, Ok};
-ghost use Rattle.desk_reading.specs.Messages.{message_read, message_shown};
-ghost use Rattle.desk_reading.specs.Readings.{or_met};
-ghost use Rattle.desk_reading.specs.Requests.{asked as asked_in, asked_by};
+ghost use Rattle.request_parser.specs.Messages.{message_read, message_shown};
+ghost use Rattle.request_parser.specs.Readings.{or_met};
+ghost use Rattle.request_parser.specs.Requests.{asked as asked_in, asked_by};
 ghost use Rattle.desk_store.specs.StoreFaults.{IsHonest};
 ghost use Rattle.desk_run.specs.DeskFrames.{Leaves};
 ghost use Rattle.desk_run.specs.DeskWorld.{world_of};
@@ -17,12 +17,12 @@ ghost use Rattle.desk_wire.specs.OneRequest.{IsAnswered};
 
 use crate::refusal::Refusal;
 use crate::response::{Answer, ServerError};
-use desk_ends::Moment;
-use desk_reading::{Message, ReadError, WireFault, read_asked, read_message};
 use desk_run::{Asked, Desk, DeskFault, Pending};
 use desk_store::PlanStore;
 use desk_writing::{error_answer, reply_answer};
 use http::StatusCode;
+use io_ends::Moment;
+use request_parser::{Message, ReadError, WireFault, read_asked, read_message};
 use std::alloc::{AllocError, Global};
 
 /// The room that is reserved before a request is answered, in bytes.
@@ -62,7 +62,7 @@ pub fn answer<S: PlanStore>(
 /// # Errors
 ///
 /// `AllocError` if the room for an answer was refused: nothing changed.
-pub fn full_answer<S: PlanStore>(
+pub fn answer_with_status<S: PlanStore>(
     alloc: Global,
     desk: &mut Desk<S>,
     moment: Moment,

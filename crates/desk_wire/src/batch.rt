@@ -13,10 +13,10 @@ ghost use Rattle.desk_wire.specs.TwoRuns.{SparesQuiet};
 
 use crate::answering::answer_request;
 use crate::response::Answer;
-use desk_ends::Moment;
-use desk_reading::read_message;
 use desk_run::Desk;
 use desk_store::PlanStore;
+use io_ends::Moment;
+use request_parser::read_message;
 use std::alloc::{AllocError, Global};
 
 /// The answers to requests, in their order.

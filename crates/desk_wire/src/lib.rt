@@ -9,10 +9,12 @@ mod refusal;
 mod response;
 mod stream;
 
-pub use answering::{answer, full_answer};
+pub use answering::{answer, answer_with_status};
 pub use batch::{Answers, AnswersEnd, answer_all};
-pub use desk_ends::{Cut, Moment, PlayEnd, ServeFault, Served, WriteEnd, WriteFault, write_whole};
-pub use desk_reading::{ReadError, Route, WireFault, read_request};
+pub use io_ends::{
+    Moment, PartialWrite, PlayEnd, ServeFault, Served, WriteError, WriteStop, write_whole,
+};
 pub use play::{Played, play_all};
+pub use request_parser::{ReadError, Route, WireFault, read_request};
 pub use response::{Answer, ServerError};
 pub use stream::{receive_request, serve_one};

@@ -12,10 +12,10 @@ ghost use Rattle.desk_wire.specs.Passage.{passage};
 ghost use Rattle.desk_wire.specs.Playing.{HasPlayed};
 
 use crate::stream::serve_one;
-use desk_ends::{Moment, PlayEnd, Served};
 use desk_run::Desk;
 use desk_store::PlanStore;
 use http::StatusCode;
+use io_ends::{Moment, PlayEnd, Served};
 use std::alloc::{AllocError, Global};
 use std::io::{Read, Write};
 

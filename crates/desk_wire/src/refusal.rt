@@ -3,8 +3,8 @@
 ghost use Rattle.std.specs.Prelude.{◌≡◌, option_map};
 ghost use Rattle.desk_wire.specs.RefusalTexts as spec;
 
-use desk_reading::WireFault;
 use http::StatusCode;
+use request_parser::WireFault;
 
 /// Why a request is refused before any rule is asked.
 #[derive(Clone, Copy, Debug, PartialEq, Eq)]

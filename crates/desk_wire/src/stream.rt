@@ -5,11 +5,11 @@ ghost use Rattle.std.specs.Prelude.{IfSome, None};
 ghost use Rattle.std.specs.Io.{ReadsAtMost};
 ghost use Rattle.std.specs.Result.{is_ok};
 ghost use Rattle.std.specs.Io.KnownBytes.{Appends, Consumes, IsAtEnd, ReadConsumes};
-ghost use Rattle.desk_reading.specs.Messages.{message_read};
+ghost use Rattle.request_parser.specs.Messages.{message_read};
 ghost use Rattle.desk_store.specs.StoreFrames.{Remembers};
 ghost use Rattle.desk_store.specs.StoreFaults.{IsHonest};
 ghost use Rattle.desk_run.specs.DeskWorld.{world_of};
-ghost use Rattle.desk_ends.specs.declared.serving.ServeFault.TheVariants as serve_fault;
+ghost use Rattle.io_ends.specs.declared.serving.ServeFault.TheVariants as serve_fault;
 ghost use Rattle.desk_wire.specs.FailureCauses.{HasFailed, IsGivenUp};
 ghost use Rattle.desk_wire.specs.RequestsKept.{IsServedKept};
 ghost use Rattle.desk_wire.specs.Passage.{passage};
@@ -17,10 +17,10 @@ ghost use Rattle.desk_wire.specs.OneRequest.{HasServed, IsTaken, Stops};
 ghost use Rattle.desk_wire.specs.Streams.{IsCut, IsFront, byte_list, front_read, front_reading, size_said, with_body};
 
 use crate::answering::answer_request;
-use desk_ends::{Moment, ServeFault, Served, is_interruption, write_whole};
-use desk_reading::{Front, HEAD_ROOM, Message, WireFault, is_ended, read_front};
 use desk_run::Desk;
 use desk_store::PlanStore;
+use io_ends::{Moment, ServeFault, Served, is_interruption, write_whole};
+use request_parser::{Front, HEAD_ROOM, Message, WireFault, is_ended, read_front};
 use std::alloc::Global;
 use std::io::{self, Read, Write};
 

@@ -11,7 +11,7 @@ use Rattle.std.proofs.lemmas.Cmp.{tied_itself}
 use Rattle.std.proofs.lemmas.List.{append-nil, append_assoc}
 use Rattle.std.proofs.lemmas.Map.Lookups.{exact_bytes}
 use Rattle.desk_store.specs.World.{Filed, Listed, listed_cmp, text_cmp}
-use Rattle.operator_index.specs.declared.account.Account.{Account}
+use Rattle.operator_index.specs.declared.account.OperatorEntry.{OperatorEntry}
 use Rattle.operator_index.specs.Roll.{Accounts, AreAccountsOf, account_in, ceiling_in, listed_in, with_ceiling}
 
 abbrev ceiling_listed : List ℕ → List Listed → Option ℕ
@@ -138,9 +138,9 @@ listed_ascend (a ∷ accounts) s =
       go None h t = t
       go (Some n) h t = (h, t)
 
-of_test : (t : Bool) (a : Account) (found : Option Account)
-    → option_and_then (λ (b : Account). b.ceiling) (cond t (Some a) found)
-    ≡ cond t a.ceiling (option_and_then (λ (b : Account). b.ceiling) found)
+of_test : (t : Bool) (a : OperatorEntry) (found : Option OperatorEntry)
+    → option_and_then (λ (b : OperatorEntry). b.ceiling) (cond t (Some a) found)
+    ≡ cond t a.ceiling (option_and_then (λ (b : OperatorEntry). b.ceiling) found)
 of_test true a found = refl
 of_test false a found = refl
 
@@ -171,7 +171,7 @@ listed_are ls ps accounts s h ascend =
     (listed_ascend accounts s) ascend
 
 -- the first of the accounts that are left
-pub listed_first : (before all : List Listed) (o : List ℕ) (a : Account) (rest : Accounts)
+pub listed_first : (before all : List Listed) (o : List ℕ) (a : OperatorEntry) (rest : Accounts)
     → before ++ listed_in ((o, a) ∷ rest) ≡ all
     → (before ++ with_ceiling o a.ceiling []) ++ listed_in rest ≡ all
 unfolding listed_in

@@ -15,11 +15,11 @@ use Rattle.desk_store.specs.World.{Filed, Listed, World, text_cmp, rows_by}
 use Rattle.desk_store.specs.declared.change.Change.{Change}
 use Rattle.desk_store.specs.declared.change.Change.TheVariants.{Enrol, Put, Close, Clear}
 use Rattle.operator_index.specs.declared.account.PlanState.{PlanState}
-use Rattle.operator_index.specs.declared.account.Account.{Account}
-use Rattle.operator_index.specs.declared.roll.Roll.{Roll}
+use Rattle.operator_index.specs.declared.account.OperatorEntry.{OperatorEntry}
+use Rattle.operator_index.specs.declared.roll.OperatorIndex.{OperatorIndex}
 
 abbrev pub Accounts : Type 0
-Accounts = List (List ℕ × Account)
+Accounts = List (List ℕ × OperatorEntry)
 
 -- what is kept of a plan
 abbrev pub state_of : PlanRow → PlanState
@@ -42,13 +42,13 @@ abbrev pub kept_cells_beside : List ℕ → List PlanState → ℕ
 kept_cells_beside = kept_beside (λ s. s.cells)
 
 -- the account of an operator, its ceiling, and what is kept of its plans
-abbrev pub account_in : List ℕ → Accounts → Option Account
+abbrev pub account_in : List ℕ → Accounts → Option OperatorEntry
 account_in name accounts = lookup (is_at (text_cmp name)) accounts
 
 abbrev pub ceiling_in : List ℕ → Accounts → Option ℕ
 ceiling_in name accounts = option_and_then (λ a. a.ceiling) (account_in name accounts)
 
-abbrev pub plans_or_none : Option Account → List PlanState
+abbrev pub plans_or_none : Option OperatorEntry → List PlanState
 plans_or_none None = []
 plans_or_none (Some a) = a.plans.items
 
@@ -70,11 +70,11 @@ pub record AreAccountsOf (operators : List Listed) (plans : List Filed) (account
       ≡ option_map (λ l. l.ceiling) (find (λ l. is_eq (text_cmp name l.name)) operators)
   pub states : (name : List ℕ) → plans_in name accounts ≡ map state_of (rows_by name plans)
 
-abbrev pub accounts_of : Roll → Accounts
+abbrev pub accounts_of : OperatorIndex → Accounts
 accounts_of roll = roll.accounts.entries
 
 -- a roll has what a world has
-abbrev pub IsRollOf : World → Roll → Type 0
+abbrev pub IsRollOf : World → OperatorIndex → Type 0
 IsRollOf w roll = AreAccountsOf w.operators w.plans (accounts_of roll)
 
 -- a ceiling, or this if there is none
@@ -91,15 +91,15 @@ named_by (Close operator id) = operator
 named_by (Clear operator ids) = operator
 
 -- there is room for one plan more
-abbrev pub HasRoomForOne : Account → Type 0
+abbrev pub HasRoomForOne : OperatorEntry → Type 0
 HasRoomForOne a = length a.plans.items + 1 ≤ a.plans.cap
 
 -- the operator that a change names has an account, with room
-abbrev pub HasRoomIn : Option Account → Type 0
+abbrev pub HasRoomIn : Option OperatorEntry → Type 0
 HasRoomIn None = ⊥
 HasRoomIn (Some a) = HasRoomForOne a
 
-abbrev pub IsReadyFor : Change → Roll → Type 0
+abbrev pub IsReadyFor : Change → OperatorIndex → Type 0
 IsReadyFor change roll = HasRoomIn (account_in (named_by change) (accounts_of roll))
 
 -- what is kept of a plan in place of that of its id, or at its place

@@ -84,13 +84,13 @@ impl PlanState {
 
 /// What is kept of an operator.
 #[derive(Drop)]
-pub(crate) struct Account {
+pub(crate) struct OperatorEntry {
     pub(crate) ceiling: Option<u32>,
     // ascending by id
     pub(crate) plans: Vec<PlanState>,
 }
 
-impl Account {
+impl OperatorEntry {
     /// The states of the plan of the id.
     pub(crate) fn states(&self, id: &PlanId) -> Option<States>
         ensures { result ≡ option_map (λ s. s.states) (find (state_has_id id.now) self.now.plans.items) }

@@ -7,4 +7,4 @@ mod listed;
 mod roll;
 
 pub use listed::ListedOperator;
-pub use roll::Roll;
+pub use roll::OperatorIndex;

@@ -10,7 +10,7 @@ ghost use Rattle.desk_store.specs.StoreChange.{changed_by};
 ghost use Rattle.operator_index.specs.Roll as spec;
 ghost use Rattle.operator_index.specs.Roll.{AreAccountsOf, HasRoomIn, IsReadyFor, IsRollOf, account_in, accounts_of, with_ceiling};
 
-use crate::account::Account;
+use crate::account::OperatorEntry;
 use crate::listed::ListedOperator;
 use desk_rules::operator::Operator;
 use desk_rules::plan::{PlanRow, States};
@@ -21,16 +21,16 @@ use std::collections::BTreeMap;
 
 /// Each operator's ceiling, and the states and the sizes of its plans.
 #[derive(Drop)]
-pub struct Roll {
-    accounts: BTreeMap<Operator, Account>,
+pub struct OperatorIndex {
+    accounts: BTreeMap<Operator, OperatorEntry>,
 }
 
-impl Roll {
+impl OperatorIndex {
     /// Of no operators and no plans.
-    pub fn new(alloc: Global) -> Roll
+    pub fn new(alloc: Global) -> OperatorIndex
         ensures { AreAccountsOf [] [] (accounts_of result) }
     {
-        Roll {
+        OperatorIndex {
             accounts: BTreeMap::new(alloc),
         }
     }
@@ -121,7 +121,7 @@ impl Roll {
 
 // ---- opening
 
-impl Roll {
+impl OperatorIndex {
     /// Lists one more operator under a ceiling. One that is listed keeps its ceiling.
     ///
     /// # Errors
@@ -167,7 +167,7 @@ impl Roll {
     }
 }
 
-type Accounts = BTreeMap<Operator, Account>;
+type Accounts = BTreeMap<Operator, OperatorEntry>;
 
 // Adds an operator that has a ceiling.
 fn push_listed(
@@ -197,7 +197,7 @@ fn open(alloc: Global, accounts: &mut Accounts, operator: &Operator) -> Result<(
     }
     accounts.insert(
         *operator,
-        Account {
+        OperatorEntry {
             ceiling: None,
             plans: Vec::new(alloc),
         },

@@ -12,16 +12,16 @@ use Rattle.sqlite.proofs.Shield.{shield_means}
 use Rattle.desk_rules.specs.Terms.{no_terms}
 use Rattle.desk_run.specs.DeskWorld.{Parts}
 use Rattle.desk_tables.specs.Store.{Shown}
-use Rattle.desk_line.specs.declared.failure.Failure.{Failure}
-use Rattle.desk_line.specs.Exits.{Ending}
-use Rattle.desk_line.specs.declared.line.Database.{Database}
+use Rattle.desk_cli.specs.declared.failure.ErrorCode.{ErrorCode}
+use Rattle.desk_cli.specs.Exits.{Ending}
+use Rattle.desk_cli.specs.declared.line.Database.{Database}
 use Rattle.desk_tables.specs.Closing.{IsLeftUnclosed}
 use Rattle.desk_tables.specs.LyingDisk.{IsGuarded}
 use Rattle.uss_desk.specs.FilesLeft.{IsClosed, IsEnded}
 use Rattle.uss_desk.specs.Guarding.{IsPastOf, IsTrueOrCollided, Past}
 use Rattle.std.specs.Option.{IsSomeAnd}
-use Rattle.desk_admin.specs.declared.unopened.Unopened.{Unopened}
-use Rattle.uss_desk.specs.declared.watching.Closed.{Closed}
+use Rattle.desk_admin.specs.declared.unopened.OpenError.{OpenError}
+use Rattle.uss_desk.specs.declared.watching.CloseReport.{CloseReport}
 use Rattle.uss_desk.specs.OpenedLines.{AreReadsTested, RemembersDesk, StaysGuarded}
 
 -- a flag that is up leaves no doubt
@@ -43,7 +43,7 @@ true_or_collided past fair clean desk shielded =
 
 -- a desk that was opened by honest reads stays guarded, if each later read of it was tested, and is
 pub stays_guarded : {D : Type 0} {g : disk.Ghosts D} (past : Past D) → IsPastOf g past
-    → (opened : Result (Parts (Shown (FileStore D g))) Failure)
+    → (opened : Result (Parts (Shown (FileStore D g))) ErrorCode)
     → (left : Option (Parts (Shown (FileStore D g)))) → AreReadsTested opened
     → IfOk opened (λ desk. IsSomeAnd left (λ left. (file_state desk.store.held).IsShielded
     → (file_state left.store.held).IsShielded))
@@ -81,7 +81,7 @@ some_then None h then = h
 
 -- a desk whose store was closed, by what the store is
 pub is_closed : {D : Type 0} {g : disk.Ghosts D} (desk : Parts (Shown (FileStore D g)))
-    → (store : Shown (FileStore D g)) (closed : Closed D g) (status : ℕ) (end : Ending)
+    → (store : Shown (FileStore D g)) (closed : CloseReport D g) (status : ℕ) (end : Ending)
     → store ≡ desk.store → IsEnded closed.files closed.are_at_paths status end
     → IfOk closed.files (λ files. AreClean g files.log files.db → IsCopied store.held files)
     → IfErr closed.files (IsLeftUnclosed store.held) → IsClosed (Some desk) status end (Some closed)

@@ -8,9 +8,9 @@ use Rattle.sqlite.specs.Closing.{IsCopied}
 use Rattle.desk_run.specs.DeskWorld.{Parts}
 use Rattle.desk_tables.specs.Closing.{IsLeftUnclosed}
 use Rattle.desk_tables.specs.Store.{Shown}
-use Rattle.desk_line.specs.declared.failure.Failure.TheVariants as failure
-use Rattle.desk_line.specs.Exits.{Ending, FailsWith, IsSilent}
-use Rattle.uss_desk.specs.declared.watching.Closed.{Closed}
+use Rattle.desk_cli.specs.declared.failure.ErrorCode.TheVariants as failure
+use Rattle.desk_cli.specs.Exits.{Ending, FailsWith, IsSilent}
+use Rattle.uss_desk.specs.declared.watching.CloseReport.{CloseReport}
 
 -- a line ends with the status that it had, and nothing more is told
 abbrev pub EndsAsItWas : ℕ → Ending → Type 0
@@ -32,7 +32,7 @@ module _ {D : Type 0} {g : disk.Ghosts D} where
   -- commit is in the database file alone. Or it was tried, and can't be, which the failure tells. In memory
   -- there is nothing to close
   abbrev pub IsClosed :
-      Option (Parts (Shown (FileStore D g))) → ℕ → Ending → Option (Closed D g) → Type 0
+      Option (Parts (Shown (FileStore D g))) → ℕ → Ending → Option (CloseReport D g) → Type 0
   IsClosed None status end closed = EndsAsItWas status end × (closed ≡ None)
   IsClosed (Some desk) status end closed = IsSomeAnd closed (λ closed.
       IsEnded closed.files closed.are_at_paths status end

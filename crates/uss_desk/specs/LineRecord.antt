@@ -1,9 +1,9 @@
 -- LineRecord: what a folder of records says before the next one is begun.
 use Rattle.std.specs.Prelude.{◌≡◌, ◌+◌, ◌^◌, [], ◌==◌, ℕ, Bool, true, false, List, Option, None, Some, Result, Ok, Err, codes, if◌then◌else◌, nat_lt}
-use Rattle.desk_line.specs.declared.failure.Failure.{Failure}
-use Rattle.desk_line.specs.declared.failure.Failure.TheVariants as failure
-use Rattle.desk_line.specs.declared.line.Line.{Line}
-use Rattle.desk_line.specs.declared.line.Line.TheVariants as line
+use Rattle.desk_cli.specs.declared.failure.ErrorCode.{ErrorCode}
+use Rattle.desk_cli.specs.declared.failure.ErrorCode.TheVariants as failure
+use Rattle.desk_cli.specs.declared.line.Line.{Line}
+use Rattle.desk_cli.specs.declared.line.Line.TheVariants as line
 use Rattle.desk_host.specs.declared.folders.FoundRecord.{FoundRecord}
 use Rattle.desk_host.specs.declared.folders.Unkept.{Unkept}
 use Rattle.desk_host.specs.declared.folders.Unkept.TheVariants as unkept
@@ -17,13 +17,13 @@ extent_of None = (0, 0)
 extent_of (Some found) = (found.number, found.len)
 
 -- what came of something that is done in the folder: why it wasn't, once that is told
-abbrev pub failure_of : {V : Type 0} → Result V Unkept → Result V Failure
+abbrev pub failure_of : {V : Type 0} → Result V Unkept → Result V ErrorCode
 failure_of (Ok v) = Ok v
 failure_of (Err unkept.Memory) = Err failure.Memory
 failure_of (Err (unkept.Cause cause)) = Err failure.Write
 
 -- a desk in memory goes on from no record: `play` alone begins one, in a folder that has none
-abbrev pub BeginsAlone : {V : Type 0} → Line → Bool → Result (Option V) Failure → Type 0
+abbrev pub BeginsAlone : {V : Type 0} → Line → Bool → Result (Option V) ErrorCode → Type 0
 BeginsAlone (line.Play words) false result = result ≡ Ok None
 BeginsAlone (line.Play words) true result = result ≡ Err failure.Write
 BeginsAlone _ _ result = result ≡ Err failure.Store
@@ -34,7 +34,7 @@ abbrev pub LeavesNothing : Tail → TailEnd → Type 0
 LeavesNothing tail ended = (ended ≡ End) × (tail.asked ≡ None) × (tail.operators.items ≡ [])
 
 -- the number of the record after this one, if there is a number left
-abbrev pub next_number : ℕ → Result ℕ Failure
+abbrev pub next_number : ℕ → Result ℕ ErrorCode
 next_number number = if nat_lt (number + 1) (2 ^ 64) then Ok (number + 1) else Err failure.Write
 
 -- why nothing goes on from a last record, by the number in its name, that of its first entry, if that is

@@ -8,10 +8,10 @@ use Rattle.sqlite.specs.State.{HasCleanDisk}
 use Rattle.desk_store.specs.Crashes.{LeavesOnly}
 use Rattle.desk_rules.specs.Terms.{no_terms}
 use Rattle.desk_run.specs.DeskWorld.{DeskWorld, Parts, with_content, world_of}
-use Rattle.desk_line.specs.declared.failure.Failure.{Failure}
-use Rattle.desk_line.specs.declared.failure.Failure.TheVariants as failure
-use Rattle.desk_line.specs.declared.line.Database.{Database}
-use Rattle.desk_line.specs.declared.line.Database.TheVariants.{InMemory, File}
+use Rattle.desk_cli.specs.declared.failure.ErrorCode.{ErrorCode}
+use Rattle.desk_cli.specs.declared.failure.ErrorCode.TheVariants as failure
+use Rattle.desk_cli.specs.declared.line.Database.{Database}
+use Rattle.desk_cli.specs.declared.line.Database.TheVariants.{InMemory, File}
 use Rattle.desk_tables.specs.Files.{AreNotMoved, AreRefused, OpensIn, OpensMoved}
 use Rattle.desk_tables.specs.LyingDisk.{IsGuarded}
 use Rattle.desk_tables.specs.Leaving.{MayLeave}
@@ -19,12 +19,12 @@ use Rattle.desk_tables.specs.Store.{Shown}
 use Rattle.desk_tables.specs.declared.opening.open.OpenFault.{OpenFault}
 use Rattle.desk_tables.specs.declared.opening.open.OpenFault.TheVariants as opening
 use Rattle.desk_admin.specs.Unopened.{FailsOver, IsUnreadFor}
-use Rattle.desk_admin.specs.declared.unopened.Unopened.{Unopened}
+use Rattle.desk_admin.specs.declared.unopened.OpenError.{OpenError}
 use Rattle.uss_desk.specs.declared.opening.Opened.{Opened}
 use Rattle.uss_desk.specs.declared.opening.Opened.TheVariants as opened
 
 -- memory ran out: nothing else keeps a desk in memory from being opened
-abbrev pub IsMemory : Failure → Type 0
+abbrev pub IsMemory : ErrorCode → Type 0
 IsMemory f = f ≡ failure.Memory
 
 -- the world of a desk over tables
@@ -48,20 +48,20 @@ module _ {D : Type 0} (g : disk.Ghosts D) (image : Image) where
 
   -- the failure is that of files that the connection refused: their database is no desk's, has rows of
   -- schema 1, or can't be read; or of files that were not opened
-  abbrev pub FailsAt : Unopened D g → Type 0
+  abbrev pub FailsAt : OpenError D g → Type 0
   FailsAt = FailsOver (λ files. AreRefused image files.fault files.connection)
 
   -- the same of files whose plans of schema 1 are to be moved
-  abbrev pub FailsMovingAt : Unopened D g → Type 0
+  abbrev pub FailsMovingAt : OpenError D g → Type 0
   FailsMovingAt = FailsOver (λ files. AreNotMoved image files.fault files.connection)
 
 -- a desk over files, or why there is none
 abbrev pub FileDesk : {D : Type 0} → disk.Ghosts D → Type 0
-FileDesk {D} g = Result (Parts (Shown (FileStore D g))) (Unopened D g)
+FileDesk {D} g = Result (Parts (Shown (FileStore D g))) (OpenError D g)
 
 -- a desk over files to which so many plans were moved, or why there is none
 abbrev pub MovedDesk : {D : Type 0} → disk.Ghosts D → Type 0
-MovedDesk {D} g = Result (Parts (Shown (FileStore D g)) × ℕ) (Unopened D g)
+MovedDesk {D} g = Result (Parts (Shown (FileStore D g)) × ℕ) (OpenError D g)
 
 module _ {D : Type 0} {g : disk.Ghosts D} (image : Image) where
   -- a desk over files that held this, or why there is none
@@ -81,7 +81,7 @@ module _ {D : Type 0} {g : disk.Ghosts D} (image : Image) where
 
 -- what is opened for a line: a desk in memory or one over files
 abbrev pub OpenedDesk : {M : Type 0} → disk.Ghosts M → {D : Type 0} → disk.Ghosts D → Type 0
-OpenedDesk {M} m {D} g = Opened (Result (Parts (Shown (FileStore M m))) Failure) (FileDesk g)
+OpenedDesk {M} m {D} g = Opened (Result (Parts (Shown (FileStore M m))) ErrorCode) (FileDesk g)
 
 module _ {M : Type 0} {m : disk.Ghosts M} {D : Type 0} {g : disk.Ghosts D} (image : Image) where
   -- what is opened over a database: a blank desk in memory, or a desk over files that held this; or why not

@@ -17,9 +17,9 @@ use Rattle.desk_tables.specs.Store.{Shown}
 use Rattle.desk_tables.specs.Leaving.{MayLeave}
 use Rattle.desk_tables.specs.LyingDisk.{IsGuarded}
 use Rattle.desk_wire.specs.Passage.{Course}
-use Rattle.desk_line.specs.declared.failure.Failure.{Failure}
-use Rattle.desk_line.specs.declared.line.Line.{Line}
-use Rattle.desk_line.specs.Exits.{Ending, FailsWith}
+use Rattle.desk_cli.specs.declared.failure.ErrorCode.{ErrorCode}
+use Rattle.desk_cli.specs.declared.line.Line.{Line}
+use Rattle.desk_cli.specs.Exits.{Ending, FailsWith}
 use Rattle.desk_program.specs.Keeping.{IsLineKept}
 use Rattle.desk_program.specs.MovedLine.{IsCountPrinted}
 use Rattle.desk_program.specs.Outside.{Outside}
@@ -54,7 +54,7 @@ abbrev pub IsKeptAt :
 IsKeptAt g line o left desk = IsSomeAnd left (IsKeptSince g line o desk)
 
 -- a line at the desk that was opened for it, or at none
-pub record IsLineRun {S : Type 0} (g : Ghosts S) (opened : Result (Parts (Shown S)) Failure) (line : Line)
+pub record IsLineRun {S : Type 0} (g : Ghosts S) (opened : Result (Parts (Shown S)) ErrorCode) (line : Line)
     (o : Outside) (left : Option (Parts (Shown S))) : Type 0 where
   pub done : IfOk opened (IsDoneAt g line o left)
   pub kept : IfOk opened (IsKeptAt g line o left)
@@ -67,13 +67,13 @@ RemembersDesk g old new = Remembers (λ s. doubt (state g s.held).is_clean) (λ 
 
 -- each later read of the desk that was opened is tested, if its disk has returned what was written so far
 abbrev pub AreReadsTested :
-    {D : Type 0} {g : disk.Ghosts D} → Result (Parts (Shown (FileStore D g))) Failure → Type 0
+    {D : Type 0} {g : disk.Ghosts D} → Result (Parts (Shown (FileStore D g))) ErrorCode → Type 0
 AreReadsTested opened = IfOk opened (λ desk. IsGuarded desk.store.held)
 
 -- if the disk returned what was written until the desk was open, it has done so to the end, whatever it
 -- returned since and whoever wrote into the files; or a digest has collided
 abbrev pub StaysGuarded :
-    {D : Type 0} {g : disk.Ghosts D} → Past D → Result (Parts (Shown (FileStore D g))) Failure
+    {D : Type 0} {g : disk.Ghosts D} → Past D → Result (Parts (Shown (FileStore D g))) ErrorCode
     → Option (Parts (Shown (FileStore D g))) → Type 0
 StaysGuarded past opened left = IfOk opened (λ desk. IsSomeAnd left (λ left.
     HasCleanDisk (file_state desk.store.held) → IsTrueOrCollided past left))
@@ -81,7 +81,7 @@ StaysGuarded past opened left = IfOk opened (λ desk. IsSomeAnd left (λ left.
 -- the line that tells how many plans were moved is printed, or cut off, and the plans are moved all the same;
 -- or the move failed, and nothing is printed
 abbrev pub IsMoveTold :
-    {S : Type 0} → Result (Parts (Shown S) × ℕ) Failure → Ending → Option (Parts (Shown S))
+    {S : Type 0} → Result (Parts (Shown S) × ℕ) ErrorCode → Ending → Option (Parts (Shown S))
     → Course (Option (List ℕ)) → Type 0
 IsMoveTold (Ok moved) end left writes =
     (left ≡ Some moved.0) × IsCountPrinted moved.1 end writes.before writes.after

@@ -11,8 +11,8 @@ use Rattle.desk_store.specs.Crashes.{LeavesOnly}
 use Rattle.desk_run.specs.DeskWorld.{Parts}
 use Rattle.desk_tables.specs.Leaving.{MayLeave}
 use Rattle.desk_tables.specs.Store.{Shown}
-use Rattle.desk_line.specs.declared.failure.Failure.{Failure}
-use Rattle.desk_line.specs.declared.line.Play.{Play as PlayWords}
+use Rattle.desk_cli.specs.declared.failure.ErrorCode.{ErrorCode}
+use Rattle.desk_cli.specs.declared.line.Play.{Play as PlayWords}
 use Rattle.desk_recording.specs.Inputs.{InputOutside, IsPlayRecorded, IsRecordedKept, IsUnrecorded}
 use Rattle.uss_desk.specs.OpenedFor.{load_world}
 use Rattle.uss_desk.specs.OpenedLines.{IsSound}
@@ -34,7 +34,8 @@ module _ {S : Type 0} (g : Ghosts S) (play : PlayWords) (o : InputOutside) where
       → IsRecordedKept (IsSound g desk) play o (load_world begun) (load_world desk) found)
 
   -- an input at the desk that was opened for it, or at none
-  pub record IsInputRun (opened : Result (Parts (Shown S)) Failure) (left : Option (Parts (Shown S))) : Type 0
+  pub record IsInputRun (opened : Result (Parts (Shown S)) ErrorCode)
+      (left : Option (Parts (Shown S))) : Type 0
     where
       pub done : IfOk opened (IsInputDoneAt left)
       pub kept : IfOk opened (IsInputKeptAt left)

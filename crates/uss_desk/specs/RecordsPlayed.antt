@@ -7,8 +7,8 @@ use Rattle.sqlite_disk.specs.declared.Disk as disk
 use Rattle.sqlite.specs.Held.{state}
 use Rattle.desk_run.specs.DeskWorld.{Parts}
 use Rattle.desk_tables.specs.Store.{Shown}
-use Rattle.desk_line.specs.declared.failure.Failure.{Failure}
-use Rattle.desk_line.specs.Exits.{Ending}
+use Rattle.desk_cli.specs.declared.failure.ErrorCode.{ErrorCode}
+use Rattle.desk_cli.specs.Exits.{Ending}
 use Rattle.desk_wire.specs.Passage.{Passage}
 use Rattle.desk_replay.specs.ReplayTold.{IsReplayed, IsUnplayed}
 use Rattle.uss_desk.specs.OpenedFor.{load_world}
@@ -25,7 +25,7 @@ IsReplayedAt g until p end left desk = IsSomeAnd left (λ left.
     × ((state g desk.store.held).IsShielded → (state g left.store.held).IsShielded))
 
 -- a record at the desk that was opened for it, or at none
-pub record IsReplayRun {S : Type 0} (g : Ghosts S) (opened : Result (Parts (Shown S)) Failure)
+pub record IsReplayRun {S : Type 0} (g : Ghosts S) (opened : Result (Parts (Shown S)) ErrorCode)
     (until : Option ℕ) (p : Passage) (end : Ending) (left : Option (Parts (Shown S))) : Type 0 where
   pub done : IfOk opened (IsReplayedAt g until p end left)
   pub undone : IfErr opened (IsUnplayed p end left)

@@ -5,11 +5,11 @@ use Rattle.sqlite_store.specs.declared.store.FileStore.{FileStore}
 use Rattle.sqlite.specs.Files.{file_state}
 use Rattle.sqlite.specs.State.{HasCleanDisk}
 use Rattle.desk_store.specs.World.{Listed, World}
-use Rattle.desk_line.specs.declared.line.Enrolment.{Enrolment}
+use Rattle.desk_cli.specs.declared.line.Enrolment.{Enrolment}
 use Rattle.desk_tables.specs.Store.{Shown}
 use Rattle.uss_desk.specs.OpenedFor.{FileDesk, OpenedDesk}
 use Rattle.uss_desk.specs.declared.opening.Opened.TheVariants as opened
-use Rattle.uss_desk.specs.declared.rolls.Roll.{Roll}
+use Rattle.uss_desk.specs.declared.rolls.NotedOperators.{NotedOperators}
 
 -- an operator and its ceiling, as a desk lists them
 abbrev pub as_listed : Enrolment → Listed
@@ -20,16 +20,17 @@ abbrev pub AreOperatorsOf : World → List Enrolment → Type 0
 AreOperatorsOf w all = map as_listed all ≡ w.operators
 
 -- the operators that were noted, if they were, are those of a store whose disk returned what was written
-abbrev pub HasNoted : {D : Type 0} {g : disk.Ghosts D} → Shown (FileStore D g) → Roll → Type 0
+abbrev pub HasNoted : {D : Type 0} {g : disk.Ghosts D} → Shown (FileStore D g) → NotedOperators → Type 0
 HasNoted store roll = HasCleanDisk (file_state store.held)
     → IfSome roll.operators (λ all. AreOperatorsOf store.world all.items)
 
 -- so of a desk over files that was opened
-abbrev pub HasNotedDesk : {D : Type 0} {g : disk.Ghosts D} → FileDesk g → Roll → Type 0
+abbrev pub HasNotedDesk : {D : Type 0} {g : disk.Ghosts D} → FileDesk g → NotedOperators → Type 0
 HasNotedDesk desk roll = IfOk desk (λ it. HasNoted it.store roll)
 
 -- of a desk in memory nothing is noted
 abbrev pub HasNotedAt :
-    {M : Type 0} {m : disk.Ghosts M} {D : Type 0} {g : disk.Ghosts D} → OpenedDesk m g → Roll → Type 0
+    {M : Type 0} {m : disk.Ghosts M} {D : Type 0} {g : disk.Ghosts D} → OpenedDesk m g → NotedOperators
+    → Type 0
 HasNotedAt (opened.Memory desk) roll = ⊤
 HasNotedAt (opened.Files desk) roll = HasNotedDesk desk roll

@@ -9,9 +9,9 @@ use crate::closing::{close_after, status_closed};
 use crate::opening::{FileDesk, MovedDesk, open_old};
 use crate::refusals::tell_refusal;
 use desk_admin::reordering::reorder_for;
+use desk_cli::{Database, ErrorCode, ExitReport, report_exit};
 use desk_host::damage::look_before;
-use desk_host::paths::{Paths, paths_at};
-use desk_line::{Database, Exit, Failure, conclude};
+use desk_host::paths::{OpenPaths, paths_at};
 use desk_program::print_migrated;
 use sqlite::{Start, Unknown};
 use std::alloc::Global;
@@ -24,7 +24,7 @@ use std::io::Write;
 ///
 /// Why its log refuses it; `Memory` if memory runs out before the database is opened; why its file can't be
 /// put in order.
-pub fn migrate_here(rt: &HostRuntime, database: &Database) -> Result<u8, Failure> {
+pub fn migrate_here(rt: &HostRuntime, database: &Database) -> Result<u8, ErrorCode> {
     let mut errors = rt.stderr();
     look_before(rt, database, false, &mut errors)?;
     let paths = paths_at(rt, database)?;
@@ -37,12 +37,12 @@ pub fn migrate_here(rt: &HostRuntime, database: &Database) -> Result<u8, Failure
 
 /// Prints how many plans were moved, or the word of why none were, and answers how that ended and the desk
 /// over the files. A fault of `errors` is passed over.
-pub fn tell_moved<F: Start, N: Paths + Drop, W: Write, E: Write>(
+pub fn tell_moved<F: Start, N: OpenPaths + Drop, W: Write, E: Write>(
     alloc: Global,
     moved: MovedDesk<F, N>,
     output: &mut W,
     errors: &mut E,
-) -> (Exit<E>, Option<FileDesk<F, N>>)
+) -> (ExitReport<E>, Option<FileDesk<F, N>>)
     ensures { IsMoveTold (or_failure moved) (ended E.Write result.0 errors.old errors.new) result.1
         (bytes_written W.Write output.old output.new) }
 {
@@ -51,6 +51,6 @@ pub fn tell_moved<F: Start, N: Paths + Drop, W: Write, E: Write>(
             let exit = print_migrated(alloc, count, output, errors);
             (exit, Some(desk))
         }
-        Err(unread) => (conclude(errors, Err(unread.failure)), None),
+        Err(unread) => (report_exit(errors, Err(unread.failure)), None),
     }
 }

@@ -6,13 +6,13 @@ ghost use Rattle.desk_rules.specs.Terms.{no_terms};
 ghost use Rattle.uss_desk.specs.OpenedFor.{IsBlank, IsMemory, IsMovedAt, IsMovedIn, IsOpenedAt, IsOpenedIn};
 ghost use Rattle.uss_desk.specs.Rolls.{HasNoted, HasNotedAt, HasNotedDesk};
 
-use crate::rolls::Roll;
-use crate::watching::Watched;
+use crate::rolls::NotedOperators;
+use crate::watching::PathChecked;
 use db_file::Ram;
-use desk_admin::unopened::{Unopened, Unread, open_failure};
+use desk_admin::unopened::{OpenError, Unread, open_failure};
+use desk_cli::{Database, ErrorCode};
 use desk_host::naming::make_private;
-use desk_host::paths::{NoPaths, Paths};
-use desk_line::{Database, Failure};
+use desk_host::paths::{NoPaths, OpenPaths};
 use desk_run::Desk;
 use desk_tables::{OpenFault, SqliteStore};
 use sqlite::{FileFrom, FileStore, Start};
@@ -20,7 +20,7 @@ use sqlite_disk::Disk;
 use std::alloc::Global;
 
 /// A desk over a database in files of a disk `D`, at these paths (`N`).
-pub type DeskAt<D, N> = Desk<Watched<FileStore<D>, N>>;
+pub type DeskAt<D, N> = Desk<PathChecked<FileStore<D>, N>>;
 
 /// A desk in memory.
 pub type MemoryDesk = DeskAt<Ram, NoPaths>;
@@ -38,7 +38,7 @@ pub enum Opened<M: Drop, D: Drop> {
 }
 
 /// What is opened over a database, where `F` stands for what its files held, and `N` for their paths.
-pub type OpenedDesk<F, N> = Opened<Result<MemoryDesk, Failure>, FoundDesk<F, N>>;
+pub type OpenedDesk<F, N> = Opened<Result<MemoryDesk, ErrorCode>, FoundDesk<F, N>>;
 
 /// A desk over files, or why there is none.
 pub type FoundDesk<F, N> = Result<FileDesk<F, N>, Unread<F>>;
@@ -48,12 +48,12 @@ pub type MovedDesk<F, N> = Result<(FileDesk<F, N>, u32), Unread<F>>;
 
 /// Opens the desk over a database; `start` stands for what its files held, and `paths` are theirs. The
 /// operators that a desk over files has then are noted in `roll`.
-pub fn open_database<F: Start, N: Paths + Drop>(
+pub fn open_database<F: Start, N: OpenPaths + Drop>(
     rt: &HostRuntime,
     database: &Database,
     start: F,
     paths: N,
-    roll: &mut Roll,
+    roll: &mut NotedOperators,
 ) -> OpenedDesk<F, N>
     ensures opened { IsOpenedAt (image_at F.Start) database.now result }
     ensures noted { HasNotedAt result roll.new }
@@ -69,12 +69,12 @@ pub fn open_database<F: Start, N: Paths + Drop>(
 /// # Errors
 ///
 /// `Memory` if memory runs out.
-pub fn open_in_memory(alloc: Global) -> Result<MemoryDesk, Failure>
+pub fn open_in_memory(alloc: Global) -> Result<MemoryDesk, ErrorCode>
     ensures blank { IfOk result IsBlank }
     ensures failure { IfErr result IsMemory }
 {
     match SqliteStore::in_memory(alloc) {
-        Ok(store) => Ok(Desk::new(Watched::over(store, NoPaths))),
+        Ok(store) => Ok(Desk::new(PathChecked::over(store, NoPaths))),
         Err(fault) => Err(open_failure(&fault)),
     }
 }
@@ -86,12 +86,12 @@ pub fn open_in_memory(alloc: Global) -> Result<MemoryDesk, Failure>
 /// # Errors
 ///
 /// The failure is that of `open_failure`.
-pub fn open_file<F: Start, N: Paths + Drop>(
+pub fn open_file<F: Start, N: OpenPaths + Drop>(
     rt: &HostRuntime,
     path: &str,
     start: F,
     mut paths: N,
-    roll: &mut Roll,
+    roll: &mut NotedOperators,
 ) -> FoundDesk<F, N>
     ensures opened { IsOpenedIn (image_at F.Start) result }
     ensures noted { HasNotedDesk result roll.new }
@@ -102,17 +102,17 @@ pub fn open_file<F: Start, N: Paths + Drop>(
         Ok(store) => {
             roll.note(&store);
             paths.hold();
-            Ok(Desk::new(Watched::over(store, paths)))
+            Ok(Desk::new(PathChecked::over(store, paths)))
         }
-        Err(refused) => Err(Unopened::of(refused)),
+        Err(refused) => Err(OpenError::of(refused)),
     }
 }
 
 /// A desk at the same store, as one that was just opened: on no terms, and the operators that it has are
 /// noted in `roll`.
-pub fn opened_anew<D: Disk + Drop, N: Paths + Drop>(
+pub fn opened_anew<D: Disk + Drop, N: OpenPaths + Drop>(
     desk: DeskAt<D, N>,
-    roll: &mut Roll,
+    roll: &mut NotedOperators,
 ) -> DeskAt<D, N>
     ensures same { result ≡ record { store = desk.store; terms = no_terms } }
     ensures noted { HasNoted result.store roll.new }
@@ -129,7 +129,7 @@ pub fn opened_anew<D: Disk + Drop, N: Paths + Drop>(
 ///
 /// The failure is that of `open_failure`, and `Store` of a database in memory, which can't have plans of
 /// schema 1.
-pub fn open_old<F: Start, N: Paths + Drop>(
+pub fn open_old<F: Start, N: OpenPaths + Drop>(
     rt: &HostRuntime,
     database: &Database,
     start: F,
@@ -138,13 +138,13 @@ pub fn open_old<F: Start, N: Paths + Drop>(
     ensures { IsMovedAt (image_at F.Start) database.now result }
 {
     match database {
-        Database::InMemory => Err(Unopened::unread(OpenFault::Store)),
+        Database::InMemory => Err(OpenError::unread(OpenFault::Store)),
         Database::File(path) => open_old_file(rt, path, start, paths),
     }
 }
 
 // The desk over the files at a path, to which the plans of schema 1 in them were moved.
-fn open_old_file<F: Start, N: Paths + Drop>(
+fn open_old_file<F: Start, N: OpenPaths + Drop>(
     rt: &HostRuntime,
     path: &str,
     start: F,
@@ -156,8 +156,8 @@ fn open_old_file<F: Start, N: Paths + Drop>(
     match SqliteStore::migrate_from(rt, path, start) {
         Ok((store, count)) => {
             paths.hold();
-            Ok((Desk::new(Watched::over(store, paths)), count))
+            Ok((Desk::new(PathChecked::over(store, paths)), count))
         }
-        Err(refused) => Err(Unopened::of(refused)),
+        Err(refused) => Err(OpenError::of(refused)),
     }
 }

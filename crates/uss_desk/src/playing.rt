@@ -1,15 +1,15 @@
 //! The requests of an input, each recorded, played at the desk that was opened for a line of `play`.
 
 ghost use Rattle.sqlite.specs.Files.{over_files};
-ghost use Rattle.desk_line.specs.Lines.{IsPlay};
+ghost use Rattle.desk_cli.specs.Lines.{IsPlay};
 ghost use Rattle.desk_recording.specs.Inputs.{input_outside};
 ghost use Rattle.uss_desk.specs.Guarding.{IsPastOf, Past};
 ghost use Rattle.uss_desk.specs.OpenedLines.{AreReadsTested, StaysGuarded};
 ghost use Rattle.uss_desk.specs.RecordedPlays.{IsInputRun};
 
 use crate::opening::DeskAt;
-use desk_host::paths::Paths;
-use desk_line::{Exit, Failure, Play};
+use desk_cli::{ErrorCode, ExitReport, Play};
+use desk_host::paths::OpenPaths;
 use desk_recording::{InputPort, Record, RecordedPort, play_opened};
 use sqlite_disk::Disk;
 use std::alloc::Global;
@@ -21,13 +21,13 @@ use std::io::{Read, Write};
 pub fn play_line<D, N, R, W, K, E>(
     alloc: Global,
     words: &Play,
-    opened: Result<DeskAt<D, N>, Failure>,
+    opened: Result<DeskAt<D, N>, ErrorCode>,
     port: &mut RecordedPort<InputPort<R, W>, K>,
     errors: &mut E,
-) -> (Exit<E>, Option<DeskAt<D, N>>)
+) -> (ExitReport<E>, Option<DeskAt<D, N>>)
 where
     D: Disk + Drop,
-    N: Paths + Drop,
+    N: OpenPaths + Drop,
     R: Read + Drop,
     W: Write + Drop,
     K: Record + Drop,

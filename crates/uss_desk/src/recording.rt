@@ -4,27 +4,27 @@
 ghost use Rattle.std.specs.Prelude.{◌≡◌, ◌++◌, ◌↔◌, IfOk, IsTrue, Ok, option_map};
 ghost use Rattle.std.specs.Option.{is_some};
 ghost use Rattle.sqlite.specs.Files.{over_files};
-ghost use Rattle.desk_line.specs.Lines.{line_of};
+ghost use Rattle.desk_cli.specs.Lines.{line_of};
 ghost use Rattle.uss_desk.specs.LineRecord as spec;
 ghost use Rattle.uss_desk.specs.LineRecord.{BeginsAlone, LeavesNothing};
 ghost use Rattle.uss_desk.specs.OpenedLines.{AreReadsTested, RemembersDesk};
 
 use crate::closing::close_after;
 use crate::opening::{DeskAt, opened_anew};
-use crate::rolls::Roll;
-use crate::watching::Closed;
-use desk_ends::Moment;
+use crate::rolls::NotedOperators;
+use crate::watching::CloseReport;
+use desk_cli::{Action, DeskArgs, Enrolment, ErrorCode, ExitReport};
 use desk_host::folders::{
     FoundRecord, Unkept, last_record, make_part, move_rest, name_part, tail_of,
 };
 use desk_host::naming::IN_USE;
-use desk_host::paths::Paths;
+use desk_host::paths::OpenPaths;
 use desk_host::telling::tell_of;
-use desk_line::{Action, DeskArgs, Enrolment, Exit, Failure};
 use desk_recording::{
     Journal, Parted, Record, Tail, TailEnd, WrittenRecord, begin_record, missing_of, recover,
 };
 use desk_rules::terms::Terms;
+use io_ends::Moment;
 use sqlite_disk::Disk;
 use std::alloc::AllocError;
 use std::fs::{self, File};
@@ -89,13 +89,13 @@ pub struct RecordFolder<'s> {
     // whether that was tested once the desk was open, so that no other desk of this file writes here
     is_held: bool,
     // what the last record left undone, until it is done
-    undone: Option<Undone<'s>>,
+    undone: Option<PendingRecovery<'s>>,
 }
 
 // What the last record of a folder left undone at a file: what it says as it ends, and what stands behind
 // that.
 #[derive(Drop)]
-struct Undone<'s> {
+struct PendingRecovery<'s> {
     file: &'s str,
     record: FoundRecord,
     tail: Tail,
@@ -112,7 +112,7 @@ pub fn folder_for<'s>(
     rt: &'s HostRuntime,
     words: &'s DeskArgs,
     action: Action<'_>,
-) -> Result<Option<RecordFolder<'s>>, Failure> {
+) -> Result<Option<RecordFolder<'s>>, ErrorCode> {
     let Some(path) = words.folder.as_deref() else {
         return Ok(None);
     };
@@ -148,7 +148,7 @@ fn alone<'s>(
     folder: &str,
     action: Action<'_>,
     has_records: bool,
-) -> Result<Option<Undone<'s>>, Failure>
+) -> Result<Option<PendingRecovery<'s>>, ErrorCode>
     ensures { BeginsAlone (line_of action.entry) has_records result }
 {
     match action {
@@ -167,7 +167,7 @@ fn undone_at<'s>(
     folder: &str,
     file: &'s str,
     last: Option<FoundRecord>,
-) -> Result<Option<Undone<'s>>, Failure> {
+) -> Result<Option<PendingRecovery<'s>>, ErrorCode> {
     let Some(record) = last else {
         return Ok(None);
     };
@@ -178,7 +178,7 @@ fn undone_at<'s>(
     if leaves_nothing(&tail, ended) {
         return Ok(None);
     }
-    Ok(Some(Undone {
+    Ok(Some(PendingRecovery {
         file,
         record,
         tail,
@@ -217,25 +217,25 @@ fn leaves_nothing(tail: &Tail, ended: TailEnd) -> bool
 }
 
 // The value, or the failure once its cause is told.
-fn told<T: Drop>(rt: &HostRuntime, folder: &str, done: Result<T, Unkept>) -> Result<T, Failure>
+fn told<T: Drop>(rt: &HostRuntime, folder: &str, done: Result<T, Unkept>) -> Result<T, ErrorCode>
     ensures { result ≡ spec.failure_of done }
 {
     match done {
         Ok(value) => Ok(value),
-        Err(Unkept::Memory) => Err(Failure::Memory),
+        Err(Unkept::Memory) => Err(ErrorCode::Memory),
         Err(Unkept::Cause(cause)) => {
             tell_of(rt.alloc(), folder, cause, &mut rt.stderr());
-            Err(Failure::Write)
+            Err(ErrorCode::Write)
         }
     }
 }
 
 // The failure of a database, once its cause is told.
-fn store_failure(rt: &HostRuntime, path: &str, cause: &str) -> Failure
-    ensures { result ≡ Failure.Store }
+fn store_failure(rt: &HostRuntime, path: &str, cause: &str) -> ErrorCode
+    ensures { result ≡ ErrorCode.Store }
 {
     tell_of(rt.alloc(), path, cause, &mut rt.stderr());
-    Failure::Store
+    ErrorCode::Store
 }
 
 impl<'s> RecordFolder<'s> {
@@ -254,11 +254,11 @@ impl<'s> RecordFolder<'s> {
     ///
     /// `Write` if the folder can't be read or written, or has another last record than it had; `Store` by the
     /// desk, or if that can't be closed; `Broken` if a request can't be kept; `Memory`; `Clock`. Why is told.
-    pub fn finish<D: Disk + Drop, N: Paths + Drop>(
+    pub fn finish<D: Disk + Drop, N: OpenPaths + Drop>(
         &mut self,
         mut desk: DeskAt<D, N>,
-        roll: &mut Roll,
-    ) -> Result<DeskAt<D, N>, Failure>
+        roll: &mut NotedOperators,
+    ) -> Result<DeskAt<D, N>, ErrorCode>
         ensures tested { AreReadsTested (Ok desk) → AreReadsTested result }
     {
         let Some(undone) = self.undone.take() else {
@@ -272,17 +272,17 @@ impl<'s> RecordFolder<'s> {
     }
 
     // Does at a desk what the last record left undone.
-    fn recover<D: Disk + Drop, N: Paths + Drop>(
+    fn recover<D: Disk + Drop, N: OpenPaths + Drop>(
         &mut self,
-        undone: Undone<'_>,
+        undone: PendingRecovery<'_>,
         desk: &mut DeskAt<D, N>,
-        roll: &mut Roll,
-    ) -> Result<(), Failure>
+        roll: &mut NotedOperators,
+    ) -> Result<(), ErrorCode>
         ensures { RemembersDesk over_files desk.old desk.new }
     {
         self.hold()?;
         let (rt, path) = (self.rt, self.path);
-        let Undone {
+        let PendingRecovery {
             record,
             tail,
             ended,
@@ -292,7 +292,7 @@ impl<'s> RecordFolder<'s> {
             told(rt, path, move_rest(rt, &record, tail.size))?;
         }
         let Some(operators) = roll.take() else {
-            return Err(Failure::Memory);
+            return Err(ErrorCode::Memory);
         };
         let missing = missing_of(rt.alloc(), &operators, &tail.operators)?;
         let number = next_number(rt, path, self.number)?;
@@ -315,7 +315,7 @@ impl<'s> RecordFolder<'s> {
 
     // Tests that the last record is still the last one and as long as it was, if that wasn't tested yet. The
     // desk is open, so that no other desk of its file goes on from it.
-    fn hold(&mut self) -> Result<(), Failure> {
+    fn hold(&mut self) -> Result<(), ErrorCode> {
         if self.is_held {
             return Ok(());
         }
@@ -323,7 +323,7 @@ impl<'s> RecordFolder<'s> {
         let (number, len) = extent_of(&told(rt, path, last_record(rt, path))?);
         if number != self.number || len != self.len {
             tell_of(rt.alloc(), path, IN_USE, &mut rt.stderr());
-            return Err(Failure::Write);
+            return Err(ErrorCode::Write);
         }
         self.is_held = true;
         Ok(())
@@ -339,8 +339,8 @@ impl<'s> RecordFolder<'s> {
         is_open: bool,
         terms: &Terms,
         enrolments: &[Enrolment],
-        roll: Roll,
-    ) -> Result<Option<LocalRecord<'s>>, Failure> {
+        roll: NotedOperators,
+    ) -> Result<Option<LocalRecord<'s>>, ErrorCode> {
         if !is_open {
             return Ok(None);
         }
@@ -358,12 +358,12 @@ impl<'s> RecordFolder<'s> {
         mut self,
         terms: &Terms,
         enrolments: &[Enrolment],
-        mut roll: Roll,
-    ) -> Result<LocalRecord<'s>, Failure> {
+        mut roll: NotedOperators,
+    ) -> Result<LocalRecord<'s>, ErrorCode> {
         self.hold()?;
         let (rt, path) = (self.rt, self.path);
         let Some(operators) = roll.take() else {
-            return Err(Failure::Memory);
+            return Err(ErrorCode::Memory);
         };
         let number = next_number(rt, path, self.number)?;
         let operators = joined(operators, enrolments)?;
@@ -375,12 +375,12 @@ impl<'s> RecordFolder<'s> {
 }
 
 // A failure at a desk over the file at a path, once the desk is closed; or that this can't be done.
-fn failure_closed<D: Disk + Drop, N: Paths + Drop>(
+fn failure_closed<D: Disk + Drop, N: OpenPaths + Drop>(
     rt: &HostRuntime,
     file: &str,
     desk: DeskAt<D, N>,
-    failure: Failure,
-) -> Failure {
+    failure: ErrorCode,
+) -> ErrorCode {
     if is_closed(close_after(1, Some(desk), &mut rt.stderr())) {
         return failure;
     }
@@ -388,7 +388,7 @@ fn failure_closed<D: Disk + Drop, N: Paths + Drop>(
 }
 
 // Whether a desk was closed, on whatever disk it was.
-fn is_closed<D: Disk + Drop, E>(ended: (Exit<E>, Option<Closed<D>>)) -> bool {
+fn is_closed<D: Disk + Drop, E>(ended: (ExitReport<E>, Option<CloseReport<D>>)) -> bool {
     match ended.1 {
         Some(closed) => closed.are_at_paths && closed.files.is_ok(),
         None => false,
@@ -396,7 +396,7 @@ fn is_closed<D: Disk + Drop, E>(ended: (Exit<E>, Option<Closed<D>>)) -> bool {
 }
 
 // The number of the record after this one.
-fn next_number(rt: &HostRuntime, folder: &str, number: u64) -> Result<u64, Failure>
+fn next_number(rt: &HostRuntime, folder: &str, number: u64) -> Result<u64, ErrorCode>
     ensures { result ≡ spec.next_number number }
 {
     match number.checked_add(1) {
@@ -420,7 +420,7 @@ fn begin_part<'s>(
     number: u64,
     terms: &Terms,
     operators: &[Enrolment],
-) -> Result<LocalJournal<'s>, Failure> {
+) -> Result<LocalJournal<'s>, ErrorCode> {
     let mut journal = LocalJournal {
         rt,
         folder,
@@ -429,18 +429,18 @@ fn begin_part<'s>(
     };
     match begin_record(rt.alloc(), &mut journal, number, terms, operators) {
         Ok(()) => Ok(journal),
-        Err(_) => Err(Failure::Write),
+        Err(_) => Err(ErrorCode::Write),
     }
 }
 
 // The Unix second that the clock gives.
-fn second_now(rt: &HostRuntime) -> Result<u64, Failure> {
+fn second_now(rt: &HostRuntime) -> Result<u64, ErrorCode> {
     let Ok(now) = SystemTime::now(rt) else {
-        return Err(Failure::Clock);
+        return Err(ErrorCode::Clock);
     };
     match now.duration_since(SystemTime::UNIX_EPOCH) {
         Ok(since) => Ok(since.as_secs()),
-        Err(_) => Err(Failure::Clock),
+        Err(_) => Err(ErrorCode::Clock),
     }
 }
 
@@ -461,7 +461,7 @@ struct AskedRecord<'s> {
 
 impl<'s> AskedRecord<'s> {
     // The record, with the request in it, under its name.
-    fn begin(&mut self, moment: Moment, bytes: &[u8]) -> Result<LocalRecord<'s>, Failure> {
+    fn begin(&mut self, moment: Moment, bytes: &[u8]) -> Result<LocalRecord<'s>, ErrorCode> {
         let journal = begin_part(
             self.rt,
             self.folder,
@@ -471,7 +471,7 @@ impl<'s> AskedRecord<'s> {
         )?;
         let mut record = WrittenRecord::new(self.rt.alloc(), journal);
         if record.keep_request(moment, bytes).is_err() {
-            return Err(Failure::Write);
+            return Err(ErrorCode::Write);
         }
         let second = second_now(self.rt)?;
         told(

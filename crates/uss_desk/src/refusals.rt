@@ -6,7 +6,7 @@ ghost use Rattle.desk_host.specs.Telling.{Tells};
 
 use desk_admin::causes::{tell_database, tell_made};
 use desk_admin::unopened::Unread;
-use desk_line::Database;
+use desk_cli::Database;
 use sqlite::Start;
 use std::io::Write;
 

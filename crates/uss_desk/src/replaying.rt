@@ -1,7 +1,7 @@
 //! A record played at the desk that was opened over the database that the words name.
 
 ghost use Rattle.sqlite.specs.Files.{over_files};
-ghost use Rattle.desk_line.specs.Exits.{ending};
+ghost use Rattle.desk_cli.specs.Exits.{ending};
 ghost use Rattle.desk_wire.specs.Passage.{passage};
 ghost use Rattle.uss_desk.specs.Guarding.{IsPastOf, Past};
 ghost use Rattle.uss_desk.specs.OpenedLines.{AreReadsTested, StaysGuarded};
@@ -10,11 +10,11 @@ ghost use Rattle.uss_desk.specs.RecordsPlayed.{IsReplayRun};
 use crate::closing::{close_after, status_closed};
 use crate::opening::{DeskAt, Opened, open_database};
 use crate::refusals::tell_refusal;
-use crate::rolls::Roll;
+use crate::rolls::NotedOperators;
 use desk_admin::unopened::or_failure;
+use desk_cli::{ErrorCode, ExitReport, ReplayArgs};
 use desk_host::damage::look_before;
-use desk_host::paths::{Paths, paths_at};
-use desk_line::{Exit, Failure, Replaying};
+use desk_host::paths::{OpenPaths, paths_at};
 use desk_replay::replay_opened;
 use sqlite::Unknown;
 use sqlite_disk::Disk;
@@ -27,15 +27,15 @@ use std::io::{BufReader, Read, Write};
 /// # Errors
 ///
 /// Why the log of its file refuses that; `Memory` if memory runs out before the database is opened.
-pub fn replay_here(rt: &HostRuntime, words: &Replaying) -> Result<u8, Failure> {
+pub fn replay_here(rt: &HostRuntime, words: &ReplayArgs) -> Result<u8, ErrorCode> {
     let (mut output, mut errors) = (rt.stdout(), rt.stderr());
     look_before(rt, &words.database, false, &mut errors)?;
     let Ok(mut input) = BufReader::new(rt.alloc(), rt.stdin()) else {
-        return Err(Failure::Memory);
+        return Err(ErrorCode::Memory);
     };
     let paths = paths_at(rt, &words.database)?;
     let (alloc, until) = (rt.alloc(), words.until);
-    let mut roll = Roll::new(alloc, &words.database, false);
+    let mut roll = NotedOperators::new(alloc, &words.database, false);
     match open_database(rt, &words.database, Unknown, paths, &mut roll) {
         Opened::Memory(desk) => {
             let (exit, _) = replay_line(alloc, until, desk, &mut input, &mut output, &mut errors);
@@ -60,14 +60,14 @@ pub fn replay_here(rt: &HostRuntime, words: &Replaying) -> Result<u8, Failure> {
 /// Plays the record of the input at the desk that was opened, prints how many requests were played, and
 /// answers how it ended and the desk, if there was one. If an entry is not played, then where and why goes to
 /// `errors`, and the word of that failure; if no desk was opened, the word alone.
-pub fn replay_line<D: Disk + Drop, N: Paths + Drop, R: Read, W: Write, E: Write>(
+pub fn replay_line<D: Disk + Drop, N: OpenPaths + Drop, R: Read, W: Write, E: Write>(
     alloc: Global,
     until: Option<u64>,
-    opened: Result<DeskAt<D, N>, Failure>,
+    opened: Result<DeskAt<D, N>, ErrorCode>,
     input: &mut R,
     output: &mut W,
     errors: &mut E,
-) -> (Exit<E>, Option<DeskAt<D, N>>)
+) -> (ExitReport<E>, Option<DeskAt<D, N>>)
     ensures run { IsReplayRun over_files opened until
         (passage R.Read W.Write input.old input.new output.old output.new)
         (ending result.0 (E.contents errors.old) (E.contents errors.new)) result.1 }

@@ -6,7 +6,7 @@ ghost use Rattle.sqlite.specs.Files.{file_state};
 ghost use Rattle.sqlite.specs.State.{HasCleanDisk};
 ghost use Rattle.uss_desk.specs.Rolls.{AreOperatorsOf, HasNoted, as_listed};
 
-use desk_line::{Database, Enrolment};
+use desk_cli::{Database, Enrolment};
 use desk_tables::{ListedOperator, SqliteStore};
 use sqlite::FileStore;
 use sqlite_disk::Disk;
@@ -14,20 +14,20 @@ use std::alloc::{AllocError, Global};
 
 /// The operators that a desk has as its record begins, if they are wanted.
 #[derive(Drop)]
-pub struct Roll {
+pub struct NotedOperators {
     is_wanted: bool,
     // whether it is known that the desk has no operator
     is_empty: bool,
     operators: Option<Vec<Enrolment>>,
 }
 
-impl Roll {
+impl NotedOperators {
     /// The roll of a desk over this database: none has an operator in memory, and of files nothing is noted
     /// yet.
-    pub fn new(alloc: Global, database: &Database, is_wanted: bool) -> Roll
+    pub fn new(alloc: Global, database: &Database, is_wanted: bool) -> NotedOperators
         ensures { IfSome result.operators (λ all. all.items ≡ []) }
     {
-        Roll {
+        NotedOperators {
             is_wanted,
             is_empty: database.path().is_none(),
             operators: Some(Vec::new(alloc)),

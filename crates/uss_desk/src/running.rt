@@ -2,15 +2,15 @@
 //! the port are.
 
 ghost use Rattle.sqlite.specs.Files.{over_files};
-ghost use Rattle.desk_line.specs.Lines.{IsLine, line_of};
+ghost use Rattle.desk_cli.specs.Lines.{IsLine, line_of};
 ghost use Rattle.desk_wire.specs.Passage.{course};
 ghost use Rattle.desk_program.specs.Outside.{outside};
 ghost use Rattle.uss_desk.specs.Guarding.{IsPastOf, Past};
 ghost use Rattle.uss_desk.specs.OpenedLines.{AreReadsTested, IsLineRun, StaysGuarded};
 
 use crate::opening::DeskAt;
-use desk_host::paths::Paths;
-use desk_line::{Action, Exit, Failure};
+use desk_cli::{Action, ErrorCode, ExitReport};
+use desk_host::paths::OpenPaths;
 use desk_program::{Port, Streams, run_opened};
 use sqlite_disk::Disk;
 use std::alloc::Global;
@@ -21,13 +21,13 @@ use std::io::{Read, Write};
 pub fn run_line<D, N, P, R, W, E>(
     alloc: Global,
     action: Action<'_>,
-    opened: Result<DeskAt<D, N>, Failure>,
+    opened: Result<DeskAt<D, N>, ErrorCode>,
     port: &mut P,
     streams: &mut Streams<R, W, E>,
-) -> (Exit<E>, Option<DeskAt<D, N>>)
+) -> (ExitReport<E>, Option<DeskAt<D, N>>)
 where
     D: Disk + Drop,
-    N: Paths + Drop,
+    N: OpenPaths + Drop,
     P: Port,
     R: Read + Drop,
     W: Write + Drop,

@@ -2,7 +2,7 @@
 //! clause tells what the operating system did.
 
 ghost use Rattle.std.specs.Prelude.{◌≡◌, ◌↔◌, [], IsTrue, None};
-ghost use Rattle.desk_line.specs.Lines.{IsLine, line_of};
+ghost use Rattle.desk_cli.specs.Lines.{IsLine, line_of};
 ghost use Rattle.uss_desk.specs.OpenedLines.{AreReadsTested};
 
 use crate::closing::{close_after, status_closed};
@@ -11,16 +11,16 @@ use crate::opening::{DeskAt, Opened, open_database};
 use crate::playing::play_line;
 use crate::recording::{RecordFolder, folder_for};
 use crate::refusals::tell_refusal;
-use crate::rolls::Roll;
+use crate::rolls::NotedOperators;
 use crate::running::run_line;
 use desk_admin::reordering::reorder_for;
 use desk_admin::unopened::or_failure;
+use desk_cli::{Action, DeskArgs, Enrolment, ErrorCode};
 use desk_host::damage::look_before;
 use desk_host::files::LocalHost;
-use desk_host::operators::{OperatorsFile, operators_of};
-use desk_host::paths::{LocalPaths, Paths, paths_at};
+use desk_host::operators::{EnrolmentFile, operators_of};
+use desk_host::paths::{LocalOpenPaths, OpenPaths, paths_at};
 use desk_host::telling::tell_unenrolled;
-use desk_line::{Action, DeskArgs, Enrolment, Failure};
 use desk_program::{LocalPort, Streams};
 use desk_recording::{InputPort, RecordedPort};
 use sqlite::Unknown;
@@ -35,10 +35,10 @@ struct Session<'s> {
     // the operators that it enrols first
     enrolments: &'s [Enrolment],
     streams: Streams<BufReader<Stdin>, Stdout, Stderr>,
-    register: OperatorsFile<'s, LocalHost<'s>>,
+    register: EnrolmentFile<'s, LocalHost<'s>>,
     // the folder of its journal, if it keeps one
     folder: Option<RecordFolder<'s>>,
-    roll: Roll,
+    roll: NotedOperators,
 }
 
 impl<'s> Session<'s> {
@@ -48,16 +48,16 @@ impl<'s> Session<'s> {
         words: &'s DeskArgs,
         enrolments: &'s [Enrolment],
         action: Action<'_>,
-    ) -> Result<(Session<'s>, LocalPaths<'s>), Failure> {
+    ) -> Result<(Session<'s>, LocalOpenPaths<'s>), ErrorCode> {
         look_before(rt, &words.database, false, &mut rt.stderr())?;
         let Ok(input) = BufReader::new(rt.alloc(), rt.stdin()) else {
-            return Err(Failure::Memory);
+            return Err(ErrorCode::Memory);
         };
         let register = operators_of(rt, LocalHost::new(rt), words.operators.as_deref())?;
         let paths = paths_at(rt, &words.database)?;
         reorder_for(rt, &words.database, false)?;
         let folder = folder_for(rt, words, action)?;
-        let roll = Roll::new(rt.alloc(), &words.database, folder.is_some());
+        let roll = NotedOperators::new(rt.alloc(), &words.database, folder.is_some());
         let session = Session {
             rt,
             words,
@@ -83,10 +83,10 @@ impl<'s> Session<'s> {
     }
 
     // The desk that was opened over files, at which all is done that the last record left undone.
-    fn recover<D: Disk + Drop, N: Paths + Drop>(
+    fn recover<D: Disk + Drop, N: OpenPaths + Drop>(
         &mut self,
-        opened: Result<DeskAt<D, N>, Failure>,
-    ) -> Result<DeskAt<D, N>, Failure>
+        opened: Result<DeskAt<D, N>, ErrorCode>,
+    ) -> Result<DeskAt<D, N>, ErrorCode>
         ensures tested { AreReadsTested opened → AreReadsTested result }
     {
         let Some(folder) = &mut self.folder else {
@@ -108,10 +108,10 @@ impl<'s> Session<'s> {
 
     // Carries a command out at the desk that was opened for it, each request recorded if it keeps a journal:
     // those of an input, or those of connections at a port. Answers the exit status and the desk.
-    fn run<D: Disk + Drop, N: Paths + Drop>(
+    fn run<D: Disk + Drop, N: OpenPaths + Drop>(
         self,
         action: Action<'_>,
-        opened: Result<DeskAt<D, N>, Failure>,
+        opened: Result<DeskAt<D, N>, ErrorCode>,
     ) -> (u8, Option<DeskAt<D, N>>)
         requires { IsLine (line_of action) }
     {
@@ -175,7 +175,7 @@ pub fn at_desk(
     words: &DeskArgs,
     enrolments: &[Enrolment],
     action: Action<'_>,
-) -> Result<u8, Failure>
+) -> Result<u8, ErrorCode>
     requires { IsLine (line_of action) }
 {
     let (mut session, paths) = Session::prepare(rt, words, enrolments, action)?;

@@ -13,13 +13,13 @@ ghost use Rattle.desk_host.specs.Paths.{AreAtPaths};
 ghost use Rattle.uss_desk.specs.Rolls.{HasNoted};
 ghost use Rattle.uss_desk.specs.Watching.{IsWatched};
 
-use crate::rolls::Roll;
-use desk_host::paths::Paths;
+use crate::rolls::NotedOperators;
+use desk_host::paths::OpenPaths;
 use desk_rules::operator::Operator;
 use desk_rules::plan::{PlanRow, States};
 use desk_rules::plan_id::PlanId;
 use desk_store::{Change, PlanStore, Sizes, StoreFault};
-use desk_tables::{SqliteStore, Unclosed};
+use desk_tables::{CheckpointError, SqliteStore};
 use sqlite::{FileStore, Files};
 use sqlite_disk::Disk;
 use sqlite_trees::store::Alter;
@@ -28,23 +28,23 @@ use volume4d::{Held, Slab};
 
 /// What came of the files of a desk that was closed.
 #[derive(Drop)]
-pub struct Closed<D: Disk> {
+pub struct CloseReport<D: Disk> {
     /// The files, with the log copied into the database file; or that it can't be.
-    pub files: Result<Files<D>, Unclosed<D>>,
+    pub files: Result<Files<D>, CheckpointError<D>>,
     /// Whether they were at their paths until then.
     pub are_at_paths: bool,
 }
 
 /// A store over tables that takes a change only while its files are at their paths.
 #[derive(Drop)]
-pub struct Watched<S: Alter, N: Drop> {
+pub struct PathChecked<S: Alter, N: Drop> {
     store: SqliteStore<S>,
     paths: N,
     // how many changes were refused, up to the type's last value
     refused: u64,
 }
 
-impl<S: Alter, N: Drop> Model for Watched<S, N> {
+impl<S: Alter, N: Drop> Model for PathChecked<S, N> {
     ghost use Rattle.std.specs.Prelude.{◌+◌};
     ghost use Rattle.desk_tables.specs.Store.{Shown, shown_code};
 
@@ -59,12 +59,12 @@ impl<S: Alter, N: Drop> Model for Watched<S, N> {
     } };
 }
 
-impl<S: Alter, N: Drop> Watched<S, N> {
+impl<S: Alter, N: Drop> PathChecked<S, N> {
     /// A store whose files are at these paths.
-    pub fn over(store: SqliteStore<S>, paths: N) -> Watched<S, N>
+    pub fn over(store: SqliteStore<S>, paths: N) -> PathChecked<S, N>
         ensures { result ≡ store }
     {
-        Watched {
+        PathChecked {
             store,
             paths,
             refused: 0,
@@ -72,9 +72,9 @@ impl<S: Alter, N: Drop> Watched<S, N> {
     }
 }
 
-impl<D: Disk + Drop, N: Paths + Drop> Watched<FileStore<D>, N> {
+impl<D: Disk + Drop, N: OpenPaths + Drop> PathChecked<FileStore<D>, N> {
     /// Notes the operators of the store in a roll, if they are wanted there.
-    pub fn note(&self, roll: &mut Roll)
+    pub fn note(&self, roll: &mut NotedOperators)
         ensures { HasNoted self.now roll.new }
     {
         roll.note(&self.store);
@@ -82,7 +82,7 @@ impl<D: Disk + Drop, N: Paths + Drop> Watched<FileStore<D>, N> {
 
     /// Copies the log into the database file, wherever that is, and gives the files back; and tells whether
     /// they were at their paths.
-    pub fn close(self) -> Closed<D>
+    pub fn close(self) -> CloseReport<D>
         ensures copied { IfOk result.files (λ files. AreClean D.Disk files.log files.db →
             IsCopied self.held files) }
         ensures unclosed { IfErr result.files (IsLeftUnclosed self.held) }
@@ -93,21 +93,24 @@ impl<D: Disk + Drop, N: Paths + Drop> Watched<FileStore<D>, N> {
 }
 
 // Looks whether the files of a store are at their paths, and closes it.
-fn close_at<D: Disk + Drop, N: Paths>(store: SqliteStore<FileStore<D>>, paths: &mut N) -> Closed<D>
+fn close_at<D: Disk + Drop, N: OpenPaths>(
+    store: SqliteStore<FileStore<D>>,
+    paths: &mut N,
+) -> CloseReport<D>
     ensures looked { AreAtPaths (course (N.looks paths.old) (N.looks paths.new)) result.are_at_paths }
     ensures copied { IfOk result.files (λ files. AreClean D.Disk files.log files.db →
         IsCopied store.held files) }
     ensures unclosed { IfErr result.files (IsLeftUnclosed store.held) }
 {
     let are_at_paths = are_at_paths(paths);
-    Closed {
+    CloseReport {
         files: store.close(),
         are_at_paths,
     }
 }
 
 // Whether both files are at their paths. If the database file isn't, the log is not looked for.
-fn are_at_paths<N: Paths>(paths: &mut N) -> bool
+fn are_at_paths<N: OpenPaths>(paths: &mut N) -> bool
     ensures { AreAtPaths (course (N.looks paths.old) (N.looks paths.new)) result }
 {
     if !paths.has_file() {
@@ -118,7 +121,7 @@ fn are_at_paths<N: Paths>(paths: &mut N) -> bool
 
 // Makes a change of a store whose files are at their paths; else it is a fault, which is counted.
 // Long: what each store owes, and that its paths are looked at first.
-fn apply_at<S: PlanStore, N: Paths>(
+fn apply_at<S: PlanStore, N: OpenPaths>(
     store: &mut S,
     paths: &mut N,
     refused: &mut u64,
@@ -146,7 +149,7 @@ fn apply_at<S: PlanStore, N: Paths>(
     store.apply(change)
 }
 
-impl<S: Alter, N: Paths + Drop> PlanStore for Watched<S, N> {
+impl<S: Alter, N: OpenPaths + Drop> PlanStore for PathChecked<S, N> {
     ghost use Rattle.sqlite_trees.specs.View.{doubt};
     ghost use Rattle.sqlite.specs.Held.{state};
     ghost use Rattle.desk_tables.specs.Leaving.{MayLeave};

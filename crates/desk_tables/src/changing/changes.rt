@@ -19,7 +19,7 @@ use crate::canon::canons_of;
 use crate::changing::records::{
     aircraft_number, asked_of, lengths_with, span_rows, texts_of, usage_number, volume_rows,
 };
-use crate::kept::GhostWorld;
+use crate::kept::GhostState;
 use crate::reading::values::{count_at, fault_told};
 use crate::span_bounds::SpanBounds;
 use crate::tables::DeskTables;
@@ -62,10 +62,10 @@ impl<S: Alter> DeskTables<S> {
     }
 
     // The world after a change.
-    fn next(&self, change: &Change) -> GhostWorld
+    fn next(&self, change: &Change) -> GhostState
         ensures { result.world ≡ changed_by change.now self.now.world }
     {
-        GhostWorld::after(&self.kept, change)
+        GhostState::after(&self.kept, change)
     }
 
     // Lists an operator under a ceiling.
@@ -73,7 +73,7 @@ impl<S: Alter> DeskTables<S> {
         &mut self,
         operator: &Operator,
         ceiling: u32,
-        next: GhostWorld,
+        next: GhostState,
     ) -> Result<(), StoreFault>
         requires { IsNext S.Store self.old next.world (change.Enrol operator.now ceiling) }
         ensures made { IsMade S.Store self.old self.new result (change.Enrol operator.now ceiling) }
@@ -91,7 +91,7 @@ impl<S: Alter> DeskTables<S> {
         span_bounds: &SpanBounds,
         operator: &Operator,
         row: &PlanRow,
-        next: GhostWorld,
+        next: GhostState,
     ) -> Result<SpanBounds, StoreFault>
         requires { IsNext S.Store self.old next.world (change.Put operator.now row.now) }
         ensures made { IsMade S.Store self.old self.new result (change.Put operator.now row.now) }
@@ -124,7 +124,7 @@ impl<S: Alter> DeskTables<S> {
         &mut self,
         operator: &Operator,
         id: &PlanId,
-        next: GhostWorld,
+        next: GhostState,
     ) -> Result<(), StoreFault>
         requires { IsNext S.Store self.old next.world (change.Close operator.now id.now) }
         ensures made { IsMade S.Store self.old self.new result (change.Close operator.now id.now) }
@@ -153,7 +153,7 @@ impl<S: Alter> DeskTables<S> {
         &mut self,
         operator: &Operator,
         ids: &Vec<PlanId>,
-        next: GhostWorld,
+        next: GhostState,
     ) -> Result<(), StoreFault>
         requires { IsNext S.Store self.old next.world (change.Clear operator.now ids.now) }
         ensures made { IsMade S.Store self.old self.new result (change.Clear operator.now ids.now) }
@@ -180,9 +180,9 @@ fn numbers_in(head: &Row) -> Result<(u32, u32), StoreFault>
 // What comes of a change that was asked for: where it was committed, the world after it follows. An error of
 // input and output is told as this.
 fn follow<T: Copy>(
-    kept: &mut GhostWorld,
+    kept: &mut GhostState,
     committed: Result<(), Error>,
-    next: GhostWorld,
+    next: GhostState,
     answer: T,
     told: StoreFault,
 ) -> Result<T, StoreFault>

@@ -5,7 +5,7 @@ ghost use Rattle.sqlite_wal.specs.Files.{image_at};
 ghost use Rattle.sqlite.specs.Held.{IsNew};
 ghost use Rattle.desk_tables.specs.Files.{Finds, IsUnreached};
 
-use crate::opening::path::{Unreached, find_file, find_nothing, open_pair, options, over_pair};
+use crate::opening::path::{NotOpened, find_file, find_nothing, open_pair, options, over_pair};
 use sqlite::{Connection, FileFrom, FileStore, Start};
 
 /// A connection to the database in the files at a path; `start` stands for what the files held. Where there
@@ -18,7 +18,7 @@ pub(crate) fn connect<S: Start>(
     rt: &HostRuntime,
     path: &str,
     start: S,
-) -> Result<Connection<FileStore<FileFrom<S>>>, Unreached<FileFrom<S>>>
+) -> Result<Connection<FileStore<FileFrom<S>>>, NotOpened<FileFrom<S>>>
     ensures found { IfOk result (Finds (image_at S.Start)) }
     ensures fresh { IfOk result IsNew }
     ensures unread { IfErr result (IsUnreached (image_at S.Start)) }
@@ -37,7 +37,7 @@ pub(crate) fn connect_there<S: Start>(
     rt: &HostRuntime,
     path: &str,
     start: S,
-) -> Result<Connection<FileStore<FileFrom<S>>>, Unreached<FileFrom<S>>>
+) -> Result<Connection<FileStore<FileFrom<S>>>, NotOpened<FileFrom<S>>>
     ensures found { IfOk result (Finds (image_at S.Start)) }
     ensures fresh { IfOk result IsNew }
     ensures unread { IfErr result (IsUnreached (image_at S.Start)) }
@@ -55,7 +55,7 @@ pub(crate) fn connect_new<S: Start>(
     rt: &HostRuntime,
     path: &str,
     start: S,
-) -> Result<Connection<FileStore<FileFrom<S>>>, Unreached<FileFrom<S>>>
+) -> Result<Connection<FileStore<FileFrom<S>>>, NotOpened<FileFrom<S>>>
     ensures found { IfOk result (Finds (image_at S.Start)) }
     ensures fresh { IfOk result IsNew }
     ensures unread { IfErr result (IsUnreached (image_at S.Start)) }

@@ -20,8 +20,8 @@ ghost use Rattle.desk_tables.specs.Copying.{AddsHeadRows, AddsOperatorRows, Adds
 ghost use Rattle.desk_tables.specs.Writable.{AreNewHeads, AreNewOperators, CanBeFilled, HaveFewRows};
 
 use crate::changing::records::{aircraft_number, usage_number};
-use crate::kept::GhostWorld;
-use crate::known::Known;
+use crate::kept::GhostState;
+use crate::known::MemoryIndex;
 use crate::opening::content::Content;
 use crate::opening::exact::FiledPlan;
 use crate::opening::finding::create_tables;
@@ -49,7 +49,7 @@ pub(crate) fn store_of<S: Alter + Drop>(
     alloc: Global,
     mut connection: Connection<S>,
     content: &Content,
-    known: Known,
+    known: MemoryIndex,
 ) -> Result<SqliteStore<S>, AdoptFault<S>>
     requires settled { connection.in_transaction ≡ false }
     requires unlimited { connection.step_limit ≡ None }
@@ -74,7 +74,7 @@ fn make_world<S: Alter>(
     alloc: Global,
     connection: &mut Connection<S>,
     content: &Content,
-) -> Result<GhostWorld, OpenFault>
+) -> Result<GhostState, OpenFault>
     requires rest { IsAtRest connection.old }
     requires content { IsContent content.now }
     requires few { HaveFewRows content.now.plans }
@@ -88,7 +88,7 @@ fn make_world<S: Alter>(
     find_blank(connection)?;
     create_tables(connection)?;
     fill(alloc, connection, &content.operators, &content.plans)?;
-    Ok(GhostWorld::of(content))
+    Ok(GhostState::of(content))
 }
 
 // Finds that a database has no table; else it fails.

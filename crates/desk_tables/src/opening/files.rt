@@ -17,13 +17,13 @@ ghost use Rattle.desk_tables.specs.Copying.{IsUnmadeOf, LooksIn};
 ghost use Rattle.desk_tables.specs.Known.{Knows};
 ghost use Rattle.desk_tables.specs.Writable.{HaveFewRows};
 
-use crate::known::Known;
+use crate::known::MemoryIndex;
 use crate::opening::connecting::{connect, connect_new, connect_there};
 use crate::opening::content::Content;
 use crate::opening::copying::store_of;
-use crate::opening::looking::{Holdings, holdings_of, read_content};
+use crate::opening::looking::{DbStats, holdings_of, read_content};
 use crate::opening::open::OpenFault;
-use crate::opening::path::Unreached;
+use crate::opening::path::NotOpened;
 use crate::store::SqliteStore;
 use sqlite::{Connection, FileFrom, FileStore, Start, Unknown};
 use sqlite_disk::Disk;
@@ -32,12 +32,12 @@ use std::alloc::Global;
 
 // A connection to files, the content that was read with it, what is known of it, and whether it is of
 // schema 1.
-type ReadFiles<S> = (Connection<S>, Content, Known, bool);
+type ReadFiles<S> = (Connection<S>, Content, MemoryIndex, bool);
 
 /// A connection to the database that was copied, the store of its content, and what it holds.
 pub type Copied<D, E> = (
     Connection<FileStore<D>>,
-    (SqliteStore<FileStore<E>>, Holdings),
+    (SqliteStore<FileStore<E>>, DbStats),
 );
 
 /// Why files were refused, with the connection that read them, or that they were not opened.
@@ -46,7 +46,7 @@ pub struct FilesFault<D: Disk> {
     /// What was found in them, or what kept them from being opened.
     pub fault: OpenFault,
     /// The connection, with the rows that it had; or that nothing in the files was read.
-    pub connection: Result<Connection<FileStore<D>>, Unreached<D>>,
+    pub connection: Result<Connection<FileStore<D>>, NotOpened<D>>,
 }
 
 /// The connection to what was to be copied. Nothing can be done with it but to drop it.
@@ -180,7 +180,7 @@ pub fn look_at<S: Start>(
     rt: &HostRuntime,
     path: &str,
     start: S,
-) -> Result<(Connection<FileStore<FileFrom<S>>>, Holdings), FilesFault<FileFrom<S>>>
+) -> Result<(Connection<FileStore<FileFrom<S>>>, DbStats), FilesFault<FileFrom<S>>>
     ensures looks { IfOk result (λ found. (w : World) × AreHoldingsOf found.1 w
         × LooksIn (image_at S.Start) found.0 found.1.is_old w) }
     ensures fault { IfErr result (λ e. AreNotRead (image_at S.Start) e.fault e.connection) }
@@ -291,7 +291,7 @@ fn store_at<S: Start>(
     path: &str,
     start: S,
     content: &Content,
-    known: Known,
+    known: MemoryIndex,
 ) -> Result<SqliteStore<FileStore<FileFrom<S>>>, FilesFault<FileFrom<S>>>
     requires content { IsContent content.now }
     requires few { HaveFewRows content.now.plans }
@@ -315,7 +315,7 @@ fn store_files<D: Disk + Drop>(
     alloc: Global,
     connection: Connection<FileStore<D>>,
     content: &Content,
-    known: Known,
+    known: MemoryIndex,
 ) -> Result<SqliteStore<FileStore<D>>, FilesFault<D>>
     requires fresh { IsNew connection }
     requires content { IsContent content.now }

@@ -25,8 +25,8 @@ ghost use Rattle.desk_tables.specs.Opening.{BlamesReading, BlamesDatabase};
 ghost use Rattle.desk_tables.specs.OpeningSteps.{BeginsCompleted, HadNone, IsOpening, IsRead, IsSetUp};
 ghost use Rattle.desk_tables.specs.OpeningSteps.{IsAtRest, ShowsOperators, ShowsPart};
 
-use crate::kept::GhostWorld;
-use crate::known::{Known, live_among, roll_of};
+use crate::kept::GhostState;
+use crate::known::{MemoryIndex, live_among, roll_of};
 use crate::opening::content::{
     Content, TableRows, are_shared, keys_ascend, names_ascend, operators_in, plans_in,
 };
@@ -57,7 +57,7 @@ use volume4d::laws::one_shape;
 pub(crate) fn load_world<S: Alter>(
     alloc: Global,
     connection: &mut Connection<S>,
-) -> Result<(GhostWorld, Known, bool), OpenFault>
+) -> Result<(GhostState, MemoryIndex, bool), OpenFault>
     requires rest { IsAtRest connection.old }
     ensures opened { IsOpening S.Store connection.old connection.new result (λ found. found.0.world)
         (λ found. BeginsWith S.Store connection.old connection.new found.0.world)
@@ -104,7 +104,7 @@ pub(crate) fn world_of<S: Alter>(
     alloc: Global,
     connection: &mut Connection<S>,
     made: TablesPresent,
-) -> Result<(GhostWorld, Known, bool), OpenFault>
+) -> Result<(GhostState, MemoryIndex, bool), OpenFault>
     requires part { ShowsPart S.Store connection.old made }
     requires new { Holds S.Store connection.old (HasNewRows made) }
     requires unlimited { connection.old.step_limit ≡ None }
@@ -117,7 +117,7 @@ pub(crate) fn world_of<S: Alter>(
 {
     match made {
         TablesPresent::All => load_tables(alloc, connection, TablesPresent::All),
-        TablesPresent::Nothing => Ok((create_tables(connection)?, Known::new(alloc), false)),
+        TablesPresent::Nothing => Ok((create_tables(connection)?, MemoryIndex::new(alloc), false)),
         TablesPresent::Packed => ordered_in(alloc, connection),
         made => completed_in(alloc, connection, made),
     }
@@ -126,7 +126,7 @@ pub(crate) fn world_of<S: Alter>(
 /// The empty world, over a database that gets a desk's tables and had none.
 pub(crate) fn create_tables<S: Alter>(
     connection: &mut Connection<S>,
-) -> Result<GhostWorld, OpenFault>
+) -> Result<GhostState, OpenFault>
     requires blank { ShowsPart S.Store connection.old TablesPresent.Nothing }
     requires unlimited { connection.old.step_limit ≡ None }
     ensures set_up { IsSetUp S.Store connection.old connection.new result (λ kept. kept.world)
@@ -136,7 +136,7 @@ pub(crate) fn create_tables<S: Alter>(
     ensures crash { MayBecome S.Store connection.old connection.new IsCompletedAs }
 {
     complete_tables(connection, TablesPresent::Nothing)?;
-    Ok(GhostWorld::new())
+    Ok(GhostState::new())
 }
 
 // The world whose rows the tables have, which get what is missing of them.
@@ -146,7 +146,7 @@ fn completed_in<S: Alter>(
     alloc: Global,
     connection: &mut Connection<S>,
     made: TablesPresent,
-) -> Result<(GhostWorld, Known, bool), OpenFault>
+) -> Result<(GhostState, MemoryIndex, bool), OpenFault>
     requires part { ShowsPart S.Store connection.old made }
     requires new { Holds S.Store connection.old (HasNewRows made) }
     requires missing { made ≢ TablesPresent.All }
@@ -170,7 +170,7 @@ fn load_tables<S: Alter>(
     alloc: Global,
     connection: &mut Connection<S>,
     made: TablesPresent,
-) -> Result<(GhostWorld, Known, bool), OpenFault>
+) -> Result<(GhostState, MemoryIndex, bool), OpenFault>
     requires part { ShowsOperators S.Store connection.old made }
     requires new { Holds S.Store connection.old (HasNewRows made) }
     ensures read { IsRead S.Store connection.old connection.new result made
@@ -180,7 +180,7 @@ fn load_tables<S: Alter>(
 {
     let (content, known) = content_found(alloc, connection, made)?;
     let is_enrolled = !content.operators.is_empty();
-    Ok((GhostWorld::of(&content), known, is_enrolled))
+    Ok((GhostState::of(&content), known, is_enrolled))
 }
 
 /// The content whose rows the tables have, so far as they are made, and what is known of its plans.
@@ -188,7 +188,7 @@ pub(crate) fn content_found<S: Alter>(
     alloc: Global,
     connection: &mut Connection<S>,
     made: TablesPresent,
-) -> Result<(Content, Known), OpenFault>
+) -> Result<(Content, MemoryIndex), OpenFault>
     requires part { ShowsOperators S.Store connection.old made }
     requires new { Holds S.Store connection.old (HasNewRows made) }
     ensures read { IsRead S.Store connection.old connection.new result made
@@ -266,7 +266,7 @@ pub(crate) fn content_with(
     alloc: Global,
     operators: Vec<ListedOperator>,
     check: SpanCheck,
-) -> Result<(Content, Known), OpenFault>
+) -> Result<(Content, MemoryIndex), OpenFault>
     requires taken { (rows : List Values) × AreHeld check rows }
     ensures value { IfOk result (λ found. (found.0.operators ≡ operators.items)
         × (found.0.plans ≡ check.plans.items)) }
@@ -283,7 +283,7 @@ pub(crate) fn content_with(
     if !check.agrees()? {
         return Err(OpenFault::NotADesk);
     }
-    let known = Known {
+    let known = MemoryIndex {
         span_bounds: check.span_bounds,
         live: live_among(alloc, &check.plans)?,
         roll: roll_of(alloc, &operators, &check.plans)?,

@@ -13,7 +13,7 @@ ghost use Rattle.desk_tables.specs.Writable.{HaveFewRows};
 ghost use Rattle.desk_tables.specs.Copying as spec;
 ghost use Rattle.desk_tables.specs.Copying.{AreHoldingsOf, AreNoContentIn, IsContentIn, ShowsContent, ShowsNone};
 
-use crate::known::Known;
+use crate::known::MemoryIndex;
 use crate::opening::content::Content;
 use crate::opening::counting::{Counted, most_of};
 use crate::opening::exact::FiledPlan;
@@ -28,7 +28,7 @@ use std::alloc::Global;
 
 /// What a database holds.
 #[derive(Clone, Copy, Debug, PartialEq, Eq)]
-pub struct Holdings {
+pub struct DbStats {
     /// Whether the rows are those of schema 1.
     pub is_old: bool,
     /// How many operators there are.
@@ -54,7 +54,7 @@ pub struct Holdings {
 pub fn look_into<S: Alter>(
     alloc: Global,
     connection: &mut Connection<S>,
-) -> Result<Holdings, OpenFault>
+) -> Result<DbStats, OpenFault>
     requires settled { connection.old.in_transaction ≡ false }
     ensures value { IfOk result (λ holdings. (w : World) × AreHoldingsOf holdings w
         × ShowsContent S.Store connection.old connection.new holdings.is_old w) }
@@ -69,12 +69,12 @@ pub fn look_into<S: Alter>(
 }
 
 /// How many operators, plans, spans and cells a content has, and whether it was read in schema 1.
-pub(crate) fn holdings_of(content: &Content, is_old: bool) -> Holdings
+pub(crate) fn holdings_of(content: &Content, is_old: bool) -> DbStats
     requires { IsContent content.now }
     ensures counted { AreHoldingsOf result content.now }
     ensures schema { result.is_old ≡ is_old }
 {
-    Holdings {
+    DbStats {
         is_old,
         operators: content.operators.len(),
         plans: content.plans.len(),
@@ -95,7 +95,7 @@ pub(crate) fn holdings_of(content: &Content, is_old: bool) -> Holdings
 pub(crate) fn read_content<S: Alter>(
     alloc: Global,
     connection: &mut Connection<S>,
-) -> Result<(Content, Known, bool), OpenFault>
+) -> Result<(Content, MemoryIndex, bool), OpenFault>
     requires settled { connection.old.in_transaction ≡ false }
     ensures value { IfOk result (λ found.
         ShowsContent S.Store connection.old connection.new found.2 found.0) }
@@ -123,7 +123,7 @@ fn content_at<S: Alter>(
     connection: &mut Connection<S>,
     made: TablesPresent,
     old: bool,
-) -> Result<(Content, Known), OpenFault>
+) -> Result<(Content, MemoryIndex), OpenFault>
     requires part { ShowsPart S.Store connection.old made }
     requires rows { Holds S.Store connection.old (HasRowsOld made old) }
     requires some { made ≢ TablesPresent.Nothing }

@@ -31,8 +31,8 @@ ghost use Rattle.desk_tables.specs.Writable.{AreAwaited, AreWritable, HasSpansTo
 
 use crate::canon::canons_of;
 use crate::changing::records::{asked_of, span_rows, volume_rows};
-use crate::kept::GhostWorld;
-use crate::known::Known;
+use crate::kept::GhostState;
+use crate::known::MemoryIndex;
 use crate::opening::content::{Content, TableRows};
 use crate::opening::exact::FiledPlan;
 use crate::opening::finding::{content_with, tables_found, uncovered_parts, world_of};
@@ -68,7 +68,7 @@ const OLD_MAX_COVER: usize = 256;
 pub(crate) fn moved_world_in<S: Alter>(
     alloc: Global,
     connection: &mut Connection<S>,
-) -> Result<(GhostWorld, Known, u32), OpenFault>
+) -> Result<(GhostState, MemoryIndex, u32), OpenFault>
     requires rest { IsAtRest connection.old }
     ensures opened { IsOpening S.Store connection.old connection.new result (λ moved. moved.0.world)
         (λ moved. BeginsMoved S.Store connection.old connection.new moved.0.world moved.2)
@@ -91,7 +91,7 @@ fn move_tables<S: Alter>(
     alloc: Global,
     connection: &mut Connection<S>,
     made: TablesPresent,
-) -> Result<(GhostWorld, Known, u32), OpenFault>
+) -> Result<(GhostState, MemoryIndex, u32), OpenFault>
     requires part { ShowsPart S.Store connection.old made }
     requires rows { Holds S.Store connection.old (HasRowsOld made true) }
     requires some { made ≢ TablesPresent.Nothing }
@@ -107,7 +107,7 @@ fn move_tables<S: Alter>(
     make_whole(connection, made)?;
     rewrite(alloc, connection, &content.plans)?;
     let count = u32::try_from(content.plans.len()).unwrap_or(u32::MAX);
-    Ok((GhostWorld::of(&content), known, count))
+    Ok((GhostState::of(&content), known, count))
 }
 
 // Makes what is missing of a desk's tables, in its own order. The rows that there are stay.
@@ -228,7 +228,7 @@ pub(crate) fn load_old_tables<S: Alter>(
     alloc: Global,
     connection: &mut Connection<S>,
     made: TablesPresent,
-) -> Result<(Content, Known), OpenFault>
+) -> Result<(Content, MemoryIndex), OpenFault>
     requires part { ShowsOperators S.Store connection.old made }
     ensures read { IsRead S.Store connection.old connection.new result made
         (λ tables found. IsOldContentOf tables found.0) AreNoOldContent }

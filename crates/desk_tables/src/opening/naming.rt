@@ -1,6 +1,6 @@
-//! Which part of a database is that of no desk: what a keeper is told of files that were refused. It is
-//! found afterwards, by the tests that refuse a database, in their order. Nothing is changed, and no clause
-//! says which part is named.
+//! Which part of a database is that of no desk: what an administrator is told of files that were refused.
+//! It is found afterwards, by the tests that refuse a database, in their order. Nothing is changed, and
+//! no clause says which part is named.
 
 ghost use Rattle.std.specs.Prelude.{◌≡◌, ◌≢◌, ◌⊎◌, List, true, false, IfErr, IfOk, IfSome, OnOk};
 ghost use Rattle.sqlite_value.specs.Order.{Row as Values};
@@ -23,7 +23,7 @@ use crate::opening::exact::{FiledPlan, PLAN_WIDTH, RowFault, is_keyed, operator_
 use crate::opening::finding::{heads_in, tables_found};
 use crate::opening::moving::{are_new_empty, are_old, old_heads_in};
 use crate::opening::open::OpenFault;
-use crate::opening::path::Unreached;
+use crate::opening::path::NotOpened;
 use crate::opening::spans::{SpanCheck, take_spans};
 use crate::reading::values::{count_at, head_in, id_in};
 use desk_rules::decide::MAX_PRIORITY;
@@ -36,7 +36,7 @@ use volume4d::laws::one_shape;
 
 /// A part of a database that is that of no desk.
 #[derive(Clone, Copy, Debug, PartialEq, Eq)]
-pub enum PartFault {
+pub enum InvalidPart {
     /// There is no table.
     NoTable,
     /// There are other tables than a desk's.
@@ -66,13 +66,13 @@ pub enum PartFault {
 /// What was named of files, and the connection that read them. Nothing can be done with that but to drop it.
 #[derive(Drop)]
 pub struct Named<D: Disk> {
-    part: Option<PartFault>,
+    part: Option<InvalidPart>,
     connection: Connection<FileStore<D>>,
 }
 
 impl<D: Disk> Named<D> {
     /// The first part that is that of no desk. None if there is none, or if the database can't be read.
-    pub fn part(&self) -> Option<PartFault>
+    pub fn part(&self) -> Option<InvalidPart>
         ensures { result ≡ self.now.part }
     {
         self.part
@@ -88,7 +88,7 @@ pub fn part_at<S: Start>(
     rt: &HostRuntime,
     path: &str,
     start: S,
-) -> Result<Named<FileFrom<S>>, Unreached<FileFrom<S>>>
+) -> Result<Named<FileFrom<S>>, NotOpened<FileFrom<S>>>
     ensures reads { IfOk result (λ named. OnlyReadsIn (image_at S.Start) named.connection) }
     ensures unread { IfErr result (IsUnreached (image_at S.Start)) }
 {
@@ -110,17 +110,17 @@ fn part_in<D: Disk + Drop>(alloc: Global, mut connection: Connection<FileStore<D
 /// The first part of a database that is that of no desk. None if there is none, or if the database can't be
 /// read.
 #[tactic(auto, using(crate::proofs::OpeningLemmas::some_operators))]
-pub fn first_fault<S: Alter>(alloc: Global, connection: &mut Connection<S>) -> Option<PartFault>
+pub fn first_fault<S: Alter>(alloc: Global, connection: &mut Connection<S>) -> Option<InvalidPart>
     requires settled { connection.old.in_transaction ≡ false }
     ensures { OnlyReads S.Store connection.old connection.new }
 {
     let (made, old) = match tables_found(connection) {
         Ok(found) => found,
-        Err(OpenFault::NotADesk) => return Some(PartFault::OtherTables),
+        Err(OpenFault::NotADesk) => return Some(InvalidPart::OtherTables),
         Err(_) => return None,
     };
     if made == TablesPresent::Nothing {
-        return Some(PartFault::NoTable);
+        return Some(InvalidPart::NoTable);
     }
     if old {
         old_fault(alloc, connection, made)
@@ -135,14 +135,14 @@ fn new_fault<S: Alter>(
     alloc: Global,
     connection: &mut Connection<S>,
     made: TablesPresent,
-) -> Option<PartFault>
+) -> Option<InvalidPart>
     requires part { ShowsOperators S.Store connection.old made }
     ensures { OnlyReads S.Store connection.old connection.new }
 {
     let Ok((heads, covered)) = heads_in(alloc, connection, made) else {
         return None;
     };
-    let plans = match plans_of(alloc, &heads, PartFault::Volume) {
+    let plans = match plans_of(alloc, &heads, InvalidPart::Volume) {
         Ok(plans) => plans,
         Err(part) => return part,
     };
@@ -159,14 +159,14 @@ fn old_fault<S: Alter>(
     alloc: Global,
     connection: &mut Connection<S>,
     made: TablesPresent,
-) -> Option<PartFault>
+) -> Option<InvalidPart>
     requires part { ShowsPart S.Store connection.old made }
     requires some { made ≢ TablesPresent.Nothing }
     ensures { OnlyReads S.Store connection.old connection.new }
 {
     match are_new_empty(connection, made) {
         Ok(true) => {}
-        Ok(false) => return Some(PartFault::BothSchemas),
+        Ok(false) => return Some(InvalidPart::BothSchemas),
         Err(_) => return None,
     }
     old_part(alloc, connection, made)
@@ -178,14 +178,14 @@ fn old_part<S: Alter>(
     alloc: Global,
     connection: &mut Connection<S>,
     made: TablesPresent,
-) -> Option<PartFault>
+) -> Option<InvalidPart>
     requires part { ShowsOperators S.Store connection.old made }
     ensures { OnlyReads S.Store connection.old connection.new }
 {
     let Ok(heads) = old_heads_in(alloc, connection, made) else {
         return None;
     };
-    let plans = match plans_of(alloc, &heads, PartFault::OldVolume) {
+    let plans = match plans_of(alloc, &heads, InvalidPart::OldVolume) {
         Ok(plans) => plans,
         Err(part) => return part,
     };
@@ -197,34 +197,34 @@ fn old_part<S: Alter>(
 }
 
 // The spans, which were held against the plans, or the covers, of which it is known whether they agree.
-fn fault_of_spans(mut check: SpanCheck, covered: bool) -> Option<PartFault>
+fn fault_of_spans(mut check: SpanCheck, covered: bool) -> Option<InvalidPart>
     ensures { (rows : List Values) → AreHeld check rows
         → IfSome result (FailsSpans check.plans.items rows covered) }
 {
     match check.agrees() {
         Ok(true) => {}
-        Ok(false) => return Some(PartFault::Span),
+        Ok(false) => return Some(InvalidPart::Span),
         Err(_) => return None,
     }
     if covered {
         None
     } else {
-        Some(PartFault::Cover)
+        Some(InvalidPart::Cover)
     }
 }
 
 // The spans of schema 1, which were held against the plans, or the limits of these.
-fn fault_of_old_spans(mut check: SpanCheck) -> Option<PartFault>
+fn fault_of_old_spans(mut check: SpanCheck) -> Option<InvalidPart>
     ensures { (rows : List Values) → AreHeld check rows
         → IfSome result (FailsOldSpans check.plans.items rows) }
 {
     match check.agrees() {
         Ok(true) => {}
-        Ok(false) => return Some(PartFault::OldSpan),
+        Ok(false) => return Some(InvalidPart::OldSpan),
         Err(_) => return None,
     }
     match are_old(&check.plans) {
-        Ok(false) => Some(PartFault::OldPlan),
+        Ok(false) => Some(InvalidPart::OldPlan),
         _ => None,
     }
 }
@@ -233,34 +233,34 @@ fn fault_of_old_spans(mut check: SpanCheck) -> Option<PartFault>
 fn plans_of(
     alloc: Global,
     rows: &TableRows,
-    volume: PartFault,
-) -> Result<Vec<FiledPlan>, Option<PartFault>>
+    volume: InvalidPart,
+) -> Result<Vec<FiledPlan>, Option<InvalidPart>>
     ensures ok { IfOk result (λ plans. AreGoodHeads rows.now plans.items) }
     ensures fault { IfErr result (λ named. IfSome named (FailsHeads rows.now volume)) }
 {
     one_shape();
     let operators = match operators_in(alloc, &rows.operators) {
         Ok(operators) => operators,
-        Err(fault) => return Err(if_no_desk(fault, PartFault::Operator)),
+        Err(fault) => return Err(if_no_desk(fault, InvalidPart::Operator)),
     };
     let plans = match plans_in(alloc, &rows.plans, &rows.volumes) {
         Ok(plans) => plans,
         Err(fault) => return Err(if_no_desk(fault, plan_or(volume, &rows.plans))),
     };
     if !names_ascend(&operators) {
-        return Err(Some(PartFault::Operator));
+        return Err(Some(InvalidPart::Operator));
     }
     if !keys_ascend(&plans) {
-        return Err(Some(PartFault::Plan));
+        return Err(Some(InvalidPart::Plan));
     }
     if !are_shared(&operators, &plans) {
-        return Err(Some(PartFault::Plans));
+        return Err(Some(InvalidPart::Plans));
     }
     Ok(plans)
 }
 
 // The part whose rows were not read, if they are no desk's.
-fn if_no_desk(fault: RowFault, part: PartFault) -> Option<PartFault>
+fn if_no_desk(fault: RowFault, part: InvalidPart) -> Option<InvalidPart>
     ensures { result ≡ spec.if_no_desk fault part }
 {
     match fault {
@@ -270,11 +270,11 @@ fn if_no_desk(fault: RowFault, part: PartFault) -> Option<PartFault>
 }
 
 // The plans, if one of these rows of `plan` is none; else the volumes.
-fn plan_or(volume: PartFault, heads: &[Row]) -> PartFault
-    ensures { (result ≡ volume) ⊎ ((result ≡ PartFault.Plan) × (¬ ArePlanHeads heads.now)) }
+fn plan_or(volume: InvalidPart, heads: &[Row]) -> InvalidPart
+    ensures { (result ≡ volume) ⊎ ((result ≡ InvalidPart.Plan) × (¬ ArePlanHeads heads.now)) }
 {
     match test_heads(heads) {
-        Err(RowFault::NoDesk) => PartFault::Plan,
+        Err(RowFault::NoDesk) => InvalidPart::Plan,
         _ => volume,
     }
 }

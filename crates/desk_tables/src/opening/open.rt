@@ -7,7 +7,7 @@ ghost use Rattle.desk_tables.specs.Moving.{BeginsMoved, KeepsRows, ShowsNoConten
 ghost use Rattle.desk_tables.specs.Opening.{BeginsWith, ShowsNoDesk, ShowsOldRows};
 ghost use Rattle.desk_tables.specs.OpeningSteps.{IsAdopted, IsNotAdopted};
 
-use crate::known::Known;
+use crate::known::MemoryIndex;
 use crate::opening::exact::RowFault;
 use crate::opening::finding::{create_tables, load_world};
 use crate::opening::moving::moved_world_in;
@@ -270,7 +270,7 @@ fn over_blank<S: Alter + Drop>(
         return Err(OpenFault::Store);
     };
     let kept = create_tables(&mut connection)?;
-    let known = Known::new(alloc);
+    let known = MemoryIndex::new(alloc);
     Ok(SqliteStore::with(
         alloc,
         connection,

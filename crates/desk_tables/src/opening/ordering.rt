@@ -14,8 +14,8 @@ ghost use Rattle.desk_tables.specs.Opening.{BlamesReading, HasNewRows};
 ghost use Rattle.desk_tables.specs.OpeningSteps.{BeginsOrdered, HadNone, IsSetUp, ShowsPart};
 ghost use Rattle.desk_tables.specs.Writable.{HasSpansToIndex, IsToOrder};
 
-use crate::kept::GhostWorld;
-use crate::known::Known;
+use crate::kept::GhostState;
+use crate::known::MemoryIndex;
 use crate::opening::exact::FiledPlan;
 use crate::opening::finding::content_found;
 use crate::opening::moving::write_plans;
@@ -32,7 +32,7 @@ use volume4d::laws::covers_are_few;
 pub(crate) fn ordered_in<S: Alter>(
     alloc: Global,
     connection: &mut Connection<S>,
-) -> Result<(GhostWorld, Known, bool), OpenFault>
+) -> Result<(GhostState, MemoryIndex, bool), OpenFault>
     requires part { ShowsPart S.Store connection.old TablesPresent.Packed }
     requires new { Holds S.Store connection.old (HasNewRows TablesPresent.Packed) }
     requires unlimited { connection.old.step_limit ≡ None }
@@ -46,7 +46,7 @@ pub(crate) fn ordered_in<S: Alter>(
     let (content, known) = content_found(alloc, connection, TablesPresent::Packed)?;
     put_in_order(alloc, connection, &content.plans)?;
     let is_enrolled = !content.operators.is_empty();
-    Ok((GhostWorld::of(&content), known, is_enrolled))
+    Ok((GhostState::of(&content), known, is_enrolled))
 }
 
 // The tables come into a desk's own order, with the rows of these plans in `volume2` and `span2`, as one

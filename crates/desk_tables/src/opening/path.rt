@@ -1,4 +1,4 @@
-//! What asks for the files at a path, and tells if they were not opened: nothing else makes an `Unreached`.
+//! What asks for the files at a path, and tells if they were not opened: nothing else makes an `NotOpened`.
 
 ghost use Rattle.std.specs.Prelude.{◌≡◌, IfErr, IfOk, IsTrue, None, true, false};
 ghost use Rattle.std.specs.Option.{IsSomeAnd};
@@ -27,13 +27,13 @@ const LOG_FRAMES: usize = 320;
 /// Files that were not opened, so that nothing in them was read. Only what opens files makes one, so what has
 /// one has tried.
 #[derive(Drop)]
-pub struct Unreached<D: Disk> {
+pub struct NotOpened<D: Disk> {
     fault: OpenFault,
     // What is left of the files, if both were there. They are closed, and clauses alone read what it was.
     left: Option<Snapshot<Leftover<D>>>,
 }
 
-impl<D: Disk> Unreached<D> {
+impl<D: Disk> NotOpened<D> {
     /// Why they were not opened.
     pub fn fault(&self) -> OpenFault
         ensures { result ≡ self.now.fault }
@@ -47,7 +47,7 @@ pub(crate) fn over_pair<D: Disk + Drop>(
     alloc: Global,
     files: Files<D>,
     options: Options,
-) -> Result<Connection<FileStore<D>>, Unreached<D>>
+) -> Result<Connection<FileStore<D>>, NotOpened<D>>
     requires log { IsTrue (D.Disk.is_usable files.log) }
     requires db { IsTrue (D.Disk.is_usable files.db) }
     ensures found { IfOk result (Finds (image_of D.Disk files)) }
@@ -58,7 +58,7 @@ pub(crate) fn over_pair<D: Disk + Drop>(
 {
     match Connection::open_files_with(alloc, files, options, NEW_HAS_SUMS) {
         Ok(connection) => Ok(connection),
-        Err((error, left)) => Err(Unreached {
+        Err((error, left)) => Err(NotOpened {
             fault: OpenFault::from(error),
             left: Some(Snapshot::of(&left)),
         }),
@@ -70,7 +70,7 @@ pub(crate) fn over_pair<D: Disk + Drop>(
 /// # Errors
 ///
 /// `Store` if there is no file at the path, or an empty one.
-pub(crate) fn find_file<D: Disk>(rt: &HostRuntime, path: &str) -> Result<(), Unreached<D>>
+pub(crate) fn find_file<D: Disk>(rt: &HostRuntime, path: &str) -> Result<(), NotOpened<D>>
     ensures fault { IfErr result (λ it. IsUnread it.fault) }
     ensures left { IfErr result (λ it. it.left ≡ None) }
 {
@@ -85,7 +85,7 @@ pub(crate) fn find_file<D: Disk>(rt: &HostRuntime, path: &str) -> Result<(), Unr
 /// # Errors
 ///
 /// `Store` if there is something at the path.
-pub(crate) fn find_nothing<D: Disk>(rt: &HostRuntime, path: &str) -> Result<(), Unreached<D>>
+pub(crate) fn find_nothing<D: Disk>(rt: &HostRuntime, path: &str) -> Result<(), NotOpened<D>>
     ensures fault { IfErr result (λ it. IsUnread it.fault) }
     ensures left { IfErr result (λ it. it.left ≡ None) }
 {
@@ -100,7 +100,7 @@ pub(crate) fn open_pair<S: Start>(
     rt: &HostRuntime,
     path: &str,
     start: S,
-) -> Result<Files<FileFrom<S>>, Unreached<FileFrom<S>>>
+) -> Result<Files<FileFrom<S>>, NotOpened<FileFrom<S>>>
     ensures log { IfOk result (λ files. IsTrue (file_is_usable S.Start files.log)) }
     ensures db { IfOk result (λ files. IsTrue (file_is_usable S.Start files.db)) }
     ensures fresh { IfOk result (λ files. IsFresh true files.log × IsFresh false files.db) }
@@ -120,7 +120,7 @@ pub(crate) fn open_pair<S: Start>(
 }
 
 /// The options of a desk's files: the seed of the log's salts is drawn by the operating system.
-pub(crate) fn options<D: Disk>(rt: &HostRuntime) -> Result<Options, Unreached<D>>
+pub(crate) fn options<D: Disk>(rt: &HostRuntime) -> Result<Options, NotOpened<D>>
     ensures frames { IfOk result (λ options. options.checkpoint_frames ≡ log_frames) }
     ensures fault { IfErr result (λ it. IsUnread it.fault) }
     ensures left { IfErr result (λ it. it.left ≡ None) }
@@ -138,9 +138,9 @@ pub(crate) fn options<D: Disk>(rt: &HostRuntime) -> Result<Options, Unreached<D>
 }
 
 // Files that were not opened, for this cause, since they were not both there.
-fn unopened<D: Disk>(fault: OpenFault) -> Unreached<D>
+fn unopened<D: Disk>(fault: OpenFault) -> NotOpened<D>
     ensures fault { result.fault ≡ fault }
     ensures left { result.left ≡ None }
 {
-    Unreached { fault, left: None }
+    NotOpened { fault, left: None }
 }

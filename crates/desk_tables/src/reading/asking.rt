@@ -11,12 +11,12 @@ ghost use Rattle.desk_tables.specs.SpanBounds.{Bounds, IsWithinExtent};
 ghost use Rattle.desk_tables.specs.ReadsMade.{ReadsSpans, spans_shown};
 
 use crate::reading::readers::held_by;
-use crate::reading::rivals::{Rivals, reach_from};
+use crate::reading::rivals::{SpanCollector, reach_from};
 use crate::span_bounds::SpanBounds;
 use crate::tables::DeskTables;
-use desk_live::Wanted;
 use desk_sql::{other_spans, rival_spans};
 use desk_store::StoreFault;
+use live_index::Wanted;
 use s2_cover::Span;
 use sqlite_trees::store::Alter;
 use volume4d::{Held, Slab};
@@ -82,7 +82,7 @@ impl<S: Alter> DeskTables<S> {
             (spans_shown S.Store self.old) helds.items) }
         ensures open { WasOpen S.Store self.old.held self.new.held result }
     {
-        let mut rivals = Rivals::new(self.alloc);
+        let mut rivals = SpanCollector::new(self.alloc);
         let reach = reach_from(question, extent, wanted.least);
         let low = question.first as i64;
         let operator = wanted.operator.as_str();

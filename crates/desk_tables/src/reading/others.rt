@@ -9,13 +9,13 @@ ghost use Rattle.desk_tables.specs.ReadsMade.{ReadsSpans};
 ghost use Rattle.desk_tables.specs.Known.{Knows};
 ghost use Rattle.desk_tables.specs.SpanBounds.{Bounds};
 
-use crate::known::Known;
+use crate::known::MemoryIndex;
 use crate::reading::plans::{FEW, MOST};
 use crate::span_bounds::SpanBounds;
 use crate::tables::DeskTables;
-use desk_live::{Wanted, push_clipped};
 use desk_rules::operator::Operator;
 use desk_store::StoreFault;
+use live_index::{Wanted, push_clipped};
 use sqlite_trees::store::Alter;
 use volume4d::{Held, Slab};
 
@@ -33,7 +33,7 @@ impl<S: Alter> DeskTables<S> {
         &mut self,
         operator: &Operator,
         extents: &[Slab],
-        known: &Known,
+        known: &MemoryIndex,
     ) -> Result<Vec<Held>, StoreFault>
         requires { Knows known.now self.old.world }
         ensures { ReadsSpans S.Store self.old self.new result (λ helds.

@@ -6,17 +6,17 @@ ghost use Rattle.volume4d.specs.Slab.{slabs_have, top_held};
 ghost use Rattle.desk_rules.specs.Conflict.{at_least};
 ghost use Rattle.desk_store.specs.Content.{IsId};
 ghost use Rattle.desk_store.specs.Rivals.{HaveLevel};
-ghost use Rattle.desk_live.specs.Near.{listed_top};
+ghost use Rattle.live_index.specs.Near.{listed_top};
 ghost use Rattle.desk_tables.specs.ReadsMade.{ReadsSpans, spans_shown};
 ghost use Rattle.desk_tables.specs.RivalRows.{HaveTaken, is_asked_of_plan, leaves_begun};
 ghost use Rattle.desk_sql.specs.QueryEnds.{WasOpen};
 
 use crate::reading::readers::held_by;
-use crate::reading::rivals::{Rivals, reach_of};
+use crate::reading::rivals::{SpanCollector, reach_of};
 use crate::tables::DeskTables;
-use desk_live::{PlanKey, whole_of};
 use desk_sql::plan_spans;
 use desk_store::StoreFault;
+use live_index::{PlanKey, whole_of};
 use s2_cover::Span;
 use sqlite_trees::store::Alter;
 use volume4d::{Held, Slab};
@@ -98,7 +98,7 @@ impl<S: Alter> DeskTables<S> {
         ensures id { IsId key.now.id }
         ensures open { WasOpen S.Store self.old.held self.new.held result }
     {
-        let mut rivals = Rivals::new(self.alloc);
+        let mut rivals = SpanCollector::new(self.alloc);
         let mut buffer = [0u8; 36];
         let id = key.id.encode(&mut buffer);
         let reach = reach_of(extent, least);

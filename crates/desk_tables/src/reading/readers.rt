@@ -14,18 +14,18 @@ ghost use Rattle.desk_tables.specs.Known.{Knows};
 ghost use Rattle.desk_tables.specs.RivalRows.{AreWantedNear};
 ghost use Rattle.desk_tables.specs.ReadsMade.{ReadsPlans, ReadsSpans};
 
-use crate::known::Known;
+use crate::known::MemoryIndex;
 use crate::reading::listing::PlanCollector;
 use crate::reading::plans::room_beside;
-use crate::reading::rivals::Rivals;
+use crate::reading::rivals::SpanCollector;
 use crate::reading::values::{area_in, fault_told, or_fault, plan_in};
 use crate::tables::DeskTables;
-use desk_live::{Wanted, whole_of};
 use desk_rules::operator::Operator;
 use desk_rules::plan::PlanRow;
 use desk_rules::plan_id::PlanId;
 use desk_sql::{own_plans as own_listing, plan_of, volumes_of};
 use desk_store::StoreFault;
+use live_index::{Wanted, whole_of};
 use sqlite::{Error, ErrorCode, Row};
 use sqlite_trees::store::Alter;
 use std::alloc::Global;
@@ -113,7 +113,7 @@ impl<S: Alter> DeskTables<S> {
         &mut self,
         wanted: &Wanted,
         extents: &[Slab],
-        known: &Known,
+        known: &MemoryIndex,
     ) -> Result<Vec<Held>, StoreFault>
         requires { Knows known.now self.old.world }
         ensures { ReadsSpans S.Store self.old self.new result (λ helds.
@@ -172,7 +172,7 @@ fn collected(
 // The slabs of spans that were handed over, if all were; an error of input and output is told as this.
 pub(crate) fn held_by(
     handed: Result<(), Error>,
-    rivals: Rivals,
+    rivals: SpanCollector,
     told: StoreFault,
 ) -> Result<Vec<Held>, StoreFault>
     ensures whole { OnOk result (IsOk handed) }

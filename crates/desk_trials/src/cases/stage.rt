@@ -8,7 +8,6 @@ use crate::empty_store::EmptyStore;
 use crate::named::{id_of, operator_of};
 use crate::texts::{RequestText, request_bytes};
 use anyhow::Context;
-use desk_ends::Moment;
 use desk_rules::call::{Asked, Call};
 use desk_rules::operator::Operator;
 use desk_rules::permission::Permitted;
@@ -18,6 +17,7 @@ use desk_rules::terms::Terms;
 use desk_rules::words::PlanResult;
 use desk_run::{Desk, Outcome};
 use desk_wire::answer;
+use io_ends::Moment;
 use std::alloc::{AllocError, Global};
 use std::io::{self, Write};
 

@@ -20,7 +20,7 @@ use Rattle.desk_store.specs.StoreChange.{changed_by}
 use Rattle.desk_store.specs.declared.change.Change.{Change}
 use Rattle.desk_store.specs.declared.change.Change.TheVariants.{Enrol, Put, Close, Clear}
 use Rattle.operator_index.specs.declared.account.PlanState.{PlanState}
-use Rattle.operator_index.specs.declared.account.Account.{Account}
+use Rattle.operator_index.specs.declared.account.OperatorEntry.{OperatorEntry}
 use Rattle.operator_index.specs.Roll.{Accounts, AreAccountsOf, account_in, ceiling_after, ceiling_in, close_if, is_state_named, kept_beside, kept_unless, named_by, or_else, plans_after, plans_in, plans_or_none, put_state, state_has_id, state_of}
 
 -- ---- names
@@ -43,7 +43,7 @@ same_text a b e = exact_bytes a b (is_equal (text_cmp a b) e)
 abbrev ceiling_listed : List ℕ → List Listed → Option ℕ
 ceiling_listed name ls = option_map (λ l. l.ceiling) (find (λ l. is_eq (text_cmp name l.name)) ls)
 
-abbrev ceiling_at : Option Account → Option ℕ
+abbrev ceiling_at : Option OperatorEntry → Option ℕ
 ceiling_at found = option_and_then (λ a. a.ceiling) found
 
 abbrev or_this : Option ℕ → ℕ → ℕ
@@ -51,10 +51,10 @@ or_this None n = n
 or_this (Some m) n = m
 
 -- the accounts where one has a new value
-pub record AreWritten (o : List ℕ) (old new : Accounts) (b : Account) : Type 0 where
+pub record AreWritten (o : List ℕ) (old new : Accounts) (b : OperatorEntry) : Type 0 where
   pub each : (q : List ℕ) → account_in q new ≡ cond (is_eq (text_cmp o q)) (Some b) (account_in q old)
 
-pub written : (o : List ℕ) (old new : Accounts) (b : Account) (ls more : List Listed) (ps qs : List Filed)
+pub written : (o : List ℕ) (old new : Accounts) (b : OperatorEntry) (ls more : List Listed) (ps qs : List Filed)
     → AreWritten o old new b → AreAccountsOf ls ps old → b.ceiling ≡ ceiling_listed o more
     → ((q : List ℕ) → is_eq (text_cmp o q) ≡ false → ceiling_listed q more ≡ ceiling_listed q ls)
     → b.plans.items ≡ map state_of (rows_by o qs)
@@ -75,13 +75,13 @@ written o old new b ls more ps qs writes h ceiling ceilings plans others = recor
   of_plans q false e is = ap plans_or_none is ∙ h.states q ∙ ap (map state_of) (sym (others q e))
 
 -- what an account that is there has
-pub there : (o : List ℕ) (accounts : Accounts) (a : Account) (ls : List Listed) (ps : List Filed)
+pub there : (o : List ℕ) (accounts : Accounts) (a : OperatorEntry) (ls : List Listed) (ps : List Filed)
     → Some a ≡ account_in o accounts → AreAccountsOf ls ps accounts
     → (a.ceiling ≡ ceiling_listed o ls) × (a.plans.items ≡ map state_of (rows_by o ps))
 there o accounts a ls ps is h = (ap ceiling_at is ∙ h.ceilings o, ap plans_or_none is ∙ h.states o)
 
 -- the same operators and plans
-pub written_same : (o : List ℕ) (old new : Accounts) (b : Account) (ls : List Listed) (ps : List Filed)
+pub written_same : (o : List ℕ) (old new : Accounts) (b : OperatorEntry) (ls : List Listed) (ps : List Filed)
     → AreWritten o old new b → AreAccountsOf ls ps old → b.ceiling ≡ ceiling_in o old
     → b.plans.items ≡ plans_in o old → AreAccountsOf ls ps new
 written_same o old new b ls ps writes h ceiling plans =
@@ -115,7 +115,7 @@ or_else_is : (n : Option ℕ) (ceiling : ℕ) → or_else n ceiling ≡ Some (or
 or_else_is None ceiling = refl
 or_else_is (Some n) ceiling = refl
 
-pub listed_more : (o : List ℕ) (ceiling : ℕ) (old new : Accounts) (a b : Account) (ls : List Listed)
+pub listed_more : (o : List ℕ) (ceiling : ℕ) (old new : Accounts) (a b : OperatorEntry) (ls : List Listed)
     (ps : List Filed) → AreWritten o old new b → Some a ≡ account_in o old → AreAccountsOf ls ps old
     → b.ceiling ≡ or_else a.ceiling ceiling → b.plans.items ≡ a.plans.items
     → AreAccountsOf (ls ++ record { name = o; ceiling = ceiling } ∷ []) ps new
@@ -153,7 +153,7 @@ mapped_after : (rows : List PlanRow) (row : PlanRow)
 mapped_after [] row = refl
 mapped_after (r ∷ rows) row = ap (λ ss. state_of r ∷ ss) (mapped_after rows row)
 
-pub filed_more : (p : Filed) (old new : Accounts) (a b : Account) (ls : List Listed) (ps : List Filed)
+pub filed_more : (p : Filed) (old new : Accounts) (a b : OperatorEntry) (ls : List Listed) (ps : List Filed)
     → AreWritten p.operator old new b → Some a ≡ account_in p.operator old → AreAccountsOf ls ps old
     → b.ceiling ≡ a.ceiling → b.plans.items ≡ a.plans.items ++ state_of p.row ∷ []
     → AreAccountsOf ls (ps ++ p ∷ []) new
@@ -261,7 +261,7 @@ unfolding with_plans
 same_operators o rows w = refl
 
 -- an account whose plans are replaced
-replaced_plans : (o : List ℕ) (rows : List PlanRow) (w : World) (old new : Accounts) (a b : Account)
+replaced_plans : (o : List ℕ) (rows : List PlanRow) (w : World) (old new : Accounts) (a b : OperatorEntry)
     → AreWritten o old new b → Some a ≡ account_in o old → AreAccountsOf w.operators w.plans old
     → b.ceiling ≡ a.ceiling → b.plans.items ≡ map state_of rows
     → AreAccountsOf (with_plans w o rows).operators (with_plans w o rows).plans new
@@ -274,7 +274,7 @@ replaced_plans o rows w old new a b writes was h same is =
     listed : w.operators ≡ (with_plans w o rows).operators
     listed = same_operators o rows w
 
-pub followed : (change : Change) (w : World) (old new : Accounts) (a b : Account)
+pub followed : (change : Change) (w : World) (old new : Accounts) (a b : OperatorEntry)
     → AreWritten (named_by change) old new b → Some a ≡ account_in (named_by change) old
     → AreAccountsOf w.operators w.plans old → b.ceiling ≡ ceiling_after change a.ceiling
     → b.plans.items ≡ plans_after change a.plans.items
@@ -305,7 +305,7 @@ pub ceiling_is : (o : List ℕ) (w : World) (accounts : Accounts) → AreAccount
 unfolding ceiling_of
 ceiling_is o w accounts h = h.ceilings o
 
-pub absent : (found : Option Account) → false ≡ is_some found → found ≡ None
+pub absent : (found : Option OperatorEntry) → false ≡ is_some found → found ≡ None
 absent None e = refl
 absent (Some a) e = cc
 

@@ -1,5 +1,5 @@
 use Rattle.std.proofs.Common.{subst}
-use Rattle.desk_line.specs.Exits.{ending}
+use Rattle.desk_cli.specs.Exits.{ending}
 use Rattle.desk_program.specs.Looking.{IsTextPrinted, copied_line}
 use Rattle.desk_admin.proofs.keeping.copy_file.Goals as goal
 

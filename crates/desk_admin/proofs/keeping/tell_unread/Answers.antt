@@ -4,5 +4,5 @@ pub returns : goal.returns
 returns g c = record {
   between = _;
   cause = c.tell_database.ensures;
-  fails = (c.conclude.ensures.status, c.conclude.ensures.told);
+  fails = (c.report_exit.ensures.status, c.report_exit.ensures.told);
 }

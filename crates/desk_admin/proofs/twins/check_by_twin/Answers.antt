@@ -1,7 +1,7 @@
 use Rattle.std.proofs.Common.{subst}
 use Rattle.sqlite_wal.specs.Files.{image_at}
 use Rattle.desk_wire.specs.Passage.{course}
-use Rattle.desk_line.specs.Exits.{ending}
+use Rattle.desk_cli.specs.Exits.{ending}
 use Rattle.desk_admin.specs.Twins.{IsJudged}
 use Rattle.desk_admin.proofs.twins.check_by_twin.Goals as goal
 

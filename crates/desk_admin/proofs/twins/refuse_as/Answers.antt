@@ -4,5 +4,5 @@ pub returns : goal.returns
 returns g c = record {
   between = g.E.Write.contents c.tell.new.errors;
   cause = c.tell.ensures;
-  fails = (c.conclude.ensures.status, c.conclude.ensures.told);
+  fails = (c.report_exit.ensures.status, c.report_exit.ensures.told);
 }

@@ -4,7 +4,7 @@ use Rattle.desk_store.proofs.lemmas.Fault.{was_honest}
 use Rattle.desk_run.specs.DeskWorld.{world_of}
 use Rattle.desk_wire.specs.Passage.{passage}
 use Rattle.desk_wire.specs.Playing.{HasPlayed}
-use Rattle.desk_line.specs.Exits.{EndsWith, ending}
+use Rattle.desk_cli.specs.Exits.{EndsWith, ending}
 use Rattle.desk_program.specs.Enrolling.{AreListedSoFar, on_terms, with_operators}
 use Rattle.desk_program.specs.Keeping.{AreKeptSoFar}
 use Rattle.desk_program.proofs.EndLemmas.{not_played}
@@ -17,11 +17,11 @@ returns-in-Err-clause-played g c =
     let w = world_of g.S.PlanStore.content c.args.desk.now in
     let after = world_of g.S.PlanStore.content c.set_up.new.desk in
     let honest = IsHonest (g.S.PlanStore.doubt c.set_up.new.desk.store) in
-    let end = ending c.conclude.result (g.E.Write.contents c.args.errors.now)
-    (g.E.Write.contents c.conclude.new.errors) in
+    let end = ending c.report_exit.result (g.E.Write.contents c.args.errors.now)
+    (g.E.Write.contents c.report_exit.new.errors) in
     inr (not_played honest c.args.line.now end (g.R.Read.remaining c.args.input.now)
     (g.W.Write.contents c.args.output.now) w after c.in-Err.fault c.from.result c.from.ensures
-    c.in-Err.ensures.fault (c.conclude.ensures.status, c.conclude.ensures.told)
+    c.in-Err.ensures.fault (c.report_exit.ensures.status, c.report_exit.ensures.told)
     (subst (λ es. AreListedSoFar honest es (on_terms w c.args.line.now.desk.terms) after)
     c.deref.ensures.value c.in-Err.ensures.listed))
 
@@ -30,12 +30,12 @@ returns-in-Err-clause-kept g c = λ p settled found may.
     let w = world_of g.S.PlanStore.content c.args.desk.now in
     let after = world_of g.S.PlanStore.content c.set_up.new.desk in
     let honest = IsHonest (g.S.PlanStore.doubt c.set_up.new.desk.store) in
-    let end = ending c.conclude.result (g.E.Write.contents c.args.errors.now)
-    (g.E.Write.contents c.conclude.new.errors) in
+    let end = ending c.report_exit.result (g.E.Write.contents c.args.errors.now)
+    (g.E.Write.contents c.report_exit.new.errors) in
     inr (
       not_played honest c.args.line.now end (g.R.Read.remaining c.args.input.now)
           (g.W.Write.contents c.args.output.now) w after c.in-Err.fault c.from.result c.from.ensures
-          c.in-Err.ensures.fault (c.conclude.ensures.status, c.conclude.ensures.told)
+          c.in-Err.ensures.fault (c.report_exit.ensures.status, c.report_exit.ensures.told)
           (subst (λ es. AreListedSoFar honest es (on_terms w c.args.line.now.desk.terms) after)
           c.deref.ensures.value c.in-Err.ensures.listed),
       subst (λ es. AreKeptSoFar honest es (on_terms w c.args.line.now.desk.terms) after found)
@@ -54,9 +54,9 @@ returns-clause-played g c =
     inl (record {
       ended = played.ended;
       answered = played.answered;
-      ends = subst (λ d. EndsWith d (ending c.conclude-2.result (g.E.Write.contents c.args.errors.now)
-          (g.E.Write.contents c.conclude-2.new.errors))) c.done_after.ensures
-          (c.conclude-2.ensures.status, c.conclude-2.ensures.told);
+      ends = subst (λ d. EndsWith d (ending c.report_exit-2.result (g.E.Write.contents c.args.errors.now)
+          (g.E.Write.contents c.report_exit-2.new.errors))) c.done_after.ensures
+          (c.report_exit-2.ensures.status, c.report_exit-2.ensures.told);
       played = λ h.
           let listed = c.in_default.ensures.listed (was_honest c.play_all-played.ensures.remembered.doubt h)
           ∙ ap (with_operators begun) c.deref.ensures.value in
@@ -70,14 +70,14 @@ returns-clause-kept g c = λ p settled found may.
     let before = was_honest c.play_all-played.ensures.remembered.doubt p in
     let played = c.play_all-played.result in
     let w = world_of g.S.PlanStore.content c.args.desk.now in
-    let end = ending c.conclude-2.result (g.E.Write.contents c.args.errors.now)
-    (g.E.Write.contents c.conclude-2.new.errors) in
+    let end = ending c.report_exit-2.result (g.E.Write.contents c.args.errors.now)
+    (g.E.Write.contents c.report_exit-2.new.errors) in
     run_kept (IsHonest (g.S.PlanStore.doubt c.play_all-played.new.desk.store)) c.args.line.now end
     played.ended played.answered (passage g.R.Read g.W.Write c.args.input.now c.play_all-played.new.input
     c.args.output.now c.play_all-played.new.output) w (world_of g.S.PlanStore.content c.set_up.new.desk)
     (world_of g.S.PlanStore.content c.play_all-played.new.desk)
     (subst (λ d. EndsWith d end) c.done_after.ensures
-    (c.conclude-2.ensures.status, c.conclude-2.ensures.told))
+    (c.report_exit-2.ensures.status, c.report_exit-2.ensures.told))
     (λ h. c.in_default.ensures.listed (was_honest c.play_all-played.ensures.remembered.doubt h)
     ∙ ap (with_operators (on_terms w c.args.line.now.desk.terms)) c.deref.ensures.value)
     c.play_all-played.ensures.played p found
@@ -86,4 +86,4 @@ returns-clause-kept g c = λ p settled found may.
 pub returns-in-Err-clause-cause : goal.returns-in-Err-clause-cause
 returns-in-Err-clause-cause g c =
     ends_counted c.in-Err.fault c.from.result _ c.from.ensures c.in-Err.ensures.cause
-    (c.conclude.ensures.status, c.conclude.ensures.told)
+    (c.report_exit.ensures.status, c.report_exit.ensures.told)

@@ -1,5 +1,5 @@
 use Rattle.std.proofs.Common.{◌∙◌, subst}
-use Rattle.desk_line.specs.Exits.{IsAnnounced}
+use Rattle.desk_cli.specs.Exits.{IsAnnounced}
 use Rattle.desk_program.proofs.BegunLemmas.{announced_by}
 use Rattle.desk_program.proofs.server.listen.Goals as goal
 

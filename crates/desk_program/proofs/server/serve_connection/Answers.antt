@@ -2,7 +2,7 @@ use Rattle.std.proofs.Common.{◌≡◌, ◌≢◌, ◌∙◌, ◌∷◌, [], If
 use Rattle.desk_store.specs.StoreFaults.{IsHonest}
 use Rattle.desk_store.proofs.lemmas.Fault.{was_honest}
 use Rattle.desk_run.specs.DeskWorld.{world_of}
-use Rattle.desk_line.specs.Exits.{enrolment_failure, failure_at}
+use Rattle.desk_cli.specs.Exits.{enrolment_failure, failure_at}
 use Rattle.desk_program.specs.Enrolling.{AreEnrolled, AreListedSoFar}
 use Rattle.desk_program.specs.Keeping.{FindsNews}
 use Rattle.desk_program.specs.Recorded.{IsOpen}

@@ -1,5 +1,5 @@
 use Rattle.std.proofs.Common.{◌≡◌, ◌++◌, drop}
-use Rattle.desk_line.specs.Lines.{AreEnrolments}
+use Rattle.desk_cli.specs.Lines.{AreEnrolments}
 use Rattle.desk_recording.specs.Recovering as spec
 use Rattle.desk_recording.proofs.recovering.missing_of.Given as goal
 

@@ -1,7 +1,7 @@
 use Rattle.std.proofs.Common.{◌++◌, ◌∷◌, [], ap, sym, subst, take, ◌∙◌}
 use Rattle.std.proofs.lemmas.List.{take_more}
 use Rattle.desk_store.specs.World.{Filed}
-use Rattle.desk_live.specs.Live.{AreVolumes, gathered_in}
+use Rattle.live_index.specs.Live.{AreVolumes, gathered_in}
 use Rattle.desk_tables.proofs.known.live_among.Goals as goal
 
 pub loop-plan-preserved : goal.loop-plan-preserved

@@ -1,5 +1,5 @@
 use Rattle.std.proofs.Common.{take}
-use Rattle.desk_live.specs.Live.{AreVolumes, gathered_in}
+use Rattle.live_index.specs.Live.{AreVolumes, gathered_in}
 use Rattle.desk_tables.proofs.known.live_among.Given as goal
 
 -- the volumes of the plans so far

@@ -1,5 +1,5 @@
 use Rattle.std.proofs.Common.{option_map, subst}
-use Rattle.desk_reading.specs.Messages.{message_read}
+use Rattle.request_parser.specs.Messages.{message_read}
 use Rattle.desk_store.specs.StoreFaults.{IsHonest}
 use Rattle.desk_run.specs.DeskFrames.{Leaves}
 use Rattle.desk_run.specs.DeskWorld.{world_of}

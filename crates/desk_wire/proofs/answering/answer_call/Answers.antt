@@ -5,7 +5,7 @@ use Rattle.desk_store.proofs.lemmas.Fault.{was_honest}
 use Rattle.desk_run.specs.DeskWorld.{world_of}
 use Rattle.desk_run.specs.Calls.{IsPending, Prepares, world_committed}
 use Rattle.desk_run.specs.Verdicts.{unknown_operator, no_such_plan}
-use Rattle.desk_ends.proofs.lemmas.Moment.{same_moment}
+use Rattle.io_ends.proofs.lemmas.Moment.{same_moment}
 use Rattle.desk_wire.specs.Bytes.{status, text}
 use Rattle.desk_wire.proofs.BytesLemmas.{change_unanswered, done_if_ok, done_unanswered, status_pending, status_unanswered}
 use Rattle.desk_run.proofs.lemmas.Crash.{leaves_after, leaves_read}

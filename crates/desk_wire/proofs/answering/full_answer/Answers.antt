@@ -1,12 +1,12 @@
 use Rattle.std.proofs.Common.{IfOk, refl, subst}
-use Rattle.desk_reading.specs.Messages.{message_read}
+use Rattle.request_parser.specs.Messages.{message_read}
 use Rattle.desk_store.specs.StoreFaults.{IsHonest}
 use Rattle.desk_run.specs.DeskFrames.{Leaves}
 use Rattle.desk_run.specs.DeskWorld.{world_of}
 use Rattle.desk_wire.specs.Bytes.{IsAnswerTold}
 use Rattle.desk_wire.specs.Failing.{failure_told}
 use Rattle.desk_wire.proofs.BytesLemmas.{asked_read, left_read}
-use Rattle.desk_wire.proofs.answering.full_answer.Goals as goal
+use Rattle.desk_wire.proofs.answering.answer_with_status.Goals as goal
 
 pub returns-clause-told : goal.returns-clause-told
 returns-clause-told g c =

@@ -1,6 +1,6 @@
 use Rattle.std.proofs.Common.{◌≡◌, ◌≤◌, ◌+◌, ◌-◌, ◌∙◌, [], ◌∷◌, map, option_map, sym, ap, subst, length, arith}
 use Rattle.std.proofs.lemmas.List.{length-append, length-map}
-use Rattle.desk_reading.specs.Messages.{message_read}
+use Rattle.request_parser.specs.Messages.{message_read}
 use Rattle.desk_store.proofs.lemmas.Fault.{was_honest}
 use Rattle.desk_run.specs.DeskWorld.{world_of}
 use Rattle.desk_wire.specs.AllAnswers.{AreBroken}

@@ -1,7 +1,7 @@
 use Rattle.std.proofs.Common.{◌≡◌, ℤ, Ok, Err, refl}
 use Rattle.desk_rules.specs.declared.call.Asked.{Asked}
-use Rattle.desk_reading.specs.Readings.{Reading}
-use Rattle.desk_reading.specs.Requests.{asked}
+use Rattle.request_parser.specs.Readings.{Reading}
+use Rattle.request_parser.specs.Requests.{asked}
 use Rattle.desk_run.specs.DeskWorld.{DeskWorld}
 use Rattle.desk_run.proofs.lemmas.Repeat.{step_again}
 use Rattle.desk_wire.specs.Bytes.{world_after}

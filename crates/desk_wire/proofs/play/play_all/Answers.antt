@@ -3,8 +3,8 @@ use Rattle.std.proofs.KnownBytes.{Keeps-refl}
 use Rattle.desk_store.specs.StoreFaults.{IsHonest}
 use Rattle.desk_store.proofs.lemmas.Fault.{was_honest}
 use Rattle.desk_run.specs.DeskWorld.{world_of}
-use Rattle.desk_ends.specs.declared.playing.PlayEnd.TheVariants.{End, Unframed, Broken, Limit, Fault}
-use Rattle.desk_ends.specs.declared.serving.Served.TheVariants as outcome
+use Rattle.io_ends.specs.declared.playing.PlayEnd.TheVariants.{End, Unframed, Broken, Limit, Fault}
+use Rattle.io_ends.specs.declared.serving.Served.TheVariants as outcome
 use Rattle.desk_wire.proofs.KeptLemmas.{fault_last, kept_by, old_or_next}
 use Rattle.desk_wire.proofs.PlayLemmas.{none_played, one_played, broken_next, played_if, is_500, not_500}
 use Rattle.desk_wire.proofs.CauseLemmas.{failed_last, grows_more, grows_none}

@@ -1,6 +1,6 @@
 use Rattle.std.proofs.Common.{◌<◌, ◌++◌, IfSome, Ok, option_map, refl, sym, ap, subst, ◌∙◌, length}
 use Rattle.std.specs.Result.{is_ok}
-use Rattle.desk_reading.specs.Messages.{message_read}
+use Rattle.request_parser.specs.Messages.{message_read}
 use Rattle.desk_store.specs.StoreFaults.{IsHonest}
 use Rattle.desk_run.specs.DeskWorld.{world_of}
 use Rattle.desk_wire.specs.Streams.{front_read, front_reading, size_said, with_body}

@@ -1,6 +1,6 @@
 use Rattle.std.proofs.Common.{◌≡◌, ◌∙◌, ◌++◌, ap, nat_abs, subst, sym, true}
 use Rattle.std.specs.Result.{is_ok}
-use Rattle.desk_ends.proofs.lemmas.Moment.{same_moment}
+use Rattle.io_ends.proofs.lemmas.Moment.{same_moment}
 use Rattle.desk_record.specs.Record.{entry}
 use Rattle.desk_program.specs.Recorded.{request_entry, with_request}
 use Rattle.desk_recording.specs.RecordWrites.{AppendsKnown}

@@ -26,11 +26,11 @@ use denote.Triple.Entry.{on_entry, alive, Args}
 use denote.Triple.Spec.{Meets, triple_of}
 use denote.Triple.Table.{entered}
 use denote.Triple.Walked.{says, stay_none_ref, Stays, walk_of, Walks, ends_at, walked, Goes-none_ref, walk_Meets}
-use Rattle.desk_tables.specs.contracts.kept.GhostWorld.after.Key.{name as key}
-use Rattle.desk_tables.specs.contracts.kept.GhostWorld.after as f
-use Rattle.desk_tables.proofs.kept.GhostWorld.after.Statement as stated
-use Rattle.desk_tables.proofs.kept.GhostWorld.after.Code as code
-use Rattle.desk_tables.specs.contracts.kept.GhostWorld as kept
+use Rattle.desk_tables.specs.contracts.kept.GhostState.after.Key.{name as key}
+use Rattle.desk_tables.specs.contracts.kept.GhostState.after as f
+use Rattle.desk_tables.proofs.kept.GhostState.after.Statement as stated
+use Rattle.desk_tables.proofs.kept.GhostState.after.Code as code
+use Rattle.desk_tables.specs.contracts.kept.GhostState as kept
 use Rattle.desk_store.specs.contracts.change.Change as change
 use Rattle.desk_store.specs.StoreChange.{changed_by}
 

@@ -20,11 +20,11 @@ use denote.Triple.Entry.{on_entry, alive}
 use denote.Triple.Spec.{Meets, triple_of}
 use denote.Triple.Table.{entered}
 use denote.Triple.Walked.{says, Stays, walk_of, Walks, ends_at, walked, walk_Meets}
-use Rattle.desk_tables.specs.contracts.kept.GhostWorld.new.Key.{name as key}
-use Rattle.desk_tables.specs.contracts.kept.GhostWorld.new as f
-use Rattle.desk_tables.proofs.kept.GhostWorld.new.Statement as stated
-use Rattle.desk_tables.proofs.kept.GhostWorld.new.Code as code
-use Rattle.desk_tables.specs.contracts.kept.GhostWorld as made
+use Rattle.desk_tables.specs.contracts.kept.GhostState.new.Key.{name as key}
+use Rattle.desk_tables.specs.contracts.kept.GhostState.new as f
+use Rattle.desk_tables.proofs.kept.GhostState.new.Statement as stated
+use Rattle.desk_tables.proofs.kept.GhostState.new.Code as code
+use Rattle.desk_tables.specs.contracts.kept.GhostState as made
 
 abbrev stayed : Stays (f.ended).signature.params (f.ended).kept
 stayed = tt

@@ -26,11 +26,11 @@ use denote.Triple.Entry.{on_entry, alive, Args}
 use denote.Triple.Spec.{Meets, triple_of}
 use denote.Triple.Table.{entered}
 use denote.Triple.Walked.{says, stay_none_ref, Stays, walk_of, Walks, ends_at, walked, Goes-none_ref, walk_Meets}
-use Rattle.desk_tables.specs.contracts.kept.GhostWorld.of.Key.{name as key}
-use Rattle.desk_tables.specs.contracts.kept.GhostWorld.of as f
-use Rattle.desk_tables.proofs.kept.GhostWorld.of.Statement as stated
-use Rattle.desk_tables.proofs.kept.GhostWorld.of.Code as code
-use Rattle.desk_tables.specs.contracts.kept.GhostWorld as kept
+use Rattle.desk_tables.specs.contracts.kept.GhostState.of.Key.{name as key}
+use Rattle.desk_tables.specs.contracts.kept.GhostState.of as f
+use Rattle.desk_tables.proofs.kept.GhostState.of.Statement as stated
+use Rattle.desk_tables.proofs.kept.GhostState.of.Code as code
+use Rattle.desk_tables.specs.contracts.kept.GhostState as kept
 use Rattle.desk_tables.specs.contracts.opening.content.Content as content
 
 abbrev stayed : Stays (f.ended).signature.params (f.ended).kept

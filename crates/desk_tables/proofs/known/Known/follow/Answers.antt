@@ -1,5 +1,5 @@
 use Rattle.desk_tables.proofs.SpanBoundLemmas.{bounds_after}
-use Rattle.desk_tables.proofs.known.Known.follow.Goals as goal
+use Rattle.desk_tables.proofs.known.MemoryIndex.follow.Goals as goal
 
 pub returns : goal.returns
 returns c = λ w was. record {

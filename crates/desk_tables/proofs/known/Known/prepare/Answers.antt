@@ -1,4 +1,4 @@
-use Rattle.desk_tables.proofs.known.Known.prepare.Goals as goal
+use Rattle.desk_tables.proofs.known.MemoryIndex.prepare.Goals as goal
 
 pub returns-clause-kept : goal.returns-clause-kept
 returns-clause-kept c = λ w was. record {

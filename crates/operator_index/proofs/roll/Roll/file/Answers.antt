@@ -1,7 +1,7 @@
 use Rattle.std.proofs.Common.{IsSome, refl, subst}
 use Rattle.desk_store.specs.Changes.{filed_by}
 use Rattle.operator_index.proofs.lemmas.Roll.{filed_more}
-use Rattle.operator_index.proofs.roll.Roll.file.Goals as goal
+use Rattle.operator_index.proofs.roll.OperatorIndex.file.Goals as goal
 
 pub returns-in_ok-file : goal.returns-in_ok-file
 returns-in_ok-file c = λ ls ps h.

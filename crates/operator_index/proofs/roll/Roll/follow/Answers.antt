@@ -1,7 +1,7 @@
 use Rattle.std.proofs.Common.{◌∙◌, IsSome, ap, refl, subst, sym}
 use Rattle.operator_index.specs.Roll.{HasRoomIn, account_in}
 use Rattle.operator_index.proofs.lemmas.Roll.{AreWritten, followed}
-use Rattle.operator_index.proofs.roll.Roll.follow.Goals as goal
+use Rattle.operator_index.proofs.roll.OperatorIndex.follow.Goals as goal
 
 pub follow-requires : goal.follow-requires
 follow-requires c =

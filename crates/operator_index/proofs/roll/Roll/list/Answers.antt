@@ -1,6 +1,6 @@
 use Rattle.std.proofs.Common.{IsSome, refl, subst}
 use Rattle.operator_index.proofs.lemmas.Roll.{listed_more}
-use Rattle.operator_index.proofs.roll.Roll.list.Goals as goal
+use Rattle.operator_index.proofs.roll.OperatorIndex.list.Goals as goal
 
 pub returns-in-Some : goal.returns-in-Some
 returns-in-Some c = λ ls ps h.

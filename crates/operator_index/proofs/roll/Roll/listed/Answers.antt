@@ -1,7 +1,7 @@
 use Rattle.std.proofs.Common.{◌≡◌, ◌++◌, ◌∙◌, ap, sym}
 use Rattle.operator_index.specs.Roll.{listed_in}
 use Rattle.operator_index.proofs.ListedLemmas.{all_listed, listed_are, listed_first}
-use Rattle.operator_index.proofs.roll.Roll.listed.Goals as goal
+use Rattle.operator_index.proofs.roll.OperatorIndex.listed.Goals as goal
 
 pub loop-operator-init : goal.loop-operator-init
 loop-operator-init c =

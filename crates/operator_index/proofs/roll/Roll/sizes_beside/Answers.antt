@@ -3,7 +3,7 @@ use Rattle.desk_rules.specs.Plan.{row_cells, row_spans}
 use Rattle.desk_store.specs.World.{plans_of}
 use Rattle.operator_index.specs.Roll.{kept_cells_beside, kept_spans_beside, plans_or_none}
 use Rattle.operator_index.proofs.lemmas.Roll.{counted}
-use Rattle.operator_index.proofs.roll.Roll.sizes_beside.Goals as goal
+use Rattle.operator_index.proofs.roll.OperatorIndex.sizes_beside.Goals as goal
 
 pub returns-in-Some-clause-spans : goal.returns-in-Some-clause-spans
 returns-in-Some-clause-spans c = λ w h few.

@@ -5,7 +5,7 @@ use Rattle.desk_store.specs.World.{plans_of}
 use Rattle.operator_index.specs.declared.account.PlanState.{PlanState}
 use Rattle.operator_index.specs.Roll.{plans_or_none, state_has_id}
 use Rattle.operator_index.proofs.lemmas.Roll.{states_found}
-use Rattle.operator_index.proofs.roll.Roll.states.Goals as goal
+use Rattle.operator_index.proofs.roll.OperatorIndex.states.Goals as goal
 
 pub returns-in_err-account : goal.returns-in_err-account
 returns-in_err-account c = λ w h.

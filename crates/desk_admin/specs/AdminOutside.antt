@@ -1,0 +1,26 @@
+-- AdminOutside: what is known of what an administrator's command asks of folders and prints, and of how
+-- it ended.
+use Rattle.std.specs.Prelude.{ℕ, List, Option}
+use Rattle.std.specs.declared.io.Write as write
+use Rattle.desk_wire.specs.Passage.{Course}
+use Rattle.desk_cli.specs.declared.failure.ExitReport.{ExitReport}
+use Rattle.desk_cli.specs.Exits.{Ending}
+use Rattle.desk_program.specs.Outside.{bytes_written, ended}
+use Rattle.desk_admin.specs.declared.keeping.Writers.{Writers}
+use Rattle.desk_host.specs.Naming.{Steps}
+
+-- the steps of the folders; the bytes that are printed; the end
+pub record AdminOutside : Type 0 where
+  pub steps : Steps
+  pub writes : Course (Option (List ℕ))
+  pub end : Ending
+
+-- a line's writers, as they were before and as they are now, the steps of its folders, and how it ended
+abbrev pub admin_outside :
+    {W E : Type 0} → write.Ghosts W → write.Ghosts E → Writers W E → Writers W E → Steps → ExitReport E
+    → AdminOutside
+admin_outside w e old new steps exit = record {
+  steps = steps;
+  writes = bytes_written w old.output new.output;
+  end = ended e exit old.errors new.errors;
+}

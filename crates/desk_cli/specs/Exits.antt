@@ -1,0 +1,172 @@
+-- Exits: the status with which the program ends, and the word that it prints.
+use Rattle.std.specs.Prelude.{◌≡◌, ◌⊎◌, ℕ, ◌==◌, if◌then◌else◌, Bool, false, List, ◌++◌, codes, Option, Some, None, is_some, Result, Ok, Err}
+use Rattle.std.specs.Io.KnownBytes.{Appends}
+use Rattle.desk_run.specs.declared.fault.DeskFault.{DeskFault}
+use Rattle.desk_run.specs.declared.fault.DeskFault.TheVariants as desk
+use Rattle.s2_cellid.specs.declared.tokens.TokenFault.{TokenFault}
+use Rattle.s2_cellid.specs.declared.tokens.TokenFault.TheVariants as token
+use Rattle.s2_cover.specs.declared.rect.RectFault.{RectFault}
+use Rattle.s2_cover.specs.declared.rect.RectFault.TheVariants as rect
+use Rattle.s2_cover.specs.declared.walk.CoverFault.{CoverFault}
+use Rattle.s2_cover.specs.declared.walk.CoverFault.TheVariants as cover
+use Rattle.io_ends.specs.declared.playing.PlayEnd.{PlayEnd}
+use Rattle.io_ends.specs.declared.playing.PlayEnd.TheVariants as play
+use Rattle.io_ends.specs.declared.serving.ServeFault.{ServeFault}
+use Rattle.io_ends.specs.declared.serving.ServeFault.TheVariants as serve
+use Rattle.io_ends.specs.declared.serving.Served.{Served}
+use Rattle.io_ends.specs.declared.serving.Served.TheVariants.{Answered, End}
+use Rattle.desk_cli.specs.declared.failure.ErrorCode.{ErrorCode}
+use Rattle.desk_cli.specs.declared.failure.ErrorCode.TheVariants as failure
+use Rattle.desk_cli.specs.declared.failure.ExitReport.{ExitReport}
+use Rattle.desk_cli.specs.Written.{HasBegun, HasWritten}
+
+-- 2 for the words, 3 for the input, 4 for the rest
+abbrev pub failure_status : ErrorCode → ℕ
+failure_status failure.Value = 2
+failure_status failure.Unframed = 3
+failure_status failure.CutShort = 3
+failure_status failure.Read = 3
+failure_status failure.Limit = 3
+failure_status (failure.Token fault) = 3
+failure_status (failure.Rect fault) = 3
+failure_status failure.TooManyCells = 3
+failure_status failure.Broken = 4
+failure_status failure.Memory = 4
+failure_status failure.Store = 4
+failure_status failure.Write = 4
+failure_status failure.Network = 4
+failure_status failure.Clock = 4
+failure_status failure.NotADesk = 4
+failure_status failure.OldSchema = 4
+failure_status failure.DamagedLog = 4
+failure_status failure.NoRecord = 3
+failure_status failure.Differs = 3
+
+abbrev pub token_word : TokenFault → List ℕ
+token_word token.Empty = codes "empty"
+token_word token.TooLong = codes "too_long"
+token_word token.NotHex = codes "not_hex"
+token_word token.NotACell = codes "not_a_cell"
+
+abbrev pub rect_word : RectFault → List ℕ
+rect_word rect.Face = codes "face"
+rect_word rect.Coordinate = codes "coordinate"
+rect_word rect.Order = codes "order"
+rect_word rect.Level = codes "level"
+
+abbrev pub failure_word : ErrorCode → List ℕ
+failure_word failure.Value = codes "value"
+failure_word failure.Unframed = codes "unframed"
+failure_word failure.CutShort = codes "cut_short"
+failure_word failure.Read = codes "read"
+failure_word failure.Limit = codes "limit"
+failure_word (failure.Token fault) = token_word fault
+failure_word (failure.Rect fault) = rect_word fault
+failure_word failure.TooManyCells = codes "too_many_cells"
+failure_word failure.Broken = codes "broken"
+failure_word failure.Memory = codes "memory"
+failure_word failure.Store = codes "store"
+failure_word failure.Write = codes "write"
+failure_word failure.Network = codes "network"
+failure_word failure.Clock = codes "clock"
+failure_word failure.NotADesk = codes "not_a_desk"
+failure_word failure.OldSchema = codes "old_schema"
+failure_word failure.DamagedLog = codes "damaged_log"
+failure_word failure.NoRecord = codes "no_record"
+failure_word failure.Differs = codes "differs"
+
+-- the line that tells a failure
+abbrev pub failure_line : ErrorCode → List ℕ
+failure_line f = (codes "uss_desk: " ++ failure_word f) ++ codes "\n"
+
+-- 0 if nothing failed
+abbrev pub exit_status : {A : Type 0} → Result A ErrorCode → ℕ
+exit_status (Ok done) = 0
+exit_status (Err failure) = failure_status failure
+
+-- how a line ended: its exit status, whether the line of its failure was broken off, and what the error
+-- writer held before and holds now
+pub record Ending : Type 0 where
+  pub status : ℕ
+  pub cut : Bool
+  pub before : Option (List ℕ)
+  pub now : Option (List ℕ)
+
+abbrev pub ending : {E : Type 0} → ExitReport E → Option (List ℕ) → Option (List ℕ) → Ending
+ending exit before now =
+    record { status = exit.status; cut = is_some exit.cut; before = before; now = now }
+
+-- the line of a failure is written, or a beginning of it if a write broke off; and nothing if nothing failed
+abbrev pub IsConcluded :
+    {A : Type 0} → Result A ErrorCode → Bool → Option (List ℕ) → Option (List ℕ) → Type 0
+IsConcluded (Ok done) cut out now = (cut ≡ false) × (now ≡ out)
+IsConcluded (Err f) cut out now = HasWritten cut (failure_line f) out now
+
+-- a line ended with what was done: the exit status and the line of the failure are of one failure
+abbrev pub EndsWith : {A : Type 0} → Result A ErrorCode → Ending → Type 0
+EndsWith done end = (end.status ≡ exit_status done) × IsConcluded done end.cut end.before end.now
+
+-- nothing is told of how a line ended
+abbrev pub IsSilent : Ending → Type 0
+IsSilent end = (end.cut ≡ false) × (end.now ≡ end.before)
+
+-- a line ended well
+abbrev pub EndsWell : Ending → Type 0
+EndsWell end = (end.status ≡ 0) × IsSilent end
+
+-- a line ended with this failure
+abbrev pub FailsWith : ErrorCode → Ending → Type 0
+FailsWith f end = (end.status ≡ failure_status f) × HasWritten end.cut (failure_line f) end.before end.now
+
+-- a line is printed, by whether it ended with a failure: whole, or not at all before a failure, or cut off by
+-- the failure of a write
+abbrev pub IsAnnounced :
+    {A : Type 0} → Result A ErrorCode → List ℕ → Option (List ℕ) → Option (List ℕ) → Type 0
+IsAnnounced (Ok done) line out now = Appends out now line
+IsAnnounced (Err f) line out now =
+    Appends out now line ⊎ (now ≡ out) ⊎ ((f ≡ failure.Write) × HasBegun line out now)
+
+-- what a line ends with if an enrolment isn't made and was not refused: memory ran out, or the store failed
+abbrev pub IsLineBreakdown : ErrorCode → Type 0
+IsLineBreakdown f = (f ≡ failure.Memory) ⊎ (f ≡ failure.Store)
+
+-- a line ended so
+abbrev pub IsBrokenDown : Ending → Type 0
+IsBrokenDown end = FailsWith failure.Memory end ⊎ FailsWith failure.Store end
+
+-- what a request without a whole answer means
+abbrev pub serving_failure : ServeFault → ErrorCode
+serving_failure serve.Read = failure.Read
+serving_failure (serve.Write sent) = failure.Write
+serving_failure serve.CutShort = failure.CutShort
+serving_failure serve.OutOfMemory = failure.Memory
+
+-- what the end of a run over the input means; none if the input came to its end
+abbrev pub failure_after : PlayEnd → Option ErrorCode
+failure_after play.End = None
+failure_after play.Unframed = Some failure.Unframed
+failure_after play.Broken = Some failure.Broken
+failure_after play.Limit = Some failure.Limit
+failure_after (play.Fault fault) = Some (serving_failure fault)
+
+-- what a refused enrolment means
+abbrev pub enrolment_failure : DeskFault → ErrorCode
+enrolment_failure desk.OutOfMemory = failure.Memory
+enrolment_failure desk.Store = failure.Store
+enrolment_failure desk.UnknownOperator = failure.Value
+enrolment_failure desk.NoSuchPlan = failure.Value
+enrolment_failure desk.Ceiling = failure.Value
+
+-- what a rectangle without a cover means
+abbrev pub cover_failure : CoverFault → ErrorCode
+cover_failure (cover.TooManyCells looked) = failure.TooManyCells
+cover_failure cover.OutOfMemory = failure.Memory
+
+-- why a desk at a port ends after what came of a connection's request; none if it goes on
+abbrev pub failure_at : Result Served ServeFault → Option ErrorCode
+failure_at (Ok (Answered status framed)) = if status == 500 then Some failure.Broken else None
+failure_at (Ok End) = None
+failure_at (Err serve.OutOfMemory) = Some failure.Memory
+failure_at (Err serve.Read) = None
+failure_at (Err (serve.Write sent)) = None
+failure_at (Err serve.CutShort) = None

@@ -1,0 +1,321 @@
+-- Grammar: the words of each line as rules of `clap`, and what each field of a line is by the values that its
+-- arguments have.
+use Rattle.std.specs.Prelude.{◌≡◌, ◌≢◌, ◌==◌, ◌+◌, ⊤, Result, Ok, Err, ℕ, ℤ, Bool, pos, true, false, List, [], ◌∷◌, map, take, drop}
+use Rattle.std.specs.Prelude.{codes, string_bytes, if◌then◌else◌}
+use Rattle.std.specs.Prelude.{IfSome, Option, Some, None, option_map, option_and_then, unwrap_or, fold}
+use Rattle.std.specs.Int.{IsInRange}
+use Rattle.std.specs.List.{position}
+use Rattle.std.specs.Option.{IsSomeAnd, option_map_or}
+use Rattle.std.specs.Str.{bytes_eq}
+use Rattle.std.specs.Str.Parse.{IsNumeral, digits_value, signed_digits_value, without_leading_plus}
+use Rattle.std.specs.Str.Parse.{without_leading_sign}
+use Rattle.clap.specs.Simple.{App, Shape, new_rule, new_shape, subcommand_of, with_subcommand}
+use Rattle.clap.specs.Takes.{takes}
+use Rattle.clap.specs.Values.{kind_of}
+use Rattle.clap.specs.Walk.{Row, Rule, Text, all_of, first_of, one_of}
+use Rattle.clap.specs.declared.error.kind.ErrorKind.TheVariants as kind
+use Rattle.clap.specs.declared.builder.action.ArgAction.TheVariants.{Append, SetTrue}
+use Rattle.clap.specs.declared.builder.value_parser.ValueParser.TheVariants.{Signed}
+use Rattle.desk_rules.specs.Limits.{max_spans, max_total_cells}
+use Rattle.desk_rules.specs.Name.{is_operator_name}
+use Rattle.desk_rules.specs.Terms.{no_terms}
+use Rattle.desk_rules.specs.declared.terms.Terms.{Terms}
+use Rattle.volume4d.specs.VolumeLimits.{max_second}
+use Rattle.desk_cli.specs.Equal.{ArePermittedBy, priority_in}
+use Rattle.desk_cli.specs.Lines.{IsLine, file_of, max_connections, max_port}
+use Rattle.desk_cli.specs.Lines.{min_connections, min_most, min_port, named_file}
+use Rattle.desk_cli.specs.declared.line.CopyArgs.{CopyArgs as CopyWords}
+use Rattle.desk_cli.specs.declared.line.Cover.{Cover as CoverWords}
+use Rattle.desk_cli.specs.declared.line.DeskArgs.{DeskArgs}
+use Rattle.desk_cli.specs.declared.line.Enrol.{Enrol as EnrolWords}
+use Rattle.desk_cli.specs.declared.line.Enrolment.{Enrolment}
+use Rattle.desk_cli.specs.declared.line.Line.{Line}
+use Rattle.desk_cli.specs.declared.line.Line.TheVariants as line
+use Rattle.desk_cli.specs.declared.line.Play.{Play as PlayWords}
+use Rattle.desk_cli.specs.declared.line.ReplayArgs.{ReplayArgs as ReplayWords}
+use Rattle.desk_cli.specs.declared.line.Serve.{Serve as ServeWords}
+use Rattle.desk_cli.specs.declared.line.WordsFault.{WordsFault}
+use Rattle.desk_cli.specs.declared.line.WordsFault.TheVariants as fault
+
+-- ---- the words
+
+-- a value at its place, which may be left out
+abbrev pub value : Text → Rule
+value id = record (new_rule id) { value_names = 1 }
+
+-- `--NAME VALUE`, anywhere in the line
+abbrev pub option : Text → Text → Rule
+option id name = record (value id) { long = Some name }
+
+-- one that has to be there
+abbrev pub needed : Rule → Rule
+needed rule = record rule { required = true }
+
+-- one whose value is a number from `least` to `most`
+abbrev pub number_between : ℕ → ℤ → Rule → Rule
+number_between least most rule = record rule { parser = Some (Signed (pos least) most) }
+
+abbrev pub database : Rule
+database = option (codes "database") (codes "db")
+
+abbrev pub moment : Rule
+moment = needed (number_between 0 max_second (option (codes "moment") (codes "at")))
+
+abbrev pub port : Rule
+port = needed (number_between min_port (pos max_port) (option (codes "port") (codes "port")))
+
+abbrev pub connections : Rule
+connections =
+    needed (number_between min_connections (pos max_connections)
+    (option (codes "connections") (codes "requests")))
+
+abbrev pub equal : Rule
+equal = option (codes "equal") (codes "equal")
+
+abbrev pub spans : Rule
+spans = number_between min_most (pos max_spans) (option (codes "spans") (codes "spans"))
+
+abbrev pub cells : Rule
+cells = number_between min_most (pos max_total_cells) (option (codes "cells") (codes "cells"))
+
+-- the file of enrolments
+abbrev pub operators : Rule
+operators = option (codes "operators") (codes "operators")
+
+-- the folder of records
+abbrev pub record_folder : Rule
+record_folder = option (codes "record") (codes "record")
+
+-- any number of them
+abbrev pub enrolments : Rule
+enrolments = record (value (codes "enrolments")) { action = Some Append }
+
+-- a number of 8 bits, and one of 32
+abbrev pub small : Text → Rule
+small id = number_between 0 (pos 255) (needed (value id))
+
+abbrev pub coordinate : Text → Rule
+coordinate id = number_between 0 (pos 4294967295) (needed (value id))
+
+-- it has no value
+abbrev pub picture : Rule
+picture = record (new_rule (codes "picture")) { long = Some (codes "svg"); action = Some SetTrue }
+
+-- the last second that is played
+abbrev pub until : Rule
+until = number_between 0 max_second (option (codes "until") (codes "until"))
+
+-- a line: its first word, and its further words
+abbrev pub line_shape : Text → List Rule → Shape
+line_shape name rules = record (new_shape name) { rules = rules }
+
+-- the lines that the program takes
+abbrev pub line_shapes : List Shape
+line_shapes =
+    line_shape (codes "play") (database ∷ moment ∷ equal ∷ spans ∷ cells ∷ record_folder ∷ enrolments
+    ∷ [])
+    ∷ line_shape (codes "token") (needed (value (codes "token")) ∷ [])
+    ∷ line_shape (codes "serve") (database ∷ port ∷ connections ∷ equal ∷ spans ∷ cells ∷ operators
+    ∷ record_folder ∷ enrolments ∷ [])
+    ∷ line_shape (codes "cover") (small (codes "FACE") ∷ coordinate (codes "I_MIN")
+    ∷ coordinate (codes "I_MAX") ∷ coordinate (codes "J_MIN") ∷ coordinate (codes "J_MAX")
+    ∷ small (codes "LEVEL") ∷ picture ∷ [])
+    ∷ line_shape (codes "enrol") (needed database ∷ record_folder ∷ needed (value (codes "NAME"))
+    ∷ needed (value (codes "CEILING")) ∷ [])
+    ∷ line_shape (codes "migrate") (needed database ∷ [])
+    ∷ line_shape (codes "check") (needed database ∷ [])
+    ∷ line_shape (codes "copy") (needed database ∷ needed (option (codes "to") (codes "to")) ∷ [])
+    ∷ line_shape (codes "replay") (needed database ∷ until ∷ [])
+    ∷ []
+
+-- a program that takes no line: `--version` and `--help` are answered
+abbrev pub bare_program : App
+bare_program = record {
+  top = record (new_shape (codes "uss_desk")) { has_version = true; subcommand_required = true };
+  subs = [];
+}
+
+-- the program that takes these lines
+abbrev pub with_lines : List Shape → App
+with_lines lines = fold with_subcommand bare_program lines
+
+abbrev pub program : App
+program = with_lines line_shapes
+
+-- ---- the values
+
+-- a text writes a number, in digits behind a sign that may be there
+abbrev pub WritesNumber : ℕ → Text → Type 0
+WritesNumber n text =
+    IsNumeral 10 (without_leading_plus text) × (n ≡ digits_value 10 (without_leading_plus text))
+
+abbrev pub WritesSecond : ℤ → Text → Type 0
+WritesSecond z text = IsNumeral 10 (without_leading_sign text) × (z ≡ signed_digits_value 10 text)
+
+-- the number that was given
+abbrev pub IsNumberGiven : Text → List Row → ℕ → Type 0
+IsNumberGiven id rows n = IsSomeAnd (one_of id rows) (WritesNumber n)
+
+abbrev pub IsSecondGiven : Text → List Row → ℤ → Type 0
+IsSecondGiven id rows z = IsSomeAnd (one_of id rows) (WritesSecond z)
+
+-- the number that was given, or none if none was
+abbrev pub IsNumberOrNone : Text → List Row → Option ℕ → Type 0
+IsNumberOrNone id rows None = one_of id rows ≡ None
+IsNumberOrNone id rows (Some n) = IsNumberGiven id rows n
+
+-- the most of something, by its name, up to the greatest number that may be named
+abbrev pub IsMostOf : Text → ℕ → List Row → Option ℕ → Type 0
+IsMostOf id greatest rows most = IfSome most (IsInRange min_most greatest) × IsNumberOrNone id rows most
+
+-- the most spans that an operator's live plans may have, and the most cells that all its plans may have
+abbrev pub AreMostSpans : List Row → Option ℕ → Type 0
+AreMostSpans rows most = IsMostOf (codes "spans") max_spans rows most
+
+abbrev pub AreMostCells : List Row → Option ℕ → Type 0
+AreMostCells rows most = IsMostOf (codes "cells") max_total_cells rows most
+
+-- the terms of a desk
+pub record AreTermsOf (rows : List Row) (terms : Terms) : Type 0 where
+  pub permitted : ArePermittedBy (first_of (codes "equal") rows) terms.permitted
+  pub spans : AreMostSpans rows terms.spans
+  pub cells : AreMostCells rows terms.cells
+
+-- the flag was given
+abbrev pub is_given : Text → List Row → Bool
+is_given id rows = option_map_or (λ text. bytes_eq text (codes "true")) (one_of id rows) false
+
+abbrev pub file_given : List Row → Option Text
+file_given rows = named_file (first_of (codes "database") rows)
+
+-- an operator of this name, under this ceiling
+abbrev pub enrolment_by : Text → Text → Option Enrolment
+enrolment_by name ceiling =
+    if is_operator_name name
+    then option_map (λ n. record { operator = name; ceiling = n }) (priority_in ceiling) else None
+
+-- `NAME=CEILING`, parted at its first `=`
+abbrev pub is_equals : ℕ → Bool
+is_equals byte = byte == 61
+
+unfoldable pub enrolment_in : Text → Option Enrolment
+enrolment_in text =
+    option_and_then (λ place. enrolment_by (take place text) (drop (place + 1) text))
+    (position is_equals text)
+
+-- the enrolments are those that were given, in their order
+abbrev pub AreEnrolmentsGiven : List Enrolment → List Row → Type 0
+AreEnrolmentsGiven enrolments rows =
+    map Some enrolments ≡ map enrolment_in (unwrap_or (all_of (codes "enrolments") rows) [])
+
+-- the operator that `enrol` names, under the ceiling that it gives
+abbrev pub enrolment_given : List Row → Option Enrolment
+enrolment_given rows =
+    option_and_then (λ name. option_and_then (enrolment_by name) (first_of (codes "CEILING") rows))
+    (first_of (codes "NAME") rows)
+
+-- ---- the lines
+
+-- the desk of `play` or of `serve`, with this file of enrolments
+pub record IsDeskGiven (rows : List Row) (file : Option Text) (desk : DeskArgs) : Type 0 where
+  pub database : file_of desk.database ≡ file_given rows
+  pub terms : AreTermsOf rows desk.terms
+  pub enrolments : AreEnrolmentsGiven desk.enrolments.items rows
+  pub operators : option_map string_bytes desk.operators ≡ file
+  pub folder : option_map string_bytes desk.folder ≡ first_of (codes "record") rows
+
+-- the desk of `enrol`, at which nothing is set
+pub record IsBareDeskGiven (rows : List Row) (desk : DeskArgs) : Type 0 where
+  pub database : file_of desk.database ≡ file_given rows
+  pub terms : desk.terms ≡ no_terms
+  pub enrolments : desk.enrolments.items ≡ []
+  pub operators : desk.operators ≡ None
+  pub folder : option_map string_bytes desk.folder ≡ first_of (codes "record") rows
+
+pub record IsPlayGiven (rows : List Row) (play : PlayWords) : Type 0 where
+  pub desk : IsDeskGiven rows None play.desk
+  pub moment : IsSecondGiven (codes "moment") rows play.moment.second
+
+pub record IsServeGiven (rows : List Row) (serve : ServeWords) : Type 0 where
+  pub desk : IsDeskGiven rows (first_of (codes "operators") rows) serve.desk
+  pub port : IsNumberGiven (codes "port") rows serve.port
+  pub connections : IsNumberGiven (codes "connections") rows serve.connections
+
+pub record IsEnrolGiven (rows : List Row) (enrol : EnrolWords) : Type 0 where
+  pub desk : IsBareDeskGiven rows enrol.desk
+  pub enrolment : enrolment_given rows ≡ Some enrol.enrolment
+
+pub record IsCoverGiven (rows : List Row) (cover : CoverWords) : Type 0 where
+  pub face : IsNumberGiven (codes "FACE") rows cover.face
+  pub i_min : IsNumberGiven (codes "I_MIN") rows cover.i_min
+  pub i_max : IsNumberGiven (codes "I_MAX") rows cover.i_max
+  pub j_min : IsNumberGiven (codes "J_MIN") rows cover.j_min
+  pub j_max : IsNumberGiven (codes "J_MAX") rows cover.j_max
+  pub level : IsNumberGiven (codes "LEVEL") rows cover.level
+  pub picture : is_given (codes "picture") rows ≡ cover.is_picture
+
+abbrev pub IsTextGiven : List Row → Text → Type 0
+IsTextGiven rows text = first_of (codes "token") rows ≡ Some text
+
+pub record IsCopyGiven (rows : List Row) (copy : CopyWords) : Type 0 where
+  pub database : file_of copy.database ≡ file_given rows
+  pub to : first_of (codes "to") rows ≡ Some (string_bytes copy.to)
+
+pub record IsReplayGiven (rows : List Row) (replay : ReplayWords) : Type 0 where
+  pub database : file_of replay.database ≡ file_given rows
+  pub until : IsNumberOrNone (codes "until") rows replay.until
+
+-- the first word of a line
+abbrev pub name_of : Line → Text
+name_of (line.Token token) = codes "token"
+name_of (line.Cover cover) = codes "cover"
+name_of (line.Play play) = codes "play"
+name_of (line.Serve serve) = codes "serve"
+name_of (line.Enrol enrol) = codes "enrol"
+name_of (line.Check file) = codes "check"
+name_of (line.Copy copy) = codes "copy"
+name_of (line.Migrate file) = codes "migrate"
+name_of (line.Replay replay) = codes "replay"
+
+-- each field of a line has the value that was given
+abbrev pub HasGiven : List Row → Line → Type 0
+HasGiven rows (line.Token token) = IsTextGiven rows (string_bytes token)
+HasGiven rows (line.Cover cover) = IsCoverGiven rows cover
+HasGiven rows (line.Play play) = IsPlayGiven rows play
+HasGiven rows (line.Serve serve) = IsServeGiven rows serve
+HasGiven rows (line.Enrol enrol) = IsEnrolGiven rows enrol
+HasGiven rows (line.Check file) = file_of file ≡ file_given rows
+HasGiven rows (line.Copy copy) = IsCopyGiven rows copy
+HasGiven rows (line.Migrate file) = file_of file ≡ file_given rows
+HasGiven rows (line.Replay replay) = IsReplayGiven rows replay
+
+-- the line of a name, with its numbers in range
+abbrev pub IsLineOf : Text → List Row → Line → Type 0
+IsLineOf name rows it = IsLine it × (name_of it ≡ name) × HasGiven rows it
+
+-- the line that these words are, the first of them the program's own name
+pub record IsGiven (words : List Text) (it : Line) : Type 0 where
+  pub rows : List Row
+  pub found : subcommand_of program words ≡ Some (name_of it, rows)
+  pub values : HasGiven rows it
+
+-- ---- why words are no line
+
+-- a `Value` that is refused: there is none that was given. It is the only fault but want of memory
+abbrev pub Lacks : {A B : Type 0} → (B → Type 0) → Result A WordsFault → Type 0
+Lacks Is (Ok value) = ⊤
+Lacks Is (Err fault.OutOfMemory) = ⊤
+Lacks Is (Err (fault.Words error)) = ⊥
+Lacks {A} {B} Is (Err fault.Value) = (value : B) → Is value → ⊥
+
+-- `clap` doesn't take the words, and memory did not run out
+abbrev pub IsUntaken : List Text → WordsFault → Type 0
+IsUntaken words fault.OutOfMemory = ⊤
+IsUntaken words (fault.Words error) = (takes program words ≢ true) × (kind_of error ≢ kind.OutOfMemory)
+IsUntaken words fault.Value = ⊥
+
+-- `clap` doesn't take them; or, if it does, they are no line whose numbers are in range
+abbrev pub AreWordsRefused : List Text → WordsFault → Type 0
+AreWordsRefused words fault.OutOfMemory = ⊤
+AreWordsRefused words (fault.Words error) = IsUntaken words (fault.Words error)
+AreWordsRefused words fault.Value = (it : Line) → IsLine it → IsGiven words it → ⊥

@@ -1,0 +1,102 @@
+-- Printing: what `token` and `cover` print.
+use Rattle.std.specs.Prelude.{◌≡◌, ◌⊎◌, ◌≤◌, ℕ, ◌<◌, Bool, true, false, ⊤, List, [], ◌∷◌, ◌++◌, length}
+use Rattle.std.specs.Prelude.{codes, decimal, Option, Result, Ok, Err, string_bytes}
+use Rattle.std.specs.Io.KnownBytes.{Appends}
+use Rattle.s2_cellid.specs.Cell.{face_of, level_of, first_leaf_id, last_leaf_id}
+use Rattle.s2_cellid.specs.Token.{read_token, token_text}
+use Rattle.s2_cellid.specs.declared.tokens.TokenFault.{TokenFault}
+use Rattle.s2_cover.specs.Canonical.{IsCanonical}
+use Rattle.s2_cover.specs.Ranges.{IsRanges}
+use Rattle.s2_cover.specs.Rectangles.{RectParts, rect_leaves, rect_or_fault}
+use Rattle.s2_cover.specs.declared.rect.RectFault.{RectFault}
+use Rattle.s2_cover.specs.declared.spans.Span.{Span}
+use Rattle.volume4d.specs.VolumeLimits.{max_cover}
+use Rattle.desk_cli.specs.declared.failure.ErrorCode.{ErrorCode}
+use Rattle.desk_cli.specs.declared.failure.ErrorCode.TheVariants as failure
+use Rattle.desk_cli.specs.declared.line.Cover.{Cover as CoverWords}
+use Rattle.desk_cli.specs.declared.line.Line.{Line}
+use Rattle.desk_cli.specs.declared.line.Line.TheVariants as line
+use Rattle.desk_cli.specs.Exits.{EndsWith, Ending}
+use Rattle.desk_cli.specs.Written.{HasBegun}
+
+-- the line that tells a cell: a leaf's token is its id in 16 hex digits
+unfoldable pub cell_line : ℕ → List ℕ
+cell_line id =
+    token_text id ++ (codes " face " ++ (decimal (face_of id) ++ (codes " level " ++ (decimal (level_of id)
+    ++ (codes " leaves " ++ (token_text (first_leaf_id id) ++ (codes " " ++ (token_text (last_leaf_id id)
+    ++ codes "\n"))))))))
+
+-- what is told of a text: the line of its cell, or that it is no token
+abbrev pub told_of_token : Result ℕ TokenFault → Result (List ℕ) ErrorCode
+told_of_token (Ok id) = Ok (cell_line id)
+told_of_token (Err fault) = Err (failure.Token fault)
+
+abbrev pub rect_parts : CoverWords → RectParts
+rect_parts words = record {
+  face = words.face;
+  i_min = words.i_min;
+  i_max = words.i_max;
+  j_min = words.j_min;
+  j_max = words.j_max;
+  level = words.level;
+}
+
+-- each token on a line
+abbrev pub token_lines : List ℕ → List ℕ
+token_lines [] = []
+token_lines (id ∷ ids) = token_text id ++ (codes "\n" ++ token_lines ids)
+
+-- the same, then how many cells and ranges they are
+unfoldable pub cover_lines : List ℕ → ℕ → List ℕ
+cover_lines ids ranges =
+    token_lines ids
+    ++ (decimal (length ids) ++ (codes " cells, " ++ (decimal ranges ++ codes " ranges\n")))
+
+-- the lines of the canonical cover of a set of leaves, if it has few enough cells
+pub record IsCoverText (set : ℕ → Bool) (text : List ℕ) : Type 0 where
+  pub ids : List ℕ
+  pub canonical : IsCanonical set ids
+  pub few : length ids ≤ max_cover
+  pub spans : List Span
+  pub ranges : IsRanges set spans
+  pub lines : text ≡ cover_lines ids (length spans)
+
+-- the canonical cover of a set of leaves has too many cells
+abbrev pub IsLong : (ℕ → Bool) → Type 0
+IsLong set = (ids : List ℕ) × (IsCanonical set ids × (max_cover < length ids))
+
+-- what is told of a rectangle: the lines of its cover, a picture, or why there is none
+abbrev pub IsRectTold : Bool → Result RectParts RectFault → Result (List ℕ) ErrorCode → Type 0
+IsRectTold picture (Err fault) told = told ≡ Err (failure.Rect fault)
+IsRectTold picture (Ok rect) (Err f) = (f ≡ failure.TooManyCells) × IsLong (rect_leaves rect)
+IsRectTold true (Ok rect) (Ok text) = ⊤
+IsRectTold false (Ok rect) (Ok text) = IsCoverText (rect_leaves rect) text
+
+-- a line that is printed
+abbrev pub IsPrinting : Line → Type 0
+IsPrinting (line.Token token) = ⊤
+IsPrinting (line.Cover words) = ⊤
+IsPrinting _ = ⊥
+
+-- what is told of a line
+abbrev pub IsTold : Line → Result (List ℕ) ErrorCode → Type 0
+IsTold (line.Token token) told = told ≡ told_of_token (read_token (string_bytes token))
+IsTold (line.Cover words) told = IsRectTold words.is_picture (rect_or_fault (rect_parts words)) told
+IsTold _ told = ⊥
+
+-- memory ran out and nothing is printed, or a write failed after a beginning of what is told
+abbrev pub IsPrintingGivenUp : Line → ErrorCode → Option (List ℕ) → Option (List ℕ) → Type 0
+IsPrintingGivenUp line f out now = ((f ≡ failure.Memory) × (now ≡ out))
+    ⊎ ((f ≡ failure.Write) × ((text : List ℕ) × IsTold line (Ok text) × HasBegun text out now))
+
+-- what came of a line: what is told of it is printed, or it has a failure and nothing is printed, or it is
+-- given up
+abbrev pub IsShown : Line → Result ⊤ ErrorCode → Option (List ℕ) → Option (List ℕ) → Type 0
+IsShown line (Ok done) out now = (text : List ℕ) × IsTold line (Ok text) × Appends out now text
+IsShown line (Err f) out now = IsPrintingGivenUp line f out now ⊎ (IsTold line (Err f) × (now ≡ out))
+
+-- what a line prints, and how it ends
+pub record IsPrinted (line : Line) (end : Ending) (out now : Option (List ℕ)) : Type 0 where
+  pub done : Result ⊤ ErrorCode
+  pub ends : EndsWith done end
+  pub shown : IsShown line done out now

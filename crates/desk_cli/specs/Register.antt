@@ -1,0 +1,25 @@
+-- EnrolmentSource: what the text of a file of enrolments says, line by line.
+use Rattle.std.specs.Prelude.{◌==◌, ◌+◌, ℕ, Bool, List, Option, option_and_then, take, drop, position, filter_map}
+use Rattle.std.specs.List.{slice_split}
+use Rattle.clap.specs.Walk.{Text}
+use Rattle.desk_cli.specs.Grammar.{enrolment_by}
+use Rattle.desk_cli.specs.declared.line.Enrolment.{Enrolment}
+
+-- what ends a line, and what parts a name from its ceiling
+abbrev pub is_newline : ℕ → Bool
+is_newline byte = byte == 10
+
+abbrev pub is_blank : ℕ → Bool
+is_blank byte = byte == 32
+
+-- `NAME CEILING`, parted at the first blank
+unfoldable pub enrolment_on : Text → Option Enrolment
+enrolment_on line =
+    option_and_then (λ place. enrolment_by (take place line) (drop (place + 1) line)) (position is_blank line)
+
+-- the enrolments of those lines that are `NAME CEILING`, in their order
+abbrev pub enrolments_on : List Text → List Enrolment
+enrolments_on lines = filter_map enrolment_on lines
+
+abbrev pub lines_of : Text → List Text
+lines_of text = slice_split is_newline text

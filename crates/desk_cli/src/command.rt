@@ -1,0 +1,402 @@
+//! The command line that is taken: its lines and their words as rows, of which `clap` makes help and reads
+//! what is given.
+
+ghost use Rattle.std.specs.Prelude.{◌≡◌, IfOk, map};
+ghost use Rattle.clap.specs.Simple.{app_of, shape_of};
+ghost use Rattle.clap.specs.Walk.{rule_of};
+ghost use Rattle.desk_cli.specs.Forms.{bare_rule, rule_of_row, shape_of_form};
+ghost use Rattle.desk_cli.specs.Grammar as spec;
+ghost use Rattle.desk_cli.specs.Grammar.{line_shape};
+
+use crate::line::MAX_CONNECTIONS;
+use clap::builder::ValueParser;
+use clap::{Arg, ArgAction, Command};
+use desk_rules::terms::{MAX_SPANS, MAX_TOTAL_CELLS};
+use std::alloc::{AllocError, Global};
+use volume4d::MAX_SECOND;
+
+// The version, and the logic of the kits whose provers prove the program.
+const VERSION: &str = "1.0.0\nRattle logic dac8208d650f15bf";
+
+// A line: its first word, what it does, and its further words.
+struct Form {
+    name: &'static str,
+    about: &'static str,
+    words: &'static [ArgRow],
+}
+
+// An argument of a line.
+#[derive(Clone, Copy)]
+struct ArgRow {
+    // The name by which its value is read back.
+    id: &'static str,
+    // The name of `--NAME VALUE`; an argument without one is read by its place.
+    long: Option<&'static str>,
+    // What help calls its value, if it has one.
+    value: Option<&'static str>,
+    help: &'static str,
+    is_required: bool,
+    kind: Kind,
+}
+
+// What the value of an argument is.
+#[derive(Clone, Copy)]
+enum Kind {
+    Text,
+    // One text for each use, of any number of them.
+    Texts,
+    // A number from the first to the second.
+    Number(i64, i64),
+    // There is none: it tells whether it was used.
+    Flag,
+}
+
+// The file of operators and plans, which may be left out.
+const DATABASE: ArgRow = ArgRow {
+    id: "database",
+    long: Some("db"),
+    value: Some("FILE"),
+    help: "The SQLite database of operators and plans, or :memory: for one in memory",
+    is_required: false,
+    kind: Kind::Text,
+};
+
+// The file, which may not.
+const GIVEN_DATABASE: ArgRow = ArgRow {
+    is_required: true,
+    ..DATABASE
+};
+
+const NEW_FILE: ArgRow = ArgRow {
+    id: "to",
+    long: Some("to"),
+    value: Some("NEW"),
+    help: "The new file, where there is none yet",
+    is_required: true,
+    kind: Kind::Text,
+};
+
+const MOMENT: ArgRow = ArgRow {
+    id: "moment",
+    long: Some("at"),
+    value: Some("SECOND"),
+    help: "The moment of all requests, a Unix second",
+    is_required: true,
+    kind: Kind::Number(0, MAX_SECOND),
+};
+
+const PORT: ArgRow = ArgRow {
+    id: "port",
+    long: Some("port"),
+    value: Some("N"),
+    help: "The port of 127.0.0.1 that is listened at",
+    is_required: true,
+    kind: Kind::Number(1, u16::MAX as i64),
+};
+
+const CONNECTIONS: ArgRow = ArgRow {
+    id: "connections",
+    long: Some("requests"),
+    value: Some("N"),
+    help: "How many connections are served, one request each",
+    is_required: true,
+    kind: Kind::Number(1, MAX_CONNECTIONS as i64),
+};
+
+const EQUAL: ArgRow = ArgRow {
+    id: "equal",
+    long: Some("equal"),
+    value: Some("LIST"),
+    help: "Priorities at which plans of equal priority may overlap, ascending, with commas between",
+    is_required: false,
+    kind: Kind::Text,
+};
+
+const SPANS: ArgRow = ArgRow {
+    id: "spans",
+    long: Some("spans"),
+    value: Some("N"),
+    help: "The most spans that the live plans of an operator may have",
+    is_required: false,
+    kind: Kind::Number(1, MAX_SPANS as i64),
+};
+
+const CELLS: ArgRow = ArgRow {
+    id: "cells",
+    long: Some("cells"),
+    value: Some("N"),
+    help: "The most cells that the plans of an operator may have, closed ones too",
+    is_required: false,
+    kind: Kind::Number(1, MAX_TOTAL_CELLS as i64),
+};
+
+const OPERATORS: ArgRow = ArgRow {
+    id: "operators",
+    long: Some("operators"),
+    value: Some("FILE"),
+    help: "A file of lines NAME CEILING, read again when it has changed",
+    is_required: false,
+    kind: Kind::Text,
+};
+
+const RECORD: ArgRow = ArgRow {
+    id: "record",
+    long: Some("record"),
+    value: Some("FOLDER"),
+    help: "A folder in which each request and its answer are recorded",
+    is_required: false,
+    kind: Kind::Text,
+};
+
+const UNTIL: ArgRow = ArgRow {
+    id: "until",
+    long: Some("until"),
+    value: Some("SECOND"),
+    help: "The last Unix second whose requests are played",
+    is_required: false,
+    kind: Kind::Number(0, MAX_SECOND),
+};
+
+const ENROLMENTS: ArgRow = ArgRow {
+    id: "enrolments",
+    long: None,
+    value: Some("NAME=CEILING"),
+    help: "An operator, and the greatest priority that it may use",
+    is_required: false,
+    kind: Kind::Texts,
+};
+
+const TOKEN: ArgRow = ArgRow {
+    id: "token",
+    long: None,
+    value: Some("TOKEN"),
+    help: "A cell of the S2 geometry library, 1 to 16 hex digits",
+    is_required: true,
+    kind: Kind::Text,
+};
+
+const FACE: ArgRow = ArgRow {
+    id: "FACE",
+    long: None,
+    value: Some("FACE"),
+    help: "The face, 0 to 5",
+    is_required: true,
+    kind: SMALL,
+};
+
+const I_MIN: ArgRow = ArgRow {
+    id: "I_MIN",
+    long: None,
+    value: Some("I_MIN"),
+    help: "The least coordinate i of a leaf",
+    is_required: true,
+    kind: COORDINATE,
+};
+
+const I_MAX: ArgRow = ArgRow {
+    id: "I_MAX",
+    long: None,
+    value: Some("I_MAX"),
+    help: "The greatest coordinate i",
+    is_required: true,
+    kind: COORDINATE,
+};
+
+const J_MIN: ArgRow = ArgRow {
+    id: "J_MIN",
+    long: None,
+    value: Some("J_MIN"),
+    help: "The least coordinate j",
+    is_required: true,
+    kind: COORDINATE,
+};
+
+const J_MAX: ArgRow = ArgRow {
+    id: "J_MAX",
+    long: None,
+    value: Some("J_MAX"),
+    help: "The greatest coordinate j",
+    is_required: true,
+    kind: COORDINATE,
+};
+
+const LEVEL: ArgRow = ArgRow {
+    id: "LEVEL",
+    long: None,
+    value: Some("LEVEL"),
+    help: "The level, 8 to 24",
+    is_required: true,
+    kind: SMALL,
+};
+
+const PICTURE: ArgRow = ArgRow {
+    id: "picture",
+    long: Some("svg"),
+    value: None,
+    help: "Prints a picture (SVG) in place of the tokens",
+    is_required: false,
+    kind: Kind::Flag,
+};
+
+const NAME: ArgRow = ArgRow {
+    id: "NAME",
+    long: None,
+    value: Some("NAME"),
+    help: "The operator's name",
+    is_required: true,
+    kind: Kind::Text,
+};
+
+const CEILING: ArgRow = ArgRow {
+    id: "CEILING",
+    long: None,
+    value: Some("CEILING"),
+    help: "The greatest priority that it may use",
+    is_required: true,
+    kind: Kind::Text,
+};
+
+// Numbers of 8 bits, and of 32.
+const SMALL: Kind = Kind::Number(0, 255);
+
+const COORDINATE: Kind = Kind::Number(0, 4_294_967_295);
+
+static FORMS: [Form; 9] = [
+    Form {
+        name: "play",
+        about: "Answers the requests of the standard input",
+        words: &[DATABASE, MOMENT, EQUAL, SPANS, CELLS, RECORD, ENROLMENTS],
+    },
+    Form {
+        name: "token",
+        about: "Tells a cell's face, its level, and its first and last leaf",
+        words: &[TOKEN],
+    },
+    Form {
+        name: "serve",
+        about: "Answers one request a connection, at the moment that the clock tells",
+        words: &[
+            DATABASE,
+            PORT,
+            CONNECTIONS,
+            EQUAL,
+            SPANS,
+            CELLS,
+            OPERATORS,
+            RECORD,
+            ENROLMENTS,
+        ],
+    },
+    Form {
+        name: "cover",
+        about: "Tells the cells of a rectangle of leaves, widened to whole squares of the level",
+        words: &[FACE, I_MIN, I_MAX, J_MIN, J_MAX, LEVEL, PICTURE],
+    },
+    Form {
+        name: "enrol",
+        about: "Enrols an operator in a database, or replaces its ceiling",
+        words: &[GIVEN_DATABASE, RECORD, NAME, CEILING],
+    },
+    Form {
+        name: "migrate",
+        about: "Moves the plans of a database of schema 1 to schema 2",
+        words: &[GIVEN_DATABASE],
+    },
+    Form {
+        name: "check",
+        about: "Tells what a database holds, and changes nothing in it",
+        words: &[GIVEN_DATABASE],
+    },
+    Form {
+        name: "copy",
+        about: "Makes a new file of what a database holds, in schema 2",
+        words: &[GIVEN_DATABASE, NEW_FILE],
+    },
+    Form {
+        name: "replay",
+        about: "Plays the record of the standard input, and compares each answer with its own",
+        words: &[GIVEN_DATABASE, UNTIL],
+    },
+];
+
+/// The command line that is taken.
+pub fn make_command<'a>(alloc: Global) -> Result<Command<'a>, AllocError>
+    ensures { IfOk result (λ command. app_of command ≡ spec.program) }
+{
+    with_lines(alloc, &FORMS)
+}
+
+// The program, with these lines.
+fn with_lines<'a>(alloc: Global, forms: &'static [Form]) -> Result<Command<'a>, AllocError>
+    ensures { IfOk result (λ command.
+        app_of command ≡ spec.with_lines (map shape_of_form forms.now)) }
+{
+    let mut command = bare_command(alloc);
+    for form in forms {
+        command = command.subcommand(command_of(alloc, form)?)?;
+    }
+    Ok(command)
+}
+
+// The program, with no line.
+fn bare_command<'a>(alloc: Global) -> Command<'a>
+    ensures { app_of result ≡ spec.bare_program }
+{
+    Command::new(alloc, "uss_desk")
+        .about("The planning desk of one UAS service supplier")
+        .version(VERSION)
+        .subcommand_required(true)
+}
+
+// The command of a line.
+fn command_of<'a>(alloc: Global, form: &'static Form) -> Result<Command<'a>, AllocError>
+    ensures { IfOk result (λ command. shape_of command ≡ shape_of_form form.now) }
+{
+    with_words(alloc, form, form.words)
+}
+
+// The command of a line, with these words.
+fn with_words<'a>(
+    alloc: Global,
+    form: &'static Form,
+    words: &'static [ArgRow],
+) -> Result<Command<'a>, AllocError>
+    ensures { IfOk result (λ command.
+        shape_of command ≡ line_shape form.now.name.now (map rule_of_row words.now)) }
+{
+    let mut command = Command::new(alloc, form.name).about(form.about);
+    for word in words {
+        command = command.arg(arg_of(alloc, word))?;
+    }
+    Ok(command)
+}
+
+// The argument of a row.
+fn arg_of<'a>(alloc: Global, row: &ArgRow) -> Arg<'a>
+    ensures { rule_of result ≡ rule_of_row row.now }
+{
+    let arg = bare_arg(alloc, row);
+    match row.kind {
+        Kind::Text => arg,
+        Kind::Texts => arg.action(ArgAction::Append),
+        Kind::Number(least, most) => arg.value_parser(ValueParser::signed(least, most)),
+        Kind::Flag => arg.action(ArgAction::SetTrue),
+    }
+}
+
+// What the argument of a row has, of whatever kind its values are.
+fn bare_arg<'a>(alloc: Global, row: &ArgRow) -> Arg<'a>
+    ensures { rule_of result ≡ bare_rule row.now }
+{
+    let arg = Arg::new(alloc, row.id)
+        .help(row.help)
+        .required(row.is_required);
+    let arg = match row.value {
+        Some(value) => arg.value_name(value),
+        None => arg,
+    };
+    match row.long {
+        Some(long) => arg.long(long),
+        None => arg,
+    }
+}

@@ -1,0 +1,106 @@
+//! The priority that a word of the command line writes, and the equal priorities that one permits.
+
+ghost use Rattle.std.specs.Prelude.{◌≡◌, ◌≤◌, ℕ, List, IfOk, IfSome, Some, map, option_map};
+ghost use Rattle.std.specs.Char.{is_ascii_digit};
+ghost use Rattle.std.specs.List.{list_all, slice_split};
+ghost use Rattle.desk_rules.specs.Limits.{max_priority};
+ghost use Rattle.desk_cli.specs.Equal as spec;
+ghost use Rattle.desk_cli.specs.Grammar.{Lacks};
+ghost use Rattle.desk_cli.specs.Equal.{ArePermittedBy, ArePermittedIn, is_comma, priority_in};
+
+use crate::line::WordsFault;
+use desk_rules::decide::MAX_PRIORITY;
+use desk_rules::permission::Permitted;
+use std::alloc::{AllocError, Global};
+
+/// The most digits of a priority.
+const PRIORITY_DIGITS: usize = 4;
+
+/// The priorities that a word permits, with commas between them. None are permitted if there is no
+/// word.
+///
+/// # Errors
+///
+/// `OutOfMemory`; `Value`.
+pub fn permitted_by(alloc: Global, word: Option<&str>) -> Result<Permitted, WordsFault>
+    ensures given { IfOk result (ArePermittedBy (option_map (λ word. word.now) word.entry)) }
+    ensures lacks { Lacks (ArePermittedBy (option_map (λ word. word.now) word.entry)) result }
+{
+    match word {
+        None => Ok(Permitted::none()),
+        Some(word) => permitted_of(alloc, word),
+    }
+}
+
+// The priorities of a word.
+fn permitted_of(alloc: Global, word: &str) -> Result<Permitted, WordsFault>
+    ensures given { IfOk result (ArePermittedIn word.now) }
+    ensures lacks { Lacks (ArePermittedIn word.now) result }
+{
+    let priorities = priorities_of(alloc, &parts_of(alloc, word)?)?;
+    let Ok(permitted) = Permitted::try_new(&priorities) else {
+        return Err(WordsFault::Value);
+    };
+    Ok(permitted)
+}
+
+// The parts of a word between its commas.
+fn parts_of<'w>(alloc: Global, word: &'w str) -> Result<Vec<&'w str>, AllocError>
+    ensures { IfOk result (λ parts.
+        map (λ part. part.now) parts.items ≡ slice_split is_comma word.now) }
+{
+    word.split(',').collect(alloc)
+}
+
+// The priorities of parts, in their order.
+fn priorities_of(alloc: Global, parts: &[&str]) -> Result<Vec<u32>, WordsFault>
+    ensures given { IfOk result (λ priorities.
+        map Some priorities.items ≡ map priority_in (map (λ part. part.now) parts.now)) }
+    ensures lacks { Lacks (λ (priorities : List ℕ).
+        map Some priorities ≡ map priority_in (map (λ part. part.now) parts.now)) result }
+{
+    let mut priorities = Vec::new(alloc);
+    for part in parts {
+        let Some(priority) = priority_of(part) else {
+            return Err(WordsFault::Value);
+        };
+        priorities.push(priority)?;
+    }
+    Ok(priorities)
+}
+
+/// A priority: 1 to 4 digits, at most 1,000.
+#[tactic(auto, unfolding(crate::specs::Equal::priority_in))]
+pub fn priority_of(text: &str) -> Option<u32>
+    ensures value { result ≡ priority_in text.now }
+    ensures small { IfSome result (λ priority. priority ≤ max_priority) }
+{
+    if !is_short_number(text) {
+        return None;
+    }
+    match text.parse() {
+        Ok(priority) if priority <= MAX_PRIORITY => Some(priority),
+        _ => None,
+    }
+}
+
+// Whether a text is 1 to 4 digits.
+#[tactic(auto, unfolding(crate::specs::Equal::is_short_number))]
+fn is_short_number(text: &str) -> bool
+    ensures { result ≡ spec.is_short_number text.now }
+{
+    if text.is_empty() {
+        return false;
+    }
+    if text.len() > PRIORITY_DIGITS {
+        return false;
+    }
+    are_digits(text.as_bytes())
+}
+
+// Whether all bytes are digits.
+fn are_digits(bytes: &[u8]) -> bool
+    ensures { result ≡ list_all is_ascii_digit bytes.now }
+{
+    bytes.iter().all(|byte| byte.is_ascii_digit())
+}

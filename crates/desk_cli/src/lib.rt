@@ -1,0 +1,23 @@
+//! The command line of the planning desk's program: what its words say, why the program ends and with
+//! which status, and what the lines print that need no desk.
+#![tactic(auto)]
+
+mod command;
+mod equal;
+mod failure;
+mod line;
+mod malformed;
+mod picture;
+mod printed;
+mod register;
+mod reporting;
+
+pub use failure::{ErrorCode, ExitReport, report_exit};
+pub use line::{
+    Action, CopyArgs, Cover, Database, DeskArgs, Enrol, Enrolment, Line, Play, ReplayArgs, Serve,
+    WordsFault, read_words,
+};
+pub use malformed::bad_argument;
+pub use printed::print_line;
+pub use register::{enrolment_on, enrolments_on, lines_of};
+pub use reporting::{report, report_malformed};

@@ -1,0 +1,763 @@
+//! The command line of the program.
+
+ghost use Rattle.std.specs.Prelude.{◌≡◌, ◌≤◌, ◌<◌, ◌^◌, ◌↔◌, ℕ, IsTrue, Option, ℤ, pos, List, IfErr, IfOk, IfSome, None, Some, map, option_map};
+ghost use Rattle.std.specs.Prelude.{codes, string_bytes};
+ghost use Rattle.std.specs.Int.{IsInRange};
+ghost use mir.Syntax.{w64};
+ghost use mir.Val.{SFits};
+ghost use Rattle.clap.specs.Matches.{found_of};
+ghost use Rattle.clap.specs.Simple.{subcommand_of, subcommand_rows_of};
+ghost use Rattle.clap.specs.Walk.{first_of, rows_of};
+ghost use Rattle.desk_rules.specs.Limits.{max_priority};
+ghost use Rattle.io_ends.specs.Moments.{IsMoment};
+ghost use Rattle.desk_cli.specs.Copies.{SameDesk};
+ghost use Rattle.desk_cli.specs.Equal.{ArePermittedBy};
+ghost use Rattle.desk_cli.specs.Grammar as spec;
+ghost use Rattle.desk_cli.specs.Grammar.{AreEnrolmentsGiven, AreMostCells, AreMostSpans, AreTermsOf};
+ghost use Rattle.desk_cli.specs.Grammar.{AreWordsRefused, HasGiven};
+ghost use Rattle.desk_cli.specs.Grammar.{IsBareDeskGiven, IsCopyGiven, IsCoverGiven, IsDeskGiven};
+ghost use Rattle.desk_cli.specs.Grammar.{IsEnrolGiven, IsGiven, IsLineOf, IsMostOf, IsNumberGiven};
+ghost use Rattle.desk_cli.specs.Grammar.{IsNumberOrNone, IsPlayGiven, IsReplayGiven, IsSecondGiven};
+ghost use Rattle.desk_cli.specs.Grammar.{IsServeGiven, IsTextGiven, IsUntaken};
+ghost use Rattle.desk_cli.specs.Grammar.{Lacks, enrolment_given, enrolment_in, file_given, name_of, program};
+ghost use Rattle.desk_cli.specs.Lines.{AreEnrolments, IsCover, IsEnrol, IsLastSecond, IsLine, IsPlay};
+ghost use Rattle.desk_cli.specs.Lines.{IsReplay, IsServe, desk_of, file_of, max_connections, max_port};
+ghost use Rattle.desk_cli.specs.Lines.{min_connections, min_most, min_port, named_file};
+ghost use Rattle.desk_cli.specs.declared.line.Cover.{Cover as CoverWords};
+ghost use Rattle.desk_cli.specs.declared.line.WordsFault.TheVariants as fault;
+
+use crate::command::make_command;
+use crate::equal::{permitted_by, priority_of};
+use clap::ArgMatches;
+use clap::error::ErrorKind;
+use desk_rules::operator::Operator;
+use desk_rules::permission::Permitted;
+use desk_rules::terms::{MAX_SPANS, MAX_TOTAL_CELLS, Terms};
+use io_ends::Moment;
+use std::alloc::{AllocError, AllocFailed, Global};
+use volume4d::MAX_SECOND;
+
+/// The word for a database in memory.
+const IN_MEMORY: &str = ":memory:";
+
+/// The most connections that are served.
+pub(crate) const MAX_CONNECTIONS: u32 = 1_000_000;
+
+/// What the program is asked for: one command, with its arguments.
+#[derive(Debug, Drop)]
+pub enum Line {
+    /// `token`: tells the cell of this text.
+    Token(String),
+    /// `cover`: tells the cells of a rectangle.
+    Cover(Cover),
+    /// `play`: enrols the names, and answers the requests of the standard input.
+    Play(Play),
+    /// `serve`: enrols the names, and answers one request a connection.
+    Serve(Serve),
+    /// `enrol`: enrols one operator.
+    Enrol(Enrol),
+    /// `check`: tells what a database holds.
+    Check(Database),
+    /// `copy`: makes a new file of what a database holds.
+    Copy(CopyArgs),
+    /// `migrate`: moves the plans of a database of schema 1 to schema 2.
+    Migrate(Database),
+    /// `replay`: plays the record of the standard input, and compares each answer with the recorded one.
+    Replay(ReplayArgs),
+}
+
+/// What a command does at its desk once that is open.
+#[derive(Clone, Copy)]
+pub enum Action<'a> {
+    /// Answers the requests of the standard input.
+    Play(&'a Play),
+    /// Answers one request a connection.
+    Serve(&'a Serve),
+    /// Enrols one operator.
+    Enrol(&'a Enrol),
+}
+
+impl<'a> Action<'a> {
+    /// The desk that the command opens.
+    pub fn desk(self) -> &'a DeskArgs
+        ensures { result.now ≡ desk_of self.entry }
+    {
+        match self {
+            Action::Play(play) => &play.desk,
+            Action::Serve(serve) => &serve.desk,
+            Action::Enrol(enrol) => &enrol.desk,
+        }
+    }
+}
+
+/// Where operators and plans are kept.
+#[derive(Clone, Debug, Drop)]
+pub enum Database {
+    /// In memory: they are gone when the program ends.
+    InMemory,
+    /// In the SQLite database of this path.
+    File(String),
+}
+
+impl Database {
+    /// The path of its file, if it is in one.
+    pub fn path(&self) -> Option<&str>
+        ensures { option_map (λ path. path.now) result ≡ file_of self.now }
+    {
+        match self {
+            Database::InMemory => None,
+            Database::File(path) => Some(path),
+        }
+    }
+}
+
+/// Which desk a command opens, and what is set there before it begins.
+#[derive(Clone, Debug, Drop)]
+pub struct DeskArgs {
+    /// Where operators and plans are kept.
+    pub database: Database,
+    /// The terms of the desk: the priorities of which plans may overlap, and the most spans of an operator's
+    /// live plans and the most cells of all its plans, 1 to 5,000,000 each. `enrol` has none.
+    pub terms: Terms,
+    /// The operators, in the order given; a name may be there twice. `enrol` has none.
+    pub enrolments: Vec<Enrolment>,
+    /// The path of the file of enrolments that the administrator changes while the desk serves, if there
+    /// is one. `serve` alone has one.
+    pub operators: Option<String>,
+    /// The path of the folder in which each request and its answer are recorded, if there is one.
+    pub folder: Option<String>,
+}
+
+impl DeskArgs {
+    /// The same arguments.
+    ///
+    /// # Errors
+    ///
+    /// `AllocError` if memory runs out.
+    pub fn copy(&self) -> Result<DeskArgs, AllocError>
+        ensures { IfOk result (SameDesk self.now) }
+    {
+        self.clone()
+    }
+}
+
+/// The arguments of `play`.
+#[derive(Debug, Drop)]
+pub struct Play {
+    /// The desk that is opened.
+    pub desk: DeskArgs,
+    /// The moment of all requests.
+    pub moment: Moment,
+}
+
+/// The arguments of `serve`.
+#[derive(Debug, Drop)]
+pub struct Serve {
+    /// The desk that is opened.
+    pub desk: DeskArgs,
+    /// The port of 127.0.0.1 that is listened at, 1 to 65,535.
+    pub port: u16,
+    /// How many connections are served, 1 to 1,000,000.
+    pub connections: u32,
+}
+
+/// The arguments of `enrol`.
+#[derive(Debug, Drop)]
+pub struct Enrol {
+    /// The desk at which the operator is enrolled.
+    pub desk: DeskArgs,
+    /// The operator and its ceiling.
+    pub enrolment: Enrolment,
+}
+
+/// The arguments of `cover`: the parts of a rectangle of leaves, of which nothing is known yet.
+#[derive(Clone, Copy, Debug)]
+pub struct Cover {
+    /// The face, 0 to 5.
+    pub face: u8,
+    /// The least coordinate `i` of a leaf.
+    pub i_min: u32,
+    /// The greatest coordinate `i`.
+    pub i_max: u32,
+    /// The least coordinate `j`.
+    pub j_min: u32,
+    /// The greatest coordinate `j`.
+    pub j_max: u32,
+    /// The level of the squares, 8 to 24.
+    pub level: u8,
+    /// Whether a picture is wanted in place of the tokens.
+    pub is_picture: bool,
+}
+
+/// The arguments of `copy`.
+#[derive(Debug, Drop)]
+pub struct CopyArgs {
+    /// What is copied.
+    pub database: Database,
+    /// The path of the new file.
+    pub to: String,
+}
+
+/// The arguments of `replay`.
+#[derive(Debug, Drop)]
+pub struct ReplayArgs {
+    /// Where operators and plans are kept.
+    pub database: Database,
+    /// The last Unix second whose requests are played, 0 to 253,370,764,800, if not all are.
+    pub until: Option<u64>,
+}
+
+/// An operator to be enrolled, `NAME=CEILING`.
+#[derive(Clone, Copy, Debug)]
+pub struct Enrolment {
+    /// Its name.
+    pub operator: Operator,
+    /// The greatest priority that it may use, at most 1,000.
+    pub ceiling: u32,
+}
+
+/// Why words are no command line.
+#[derive(Debug, Drop)]
+pub enum WordsFault {
+    /// Memory ran out.
+    OutOfMemory,
+    /// Help was asked for, or the words have none of the forms that help shows.
+    Words(clap::Error),
+    /// A name, a ceiling or a `NAME=CEILING` is malformed, or the ceiling is above 1,000; or a list of equal
+    /// priorities is malformed or can't be permitted.
+    Value,
+}
+
+impl From<AllocError> for WordsFault {
+    ghost from_gives = { λ _ f. f ≡ fault.OutOfMemory };
+
+    fn from(_error: AllocError) -> WordsFault {
+        WordsFault::OutOfMemory
+    }
+}
+
+impl<T: Drop> From<AllocFailed<T>> for WordsFault {
+    ghost from_gives = { λ _ f. f ≡ fault.OutOfMemory };
+
+    fn from(_error: AllocFailed<T>) -> WordsFault {
+        WordsFault::OutOfMemory
+    }
+}
+
+impl From<clap::Error> for WordsFault {
+    ghost use Rattle.std.specs.Prelude.{◌≡◌, ◌≢◌, ◌⊎◌};
+    ghost use Rattle.clap.specs.Values.{kind_of};
+    ghost use Rattle.clap.specs.declared.error.kind.ErrorKind.TheVariants as kind;
+    ghost use Rattle.desk_cli.specs.declared.line.WordsFault.TheVariants as fault;
+
+    ghost from_gives = { λ error f. (f ≡ fault.OutOfMemory)
+        ⊎ ((f ≡ fault.Words error) × (kind_of error ≢ kind.OutOfMemory)) };
+
+    fn from(error: clap::Error) -> WordsFault {
+        if error.kind() == ErrorKind::OutOfMemory {
+            WordsFault::OutOfMemory
+        } else {
+            WordsFault::Words(error)
+        }
+    }
+}
+
+/// Reads the words of a command line, the first of them the program's own name.
+///
+/// # Errors
+///
+/// `OutOfMemory` if a growth was refused; else `Words` if `clap` doesn't take them, as if a number is out of
+/// range; else `Value` if they are no line.
+pub fn read_words(alloc: Global, words: Vec<String>) -> Result<Line, WordsFault>
+    ensures valid { IfOk result IsLine }
+    ensures given { IfOk result (IsGiven (map string_bytes words.items)) }
+    ensures refused { IfErr result (AreWordsRefused (map string_bytes words.items)) }
+{
+    read_slice(alloc, &words)
+}
+
+// The line of words.
+fn read_slice(alloc: Global, words: &[String]) -> Result<Line, WordsFault>
+    ensures valid { IfOk result IsLine }
+    ensures given { IfOk result (IsGiven (map string_bytes words.now)) }
+    ensures refused { IfErr result (AreWordsRefused (map string_bytes words.now)) }
+{
+    let matches = matches_of(alloc, words)?;
+    match matches.subcommand() {
+        Some((name, given)) => read_line(alloc, name, given),
+        None => Err(WordsFault::Value),
+    }
+}
+
+/// What `clap` finds in the words.
+///
+/// # Errors
+///
+/// `OutOfMemory`; `Words`.
+pub(crate) fn matches_of(alloc: Global, words: &[String]) -> Result<ArgMatches<'_>, WordsFault>
+    ensures found { IfOk result (λ matches.
+        subcommand_rows_of matches ≡ subcommand_of program (map string_bytes words.now)) }
+    ensures untaken { IfErr result (IsUntaken (map string_bytes words.now)) }
+{
+    Ok(make_command(alloc)?.try_get_matches_from(words)?)
+}
+
+// The line of this name, by the values that were given.
+fn read_line(alloc: Global, name: &str, given: &ArgMatches<'_>) -> Result<Line, WordsFault>
+    ensures valid { IfOk result IsLine }
+    ensures name { IfOk result (λ line. name_of line ≡ name.now) }
+    ensures given { IfOk result (HasGiven (rows_of (found_of given.now))) }
+    ensures lacks { Lacks (IsLineOf name.now (rows_of (found_of given.now))) result }
+{
+    match name {
+        "token" => Ok(Line::Token(read_token(alloc, given)?)),
+        "cover" => match read_cover(given) {
+            Some(cover) => Ok(Line::Cover(cover)),
+            None => Err(WordsFault::Value),
+        },
+        "play" => Ok(Line::Play(read_play(alloc, given)?)),
+        "serve" => Ok(Line::Serve(read_serve(alloc, given)?)),
+        "enrol" => Ok(Line::Enrol(read_enrol(alloc, given)?)),
+        "check" => Ok(Line::Check(read_database(alloc, given)?)),
+        "copy" => Ok(Line::Copy(read_copy(alloc, given)?)),
+        "migrate" => Ok(Line::Migrate(read_database(alloc, given)?)),
+        "replay" => Ok(Line::Replay(read_replay(alloc, given)?)),
+        _ => Err(WordsFault::Value),
+    }
+}
+
+// The arguments of `play`.
+fn read_play(alloc: Global, given: &ArgMatches<'_>) -> Result<Play, WordsFault>
+    ensures valid { IfOk result IsPlay }
+    ensures given { IfOk result (IsPlayGiven (rows_of (found_of given.now))) }
+    ensures lacks { Lacks (IsPlayGiven (rows_of (found_of given.now))) result }
+{
+    let Some(moment) = read_moment(given) else {
+        return Err(WordsFault::Value);
+    };
+    Ok(Play {
+        desk: read_desk(alloc, given, None)?,
+        moment,
+    })
+}
+
+// The desk of `play` or `serve`, with the file of enrolments of this path.
+fn read_desk(
+    alloc: Global,
+    given: &ArgMatches<'_>,
+    operators: Option<&str>,
+) -> Result<DeskArgs, WordsFault>
+    ensures small { IfOk result (λ desk. AreEnrolments desk.enrolments.items) }
+    ensures given { IfOk result (IsDeskGiven (rows_of (found_of given.now))
+        (option_map (λ path. path.now) operators.entry)) }
+    ensures lacks { Lacks (IsDeskGiven (rows_of (found_of given.now))
+        (option_map (λ path. path.now) operators.entry)) result }
+{
+    Ok(DeskArgs {
+        database: read_database(alloc, given)?,
+        terms: read_terms(alloc, given)?,
+        enrolments: read_enrolments(alloc, given)?,
+        operators: owned_text(alloc, operators)?,
+        folder: read_folder(alloc, given)?,
+    })
+}
+
+// The moment of all requests.
+fn read_moment(given: &ArgMatches<'_>) -> Option<Moment>
+    ensures given { IfSome result (λ moment.
+        IsSecondGiven (codes "moment") (rows_of (found_of given.now)) moment.second) }
+    ensures none { result ≡ None → (z : ℤ) → IsMoment z
+        → IsSecondGiven (codes "moment") (rows_of (found_of given.now)) z → ⊥ }
+{
+    Moment::try_new(read_second(given, "moment")?)
+}
+
+// A second, or another number of 64 bits and a sign.
+fn read_second(given: &ArgMatches<'_>, id: &str) -> Option<i64>
+    ensures given { IfSome result (IsSecondGiven id.now (rows_of (found_of given.now))) }
+    ensures none { result ≡ None → (z : ℤ) → SFits w64 z
+        → IsSecondGiven id.now (rows_of (found_of given.now)) z → ⊥ }
+{
+    given.get_one(id)
+}
+
+// The text of `token`.
+fn read_token(alloc: Global, given: &ArgMatches<'_>) -> Result<String, WordsFault>
+    ensures given { IfOk result (λ token. IsTextGiven (rows_of (found_of given.now)) (string_bytes token)) }
+    ensures lacks { Lacks (IsTextGiven (rows_of (found_of given.now))) result }
+{
+    match text_of(given, "token") {
+        Some(token) => Ok(String::from_str(alloc, token)?),
+        None => Err(WordsFault::Value),
+    }
+}
+
+// The arguments of `serve`.
+fn read_serve(alloc: Global, given: &ArgMatches<'_>) -> Result<Serve, WordsFault>
+    ensures valid { IfOk result IsServe }
+    ensures given { IfOk result (IsServeGiven (rows_of (found_of given.now))) }
+    ensures lacks { Lacks (λ serve. IsServe serve
+        × IsServeGiven (rows_of (found_of given.now)) serve) result }
+{
+    let Some(port) = read_port(given) else {
+        return Err(WordsFault::Value);
+    };
+    let Some(connections) = read_connections(given) else {
+        return Err(WordsFault::Value);
+    };
+    Ok(Serve {
+        desk: read_desk(alloc, given, text_of(given, "operators"))?,
+        port,
+        connections,
+    })
+}
+
+// The port that is listened at.
+fn read_port(given: &ArgMatches<'_>) -> Option<u16>
+    ensures valid { IfSome result (IsInRange min_port max_port) }
+    ensures given { IfSome result (IsNumberGiven (codes "port") (rows_of (found_of given.now))) }
+    ensures none { result ≡ None → (n : ℕ) → IsInRange min_port max_port n
+        → IsNumberGiven (codes "port") (rows_of (found_of given.now)) n → ⊥ }
+{
+    let port = read_short(given, "port")?;
+    if port == 0 {
+        return None;
+    }
+    Some(port)
+}
+
+// How many connections are served.
+fn read_connections(given: &ArgMatches<'_>) -> Option<u32>
+    ensures valid { IfSome result (IsInRange min_connections max_connections) }
+    ensures given { IfSome result (IsNumberGiven (codes "connections") (rows_of (found_of given.now))) }
+    ensures none { result ≡ None → (n : ℕ) → IsInRange min_connections max_connections n
+        → IsNumberGiven (codes "connections") (rows_of (found_of given.now)) n → ⊥ }
+{
+    let connections = read_number(given, "connections")?;
+    if connections == 0 {
+        return None;
+    }
+    if connections > MAX_CONNECTIONS {
+        return None;
+    }
+    Some(connections)
+}
+
+// The path of the folder of records, if one is named.
+fn read_folder(alloc: Global, given: &ArgMatches<'_>) -> Result<Option<String>, AllocError>
+    ensures { IfOk result (λ folder. option_map string_bytes folder
+        ≡ first_of (codes "record") (rows_of (found_of given.now))) }
+{
+    owned_text(alloc, text_of(given, "record"))
+}
+
+// A text of its own, if there is a text.
+fn owned_text(alloc: Global, text: Option<&str>) -> Result<Option<String>, AllocError>
+    ensures { IfOk result (λ owned. option_map string_bytes owned
+        ≡ option_map (λ text. text.now) text.entry) }
+{
+    match text {
+        None => Ok(None),
+        Some(text) => Ok(Some(String::from_str(alloc, text)?)),
+    }
+}
+
+// The arguments of `cover`.
+fn read_cover(given: &ArgMatches<'_>) -> Option<Cover>
+    ensures valid { IfSome result IsCover }
+    ensures given { IfSome result (IsCoverGiven (rows_of (found_of given.now))) }
+    ensures none { result ≡ None → (cover : CoverWords) → IsCover cover
+        → IsCoverGiven (rows_of (found_of given.now)) cover → ⊥ }
+{
+    Some(Cover {
+        face: read_small(given, "FACE")?,
+        i_min: read_number(given, "I_MIN")?,
+        i_max: read_number(given, "I_MAX")?,
+        j_min: read_number(given, "J_MIN")?,
+        j_max: read_number(given, "J_MAX")?,
+        level: read_small(given, "LEVEL")?,
+        is_picture: is_given(given, "picture"),
+    })
+}
+
+// A number of 8 bits.
+fn read_small(given: &ArgMatches<'_>, id: &str) -> Option<u8>
+    ensures given { IfSome result (IsNumberGiven id.now (rows_of (found_of given.now))) }
+    ensures none { result ≡ None → (n : ℕ) → n < 2 ^ 8
+        → IsNumberGiven id.now (rows_of (found_of given.now)) n → ⊥ }
+{
+    given.get_one(id)
+}
+
+// A number of 16 bits.
+fn read_short(given: &ArgMatches<'_>, id: &str) -> Option<u16>
+    ensures given { IfSome result (IsNumberGiven id.now (rows_of (found_of given.now))) }
+    ensures none { result ≡ None → (n : ℕ) → n < 2 ^ 16
+        → IsNumberGiven id.now (rows_of (found_of given.now)) n → ⊥ }
+{
+    given.get_one(id)
+}
+
+// A number of 32 bits.
+fn read_number(given: &ArgMatches<'_>, id: &str) -> Option<u32>
+    ensures given { IfSome result (IsNumberGiven id.now (rows_of (found_of given.now))) }
+    ensures none { result ≡ None → (n : ℕ) → n < 2 ^ 32
+        → IsNumberGiven id.now (rows_of (found_of given.now)) n → ⊥ }
+{
+    given.get_one(id)
+}
+
+// Whether a flag was given.
+fn is_given(given: &ArgMatches<'_>, id: &str) -> bool
+    ensures { result ≡ spec.is_given id.now (rows_of (found_of given.now)) }
+{
+    given.get_one(id).unwrap_or(false)
+}
+
+// The arguments of `enrol`.
+fn read_enrol(alloc: Global, given: &ArgMatches<'_>) -> Result<Enrol, WordsFault>
+    ensures valid { IfOk result IsEnrol }
+    ensures given { IfOk result (IsEnrolGiven (rows_of (found_of given.now))) }
+    ensures lacks { Lacks (IsEnrolGiven (rows_of (found_of given.now))) result }
+{
+    let Some(enrolment) = read_operator(given) else {
+        return Err(WordsFault::Value);
+    };
+    Ok(Enrol {
+        desk: read_bare_desk(alloc, given)?,
+        enrolment,
+    })
+}
+
+// The desk of `enrol`, at which nothing is set.
+fn read_bare_desk(alloc: Global, given: &ArgMatches<'_>) -> Result<DeskArgs, AllocError>
+    ensures { IfOk result (IsBareDeskGiven (rows_of (found_of given.now))) }
+{
+    Ok(DeskArgs {
+        database: read_database(alloc, given)?,
+        terms: Terms::none(),
+        enrolments: Vec::new(alloc),
+        operators: None,
+        folder: read_folder(alloc, given)?,
+    })
+}
+
+// The arguments of `copy`.
+fn read_copy(alloc: Global, given: &ArgMatches<'_>) -> Result<CopyArgs, WordsFault>
+    ensures given { IfOk result (IsCopyGiven (rows_of (found_of given.now))) }
+    ensures lacks { Lacks (IsCopyGiven (rows_of (found_of given.now))) result }
+{
+    let Some(to) = text_of(given, "to") else {
+        return Err(WordsFault::Value);
+    };
+    Ok(CopyArgs {
+        database: read_database(alloc, given)?,
+        to: String::from_str(alloc, to)?,
+    })
+}
+
+// The arguments of `replay`.
+fn read_replay(alloc: Global, given: &ArgMatches<'_>) -> Result<ReplayArgs, WordsFault>
+    ensures valid { IfOk result IsReplay }
+    ensures given { IfOk result (IsReplayGiven (rows_of (found_of given.now))) }
+    ensures lacks { Lacks (λ replay. IsReplay replay
+        × IsReplayGiven (rows_of (found_of given.now)) replay) result }
+{
+    let Some(until) = read_until(given) else {
+        return Err(WordsFault::Value);
+    };
+    Ok(ReplayArgs {
+        database: read_database(alloc, given)?,
+        until,
+    })
+}
+
+// The last second that is played, or that there is none; none if there is something else.
+fn read_until(given: &ArgMatches<'_>) -> Option<Option<u64>>
+    ensures valid { IfSome result IsLastSecond }
+    ensures given { IfSome result (IsNumberOrNone (codes "until") (rows_of (found_of given.now))) }
+    ensures none { result ≡ None → (found : Option ℕ) → IsLastSecond found
+        → IsNumberOrNone (codes "until") (rows_of (found_of given.now)) found → ⊥ }
+{
+    let until = read_long_if_given(given, "until")?;
+    if !until.is_none_or(is_moment) {
+        return None;
+    }
+    Some(until)
+}
+
+// Whether a number is a moment.
+fn is_moment(second: u64) -> bool
+    ensures { IsTrue result ↔ IsMoment (pos second) }
+{
+    second <= MAX_SECOND as u64
+}
+
+// A number of 64 bits, or that there is none; none if there is something else.
+fn read_long_if_given(given: &ArgMatches<'_>, id: &str) -> Option<Option<u64>>
+    ensures given { IfSome result (IsNumberOrNone id.now (rows_of (found_of given.now))) }
+    ensures none { result ≡ None → (found : Option ℕ) → IfSome found (λ n. n < 2 ^ 64)
+        → IsNumberOrNone id.now (rows_of (found_of given.now)) found → ⊥ }
+{
+    given.try_get_one(id).ok()
+}
+
+// The operator and its ceiling.
+fn read_operator(given: &ArgMatches<'_>) -> Option<Enrolment>
+    ensures value { result ≡ enrolment_given (rows_of (found_of given.now)) }
+    ensures small { IfSome result (λ e. e.ceiling ≤ max_priority) }
+{
+    enrolment_by(text_of(given, "NAME")?, text_of(given, "CEILING")?)
+}
+
+/// The text of an argument.
+pub(crate) fn text_of<'a>(given: &ArgMatches<'a>, id: &str) -> Option<&'a str>
+    ensures { option_map (λ text. text.now) result ≡ first_of id.now (rows_of (found_of given.now)) }
+{
+    given.get_str(id)
+}
+
+// The database that the words name.
+fn read_database(alloc: Global, given: &ArgMatches<'_>) -> Result<Database, AllocError>
+    ensures { IfOk result (λ database. file_of database ≡ file_given (rows_of (found_of given.now))) }
+{
+    database_of(alloc, text_of(given, "database"))
+}
+
+// The database of a word; one in memory if there is none.
+fn database_of(alloc: Global, word: Option<&str>) -> Result<Database, AllocError>
+    ensures { IfOk result (λ database.
+        file_of database ≡ named_file (option_map (λ path. path.now) word.entry)) }
+{
+    match word {
+        None => Ok(Database::InMemory),
+        Some(path) => {
+            if path == IN_MEMORY {
+                return Ok(Database::InMemory);
+            }
+            Ok(Database::File(String::from_str(alloc, path)?))
+        }
+    }
+}
+
+// The terms of the desk.
+fn read_terms(alloc: Global, given: &ArgMatches<'_>) -> Result<Terms, WordsFault>
+    ensures given { IfOk result (AreTermsOf (rows_of (found_of given.now))) }
+    ensures lacks { Lacks (AreTermsOf (rows_of (found_of given.now))) result }
+{
+    Ok(Terms {
+        permitted: read_permitted(alloc, given)?,
+        spans: read_spans(given)?,
+        cells: read_cells(given)?,
+    })
+}
+
+// The most spans of an operator's live plans; none if any number will do.
+fn read_spans(given: &ArgMatches<'_>) -> Result<Option<u32>, WordsFault>
+    ensures given { IfOk result (AreMostSpans (rows_of (found_of given.now))) }
+    ensures lacks { Lacks (AreMostSpans (rows_of (found_of given.now))) result }
+{
+    read_most(given, "spans", MAX_SPANS)
+}
+
+// The most cells of an operator's plans; none if any number will do.
+fn read_cells(given: &ArgMatches<'_>) -> Result<Option<u32>, WordsFault>
+    ensures given { IfOk result (AreMostCells (rows_of (found_of given.now))) }
+    ensures lacks { Lacks (AreMostCells (rows_of (found_of given.now))) result }
+{
+    read_most(given, "cells", MAX_TOTAL_CELLS)
+}
+
+// The most of something, by its name, up to the greatest number that may be named; none if any number will
+// do.
+fn read_most(given: &ArgMatches<'_>, id: &str, greatest: u32) -> Result<Option<u32>, WordsFault>
+    ensures given { IfOk result (IsMostOf id.now greatest (rows_of (found_of given.now))) }
+    ensures lacks { Lacks (IsMostOf id.now greatest (rows_of (found_of given.now))) result }
+{
+    let Some(most) = read_if_given(given, id) else {
+        return Err(WordsFault::Value);
+    };
+    if !is_most(most, greatest) {
+        return Err(WordsFault::Value);
+    }
+    Ok(most)
+}
+
+// Whether so many, if they are named, may be named as the most of something.
+fn is_most(most: Option<u32>, greatest: u32) -> bool
+    ensures { IsTrue result ↔ IfSome most (IsInRange min_most greatest) }
+{
+    match most {
+        Some(most) => (1..=greatest).contains(&most),
+        None => true,
+    }
+}
+
+// A number of 32 bits, or that there is none; none if there is something else.
+fn read_if_given(given: &ArgMatches<'_>, id: &str) -> Option<Option<u32>>
+    ensures given { IfSome result (IsNumberOrNone id.now (rows_of (found_of given.now))) }
+    ensures none { result ≡ None → (found : Option ℕ) → IfSome found (λ n. n < 2 ^ 32)
+        → IsNumberOrNone id.now (rows_of (found_of given.now)) found → ⊥ }
+{
+    given.try_get_one(id).ok()
+}
+
+// The priorities at which plans may overlap.
+fn read_permitted(alloc: Global, given: &ArgMatches<'_>) -> Result<Permitted, WordsFault>
+    ensures given { IfOk result (ArePermittedBy
+        (first_of (codes "equal") (rows_of (found_of given.now)))) }
+    ensures lacks { Lacks (ArePermittedBy
+        (first_of (codes "equal") (rows_of (found_of given.now)))) result }
+{
+    permitted_by(alloc, text_of(given, "equal"))
+}
+
+// The enrolments, in the order given.
+fn read_enrolments(alloc: Global, given: &ArgMatches<'_>) -> Result<Vec<Enrolment>, WordsFault>
+    ensures small { IfOk result (λ enrolments. AreEnrolments enrolments.items) }
+    ensures given { IfOk result (λ enrolments.
+        AreEnrolmentsGiven enrolments.items (rows_of (found_of given.now))) }
+    ensures lacks { Lacks (λ enrolments.
+        AreEnrolmentsGiven enrolments (rows_of (found_of given.now))) result }
+{
+    enrolments_of(alloc, given.get_strs("enrolments").unwrap_or(&[]))
+}
+
+// The enrolments of these texts, in their order.
+fn enrolments_of(alloc: Global, words: &[&str]) -> Result<Vec<Enrolment>, WordsFault>
+    ensures small { IfOk result (λ enrolments. AreEnrolments enrolments.items) }
+    ensures given { IfOk result (λ enrolments. map Some enrolments.items
+        ≡ map (λ word. enrolment_in word.now) words.now) }
+    ensures lacks { Lacks (λ (enrolments : List Enrolment). map Some enrolments
+        ≡ map (λ word. enrolment_in word.now) words.now) result }
+{
+    let mut enrolments = Vec::new(alloc);
+    for word in words {
+        let Some(enrolment) = enrolment_of(word) else {
+            return Err(WordsFault::Value);
+        };
+        enrolments.push(enrolment)?;
+    }
+    Ok(enrolments)
+}
+
+// An enrolment, `NAME=CEILING`, parted at its first `=`.
+#[tactic(auto, unfolding(crate::specs::Grammar::enrolment_in))]
+fn enrolment_of(word: &str) -> Option<Enrolment>
+    ensures value { result ≡ enrolment_in word.now }
+    ensures small { IfSome result (λ e. e.ceiling ≤ max_priority) }
+{
+    let (name, ceiling) = word.split_once('=')?;
+    enrolment_by(name, ceiling)
+}
+
+/// An enrolment of an operator under a ceiling.
+pub(crate) fn enrolment_by(name: &str, ceiling: &str) -> Option<Enrolment>
+    ensures value { result ≡ spec.enrolment_by name.now ceiling.now }
+    ensures small { IfSome result (λ e. e.ceiling ≤ max_priority) }
+{
+    Some(Enrolment {
+        operator: Operator::try_new(name.as_bytes())?,
+        ceiling: priority_of(ceiling)?,
+    })
+}

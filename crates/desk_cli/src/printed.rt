@@ -1,0 +1,144 @@
+//! What the lines print that need no desk: the cell of a token, and the cover of a rectangle.
+
+ghost use Rattle.std.specs.Prelude.{◌≡◌, ◌⊎◌, List, IfOk, IfErr, OnOk, Ok, Err, length, string_bytes};
+ghost use Rattle.std.specs.Io.KnownBytes.{Appends};
+ghost use Rattle.s2_cellid.specs.Token.{read_token};
+ghost use Rattle.s2_cover.specs.Leaves.{leaves_of};
+ghost use Rattle.s2_cover.specs.Ranges.{IsRanges};
+ghost use Rattle.s2_cover.specs.Rectangles.{rect_or_fault};
+ghost use Rattle.s2_cover.specs.declared.spans.Span.{Span};
+ghost use Rattle.desk_cli.specs.Exits.{ending};
+ghost use Rattle.desk_cli.specs.Printing as spec;
+ghost use Rattle.desk_cli.specs.Printing.{IsCoverText, IsPrinted, IsPrinting, IsRectTold, IsShown, IsTold};
+ghost use Rattle.desk_cli.specs.Printing.{rect_parts, told_of_token};
+ghost use Rattle.desk_cli.specs.Written.{HasBegun};
+ghost use Rattle.desk_cli.specs.declared.failure.ErrorCode.TheVariants.{Memory, Write};
+
+use crate::failure::{ErrorCode, ExitReport, report_exit};
+use crate::line::{Cover as CoverWords, Line};
+use crate::picture::picture_of;
+use io_ends::write_whole;
+use s2_cellid::CellId;
+use s2_cover::{Cover, Rect, cover};
+use s2_hilbert::leaf_at;
+use std::alloc::{AllocError, Global};
+use std::io::Write;
+use volume4d::MAX_COVER;
+
+/// Prints what a `token` or a `cover` asks for, and answers how it ended. The word of a failure goes
+/// to `errors`; a fault there is passed over.
+pub fn print_line<W: Write, E: Write>(
+    alloc: Global,
+    line: &Line,
+    output: &mut W,
+    errors: &mut E,
+) -> ExitReport<E>
+    requires { IsPrinting line.now }
+    ensures { IsPrinted line.now (ending result (E.contents errors.old) (E.contents errors.new))
+        (W.contents output.old) (W.contents output.new) }
+{
+    report_exit(errors, print_text(alloc, line, output))
+}
+
+// Prints the text of a line.
+fn print_text<W: Write>(alloc: Global, line: &Line, output: &mut W) -> Result<(), ErrorCode>
+    requires { IsPrinting line.now }
+    ensures { IsShown line.now result (W.contents output.old) (W.contents output.new) }
+{
+    let text = text_of(alloc, line)?;
+    write_text(output, &text)
+}
+
+// Writes a text, up to the first write that fails.
+#[tactic(auto, using(crate::proofs::WrittenLemmas::begun_part))]
+fn write_text<W: Write>(output: &mut W, text: &str) -> Result<(), ErrorCode>
+    ensures ok { OnOk result (Appends (W.contents output.old) (W.contents output.new) text.now) }
+    ensures err { IfErr result (λ f. (f ≡ Write)
+        × HasBegun text.now (W.contents output.old) (W.contents output.new)) }
+{
+    write_whole(output, text.as_bytes())?;
+    Ok(())
+}
+
+// The text that a line prints.
+fn text_of(alloc: Global, line: &Line) -> Result<String, ErrorCode>
+    requires { IsPrinting line.now }
+    ensures ok { IfOk result (λ text. IsTold line.now (Ok (string_bytes text))) }
+    ensures err { IfErr result (λ f. (f ≡ Memory) ⊎ IsTold line.now (Err f)) }
+{
+    match line {
+        Line::Token(token) => token_text(alloc, token),
+        Line::Cover(words) => cover_text(alloc, words),
+        _ => unreachable!(),
+    }
+}
+
+// The line that tells the cell of a token.
+fn token_text(alloc: Global, token: &str) -> Result<String, ErrorCode>
+    ensures ok { IfOk result (λ text. Ok (string_bytes text) ≡ told_of_token (read_token token.now)) }
+    ensures err { IfErr result (λ f. (f ≡ Memory) ⊎ (Err f ≡ told_of_token (read_token token.now))) }
+{
+    let cell = CellId::from_token(token.as_bytes())?;
+    Ok(cell_line(alloc, &cell)?)
+}
+
+// The line that tells a cell.
+#[tactic(auto, unfolding(crate::specs::Printing::cell_line))]
+fn cell_line(alloc: Global, cell: &CellId) -> Result<String, AllocError>
+    ensures { IfOk result (λ text. string_bytes text ≡ spec.cell_line cell.now) }
+{
+    let face = cell.face();
+    let level = cell.level();
+    let first = CellId::of_leaf(leaf_at(cell.first()));
+    let last = CellId::of_leaf(leaf_at(cell.last()));
+    format!(in alloc; "{cell} face {face} level {level} leaves {first} {last}\n")
+}
+
+// The tokens of a rectangle's cover and how many they are, or a picture of them.
+fn cover_text(alloc: Global, words: &CoverWords) -> Result<String, ErrorCode>
+    ensures ok { IfOk result (λ text. IsRectTold words.now.is_picture
+        (rect_or_fault (rect_parts words.now)) (Ok (string_bytes text))) }
+    ensures err { IfErr result (λ f. (f ≡ Memory)
+        ⊎ IsRectTold words.now.is_picture (rect_or_fault (rect_parts words.now)) (Err f)) }
+{
+    let rect = Rect::try_new(
+        words.face,
+        words.i_min,
+        words.i_max,
+        words.j_min,
+        words.j_max,
+        words.level,
+    )?;
+    let cover = cover(alloc, &rect, MAX_COVER)?;
+    if words.is_picture {
+        Ok(picture_of(alloc, &rect, cover.cells())?)
+    } else {
+        Ok(cells_text(alloc, &cover)?)
+    }
+}
+
+// Each token of a cover on a line, then how many cells and ranges it has.
+#[tactic(auto, unfolding(crate::specs::Printing::cover_lines))]
+fn cells_text(alloc: Global, cover: &Cover) -> Result<String, AllocError>
+    ensures { IfOk result (λ text. (spans : List Span) × IsRanges (leaves_of cover.now.ids) spans
+        × (string_bytes text ≡ spec.cover_lines cover.now.ids (length spans))) }
+{
+    let mut text = tokens_text(alloc, cover.cells())?;
+    let cells = cover.cells().len();
+    let ranges = cover.ranges()?;
+    let count = ranges.spans().len();
+    text.push_str(&format!(in alloc; "{cells} cells, {count} ranges\n")?)?;
+    Ok(text)
+}
+
+// Each token on a line.
+fn tokens_text(alloc: Global, cells: &[CellId]) -> Result<String, AllocError>
+    ensures { IfOk result (λ text. string_bytes text ≡ spec.token_lines cells.now) }
+{
+    let mut text = String::new(alloc);
+    for cell in cells {
+        text.push_str(cell.token().as_str())?;
+        text.push_str("\n")?;
+    }
+    Ok(text)
+}

@@ -1,0 +1,48 @@
+//! Lines that say why the program was refused something: `uss_desk: PLACE: TEXT`.
+
+ghost use Rattle.std.specs.Prelude.{◌≡◌, IfOk, map, string_bytes};
+ghost use Rattle.desk_cli.specs.Reporting as spec;
+ghost use Rattle.desk_cli.specs.Reporting.{IsMalformedReported, IsPrintedPart, IsReported};
+
+use crate::malformed::bad_argument;
+use io_ends::write_whole;
+use std::alloc::{AllocError, Global};
+use std::io::Write;
+
+/// Prints `uss_desk: PLACE: TEXT`. A write that fails is passed over; if memory runs out, nothing is printed.
+#[tactic(auto, using(crate::proofs::ReportLemmas::nothing_reported))]
+pub fn report<E: Write>(alloc: Global, place: &str, text: &str, errors: &mut E)
+    ensures { IsReported place.now text.now (E.contents errors.old) (E.contents errors.new) }
+{
+    if let Ok(line) = report_line(alloc, place, text) {
+        write_line(&line, errors);
+    }
+}
+
+// Prints a line, up to the first write that fails.
+#[tactic(auto, using(crate::proofs::ReportLemmas::printed_line, crate::proofs::ReportLemmas::broken_line))]
+fn write_line<E: Write>(line: &str, errors: &mut E)
+    ensures { IsPrintedPart line.now (E.contents errors.old) (E.contents errors.new) }
+{
+    let _ = write_whole(errors, line.as_bytes());
+}
+
+// The line that is printed.
+#[tactic(auto, unfolding(crate::specs::Reporting::report_line))]
+fn report_line(alloc: Global, place: &str, text: &str) -> Result<String, AllocError>
+    ensures { IfOk result (λ line. string_bytes line ≡ spec.report_line place.now text.now) }
+{
+    format!(in alloc; "uss_desk: {place}: {text}\n")
+}
+
+/// Prints which of the words is malformed, and what it is not: `uss_desk: WORD: CAUSE`. A write that fails is
+/// passed over; if no word is malformed, or memory runs out, nothing is printed.
+#[tactic(auto, using(crate::proofs::ReportLemmas::nothing_malformed))]
+pub fn report_malformed<E: Write>(alloc: Global, words: &[String], errors: &mut E)
+    ensures { IsMalformedReported (map string_bytes words.now) (E.contents errors.old)
+        (E.contents errors.new) }
+{
+    if let Some((word, cause)) = bad_argument(alloc, words) {
+        report(alloc, word, cause, errors);
+    }
+}

@@ -1,7 +1,0 @@
-use Rattle.std.proofs.Common.{refl}
-use Rattle.desk_live.proofs.NearLemmas.{takes_one}
-use Rattle.desk_live.proofs.near.NearPlans.take.Goals as goal
-
-pub returns : goal.returns
-returns c =
-    takes_one c.args.live.now c.args.self.now _ c.key.result c.key.ensures c.in_ok-insert.ensures.keys refl

@@ -1,8 +1,0 @@
-use Rattle.std.proofs.Common.{take}
-use Rattle.desk_live.specs.Sought.{sought_has}
-use Rattle.desk_live.specs.Near.{AddsPlans}
-use Rattle.desk_live.proofs.near.add_each.Given as goal
-
-abbrev pub invariant-loop-live : goal.invariant-loop-live
-invariant-loop-live l =
-    AddsPlans l.wanted (sought_has l.sought) (take l.live-index l.lives) l.fn.near l.near

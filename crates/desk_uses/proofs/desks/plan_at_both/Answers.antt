@@ -1,7 +1,0 @@
-use Rattle.desk_uses.proofs.BlockLemmas.{same_plan_reply}
-use Rattle.desk_uses.proofs.desks.plan_at_both.Goals as goal
-
-pub returns : goal.returns
-returns g c = λ honest too own_same block_same.
-    same_plan_reply c.one_conflict.ensures c.conflict_is_found.ensures _ _ _ _ _ own_same block_same
-    (c.in_ok-told.ensures.told honest) (c.in_ok-call.ensures.told too)

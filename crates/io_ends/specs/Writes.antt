@@ -1,0 +1,16 @@
+-- Writes: how the last of some writes came out.
+use Rattle.std.specs.Prelude.{◌≡◌, ◌≢◌, ◌<◌, ℕ, Result, Ok, Err}
+use Rattle.std.specs.IoError.{error_kind}
+use Rattle.std.specs.declared.io.Error.{Error}
+use Rattle.std.specs.declared.io.ErrorKind.TheVariants.{Interrupted}
+use Rattle.io_ends.specs.declared.writes.LastWrite.{LastWrite}
+use Rattle.io_ends.specs.declared.writes.LastWrite.TheVariants.{Passed, Nothing, Failed}
+
+-- how a write came out, by what it answered
+abbrev pub IsLast : Result ℕ Error → LastWrite → Type 0
+IsLast (Ok count) Passed = 0 < count
+IsLast (Ok count) Nothing = count ≡ 0
+IsLast (Ok count) Failed = ⊥
+IsLast (Err error) Passed = error_kind error ≡ Interrupted
+IsLast (Err error) Nothing = ⊥
+IsLast (Err error) Failed = error_kind error ≢ Interrupted

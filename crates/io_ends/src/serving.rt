@@ -1,0 +1,68 @@
+//! What came of one request of a stream, or why it has no whole answer.
+
+ghost use Rattle.std.specs.Prelude.{◌≡◌};
+ghost use Rattle.io_ends.specs.declared.serving.ServeFault.TheVariants as serve_fault;
+
+use crate::writing::{PartialWrite, WriteError};
+use std::alloc::AllocError;
+use std::error::Error;
+use std::fmt;
+
+/// What came of one request of a stream.
+#[derive(Clone, Copy, Debug, PartialEq, Eq)]
+pub enum Served {
+    /// It was answered with this status. It is `framed` if the place of the next request is known.
+    Answered { status: u16, framed: bool },
+    /// The input ended before any byte.
+    End,
+}
+
+/// Why a request of a stream has no whole answer.
+#[derive(Clone, Copy, Debug, PartialEq, Eq)]
+pub enum ServeFault {
+    /// A read failed, or the request takes more than 200,000 reads.
+    Read,
+    /// The writing of the answer broke off. The change of the request stands.
+    Write(PartialWrite),
+    /// The input ended inside a request. Nothing was written or changed.
+    CutShort,
+    /// Memory ran out. Nothing was written or changed.
+    OutOfMemory,
+}
+
+impl fmt::Display for ServeFault {
+    ghost use Rattle.std.specs.Prelude.{Some};
+    ghost use Rattle.io_ends.specs.EndWords.{serve_fault_text};
+
+    ghost output = { λ fault. Some (serve_fault_text fault) };
+
+    fn fmt<W: fmt::Write>(&self, f: &mut fmt::Formatter<W>) -> fmt::Result {
+        match self {
+            ServeFault::Read => f.write_str("a read failed"),
+            ServeFault::Write(fault) => {
+                let sent = fault.sent();
+                write!(f, "a write failed after {sent} bytes")
+            }
+            ServeFault::CutShort => f.write_str("the input ended inside a request"),
+            ServeFault::OutOfMemory => f.write_str("out of memory"),
+        }
+    }
+}
+
+impl Error for ServeFault {}
+
+impl<W> From<WriteError<W>> for ServeFault {
+    ghost from_gives = { λ cut e. e ≡ serve_fault.Write cut.fault };
+
+    fn from(cut: WriteError<W>) -> ServeFault {
+        ServeFault::Write(cut.fault())
+    }
+}
+
+impl From<AllocError> for ServeFault {
+    ghost from_gives = { λ _ e. e ≡ serve_fault.OutOfMemory };
+
+    fn from(_error: AllocError) -> ServeFault {
+        ServeFault::OutOfMemory
+    }
+}

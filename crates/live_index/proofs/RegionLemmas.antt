@@ -1,0 +1,302 @@
+-- Regions near which other operators' volumes lie.
+use Rattle.std.proofs.Common.{◌≡◌, ℕ, ◌+◌, ◌<◌, Bool, true, false, true≢false, MatchBool, ◌&&◌, ◌||◌, not, List, [], ◌∷◌, ◌++◌, cond, length, get_or, take, Option, None, refl, sym, ap, ◌∙◌, IsPermutation}
+use Rattle.std.specs.List.{AllByRecursion, AllZip, filter, list_any}
+use Rattle.std.specs.Ordering.{is_eq}
+use Rattle.std.proofs.lemmas.List.{take_more}
+use Rattle.std.proofs.lemmas.List.Folds.{list_any-append, list_any_more}
+use Rattle.std.proofs.lemmas.List.Sorted.{list_any-IsPermutation}
+use Rattle.volume4d.specs.declared.slab.Slab.{Slab}
+use Rattle.volume4d.specs.Bounds.{HasAll, IsClip, IsJoin, overlap}
+use Rattle.volume4d.specs.Level.{greater, level_where}
+use Rattle.volume4d.specs.Point.{Point}
+use Rattle.volume4d.specs.Slab.{slab_has, slabs_have, top_held}
+use Rattle.volume4d.specs.declared.slab.Held.{Held}
+use Rattle.volume4d.proofs.lemmas.Bounds.{clip_is, join_has, overlapping, overlaps_round}
+use Rattle.volume4d.proofs.lemmas.Level.{greater_assoc, greater_none, top_held-nil, top_held-push}
+use Rattle.volume4d.specs.Volume.{Block, block_has, area_has}
+use Rattle.desk_rules.specs.Plan.{is_live, row_holds}
+use Rattle.desk_store.specs.World.{Filed, World, held, is_by, text_cmp}
+use Rattle.desk_store.specs.OwnRows.{other_level, others_top}
+use Rattle.desk_store.proofs.lemmas.Rival.{others_top-cons, others_top-nil, held_by_others}
+use Rattle.live_index.specs.declared.volume.LiveVolume.{LiveVolume}
+use Rattle.live_index.specs.declared.fence.BoundingBox.{BoundingBox}
+use Rattle.live_index.specs.declared.chunk.Chunk.{Chunk}
+use Rattle.live_index.specs.declared.group.Group.{Group}
+use Rattle.live_index.specs.declared.live.LiveIndex.{LiveIndex}
+use Rattle.live_index.specs.Live.{AreHedged, AreKeptOnce, AreLive, AreVolumes, AreVolumesOf, IsFenced, IsHedged, IsLiveVolume, IsWhole, gather, volumes_in, volumes_of, volumes_under}
+use Rattle.live_index.specs.Regions.{HaveEach, HoldNothingBeside, chunk_has_theirs, group_has_theirs, has_theirs, is_another, is_theirs, is_theirs_at}
+
+either : (a b : Bool) → (a || b) ≡ false → (a ≡ false) × (b ≡ false)
+either false false h = (refl, refl)
+either false true h = absurd (true≢false h)
+either true b h = absurd (true≢false h)
+
+or_false : (b : Bool) → (b || false) ≡ b
+or_false true = refl
+or_false false = refl
+
+-- ---- slabs that are joined
+
+-- the slabs of a list from a first one on, with one more
+any_more : (first : Slab) (others : List Slab) (i : ℕ) (s : Slab) (x : Point) → i < length others
+    → s ≡ get_or others i s → slabs_have (first ∷ take (i + 1) others) x
+    ≡ (slabs_have (first ∷ take i others) x || slab_has s x)
+any_more first others i s x below is =
+    ap (λ b. slab_has first x || b) (list_any_more (λ t. slab_has t x) others i s below
+    ∙ ap (λ t. slabs_have (take i others) x || slab_has t x) (sym is))
+    ∙ grouped (slab_has first x) (slabs_have (take i others) x) (slab_has s x) where
+      grouped : (a b c : Bool) → (a || (b || c)) ≡ ((a || b) || c)
+      grouped true b c = refl
+      grouped false b c = refl
+
+pub whole_first : (first : Slab) → HasAll (slabs_have (first ∷ [])) first
+whole_first first x h = sym (or_false (slab_has first x)) ∙ h
+
+-- a slab round the first ones, joined with one more
+pub whole_on : (first : Slab) (others : List Slab) (i : ℕ) (s old new : Slab) → i < length others
+    → s ≡ get_or others i s → HasAll (slabs_have (first ∷ take i others)) old → IsJoin old s new
+    → HasAll (slabs_have (first ∷ take (i + 1) others)) new
+whole_on first others i s old new below is before join x h =
+    go (slabs_have (first ∷ take i others) x) refl (sym (any_more first others i s x below is) ∙ h) where
+      last : (a b : Bool) → b ≡ true → (a || b) ≡ true
+      last true b e = refl
+      last false b e = e
+
+      go : (b : Bool) → slabs_have (first ∷ take i others) x ≡ b → (b || slab_has s x) ≡ true
+          → slab_has new x ≡ true
+      go true e k = join_has old s new x join (ap (λ t. t || slab_has s x) (before x e))
+      go false e k = join_has old s new x join (last (slab_has old x) (slab_has s x) k)
+
+-- the points of the first ones are in the regions so far or in the last one
+abbrev pub AreGathered : Slab → List Slab → List Slab → Slab → Type 0
+AreGathered first so_far regions region =
+    (x : Point) → slabs_have (first ∷ so_far) x ≡ true → (slabs_have regions x || slab_has region x) ≡ true
+
+pub gathered_joined : (first : Slab) (others regions : List Slab) (i : ℕ) (s old new : Slab)
+    → i < length others → s ≡ get_or others i s → AreGathered first (take i others) regions old
+    → IsJoin old s new → AreGathered first (take (i + 1) others) regions new
+gathered_joined first others regions i s old new below is before join x h =
+    go (slabs_have (first ∷ take i others) x) refl (sym (any_more first others i s x below is) ∙ h) where
+      join_old : slab_has old x ≡ true → slab_has new x ≡ true
+      join_old e = join_has old s new x join (ap (λ t. t || slab_has s x) e)
+
+      join_one : (b : Bool) → slab_has old x ≡ b → slab_has s x ≡ true → slab_has new x ≡ true
+      join_one true e k = join_old e
+      join_one false e k = join_has old s new x join (ap (λ t. t || slab_has s x) e ∙ k)
+
+      kept : (a b c : Bool) → (a || b) ≡ true → (b ≡ true → c ≡ true) → (a || c) ≡ true
+      kept true b c e k = refl
+      kept false b c e k = k e
+
+      last : (a b : Bool) → b ≡ true → (a || b) ≡ true
+      last true b e = refl
+      last false b e = e
+
+      go : (b : Bool) → slabs_have (first ∷ take i others) x ≡ b → (b || slab_has s x) ≡ true
+          → (slabs_have regions x || slab_has new x) ≡ true
+      go true e k = kept (slabs_have regions x) (slab_has old x) (slab_has new x) (before x e) join_old
+      go false e k = last (slabs_have regions x) (slab_has new x) (join_one (slab_has old x) refl k)
+
+pushed_has : (regions : List Slab) (s : Slab) (x : Point)
+    → slabs_have (regions ++ s ∷ []) x ≡ (slabs_have regions x || slab_has s x)
+pushed_has regions s x = list_any-append (λ t. slab_has t x) regions (s ∷ [])
+    ∙ ap (λ t. slabs_have regions x || t) (or_false (slab_has s x))
+
+pub gathered_pushed : (first : Slab) (others regions new : List Slab) (i : ℕ) (s old : Slab)
+    → i < length others → s ≡ get_or others i s → AreGathered first (take i others) regions old
+    → new ≡ regions ++ old ∷ [] → AreGathered first (take (i + 1) others) new s
+gathered_pushed first others regions new i s old below is before pushed x h =
+    ap (λ ss. slabs_have ss x || slab_has s x) pushed ∙ ap (λ b. b || slab_has s x) (pushed_has regions old x)
+    ∙ kept (slabs_have (first ∷ take i others) x) (slabs_have regions x || slab_has old x) (slab_has s x)
+    (before x) (sym (any_more first others i s x below is) ∙ h) where
+      kept : (a b c : Bool) → (a ≡ true → b ≡ true) → (a || c) ≡ true → (b || c) ≡ true
+      kept true b c f k = ap (λ t. t || c) (f refl)
+      kept false true c f k = refl
+      kept false false c f k = k
+
+pub same_slabs : (some others : List Slab) → IsPermutation some others → HaveEach some others
+same_slabs some others same x h = sym (list_any-IsPermutation (λ s. slab_has s x) some others same) ∙ h
+
+-- ---- volumes of other operators
+
+module _ (o : List ℕ) (extent : Slab) (x : Point) (here : slab_has extent x ≡ true) where
+  -- bounds that don't meet an extent have none of its points
+  beside : (live : LiveVolume) → is_theirs o extent live ≡ false → is_theirs_at o x live ≡ false
+  beside live far = go (is_another o live) (slab_has live.bounds x) refl far where
+    go : (n b : Bool) → slab_has live.bounds x ≡ b → (n && overlap live.bounds extent) ≡ false
+        → (n && b) ≡ false
+    go false b e k = refl
+    go true false e k = refl
+    go true true e k = absurd (true≢false (sym (overlapping live.bounds extent x e here) ∙ k))
+
+  none_beside : (lives : List LiveVolume) → list_any (is_theirs o extent) lives ≡ false
+      → list_any (is_theirs_at o x) lives ≡ false
+  none_beside [] far = refl
+  none_beside (l ∷ lives) far =
+      let parts = either (is_theirs o extent l) (list_any (is_theirs o extent) lives) far in
+      λ i. beside l parts.0 i || none_beside lives parts.1 i
+
+  -- volumes within a fence that doesn't meet it
+  none_within : (fence : BoundingBox) (lives : List LiveVolume) → overlap fence.bounds extent ≡ false
+      → AllByRecursion (IsFenced fence) lives → list_any (is_theirs_at o x) lives ≡ false
+  none_within fence [] far h = refl
+  none_within fence (l ∷ lives) far h =
+      λ i. go (is_another o l) (slab_has l.bounds x) refl i || none_within fence lives far h.1 i where
+        go : (n b : Bool) → slab_has l.bounds x ≡ b → (n && b) ≡ false
+        go false b e = refl
+        go true false e = refl
+        go true true e = absurd (true≢false (sym (overlaps_round l.bounds fence.bounds extent h.0.within
+            (overlapping l.bounds extent x e here)) ∙ far))
+
+  none_in : {C : Type 0} (vols : C → List LiveVolume) (P : C → Type 0) (has : C → Bool)
+      → ((one : C) → P one → has one ≡ false → list_any (is_theirs_at o x) (vols one) ≡ false)
+      → (cs : List C) → AllByRecursion P cs → list_any has cs ≡ false
+      → list_any (is_theirs_at o x) (gather vols cs) ≡ false
+  none_in vols P has each [] h far = refl
+  none_in vols P has each (c ∷ cs) h far =
+      let parts = either (has c) (list_any has cs) far in
+      list_any-append (is_theirs_at o x) (vols c) (gather vols cs)
+      ∙ (λ i. each c h.0 parts.0 i || none_in vols P has each cs h.1 parts.1 i)
+
+  none_in_chunk : (c : Chunk) → IsWhole c → chunk_has_theirs o extent c ≡ false
+      → list_any (is_theirs_at o x) c.volumes.items ≡ false
+  none_in_chunk c whole far = go (overlap c.fence.bounds extent) refl far where
+    go : (b : Bool) → overlap c.fence.bounds extent ≡ b
+        → (b && list_any (is_theirs o extent) c.volumes.items) ≡ false
+        → list_any (is_theirs_at o x) c.volumes.items ≡ false
+    go true e k = none_beside c.volumes.items k
+    go false e k = none_within c.fence c.volumes.items e whole
+
+  none_in_group : (g : Group) → IsHedged g → group_has_theirs o extent g ≡ false
+      → list_any (is_theirs_at o x) (volumes_in g.chunks.items) ≡ false
+  none_in_group g hedged far = go (overlap g.fence.bounds extent) refl far where
+    go : (b : Bool) → overlap g.fence.bounds extent ≡ b
+        → (b && list_any (chunk_has_theirs o extent) g.chunks.items) ≡ false
+        → list_any (is_theirs_at o x) (volumes_in g.chunks.items) ≡ false
+    go true e k = none_in (λ c. c.volumes.items) IsWhole (chunk_has_theirs o extent) none_in_chunk
+        g.chunks.items hedged.each k
+    go false e k = none_within g.fence (volumes_in g.chunks.items) e hedged.all
+
+  none_kept : (kept : LiveIndex) → AreHedged kept.groups.items → has_theirs o kept extent ≡ false
+      → list_any (is_theirs_at o x) (volumes_of kept) ≡ false
+  none_kept kept hedged far =
+      let parts = either (list_any (group_has_theirs o extent) kept.groups.items)
+      (list_any (is_theirs o extent) kept.young.items) far in
+      list_any-append (is_theirs_at o x) (volumes_under kept.groups.items) kept.young.items
+      ∙ (λ i. none_in (λ g. volumes_in g.chunks.items) IsHedged (group_has_theirs o extent) none_in_group
+      kept.groups.items hedged parts.0 i || none_beside kept.young.items parts.1 i)
+
+-- ---- where no such volume lies others hold nothing
+
+module _ (o : List ℕ) (x : Point) where
+  area_none : (p : Filed) (vs : List Block) (lives : List LiveVolume) → AllZip (IsLiveVolume p) vs lives
+      → list_any (is_theirs_at o x) lives ≡ false
+      → level_where (not (is_by o p) && area_has vs x) p.row.priority ≡ None
+  area_none p [] [] h far = by_test (is_by o p) where
+    by_test : (b : Bool) → level_where (not b && false) p.row.priority ≡ None
+    by_test true = refl
+    by_test false = refl
+  area_none p [] (l ∷ lives) h far = absurd h
+  area_none p (v ∷ vs) [] h far = absurd h
+  area_none p (v ∷ vs) (l ∷ lives) h far =
+      let parts = either (is_theirs_at o x l) (list_any (is_theirs_at o x) lives) far in
+      go (is_by o p) (block_has v x) refl (h.0.bounds.has x)
+      (ap (λ n. not (is_eq (text_cmp o n)) && slab_has l.bounds x) (sym h.0.operator) ∙ parts.0)
+      (area_none p vs lives h.1 parts.1) where
+        go : (b t : Bool) → block_has v x ≡ t → (block_has v x ≡ true → slab_has l.bounds x ≡ true)
+            → (not b && slab_has l.bounds x) ≡ false
+            → level_where (not b && area_has vs x) p.row.priority ≡ None
+            → level_where (not b && (t || area_has vs x)) p.row.priority ≡ None
+        go true t e has k ih = refl
+        go false true e has k ih = absurd (true≢false (sym (has e) ∙ k))
+        go false false e has k ih = ih
+
+  plan_none : (p : Filed) (lives : List LiveVolume) → AreVolumesOf p lives
+      → list_any (is_theirs_at o x) lives ≡ false → other_level o p x ≡ None
+  unfolding other_level row_holds
+  plan_none p lives are far = go (is_live p.row.usage) are where
+    nothing : (b : Bool) → level_where (not b && false) p.row.priority ≡ None
+    nothing true = refl
+    nothing false = refl
+
+    go : (b : Bool) → MatchBool b (AllZip (IsLiveVolume p) p.row.area lives) (lives ≡ [])
+        → level_where (not (is_by o p) && (b && area_has p.row.area x)) p.row.priority ≡ None
+    go true h = area_none p p.row.area lives h far
+    go false h = nothing (is_by o p)
+
+  plans_none : (ps : List Filed) (lives : List LiveVolume) → AreVolumes ps lives
+      → list_any (is_theirs_at o x) lives ≡ false → others_top o ps x ≡ None
+  plans_none [] lives are far = others_top-nil o x
+  plans_none (p ∷ ps) lives (front, rest, are, mine, more) far =
+      let parts = either (list_any (is_theirs_at o x) front) (list_any (is_theirs_at o x) rest)
+      (sym (list_any-append (is_theirs_at o x) front rest) ∙ ap (list_any (is_theirs_at o x)) (sym are)
+      ∙ far) in
+      others_top-cons o p ps x ∙ ap (λ l. greater l (others_top o ps x)) (plan_none p front mine parts.0)
+      ∙ plans_none ps rest more parts.1
+
+  none_held : (w : World) (lives : List LiveVolume) → AreLive w lives
+      → list_any (is_theirs_at o x) lives ≡ false → held w o x ≡ None
+  none_held w lives h far =
+      sym (held_by_others o w x) ∙ plans_none w.plans h.listed h.volumes
+      (list_any-IsPermutation (is_theirs_at o x) h.listed lives h.same ∙ far)
+
+-- from the extents that others' volumes are near to the regions
+pub nothing_beside : (o : List ℕ) (w : World) (kept : LiveIndex) (all extents near regions : List Slab)
+    → AreKeptOnce kept w → HaveEach all extents → near ≡ filter (has_theirs o kept) extents
+    → HaveEach near regions → HoldNothingBeside w o all regions
+nothing_beside o w kept all extents near regions h have is each x here beside =
+    none_held o x w (volumes_of kept) h.live
+    (in_all extents (have x here) (ap (λ ss. slabs_have ss x) (sym is) ∙ in_none (slabs_have near x) refl)) where
+      in_none : (b : Bool) → slabs_have near x ≡ b → slabs_have near x ≡ false
+      in_none false e = e
+      in_none true e = absurd (true≢false (sym (each x e) ∙ beside))
+
+      in_all : (es : List Slab) → slabs_have es x ≡ true
+          → slabs_have (filter (has_theirs o kept) es) x ≡ false
+          → list_any (is_theirs_at o x) (volumes_of kept) ≡ false
+      in_all [] m k = absurd (true≢false (sym m))
+      in_all (e ∷ es) m k = go (has_theirs o kept e) (slab_has e x) refl refl m k (in_all es) where
+        go : (b c : Bool) → has_theirs o kept e ≡ b → slab_has e x ≡ c → (c || slabs_have es x) ≡ true
+            → slabs_have (cond b (e ∷ filter (has_theirs o kept) es) (filter (has_theirs o kept) es)) x
+            ≡ false
+            → (slabs_have es x ≡ true → slabs_have (filter (has_theirs o kept) es) x ≡ false
+            → list_any (is_theirs_at o x) (volumes_of kept) ≡ false)
+            → list_any (is_theirs_at o x) (volumes_of kept) ≡ false
+        go false true f t m k ih = none_kept o e x t kept h.hedged f
+        go false false f t m k ih = ih m k
+        go true c f t m k ih =
+            let parts = either (slab_has e x) (slabs_have (filter (has_theirs o kept) es) x) k in
+            by_first c t m parts.0 parts.1 where
+              by_first : (c : Bool) → slab_has e x ≡ c → (c || slabs_have es x) ≡ true
+                  → slab_has e x ≡ false → slabs_have (filter (has_theirs o kept) es) x ≡ false
+                  → list_any (is_theirs_at o x) (volumes_of kept) ≡ false
+              by_first true t m none k = absurd (true≢false (sym t ∙ none))
+              by_first false t m none k = ih m k
+
+-- ---- slabs that are clipped
+
+-- one more of some slabs, clipped
+pub clipped_more : (helds new more : List Held) (i : ℕ) (h : Held) (region slab : Slab) (x : Point)
+    (before : Option ℕ) → i < length more → h ≡ get_or more i h → IsClip region h.slab slab
+    → new ≡ helds ++ record { slab = slab; priority = h.priority } ∷ []
+    → top_held helds x ≡ greater before (cond (slab_has region x) (top_held (take i more) x) None)
+    → top_held new x ≡ greater before (cond (slab_has region x) (top_held (take (i + 1) more) x) None)
+clipped_more helds new more i h region slab x before below is clip pushed so_far =
+    ap (λ hs. top_held hs x) pushed ∙ top_held-push helds (record { slab = slab; priority = h.priority }) x
+    ∙ ap (λ l. greater l (level_where (slab_has slab x) h.priority)) so_far
+    ∙ greater_assoc before (cond (slab_has region x) (top_held (take i more) x) None)
+    (level_where (slab_has slab x) h.priority)
+    ∙ ap (greater before) (ap (λ b. greater (cond (slab_has region x) (top_held (take i more) x) None)
+    (level_where b h.priority)) (clip_is region h.slab slab x clip)
+    ∙ go (slab_has region x) ∙ ap (λ l. cond (slab_has region x) l None)
+    (sym (ap (λ hs. top_held hs x) (take_more more i h below ∙ ap (λ k. take i more ++ k ∷ []) (sym is))
+    ∙ top_held-push (take i more) h x))) where
+      go : (b : Bool) → greater (cond b (top_held (take i more) x) None)
+          (level_where (b && slab_has h.slab x) h.priority)
+          ≡ cond b (greater (top_held (take i more) x) (level_where (slab_has h.slab x) h.priority)) None
+      go true = refl
+      go false = refl
+
+pub clipped_none : (l : Option ℕ) (b : Bool) (x : Point) → l ≡ greater l (cond b (top_held [] x) None)
+clipped_none l true x = sym (ap (greater l) (top_held-nil x) ∙ greater_none l)
+clipped_none l false x = sym (greater_none l)

@@ -1,0 +1,19 @@
+use Rattle.std.proofs.Common.{subst}
+use Rattle.std.proofs.lemmas.Result.{on_ok_weaker}
+use Rattle.live_index.specs.Sought.{sought_has}
+use Rattle.live_index.specs.Live.{AreHedged, volumes_under}
+use Rattle.live_index.specs.Near.{AddsPlans}
+use Rattle.live_index.proofs.NearLemmas.{adds_both}
+use Rattle.live_index.proofs.live.LiveIndex.add_near.Goals as goal
+
+pub returns : goal.returns
+returns c =
+    let s = c.args.wanted.now in
+    let inside = sought_has c.args.sought.now in
+    let kept = c.args.self.now in
+    let mid = c.add_near_in.new.near in
+    on_ok_weaker c.add_young.result (λ added hedged.
+    adds_both s inside (volumes_under kept.groups.items) kept.young.items c.args.near.now mid
+    c.add_young.new.near
+    (subst (λ gs. AreHedged gs → AddsPlans s inside (volumes_under gs) c.args.near.now mid)
+    c.deref.ensures.value c.in_ok-add_near_in.ensures hedged) added) c.add_young.ensures

@@ -1,0 +1,172 @@
+-- The volumes of live plans, as they are kept in memory.
+use Rattle.std.specs.Prelude.{◌≡◌, ℕ, ◌+◌, ◌≤◌, Bool, true, not, ◌&&◌, nat_le, List, [], ◌∷◌, ◌++◌, MatchBool, length}
+use Rattle.std.specs.List.{AllByRecursion, AllZip, filter, list_any}
+use Rattle.std.specs.List.Sorted.{IsPermutation, IsStrictlySortedBy}
+use Rattle.std.specs.Ordering.{is_eq}
+use Rattle.volume4d.specs.Volume.{Block, block_has}
+use Rattle.volume4d.specs.Bounds.{IsBounds, IsWithin}
+use Rattle.desk_rules.specs.Plan.{is_live}
+use Rattle.desk_store.specs.World.{Filed, World, text_cmp, filed_cmp}
+use Rattle.desk_store.specs.Changes.{filed_by}
+use Rattle.desk_store.specs.declared.change.Change.{Change}
+use Rattle.desk_store.specs.declared.change.Change.TheVariants.{Enrol, Put, Close, Clear}
+use Rattle.live_index.specs.declared.volume.LiveVolume.{LiveVolume}
+use Rattle.live_index.specs.declared.fence.BoundingBox.{BoundingBox}
+use Rattle.live_index.specs.declared.chunk.Chunk.{Chunk}
+use Rattle.live_index.specs.declared.group.Group.{Group}
+use Rattle.live_index.specs.declared.places.Places.{Places}
+use Rattle.live_index.specs.Places.{places_at}
+use Rattle.live_index.specs.Sought.{meets}
+use Rattle.live_index.specs.declared.sought.Sought.{Sought}
+use Rattle.live_index.specs.declared.live.LiveIndexBuilder.{LiveIndexBuilder}
+use Rattle.live_index.specs.declared.live.LiveIndex.{LiveIndex}
+
+-- a volume of a plan: whose it is, the plan's priority, and the smallest slab that has all its points
+pub record IsLiveVolume (p : Filed) (v : Block) (live : LiveVolume) : Type 0 where
+  pub operator : live.operator ≡ p.operator
+  pub id : live.id ≡ p.row.id
+  pub priority : live.priority ≡ p.row.priority
+  pub bounds : IsBounds (block_has v) live.bounds
+
+-- one for each volume of a plan that is live, in their order; none of one that is closed
+abbrev pub AreVolumesOf : Filed → List LiveVolume → Type 0
+AreVolumesOf p lives = MatchBool (is_live p.row.usage) (AllZip (IsLiveVolume p) p.row.area lives) (lives ≡ [])
+
+-- those of plans, one plan after the other
+abbrev pub AreVolumes : List Filed → List LiveVolume → Type 0
+AreVolumes [] lives = lives ≡ []
+AreVolumes (p ∷ ps) lives =
+    (front rest : List LiveVolume) × (lives ≡ front ++ rest) × AreVolumesOf p front × AreVolumes ps rest
+
+-- each live volume of a world is among these once, and nothing else is
+pub record AreLive (w : World) (lives : List LiveVolume) : Type 0 where
+  pub order : IsStrictlySortedBy filed_cmp w.plans
+  pub listed : List LiveVolume
+  pub volumes : AreVolumes w.plans listed
+  pub same : IsPermutation listed lives
+
+-- the volumes of some of a plan's area are added, or those of a plan
+abbrev pub AddsLiveVolumes : Filed → List Block → List LiveVolume → List LiveVolume → Type 0
+AddsLiveVolumes p area old new =
+    (more : List LiveVolume) × (new ≡ old ++ more) × AllZip (IsLiveVolume p) area more
+
+abbrev pub AddsLivePlan : Filed → List LiveVolume → List LiveVolume → Type 0
+AddsLivePlan p old new = (more : List LiveVolume) × (new ≡ old ++ more) × AreVolumesOf p more
+
+-- it is of the operator's plan of the id
+abbrev pub is_volume_of : List ℕ → List ℕ → LiveVolume → Bool
+is_volume_of operator id live = is_eq (text_cmp id live.id) && is_eq (text_cmp operator live.operator)
+
+abbrev pub is_beside : List ℕ → List ℕ → LiveVolume → Bool
+is_beside operator id live = not (is_volume_of operator id live)
+
+-- ---- what is kept
+
+-- a chunk, or one of a group's, has a volume of the operator's plan of the id
+abbrev pub chunk_has_plan : List ℕ → List ℕ → Chunk → Bool
+chunk_has_plan operator id c = list_any (is_volume_of operator id) c.volumes.items
+
+abbrev pub group_has_plan : List ℕ → List ℕ → Group → Bool
+group_has_plan operator id g = list_any (chunk_has_plan operator id) g.chunks.items
+
+-- it lies within a fence, and has no greater priority
+pub record IsFenced (fence : BoundingBox) (live : LiveVolume) : Type 0 where
+  pub within : IsWithin live.bounds fence.bounds
+  pub top : live.priority ≤ fence.top
+
+-- each volume of each chunk lies within its fence
+abbrev pub IsWhole : Chunk → Type 0
+IsWhole c = AllByRecursion (IsFenced c.fence) c.volumes.items
+
+abbrev pub AreFenced : List Chunk → Type 0
+AreFenced chunks = AllByRecursion IsWhole chunks
+
+-- the volumes of some things, one after the other
+abbrev pub gather : {C : Type 0} → (C → List LiveVolume) → List C → List LiveVolume
+gather vols [] = []
+gather vols (c ∷ cs) = vols c ++ gather vols cs
+
+-- the volumes of chunks, those of groups, and all that are kept
+abbrev pub volumes_in : List Chunk → List LiveVolume
+volumes_in chunks = gather (λ c. c.volumes.items) chunks
+
+abbrev pub volumes_under : List Group → List LiveVolume
+volumes_under groups = gather (λ g. volumes_in g.chunks.items) groups
+
+abbrev pub volumes_of : LiveIndex → List LiveVolume
+volumes_of kept = volumes_under kept.groups.items ++ kept.young.items
+
+-- each volume of a group lies within the fence of its chunk, and within that of the group
+pub record IsHedged (group : Group) : Type 0 where
+  pub each : AreFenced group.chunks.items
+  pub all : AllByRecursion (IsFenced group.fence) (volumes_in group.chunks.items)
+
+abbrev pub AreHedged : List Group → Type 0
+AreHedged groups = AllByRecursion IsHedged groups
+
+-- how many volumes of the operator's plan of the id there are
+abbrev pub count_of : List ℕ → List ℕ → List LiveVolume → ℕ
+count_of operator id lives = length (filter (is_volume_of operator id) lives)
+
+-- of each plan so many places are known as it has volumes in groups
+abbrev pub ArePlaced : Places → List LiveVolume → Type 0
+ArePlaced places lives =
+    (operator id : List ℕ) → count_of operator id lives ≤ places_at operator id places
+
+-- each live volume of a world is kept once, within the fences of its chunk and its group if it is in one
+pub record AreKeptOnce (kept : LiveIndex) (w : World) : Type 0 where
+  pub live : AreLive w (volumes_of kept)
+  pub hedged : AreHedged kept.groups.items
+  pub placed : ArePlaced kept.places (volumes_under kept.groups.items)
+
+-- the volumes of plans that were gathered
+abbrev pub gathered_in : LiveIndexBuilder → List LiveVolume
+gathered_in gathering = gathering.volumes.items
+
+-- there is room for so many more
+abbrev pub HasRoomForVolumes : LiveIndex → ℕ → Type 0
+HasRoomForVolumes kept count = length kept.young.items + count ≤ kept.young.cap
+
+-- no volume waits to be put into a chunk
+abbrev pub AreSettled : LiveIndex → Type 0
+AreSettled kept = length kept.young.items ≡ 0
+
+-- ---- changes
+
+abbrev pub is_of_any : List ℕ → List (List ℕ) → LiveVolume → Bool
+is_of_any operator ids live = list_any (λ id. is_volume_of operator id live) ids
+
+-- a change takes out the volumes of the plans that it names
+abbrev pub stays_at : Change → LiveVolume → Bool
+stays_at (Enrol operator ceiling) live = true
+stays_at (Put operator row) live = is_beside operator row.id live
+stays_at (Close operator id) live = is_beside operator id live
+stays_at (Clear operator ids) live = not (is_of_any operator ids.items live)
+
+-- and a put brings those of its plan
+abbrev pub AreBrought : Change → List LiveVolume → Type 0
+AreBrought (Enrol operator ceiling) fresh = fresh ≡ []
+AreBrought (Put operator row) fresh = AreVolumesOf (filed_by operator row) fresh
+AreBrought (Close operator id) fresh = fresh ≡ []
+AreBrought (Clear operator ids) fresh = fresh ≡ []
+
+-- volumes of the operator's plan of the id were taken out, so many at least, and no others
+pub record IsLeft (operator id : List ℕ) (old new : List LiveVolume) (gone : ℕ) : Type 0 where
+  pub others : filter (is_beside operator id) new ≡ filter (is_beside operator id) old
+  pub fewer : count_of operator id new + gone ≤ count_of operator id old
+
+-- of all that are kept those stay that pass a test
+pub record HasLeft (stays : LiveVolume → Bool) (old new : LiveIndex) : Type 0 where
+  pub same : ArePlaced old.places (volumes_under old.groups.items)
+      → volumes_of new ≡ filter stays (volumes_of old)
+  pub hedged : AreHedged old.groups.items → AreHedged new.groups.items
+  pub placed : ArePlaced old.places (volumes_under old.groups.items)
+      → ArePlaced new.places (volumes_under new.groups.items)
+  pub room : new.young.cap ≡ old.young.cap
+  pub less : length new.young.items ≤ length old.young.items
+
+-- ---- questions
+
+-- a fence has a priority at least, and meets what is sought
+abbrev pub may_meet : ℕ → Sought → BoundingBox → Bool
+may_meet least sought fence = nat_le least fence.top && meets sought fence.bounds

@@ -1,0 +1,46 @@
+-- The places of plans' volumes in the order of chunks, of which it is said how many there are.
+use Rattle.std.specs.Prelude.{ℕ, ◌+◌, ◌≤◌, ◌≡◌, false, List, Option, Some, None, length}
+use Rattle.std.specs.Ordering.{is_eq, ordering_then}
+use Rattle.std.specs.declared.cmp.Ordering.{Ordering}
+use Rattle.std.specs.BTreeMap.{is_at}
+use Rattle.std.specs.Map.{lookup}
+use Rattle.std.specs.Global.{Vec}
+use Rattle.desk_store.specs.World.{text_cmp}
+use Rattle.live_index.specs.declared.near.PlanKey.{PlanKey}
+use Rattle.live_index.specs.declared.places.Places.{Places}
+
+abbrev pub Lists : Type 0
+Lists = List (PlanKey × Vec ℕ)
+
+-- keys in the order of their operators, and then of their ids
+abbrev pub key_cmp : PlanKey → PlanKey → Ordering
+key_cmp one other = ordering_then (text_cmp one.operator other.operator) (text_cmp one.id other.id)
+
+abbrev pub list_of : PlanKey → Lists → Option (Vec ℕ)
+list_of key lists = lookup (is_at (key_cmp key)) lists
+
+-- how many there are of a plan
+abbrev pub length_or_none : Option (Vec ℕ) → ℕ
+length_or_none None = 0
+length_or_none (Some places) = length places.items
+
+abbrev pub places_in : PlanKey → Lists → ℕ
+places_in key lists = length_or_none (list_of key lists)
+
+abbrev pub places_at : List ℕ → List ℕ → Places → ℕ
+places_at operator id places = places_in (record { operator = operator; id = id }) places.plans.entries
+
+-- ---- changes
+
+-- of each plan there are as many, or more
+abbrev pub AreNoFewer : Lists → Lists → Type 0
+AreNoFewer old new = (key : PlanKey) → places_in key old ≤ places_in key new
+
+-- there is one more of a plan
+abbrev pub IsOneMore : PlanKey → Lists → Lists → Type 0
+IsOneMore key old new = places_in key old + 1 ≤ places_in key new
+
+-- of all other plans there are as many, or more
+abbrev pub AreOthers : PlanKey → Lists → Lists → Type 0
+AreOthers key old new = (other : PlanKey) → is_eq (key_cmp key other) ≡ false
+    → places_in other old ≤ places_in other new

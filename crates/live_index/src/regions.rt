@@ -1,0 +1,97 @@
+//! Regions: extents near which volumes of other operators lie, joined where they overlap.
+
+ghost use Rattle.std.specs.Prelude.{◌≡◌, ◌∷◌, None, cond, IfOk, OnOk};
+ghost use Rattle.volume4d.specs.Bounds.{HasAll};
+ghost use Rattle.volume4d.specs.Slab.{slab_has, slabs_have, top_held};
+ghost use Rattle.desk_store.specs.Rivals.{AddsLevel};
+ghost use Rattle.live_index.specs.Regions.{HaveEach};
+
+use std::alloc::{AllocError, Global};
+use std::slice;
+use volume4d::{Held, Slab};
+
+/// A slab round some extents.
+pub fn whole_of(first: &Slab, others: &[Slab]) -> Slab
+    ensures { HasAll (slabs_have (first.now ∷ others.now)) result }
+{
+    let mut whole = *first;
+    for extent in others {
+        whole = whole.join(extent);
+    }
+    whole
+}
+
+/// Some extents, or one slab round all of them if there are more than so many.
+///
+/// # Errors
+///
+/// `AllocError` if memory runs out.
+pub(crate) fn at_most(alloc: Global, extents: &[Slab], most: usize) -> Result<Vec<Slab>, AllocError>
+    ensures { IfOk result (λ fewer. HaveEach extents.now fewer.items) }
+{
+    match extents.split_first() {
+        Some((first, others)) if most <= others.len() => {
+            Vec::from_slice(alloc, slice::from_ref(&whole_of(first, others)))
+        }
+        _ => Vec::from_slice(alloc, extents),
+    }
+}
+
+/// Extents, those that overlap along the curve joined.
+///
+/// # Errors
+///
+/// `AllocError` if memory runs out.
+pub(crate) fn joined(alloc: Global, extents: Vec<Slab>) -> Result<Vec<Slab>, AllocError>
+    ensures { IfOk result (λ regions. HaveEach extents.items regions.items) }
+{
+    let ordered = in_order(extents);
+    match ordered.split_first() {
+        Some((first, others)) => joined_from(alloc, first, others),
+        None => Ok(Vec::new(alloc)),
+    }
+}
+
+// The same extents, ascending by their first leaves.
+fn in_order(mut extents: Vec<Slab>) -> Vec<Slab>
+    ensures { HaveEach extents.items result.items }
+{
+    extents.sort_unstable_by_key(|extent| extent.first);
+    extents
+}
+
+// An extent and others, each that begins within the last one joined with it.
+fn joined_from(alloc: Global, first: &Slab, others: &[Slab]) -> Result<Vec<Slab>, AllocError>
+    ensures { IfOk result (λ regions. HaveEach (first.now ∷ others.now) regions.items) }
+{
+    let mut regions = Vec::new(alloc);
+    let mut region = *first;
+    for extent in others {
+        if extent.first <= region.last {
+            region = region.join(extent);
+        } else {
+            regions.push(region)?;
+            region = *extent;
+        }
+    }
+    regions.push(region)?;
+    Ok(regions)
+}
+
+/// Appends the parts of slabs that lie in a region, at the priorities of these.
+///
+/// # Errors
+///
+/// `AllocError` if memory runs out.
+pub fn push_clipped(helds: &mut Vec<Held>, more: &[Held], region: &Slab) -> Result<(), AllocError>
+    ensures { OnOk result (AddsLevel helds.old.items helds.new.items
+        (λ x. cond (slab_has region.now x) (top_held more.now x) None)) }
+{
+    for held in more {
+        helds.push(Held {
+            slab: region.clip(&held.slab),
+            priority: held.priority,
+        })?;
+    }
+    Ok(())
+}

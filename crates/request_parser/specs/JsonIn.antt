@@ -1,0 +1,38 @@
+-- Reading JSON (RFC 8259): a body's value as `serde_json` reads it, its members, or the first fault.
+use Rattle.std.specs.Prelude.{ℕ, ℤ, List, [], ◌∷◌, if◌then◌else◌, Option, Some, None, option_and_then, is_some, Ok}
+use Rattle.std.specs.Str.{is_utf8}
+use Rattle.serde_json.specs.Data.{Data, Items, no_items, item}
+use Rattle.serde_json.specs.Find.{get, as_null, as_number, as_i64, as_str, as_array}
+use Rattle.serde_json.specs.Read.{read}
+use Rattle.request_parser.specs.Readings.{Reading, or_fault, or_met}
+use Rattle.request_parser.specs.declared.wire_fault.WireFault.TheVariants.{BadJson}
+
+-- the value of a body
+unfoldable pub body_value : List ℕ → Reading Data
+body_value body = or_fault (if is_utf8 body then read body else None) BadJson Ok
+
+-- a member that is a text, and one that is a whole number which fits 64 bits
+abbrev pub text_at : List ℕ → Data → Option (List ℕ)
+text_at key d = option_and_then as_str (get key d)
+
+abbrev pub whole_of : Data → Option ℤ
+whole_of d = option_and_then as_i64 (as_number d)
+
+abbrev pub whole_at : List ℕ → Data → Option ℤ
+whole_at key d = option_and_then whole_of (get key d)
+
+-- a member that is an array
+abbrev pub array_at : List ℕ → Data → Option Items
+array_at key d = option_and_then as_array (get key d)
+
+-- a member that is there and is not null
+abbrev pub unless_null : Data → Option Data
+unless_null d = if is_some (as_null d) then None else Some d
+
+abbrev pub present : List ℕ → Data → Option Data
+present key d = option_and_then unless_null (get key d)
+
+-- each item as f reads it, or the first fault
+abbrev pub each : {A : Type 0} → (Data → Reading A) → Items → Reading (List A)
+each f no_items = Ok []
+each f (item d ds) = or_met (f d) λ x. or_met (each f ds) λ xs. Ok (x ∷ xs)

@@ -1,0 +1,57 @@
+//! Addresses: who asks for what at which resource.
+
+ghost use Rattle.std.specs.Prelude.{◌≡◌, codes};
+ghost use Rattle.request_parser.specs.Addresses.{address_of, address_shown, operator_of};
+ghost use Rattle.request_parser.specs.Fields.{count_in};
+ghost use Rattle.request_parser.specs.Readings.{Gives};
+
+use crate::fields::Occurrence;
+use crate::head::Head;
+use crate::resource::Action;
+use crate::routes::find_target;
+use crate::wire_fault::WireFault;
+use desk_rules::operator::Operator;
+
+/// Who asks for what at which resource.
+#[derive(Clone, Copy)]
+pub struct Address<'t> {
+    pub action: Action,
+    pub operator: Operator,
+    /// The id of a flight plan, as it is written. Empty if the resource is another.
+    pub id: &'t str,
+}
+
+/// The address that a head gives.
+///
+/// # Errors
+///
+/// The first of `NoRoute`, `Method` and `BadOperator` that applies.
+#[tactic(auto, unfolding(crate::specs::Addresses::address_of))]
+pub fn read_address<'t>(head: &Head<'t>) -> Result<Address<'t>, WireFault>
+    ensures { Gives address_shown result (address_of head.now) }
+{
+    let Some(target) = find_target(head.target()) else {
+        return Err(WireFault::NoRoute);
+    };
+    let Some(action) = target.route.action(head.method()) else {
+        return Err(WireFault::Method(target.route));
+    };
+    let Some(operator) = find_operator(head) else {
+        return Err(WireFault::BadOperator);
+    };
+    Ok(Address {
+        action,
+        operator,
+        id: target.id,
+    })
+}
+
+// The operator, if `x-operator` is there once with a name.
+fn find_operator(head: &Head<'_>) -> Option<Operator>
+    ensures { result ≡ operator_of (count_in (codes "x-operator") head.now.fields) }
+{
+    match head.once(b"x-operator") {
+        Occurrence::Value(name) => Operator::try_new(name),
+        _ => None,
+    }
+}

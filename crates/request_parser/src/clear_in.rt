@@ -1,0 +1,38 @@
+//! Requests to clear, from the JSON of their bodies.
+
+ghost use Rattle.serde_json.specs.View.{view};
+ghost use Rattle.request_parser.specs.Readings.{GivesIfRoom};
+ghost use Rattle.request_parser.specs.ClearIn as spec;
+
+use crate::json_in::read_json;
+use crate::volume_in::read_volume;
+use crate::wire_fault::{ReadError, WireFault};
+use serde_json::Value;
+use std::alloc::Global;
+use volume4d::Volume;
+
+/// The volume that a body asks to clear.
+///
+/// # Errors
+///
+/// `OutOfMemory`, or the first of `BadJson`, `BadMember`, `BadVolume` and `TooManyCells` that
+/// applies.
+#[tactic(auto, unfolding(crate::specs::ClearIn::clear_in))]
+pub fn read_clear(alloc: Global, body: &[u8]) -> Result<Volume, ReadError>
+    ensures { GivesIfRoom (λ volume. volume) result (spec.clear_in body.now) }
+{
+    let value = read_json(alloc, body)?;
+    read_extent(alloc, &value)
+}
+
+// The volume that a value asks to clear.
+#[tactic(auto, unfolding(crate::specs::ClearIn::clear_of))]
+fn read_extent(alloc: Global, value: &Value) -> Result<Volume, ReadError>
+    ensures { GivesIfRoom (λ volume. volume) result (spec.clear_of (view value.now)) }
+{
+    let extent = value.get("extent").ok_or(WireFault::BadMember)?;
+    if !extent.is_object() {
+        return Err(ReadError::Fault(WireFault::BadMember));
+    }
+    read_volume(alloc, extent)
+}

@@ -1,0 +1,52 @@
+//! Fields of a head: found by their names, whatever their case, and read as numbers.
+
+ghost use Rattle.std.specs.Prelude.{◌≡◌, length, map, All};
+ghost use Rattle.httparse.specs.Spans.{IsHeaderWithin, header_bytes};
+ghost use Rattle.request_parser.specs.Fields.{count_in, count_shown, decimal_of};
+
+use httparse::spans::HeaderSpan;
+
+/// The most digits of a number: each number of so many digits is a `u64`.
+const DIGIT_ROOM: usize = 19;
+
+/// How often a field is there, with its value if it is there once.
+#[derive(Clone, Copy, Debug, PartialEq, Eq)]
+pub enum Occurrence<'t> {
+    Absent,
+    Value(&'t [u8]),
+    More,
+}
+
+/// How often a field of that name, in any case, is among `headers`, which lie in `text`.
+pub fn find_single<'t>(text: &'t [u8], headers: &[HeaderSpan], name: &[u8]) -> Occurrence<'t>
+    requires { All (IsHeaderWithin (length text.now)) headers.now }
+    ensures { count_shown result ≡ count_in name.now (map (header_bytes text.now) headers.now) }
+{
+    let mut found = Occurrence::Absent;
+    for header in headers {
+        if header.name.of(text).eq_ignore_ascii_case(name) {
+            found = match found {
+                Occurrence::Absent => Occurrence::Value(header.value.of(text)),
+                _ => Occurrence::More,
+            };
+        }
+    }
+    found
+}
+
+/// The number that 1 to 19 digits write. None for every other text.
+pub fn read_decimal(digits: &[u8]) -> Option<u64>
+    ensures { result ≡ decimal_of digits.now }
+{
+    if digits.is_empty() || digits.len() > DIGIT_ROOM {
+        return None;
+    }
+    let mut total = 0;
+    for digit in digits {
+        if !digit.is_ascii_digit() {
+            return None;
+        }
+        total = total * 10 + u64::from(*digit - b'0');
+    }
+    Some(total)
+}

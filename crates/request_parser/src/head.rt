@@ -1,0 +1,73 @@
+//! Request heads: RFC 9112, sections 2 to 5, as `httparse` reads them.
+
+ghost use Rattle.std.specs.Prelude.{◌≡◌, option_map};
+ghost use Rattle.httparse.specs.Spans.{IsRequestWithin};
+ghost use Rattle.request_parser.specs.Fields.{count_in, count_shown};
+ghost use Rattle.request_parser.specs.WireLimits.{field_room};
+ghost use Rattle.request_parser.specs.Heads.{HeadParts, head_parts, head_within, parts_at};
+
+use crate::fields::{Occurrence, find_single};
+use httparse::Status;
+use httparse::spans::{EMPTY_HEADER_SPAN, HeaderSpan, RequestSpans, parse_request};
+use std::marker::Model;
+
+/// The most fields that a head may have.
+const FIELD_ROOM: usize = 64;
+
+/// A request head: its text, and the places of its parts in it.
+#[derive(Drop)]
+pub struct Head<'t> {
+    text: &'t [u8],
+    spans: RequestSpans,
+    headers: [HeaderSpan; FIELD_ROOM],
+}
+
+impl<'t> Model for Head<'t> {
+    ghost Value = { HeadParts };
+
+    ghost view = { λ h. parts_at h.text.now h.spans h.headers };
+
+    ghost invariant = { λ h. IsRequestWithin h.text.now h.headers h.spans };
+}
+
+impl<'t> Head<'t> {
+    /// The method, a token.
+    pub fn method(&self) -> &'t [u8]
+        ensures { result.now ≡ self.now.method }
+    {
+        self.spans.method.of(self.text)
+    }
+
+    /// The request target, as it was sent.
+    pub fn target(&self) -> &'t [u8]
+        ensures { result.now ≡ self.now.target }
+    {
+        self.spans.path.of(self.text)
+    }
+
+    /// How often a field of that name, in any case, is there, with its value if it is there once.
+    pub fn once(&self, name: &[u8]) -> Occurrence<'t>
+        ensures { count_shown result ≡ count_in name.now self.now.fields }
+    {
+        find_single(self.text, &self.headers[..self.spans.headers], name)
+    }
+}
+
+/// The head that the whole text is. None if the text is not a head, or has more than `FIELD_ROOM`
+/// fields.
+pub fn read_head(text: &[u8]) -> Option<Head<'_>>
+    ensures { result ≡ option_map head_parts (head_within field_room text.now) }
+{
+    let mut headers = [EMPTY_HEADER_SPAN; FIELD_ROOM];
+    let Ok(Status::Complete(spans)) = parse_request(text, &mut headers) else {
+        return None;
+    };
+    if spans.len != text.len() {
+        return None;
+    }
+    Some(Head {
+        text,
+        spans,
+        headers,
+    })
+}

@@ -1,0 +1,52 @@
+//! The members of JSON values, and bodies as JSON values.
+ghost use Rattle.std.specs.Prelude.{◌≡◌, option_map};
+ghost use Rattle.serde_json.specs.View.{view, items_view};
+ghost use Rattle.request_parser.specs.Readings.{GivesIfRoom};
+ghost use Rattle.request_parser.specs.JsonIn as spec;
+ghost use Rattle.request_parser.specs.JsonIn.{body_value};
+
+use crate::wire_fault::{ReadError, WireFault};
+use serde_json::Value;
+use std::alloc::Global;
+
+/// The value of a body.
+#[tactic(auto, unfolding(crate::specs::JsonIn::body_value))]
+pub fn read_json(alloc: Global, body: &[u8]) -> Result<Value, ReadError>
+    ensures { GivesIfRoom view result (body_value body.now) }
+{
+    match Value::from_slice(alloc, body) {
+        Ok(value) => Ok(value),
+        Err(error) if error.is_memory() => Err(ReadError::OutOfMemory),
+        Err(_) => Err(ReadError::Fault(WireFault::BadJson)),
+    }
+}
+
+/// A member that is a text.
+pub fn text_at<'a>(value: &'a Value, key: &str) -> Option<&'a str>
+    ensures { option_map (λ s. s.now) result ≡ spec.text_at key.now (view value.now) }
+{
+    value.get(key)?.as_str()
+}
+
+/// A member that is a whole number which fits 64 bits.
+pub fn whole_at(value: &Value, key: &str) -> Option<i64>
+    ensures { result ≡ spec.whole_at key.now (view value.now) }
+{
+    value.get(key)?.as_i64()
+}
+
+/// A member that is there and is not null.
+pub fn present<'a>(value: &'a Value, key: &str) -> Option<&'a Value>
+    ensures { option_map (λ v. view v.now) result ≡ spec.present key.now (view value.now) }
+{
+    let member = value.get(key)?;
+    if member.is_null() { None } else { Some(member) }
+}
+
+/// A member that is an array.
+pub fn array_at<'a>(value: &'a Value, key: &str) -> Option<&'a [Value]>
+    ensures { option_map (λ items. items_view items.now) result
+        ≡ spec.array_at key.now (view value.now) }
+{
+    Some(value.get(key)?.as_array()?.as_slice())
+}

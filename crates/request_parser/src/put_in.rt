@@ -1,0 +1,131 @@
+//! Requests for plans, from the JSON of their bodies.
+ghost use Rattle.std.specs.Prelude.{◌≡◌, option_and_then};
+ghost use Rattle.serde_json.specs.View.{view};
+ghost use Rattle.request_parser.specs.Readings.{GivesIfRoom};
+ghost use Rattle.request_parser.specs.JsonIn.{whole_of};
+ghost use Rattle.request_parser.specs.PutIn as spec;
+
+use crate::json_in::{array_at, present, read_json, text_at};
+use crate::volume_in::read_area;
+use crate::wire_fault::{ReadError, WireFault};
+use desk_rules::decide::MAX_PRIORITY;
+use desk_rules::plan::PutCall;
+use desk_rules::plan_id::PlanId;
+use desk_rules::words::{Aircraft, Style, Usage};
+use serde_json::Value;
+use std::alloc::Global;
+
+/// The request for the plan of this id that a body is.
+///
+/// # Errors
+///
+/// `OutOfMemory`, or the first of `BadJson`, `BadMember`, `BadVolume` and `TooManyCells` that
+/// applies.
+#[tactic(auto, unfolding(crate::specs::PutIn::put_in))]
+pub fn read_put(alloc: Global, id: PlanId, body: &[u8]) -> Result<PutCall, ReadError>
+    ensures { GivesIfRoom (λ call. call) result (spec.put_in id body.now) }
+{
+    let value = read_json(alloc, body)?;
+    read_members(alloc, id, &value)
+}
+
+// The request that a value is.
+#[tactic(auto, unfolding(crate::specs::PutIn::put_of))]
+fn read_members(alloc: Global, id: PlanId, value: &Value) -> Result<PutCall, ReadError>
+    ensures { GivesIfRoom (λ call. call) result (spec.put_of id (view value.now)) }
+{
+    let style = style_at(value).ok_or(WireFault::BadMember)?;
+    let plan = value.get("flight_plan").ok_or(WireFault::BadMember)?;
+    let information = plan.get("basic_information").ok_or(WireFault::BadMember)?;
+    let usage = usage_at(information).ok_or(WireFault::BadMember)?;
+    let aircraft = aircraft_at(information).ok_or(WireFault::BadMember)?;
+    let items = array_at(information, "area").ok_or(WireFault::BadMember)?;
+    let priority = priority_of(plan)?;
+    let area = read_area(alloc, items)?;
+    Ok(PutCall {
+        id,
+        style,
+        usage,
+        aircraft,
+        priority,
+        area,
+    })
+}
+
+// The priority of a `flight_plan`.
+#[tactic(auto, unfolding(crate::specs::PutIn::priority_of))]
+fn priority_of(plan: &Value) -> Result<u32, WireFault>
+    ensures { result ≡ spec.priority_of (view plan.now) }
+{
+    let Some(rules) = present(plan, "astm_f3548_21") else {
+        return Ok(0);
+    };
+    if !rules.is_object() {
+        return Err(WireFault::BadMember);
+    }
+    match present(rules, "priority") {
+        Some(priority) => priority_number(priority).ok_or(WireFault::BadMember),
+        None => Ok(0),
+    }
+}
+
+fn priority_number(value: &Value) -> Option<u32>
+    ensures { result ≡ option_and_then spec.priority_number (whole_of (view value.now)) }
+{
+    let priority = u32::try_from(value.as_i64()?).ok()?;
+    (priority <= MAX_PRIORITY).then_some(priority)
+}
+
+fn style_at(value: &Value) -> Option<Style>
+    ensures { result ≡ spec.style_at (view value.now) }
+{
+    style_of(text_at(value, "execution_style")?)
+}
+
+fn usage_at(value: &Value) -> Option<Usage>
+    ensures { result ≡ spec.usage_at (view value.now) }
+{
+    usage_of(text_at(value, "usage_state")?)
+}
+
+fn aircraft_at(value: &Value) -> Option<Aircraft>
+    ensures { result ≡ spec.aircraft_at (view value.now) }
+{
+    aircraft_of(text_at(value, "uas_state")?)
+}
+
+#[tactic(auto, unfolding(crate::specs::PutIn::style_of))]
+fn style_of(word: &str) -> Option<Style>
+    ensures { result ≡ spec.style_of word.now }
+{
+    match word {
+        "Hypothetical" => Some(Style::Hypothetical),
+        "IfAllowed" => Some(Style::IfAllowed),
+        "InReality" => Some(Style::InReality),
+        _ => None,
+    }
+}
+
+#[tactic(auto, unfolding(crate::specs::PutIn::usage_of))]
+fn usage_of(word: &str) -> Option<Usage>
+    ensures { result ≡ spec.usage_of word.now }
+{
+    match word {
+        "Planned" => Some(Usage::Planned),
+        "InUse" => Some(Usage::InUse),
+        "Closed" => Some(Usage::Closed),
+        _ => None,
+    }
+}
+
+#[tactic(auto, unfolding(crate::specs::PutIn::aircraft_of))]
+fn aircraft_of(word: &str) -> Option<Aircraft>
+    ensures { result ≡ spec.aircraft_of word.now }
+{
+    match word {
+        "Nominal" => Some(Aircraft::Nominal),
+        "OffNominal" => Some(Aircraft::OffNominal),
+        "Contingent" => Some(Aircraft::Contingent),
+        _ => None,
+    }
+}

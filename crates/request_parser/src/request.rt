@@ -1,0 +1,71 @@
+//! Requests: what the bytes of one whole request ask.
+
+ghost use Rattle.std.specs.Prelude.{◌≡◌};
+ghost use Rattle.request_parser.specs.Addresses.{address_shown};
+ghost use Rattle.request_parser.specs.Readings.{GivesIfRoom};
+ghost use Rattle.request_parser.specs.Messages.{message_shown};
+ghost use Rattle.request_parser.specs.Requests.{asked, asked_at, asked_by, id_of};
+
+use crate::address::{Address, read_address};
+use crate::clear_in::read_clear;
+use crate::message::{Message, read_message};
+use crate::put_in::read_put;
+use crate::resource::Action;
+use crate::wire_fault::{ReadError, WireFault};
+use desk_rules::call::{Asked, Call};
+use desk_rules::plan_id::PlanId;
+use std::alloc::Global;
+
+/// What `text`, the bytes of one whole request, asks.
+///
+/// # Errors
+///
+/// `OutOfMemory`, or the first fault of the text: of its framing, of its address, of its body.
+#[tactic(auto, unfolding(crate::specs::Requests::asked))]
+pub fn read_request(alloc: Global, text: &[u8]) -> Result<Asked, ReadError>
+    ensures { GivesIfRoom (λ asked. asked) result (asked text.now) }
+{
+    let message = read_message(text)?;
+    read_asked(alloc, &message)
+}
+
+/// What a message asks.
+///
+/// # Errors
+///
+/// `OutOfMemory`, or the first fault of its address, then of its id, then of its body.
+#[tactic(auto, unfolding(crate::specs::Requests::asked_by))]
+pub fn read_asked(alloc: Global, message: &Message<'_>) -> Result<Asked, ReadError>
+    ensures { GivesIfRoom (λ asked. asked) result (asked_by (message_shown message.now)) }
+{
+    match read_address(&message.head) {
+        Ok(address) => read_call(alloc, &address, message.body),
+        Err(fault) => Err(ReadError::Fault(fault)),
+    }
+}
+
+// What the operator at an address asks with a body.
+fn read_call(alloc: Global, address: &Address<'_>, body: &[u8]) -> Result<Asked, ReadError>
+    ensures { GivesIfRoom (λ asked. asked) result (asked_at (address_shown address.now) body.now) }
+{
+    let operator = address.operator;
+    let call = match address.action {
+        Action::Status => Call::Status,
+        Action::List => Call::List,
+        Action::Show => Call::Show(read_id(address.id)?),
+        Action::Delete => Call::Delete(read_id(address.id)?),
+        Action::Put => Call::Put(read_put(alloc, read_id(address.id)?, body)?),
+        Action::Clear => Call::Clear(read_clear(alloc, body)?),
+    };
+    Ok(Asked { operator, call })
+}
+
+// The id of a flight plan, from its text.
+fn read_id(text: &str) -> Result<PlanId, WireFault>
+    ensures { result ≡ id_of text.now }
+{
+    match PlanId::try_parse(text) {
+        Some(id) => Ok(id),
+        None => Err(WireFault::BadPlanId),
+    }
+}

@@ -1,0 +1,77 @@
+//! The desk's resources, with their methods.
+
+ghost use Rattle.std.specs.Prelude.{◌≡◌};
+ghost use Rattle.request_parser.specs.Resources as spec;
+ghost use Rattle.request_parser.specs.declared.resource.Route.TheVariants as route;
+
+/// A resource of the desk, by the path that it has.
+#[derive(Clone, Copy, Debug, PartialEq, Eq)]
+pub enum Route {
+    /// `/status`
+    Status,
+    /// `/flight_plans`
+    FlightPlans,
+    /// `/flight_plans/{flight_plan_id}`
+    FlightPlan,
+    /// `/clear_area_requests`
+    ClearAreaRequests,
+}
+
+/// What a method does at a resource.
+#[derive(Clone, Copy, Debug, PartialEq, Eq)]
+pub enum Action {
+    /// Asks whether the desk is ready.
+    Status,
+    /// Lists the operator's plans.
+    List,
+    /// Shows a plan.
+    Show,
+    /// Plans, activates, changes or closes a flight.
+    Put,
+    /// Closes a plan.
+    Delete,
+    /// Takes out the operator's plans in a volume.
+    Clear,
+}
+
+impl Route {
+    /// What a method does at this resource. None if the resource has no such method.
+    #[tactic(auto, unfolding(crate::specs::Resources::action_of))]
+    pub fn action(self, method: &[u8]) -> Option<Action>
+        ensures { result ≡ spec.action_of self method.now }
+    {
+        match self {
+            Route::Status => (method == b"GET".as_slice()).then_some(Action::Status),
+            Route::FlightPlans => (method == b"GET".as_slice()).then_some(Action::List),
+            Route::FlightPlan => plan_action(method),
+            Route::ClearAreaRequests => (method == b"POST".as_slice()).then_some(Action::Clear),
+        }
+    }
+
+    /// The methods of this resource, as the field `allow` lists them (RFC 9110, section 10.2.1).
+    pub fn allow(self) -> &'static str
+        ensures { result.now ≡ spec.allow_text self }
+    {
+        match self {
+            Route::Status | Route::FlightPlans => "GET",
+            Route::FlightPlan => "DELETE, GET, PUT",
+            Route::ClearAreaRequests => "POST",
+        }
+    }
+}
+
+// What a method does at a flight plan.
+#[tactic(auto, unfolding(crate::specs::Resources::action_of))]
+fn plan_action(method: &[u8]) -> Option<Action>
+    ensures { result ≡ spec.action_of route.FlightPlan method.now }
+{
+    if method == b"DELETE".as_slice() {
+        Some(Action::Delete)
+    } else if method == b"GET".as_slice() {
+        Some(Action::Show)
+    } else if method == b"PUT".as_slice() {
+        Some(Action::Put)
+    } else {
+        None
+    }
+}
