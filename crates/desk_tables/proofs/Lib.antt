@@ -1,4 +1,5 @@
 pub mod IdLemmas
+pub mod NamedLemmas
 pub mod ParseLemmas
 pub mod RowLemmas
 pub mod ContentLemmas

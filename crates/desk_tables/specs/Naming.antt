@@ -1,5 +1,6 @@
 -- Naming: which part of files is named to an administrator, and what is left of them.
-use Rattle.std.specs.Prelude.{◌≡◌, ◌≤◌, ◌⊎◌, Bool, false, List, Option, Some, None, IsTrue}
+use Rattle.std.specs.Prelude.{◌≡◌, ◌≢◌, ◌≤◌, ◌⊎◌, Bool, true, false, List, [], ◌∷◌}
+use Rattle.std.specs.Prelude.{Option, Some, None, IfSome, IsTrue}
 use Rattle.std.specs.List.{AllByRecursion}
 use Rattle.std.specs.List.Sorted.{IsStrictlySortedBy}
 use Rattle.sqlite_value.specs.Order.{Row}
@@ -7,9 +8,14 @@ use Rattle.sqlite_disk.specs.declared.Disk as disk
 use Rattle.sqlite_wal.specs.Recovery.{Image}
 use Rattle.sqlite_store.specs.declared.store.FileStore.{FileStore}
 use Rattle.sqlite.specs.Files.{over_files}
-use Rattle.sqlite.specs.Held.{Held}
+use Rattle.sqlite_trees.specs.declared.store.Store.{Ghosts}
+use Rattle.sqlite.specs.State.{HasCleanDisk}
+use Rattle.sqlite.specs.Effect.{Database}
+use Rattle.sqlite.specs.Held.{Held, state}
+use Rattle.desk_sql.specs.declared.opening.finding.TablesPresent.{TablesPresent}
+use Rattle.desk_sql.specs.declared.opening.finding.TablesPresent.TheVariants.{Nothing}
 use Rattle.desk_sql.specs.Frames.{OnlyReads}
-use Rattle.desk_sql.specs.Rows.{Tables}
+use Rattle.desk_sql.specs.Rows.{IsMadeTo, Lists, Tables, has_old_rows, tables_at}
 use Rattle.desk_rules.specs.Limits.{max_priority}
 use Rattle.desk_rules.specs.Name.{is_operator_name}
 use Rattle.desk_store.specs.Content.{IsId}
@@ -17,18 +23,13 @@ use Rattle.desk_store.specs.World.{Filed, Listed, listed_cmp, filed_cmp}
 use Rattle.desk_tables.specs.declared.opening.exact.RowFault.{RowFault}
 use Rattle.desk_tables.specs.declared.opening.exact.RowFault.TheVariants as row
 use Rattle.desk_tables.specs.declared.opening.naming.InvalidPart.{InvalidPart}
-use Rattle.desk_tables.specs.declared.opening.naming.InvalidPart.TheVariants.{Operator, Plan, Plans, Cover}
-use Rattle.desk_tables.specs.declared.opening.naming.InvalidPart.TheVariants.{Span, OldSpan, OldPlan}
+use Rattle.desk_tables.specs.declared.opening.naming.InvalidPart.TheVariants.{NoTable, OtherTables, BothSchemas, Operator, Plan, Plans, Volume, Cover}
+use Rattle.desk_tables.specs.declared.opening.naming.InvalidPart.TheVariants.{Span, OldVolume, OldSpan, OldPlan}
 use Rattle.desk_tables.specs.Files.{Finds}
-use Rattle.desk_tables.specs.Moving.{IsOldArea}
+use Rattle.desk_tables.specs.Moving.{AreSortedOld, HasNoNewRows, IsOldArea}
 use Rattle.desk_tables.specs.Opening.{AreOperatorRows, ArePlanRows, AreParts, AreShared}
+use Rattle.desk_tables.specs.Opening.{AreSortedHeads, IsNoDesk}
 use Rattle.desk_tables.specs.Tables.{AreSpanRows, row_of_plan}
-
--- a connection found the database of files that held this, and only read since
-pub record OnlyReadsIn {D : Type 0} {g : disk.Ghosts D} (image : Image) (left : Held (FileStore D g)) : Type 0 where
-  pub found : Held (FileStore D g)
-  pub finds : Finds image found
-  pub reads : OnlyReads (over_files {D = D} {g = g}) found left
 
 -- ---- which part is named
 
@@ -88,3 +89,61 @@ FailsHeads t other part =
 -- some operators and these plans have the rows but for spans and covers, and are a content's
 abbrev pub AreGoodHeads : Tables → List Filed → Type 0
 AreGoodHeads t ps = (ls : List Listed) × AreParts t ls ps
+
+-- ---- what tables show of the part that is named
+
+-- these plans have all other rows, and their spans, in the order of their key, fail so
+pub record FailsAfter (rows : Tables) (spans : List Row)
+    (Fails : List Filed → List Row → Type 0) : Type 0 where
+  pub plans : List Filed
+  pub good : AreGoodHeads rows plans
+  pub sorted : List Row
+  pub listed : Lists (0 ∷ 1 ∷ 2 ∷ 3 ∷ []) spans sorted
+  pub fails : Fails plans sorted
+
+-- tables of schema 2, each in the order of its key: rows but for spans and covers fail, or else these
+pub record FailsNew (t : Tables) (part : InvalidPart) : Type 0 where
+  pub rows : Tables
+  pub covered : Bool
+  pub read : AreSortedHeads t rows covered
+  pub fails : FailsHeads rows Volume part
+      ⊎ FailsAfter rows t.spans (λ ps spans. FailsSpans ps spans covered part)
+
+-- the same of schema 1
+pub record FailsOld (t : Tables) (part : InvalidPart) : Type 0 where
+  pub rows : Tables
+  pub read : AreSortedOld t rows
+  pub fails : FailsHeads rows OldVolume part
+      ⊎ FailsAfter rows t.old_spans (λ ps spans. FailsOldSpans ps spans part)
+
+-- tables with rows of schema 1: there are rows of schema 2 too, or else those of schema 1 fail
+abbrev pub FailsMoving : Tables → InvalidPart → Type 0
+FailsMoving t part = ((part ≡ BothSchemas) × ¬ HasNoNewRows t) ⊎ (HasNoNewRows t × FailsOld t part)
+
+-- so much of a desk's tables is made, and a part of them fails
+pub record FailsMade (db : Database) (part : InvalidPart) : Type 0 where
+  pub made : TablesPresent
+  pub some : made ≢ Nothing
+  pub desk : IsMadeTo made db
+  pub fails : ((has_old_rows (tables_at made db.trees) ≡ false) × FailsNew (tables_at made db.trees) part)
+      ⊎ ((has_old_rows (tables_at made db.trees) ≡ true) × FailsMoving (tables_at made db.trees) part)
+
+-- a part is named of a database by the first test that this fails
+abbrev pub FailsPart : Database → InvalidPart → Type 0
+FailsPart db part =
+    ((part ≡ OtherTables) × IsNoDesk db)
+    ⊎ (((part ≡ NoTable) × IsMadeTo Nothing db) ⊎ FailsMade db part)
+
+-- if a part is named over an open connection and a clean disk, the database shows why
+abbrev pub ShowsPartOf : {S : Type 0} → Ghosts S → Held S → Held S → Option InvalidPart
+    → (Database → InvalidPart → Type 0) → Type 0
+ShowsPartOf g old new named Fails =
+    HasCleanDisk (state g new) → IsTrue (state g new).is_open → IfSome named (Fails (state g old).now)
+
+-- a connection found the database of files that held this, only read since, and shows why this part is named
+pub record NamesIn {D : Type 0} {g : disk.Ghosts D} (image : Image) (named : Option InvalidPart)
+    (left : Held (FileStore D g)) : Type 0 where
+  pub found : Held (FileStore D g)
+  pub finds : Finds image found
+  pub reads : OnlyReads (over_files {D = D} {g = g}) found left
+  pub shows : ShowsPartOf (over_files {D = D} {g = g}) found left named FailsPart

@@ -1,6 +1,5 @@
 //! Which part of a database is that of no desk: what an administrator is told of files that were refused.
-//! It is found afterwards, by the tests that refuse a database, in their order. Nothing is changed, and
-//! no clause says which part is named.
+//! It is found afterwards, by the tests that refuse a database, in their order. Nothing is changed.
 
 ghost use Rattle.std.specs.Prelude.{◌≡◌, ◌≢◌, ◌⊎◌, List, true, false, IfErr, IfOk, IfSome, OnOk};
 ghost use Rattle.sqlite_value.specs.Order.{Row as Values};
@@ -8,10 +7,12 @@ ghost use Rattle.sqlite_wal.specs.Files.{image_at};
 ghost use Rattle.sqlite.specs.Files.{over_files};
 ghost use Rattle.sqlite.specs.Held.{IsNew};
 ghost use Rattle.desk_sql.specs.Frames.{OnlyReads};
+ghost use Rattle.desk_sql.specs.Rows.{tables_at};
 ghost use Rattle.desk_tables.specs.Files.{IsUnreached};
 ghost use Rattle.desk_tables.specs.Naming as spec;
 ghost use Rattle.desk_tables.specs.Naming.{AreGoodHeads, ArePlanHeads, FailsHeads, FailsOldSpans, FailsSpans};
-ghost use Rattle.desk_tables.specs.Naming.{IsPlanHead, OnlyReadsIn};
+ghost use Rattle.desk_tables.specs.Naming.{FailsMoving, FailsNew, FailsOld, FailsPart};
+ghost use Rattle.desk_tables.specs.Naming.{IsPlanHead, NamesIn, ShowsPartOf};
 ghost use Rattle.desk_tables.specs.SpansHeld.{AreHeld};
 ghost use Rattle.desk_tables.specs.OpeningSteps.{ShowsOperators, ShowsPart};
 
@@ -89,7 +90,7 @@ pub fn part_at<S: Start>(
     path: &str,
     start: S,
 ) -> Result<Named<FileFrom<S>>, NotOpened<FileFrom<S>>>
-    ensures reads { IfOk result (λ named. OnlyReadsIn (image_at S.Start) named.connection) }
+    ensures named { IfOk result (λ it. NamesIn (image_at S.Start) it.part it.connection) }
     ensures unread { IfErr result (IsUnreached (image_at S.Start)) }
 {
     match connect_there(rt, path, start) {
@@ -101,7 +102,8 @@ pub fn part_at<S: Start>(
 // What is named of the files of a connection, on whatever disk they are.
 fn part_in<D: Disk + Drop>(alloc: Global, mut connection: Connection<FileStore<D>>) -> Named<D>
     requires { IsNew connection }
-    ensures { OnlyReads over_files connection result.connection }
+    ensures reads { OnlyReads over_files connection result.connection }
+    ensures shows { ShowsPartOf over_files connection result.connection result.part FailsPart }
 {
     let part = first_fault(alloc, &mut connection);
     Named { part, connection }
@@ -109,10 +111,11 @@ fn part_in<D: Disk + Drop>(alloc: Global, mut connection: Connection<FileStore<D
 
 /// The first part of a database that is that of no desk. None if there is none, or if the database can't be
 /// read.
-#[tactic(auto, using(crate::proofs::OpeningLemmas::some_operators))]
+#[tactic(auto, using(crate::proofs::OpeningLemmas::some_operators, crate::proofs::NamedLemmas::new_named, crate::proofs::NamedLemmas::old_named))]
 pub fn first_fault<S: Alter>(alloc: Global, connection: &mut Connection<S>) -> Option<InvalidPart>
     requires settled { connection.old.in_transaction ≡ false }
-    ensures { OnlyReads S.Store connection.old connection.new }
+    ensures reads { OnlyReads S.Store connection.old connection.new }
+    ensures shows { ShowsPartOf S.Store connection.old connection.new result FailsPart }
 {
     let (made, old) = match tables_found(connection) {
         Ok(found) => found,
@@ -137,7 +140,9 @@ fn new_fault<S: Alter>(
     made: TablesPresent,
 ) -> Option<InvalidPart>
     requires part { ShowsOperators S.Store connection.old made }
-    ensures { OnlyReads S.Store connection.old connection.new }
+    ensures reads { OnlyReads S.Store connection.old connection.new }
+    ensures shows { ShowsPartOf S.Store connection.old connection.new result (λ db.
+        FailsNew (tables_at made db.trees)) }
 {
     let Ok((heads, covered)) = heads_in(alloc, connection, made) else {
         return None;
@@ -154,7 +159,7 @@ fn new_fault<S: Alter>(
 }
 
 // The first part of tables with rows of schema 1.
-#[tactic(auto, using(crate::proofs::OpeningLemmas::some_operators))]
+#[tactic(auto, using(crate::proofs::OpeningLemmas::some_operators, crate::proofs::NamedLemmas::moving_named))]
 fn old_fault<S: Alter>(
     alloc: Global,
     connection: &mut Connection<S>,
@@ -162,7 +167,9 @@ fn old_fault<S: Alter>(
 ) -> Option<InvalidPart>
     requires part { ShowsPart S.Store connection.old made }
     requires some { made ≢ TablesPresent.Nothing }
-    ensures { OnlyReads S.Store connection.old connection.new }
+    ensures reads { OnlyReads S.Store connection.old connection.new }
+    ensures shows { ShowsPartOf S.Store connection.old connection.new result (λ db.
+        FailsMoving (tables_at made db.trees)) }
 {
     match are_new_empty(connection, made) {
         Ok(true) => {}
@@ -180,7 +187,9 @@ fn old_part<S: Alter>(
     made: TablesPresent,
 ) -> Option<InvalidPart>
     requires part { ShowsOperators S.Store connection.old made }
-    ensures { OnlyReads S.Store connection.old connection.new }
+    ensures reads { OnlyReads S.Store connection.old connection.new }
+    ensures shows { ShowsPartOf S.Store connection.old connection.new result (λ db.
+        FailsOld (tables_at made db.trees)) }
 {
     let Ok(heads) = old_heads_in(alloc, connection, made) else {
         return None;
