@@ -23,8 +23,10 @@ use Rattle.desk_store.specs.World.{Filed, Listed, listed_cmp, filed_cmp}
 use Rattle.desk_tables.specs.declared.opening.exact.RowFault.{RowFault}
 use Rattle.desk_tables.specs.declared.opening.exact.RowFault.TheVariants as row
 use Rattle.desk_tables.specs.declared.opening.naming.InvalidPart.{InvalidPart}
-use Rattle.desk_tables.specs.declared.opening.naming.InvalidPart.TheVariants.{NoTable, OtherTables, BothSchemas, Operator, Plan, Plans, Volume, Cover}
-use Rattle.desk_tables.specs.declared.opening.naming.InvalidPart.TheVariants.{Span, OldVolume, OldSpan, OldPlan}
+use Rattle.desk_tables.specs.declared.opening.naming.InvalidPart.TheVariants.{NoTable, OtherTables}
+use Rattle.desk_tables.specs.declared.opening.naming.InvalidPart.TheVariants.{BothSchemas, Operator, Plan}
+use Rattle.desk_tables.specs.declared.opening.naming.InvalidPart.TheVariants.{Plans, Volume, Cover, Span}
+use Rattle.desk_tables.specs.declared.opening.naming.InvalidPart.TheVariants.{OldVolume, OldSpan, OldPlan}
 use Rattle.desk_tables.specs.Files.{Finds}
 use Rattle.desk_tables.specs.Moving.{AreSortedOld, HasNoNewRows, IsOldArea}
 use Rattle.desk_tables.specs.Opening.{AreOperatorRows, ArePlanRows, AreParts, AreShared}
