@@ -4,7 +4,7 @@ use Rattle.sqlite.specs.declared.types.Value.TheVariants.{Int, Null, Text}
 use Rattle.sqlite.specs.Order.{Row}
 use Rattle.desk_sql.specs.declared.opening.numbers.DeskTable.{DeskTable}
 use Rattle.desk_sql.specs.declared.opening.numbers.DeskTable.TheVariants as desk
-use Rattle.desk_sql.specs.declared.reading.rivals.SpanFilter.{SpanFilter}
+use Rattle.desk_sql.specs.declared.reading.rivals.SpanQuery.{SpanQuery}
 use Rattle.desk_sql.specs.declared.reading.whole.Whole.{Whole}
 use Rattle.desk_sql.specs.declared.reading.whole.Whole.TheVariants as whole
 use Rattle.desk_sql.specs.declared.reading.query.Query.{Query}
@@ -52,19 +52,19 @@ rows_read whole.Spans t = t.spans
 -- ---- queries that are given something
 
 -- which spans are asked for, but for those of one plan
-abbrev pub rival_params : List ℕ → List ℕ → SpanFilter → ℤ → Row
+abbrev pub rival_params : List ℕ → List ℕ → SpanQuery → ℤ → Row
 rival_params operator id reach low =
     Int reach.last ∷ Int reach.first ∷ Int reach.upper ∷ Int reach.lower ∷ Int reach.stop ∷ Int reach.start
     ∷ Int (pos reach.priority) ∷ Text operator ∷ Text id ∷ Int low ∷ []
 
 -- and but for those of one operator, given to the same text: no id differs from NULL
-abbrev pub others_params : List ℕ → SpanFilter → ℤ → Row
+abbrev pub others_params : List ℕ → SpanQuery → ℤ → Row
 others_params operator reach low =
     Int reach.last ∷ Int reach.first ∷ Int reach.upper ∷ Int reach.lower ∷ Int reach.stop ∷ Int reach.start
     ∷ Int (pos reach.priority) ∷ Text operator ∷ Null ∷ Int low ∷ []
 
 -- and of one plan alone
-abbrev pub plan_params : List ℕ → List ℕ → SpanFilter → Row
+abbrev pub plan_params : List ℕ → List ℕ → SpanQuery → Row
 plan_params operator id reach =
     Int reach.last ∷ Int reach.first ∷ Int reach.upper ∷ Int reach.lower ∷ Int reach.stop ∷ Int reach.start
     ∷ Int (pos reach.priority) ∷ Text operator ∷ Text id ∷ []

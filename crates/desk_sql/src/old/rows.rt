@@ -8,7 +8,7 @@ ghost use Rattle.desk_sql.specs.Effects.{IsReady};
 
 use crate::opening::finding::TablesPresent;
 use crate::opening::numbers::{DeskTable, but_memory, rowids_text};
-use crate::reading::taking::{RowVisitor, hand_rows};
+use crate::reading::taking::{RowSink, hand_rows};
 use crate::reading::volumes::volume_table;
 use crate::reading::whole::Whole;
 use sqlite::{Alter, Connection, Error, Row};
@@ -19,7 +19,7 @@ struct AnyRow {
     was_taken: bool,
 }
 
-impl RowVisitor for AnyRow {
+impl RowSink for AnyRow {
     ghost use Rattle.std.specs.Prelude.{◌≡◌, ⊤};
     ghost use Rattle.desk_sql.specs.Rows.{has_rows};
 

@@ -19,7 +19,7 @@ use sqlite::{Alter, Connection, Error, ErrorCode, Row, Rows};
 use sqlite_value::value::ValueRef;
 
 /// What takes the rows of an answer, one at a time.
-pub trait RowVisitor {
+pub trait RowSink {
     ghost use Rattle.std.specs.Prelude.{List, [], ◌∷◌, ◌++◌};
     ghost use Rattle.std.specs.Prelude.{IfErr};
     ghost use Rattle.sqlite.specs.Order.{Row};
@@ -50,7 +50,7 @@ pub trait RowVisitor {
 
 /// Hands over the next row, if there is one.
 // Long: what is handed over, and apart from it what holds whatever the disk returned.
-fn hand_next<S: Alter, T: RowVisitor>(rows: &mut Rows<'_, S>, taker: &mut T) -> Result<bool, Error>
+fn hand_next<S: Alter, T: RowSink>(rows: &mut Rows<'_, S>, taker: &mut T) -> Result<bool, Error>
     ensures same_reference { rows.new.conn.ghost_name ≡ rows.old.conn.ghost_name }
     ensures handed { IsHanded S.Store rows.old.conn.now rows.new.conn.now result
         (HandsOver S.Store rows.old.conn.now rows.new.conn.now (T.has_taken taker.old)
@@ -78,7 +78,7 @@ fn hand_next<S: Alter, T: RowVisitor>(rows: &mut Rows<'_, S>, taker: &mut T) -> 
 /// # Errors
 ///
 /// What a query or the taker may fail with.
-fn hand_all<S: Alter, T: RowVisitor>(rows: &mut Rows<'_, S>, taker: &mut T) -> Result<(), Error>
+fn hand_all<S: Alter, T: RowSink>(rows: &mut Rows<'_, S>, taker: &mut T) -> Result<(), Error>
     requires { HasCleanDisk (state S.Store rows.old.conn.now)
         → IsTrue (state S.Store rows.old.conn.now).is_open }
     ensures same_reference { rows.new.conn.ghost_name ≡ rows.old.conn.ghost_name }
@@ -104,7 +104,7 @@ fn hand_all<S: Alter, T: RowVisitor>(rows: &mut Rows<'_, S>, taker: &mut T) -> R
 /// # Errors
 ///
 /// What a query or the taker may fail with.
-pub(crate) fn hand_rows<S: Alter, T: RowVisitor>(
+pub(crate) fn hand_rows<S: Alter, T: RowSink>(
     connection: &mut Connection<S>,
     text: &str,
     params: &[ValueRef<'_>],
@@ -133,7 +133,7 @@ pub(crate) fn hand_rows<S: Alter, T: RowVisitor>(
 /// # Errors
 ///
 /// What a query or the taker may fail with.
-pub(crate) fn for_each_row<S: Alter, T: RowVisitor>(
+pub(crate) fn for_each_row<S: Alter, T: RowSink>(
     connection: &mut Connection<S>,
     query: Query<'_>,
     taker: &mut T,

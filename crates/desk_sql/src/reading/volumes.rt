@@ -12,7 +12,7 @@ ghost use Rattle.desk_sql.specs.Volumes.{ListVolumes, volume_table_in};
 
 use crate::opening::finding::TablesPresent;
 use crate::opening::numbers::DeskTable;
-use crate::reading::taking::{RowVisitor, hand_rows};
+use crate::reading::taking::{RowSink, hand_rows};
 use sqlite::{Alter, Connection, Error};
 
 /// `volume2`, which in a packed file stands in another tree.
@@ -41,7 +41,7 @@ fn volumes_text() -> &'static str
 /// # Errors
 ///
 /// What a query or the taker may fail with.
-pub fn each_volume<S: Alter, T: RowVisitor>(
+pub fn each_volume<S: Alter, T: RowSink>(
     connection: &mut Connection<S>,
     made: TablesPresent,
     taker: &mut T,

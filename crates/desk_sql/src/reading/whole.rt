@@ -13,7 +13,7 @@ ghost use Rattle.desk_sql.specs.QueryEnds.{WasOpen, Answers, HandsOut};
 use crate::opening::finding::TablesPresent;
 use crate::opening::numbers::DeskTable;
 use crate::reading::asking::ask;
-use crate::reading::taking::{RowVisitor, hand_rows};
+use crate::reading::taking::{RowSink, hand_rows};
 use sqlite::{Alter, Connection, Error, Row};
 use std::alloc::Global;
 
@@ -121,7 +121,7 @@ pub fn all_rows<S: Alter>(
 /// # Errors
 ///
 /// What a query or the taker may fail with.
-pub fn each_row<S: Alter, T: RowVisitor>(
+pub fn each_row<S: Alter, T: RowSink>(
     connection: &mut Connection<S>,
     whole: Whole,
     made: TablesPresent,

@@ -12,7 +12,7 @@ ghost use Rattle.desk_tables.specs.Gathering.{Leads, HasCollected, HasNoArea, Is
 
 use crate::reading::values::{Head, head_in, volume_in};
 use desk_rules::plan::PlanRow;
-use desk_sql::RowVisitor;
+use desk_sql::RowSink;
 use desk_store::StoreFault;
 use sqlite::{Error, ErrorCode, Row};
 use sqlite_value::value::ValueRef;
@@ -112,7 +112,7 @@ impl PlanCollector {
     }
 }
 
-impl RowVisitor for PlanCollector {
+impl RowSink for PlanCollector {
     ghost use Rattle.std.specs.Prelude.{◌≡◌, ◌⊎◌, ⊤};
     ghost use Rattle.sqlite.specs.declared.error.Error.TheVariants.{SqliteFailure};
     ghost use Rattle.sqlite.specs.declared.error.ErrorCode.TheVariants.{OutOfMemory};

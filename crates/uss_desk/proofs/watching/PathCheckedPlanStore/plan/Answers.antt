@@ -1,5 +1,5 @@
 use Rattle.uss_desk.proofs.WatchLemmas.{reads_within}
-use Rattle.uss_desk.proofs.watching.WatchedPlanStore.plan.Goals as goal
+use Rattle.uss_desk.proofs.watching.PathCheckedPlanStore.plan.Goals as goal
 
 pub returns-clause-reads : goal.returns-clause-reads
 returns-clause-reads g c =

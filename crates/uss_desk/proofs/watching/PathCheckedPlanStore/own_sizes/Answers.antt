@@ -1,5 +1,5 @@
 use Rattle.uss_desk.proofs.WatchLemmas.{reads_within}
-use Rattle.uss_desk.proofs.watching.WatchedPlanStore.own_sizes.Goals as goal
+use Rattle.uss_desk.proofs.watching.PathCheckedPlanStore.own_sizes.Goals as goal
 
 pub returns-clause-reads : goal.returns-clause-reads
 returns-clause-reads g c =
