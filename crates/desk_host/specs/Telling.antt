@@ -3,7 +3,7 @@ use Rattle.std.specs.Prelude.{◌≡◌, ◌⊎◌, ℕ, List, ◌++◌, codes, 
 use Rattle.std.specs.Io.KnownBytes.{Appends}
 use Rattle.io_ends.specs.Writing.{BreaksOff}
 use Rattle.io_ends.specs.declared.writing.WriteError.{WriteError}
-use Rattle.io_ends.specs.declared.writing.WriteFault.{WriteFault}
+use Rattle.io_ends.specs.declared.writing.PartialWrite.{PartialWrite}
 use Rattle.desk_wire.specs.Passage.{Course}
 
 -- some text is told, of which nothing is said, and nothing else
@@ -32,4 +32,4 @@ IsWrittenUpTo line (Some cut) writes = BreaksOff line writes.before writes.after
 abbrev pub IsWrittenIfRoom : List ℕ → Course (Option (List ℕ)) → Type 0
 IsWrittenIfRoom line writes =
     (writes.after ≡ writes.before) ⊎ Appends writes.before writes.after line
-    ⊎ ((fault : WriteFault) × BreaksOff line writes.before writes.after fault)
+    ⊎ ((fault : PartialWrite) × BreaksOff line writes.before writes.after fault)

@@ -2,14 +2,14 @@
 use Rattle.std.proofs.Common.{◌≡◌, ◌≢◌, ◌<◌, ℕ, List, [], Option, ap, drop, length, length-drop, sym, take, arith}
 use Rattle.std.proofs.lemmas.List.{take-append-drop}
 use Rattle.io_ends.specs.Writing.{BreaksOff}
-use Rattle.io_ends.specs.declared.writing.WriteFault.{WriteFault}
+use Rattle.io_ends.specs.declared.writing.PartialWrite.{PartialWrite}
 use Rattle.desk_cli.specs.Written.{HasBegun}
 
 some_left : (n : ℕ) (bytes : List ℕ) → n < length bytes → drop n bytes ≢ []
 some_left n bytes short none = omega (arith, short, ap length none, length-drop n bytes)
 
 -- what a write that broke off leaves
-pub begun_part : (bytes : List ℕ) (out now : Option (List ℕ)) (fault : WriteFault)
+pub begun_part : (bytes : List ℕ) (out now : Option (List ℕ)) (fault : PartialWrite)
     → BreaksOff bytes out now fault → HasBegun bytes out now
 begun_part bytes out now fault off = record {
   begun = take fault.sent bytes;
