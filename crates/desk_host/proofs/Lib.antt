@@ -1,4 +1,6 @@
 pub mod TellLemmas
 pub mod NameLemmas
+mod FaultLemmas
+mod JournalLemmas
 mod OperatorLemmas
 mod ScratchLemmas

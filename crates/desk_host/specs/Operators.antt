@@ -1,10 +1,12 @@
 -- Operators: the file of enrolments that an administrator changes while a desk serves.
-use Rattle.std.specs.Prelude.{◌≡◌, ◌⊎◌, ⊤, ℕ, Bool, false, ◌==◌, if◌then◌else◌, List, [], ◌∷◌, ◌++◌, codes, decimal, length}
+use Rattle.std.specs.Prelude.{◌≡◌, ◌⊎◌, ⊤, ℕ, Bool, false, ◌==◌, if◌then◌else◌, List}
+use Rattle.std.specs.Prelude.{[], ◌∷◌, ◌++◌, codes, decimal, length}
 use Rattle.std.specs.Prelude.{Option, None, Some, IsSome, Result, Ok, Err}
 use Rattle.std.specs.Option.{is_none}
 use Rattle.std.specs.Fs.{IsFile, file_type, metadata_len}
 use Rattle.std.specs.declared.fs.attrs.Metadata.{Metadata}
-use Rattle.desk_host.specs.Causes.{unread_text}
+use Rattle.std.specs.declared.io.ErrorKind.{ErrorKind}
+use Rattle.desk_host.specs.Causes.{unread_by, unread_text}
 use Rattle.desk_cli.specs.Register.{enrolment_on, enrolments_on, lines_of}
 use Rattle.desk_cli.specs.declared.line.Enrolment.{Enrolment}
 use Rattle.desk_wire.specs.Passage.{Course, course}
@@ -27,6 +29,15 @@ ok_of (Err e) = None
 abbrev pub IsStampOf : Metadata → Result Stamp Unread → Type 0
 IsStampOf said (Ok stamp) = IsFile (file_type said) × (stamp.len ≡ metadata_len said)
 IsStampOf said (Err fault) = ¬ IsFile (file_type said) × (unread_text fault ≡ Some (codes "no file"))
+
+-- why a file can't be read, by an error of the operating system
+pub record IsUnreadBySystem (fault : Unread) : Type 0 where
+  pub kind : ErrorKind
+  pub text : unread_text fault ≡ unread_by kind
+
+-- so; or it is no file
+abbrev pub IsUnstamped : Unread → Type 0
+IsUnstamped fault = IsUnreadBySystem fault ⊎ (unread_text fault ≡ Some (codes "no file"))
 
 -- a line is neither empty nor an enrolment
 abbrev pub is_unread : List ℕ → Bool

@@ -6,9 +6,11 @@ ghost use Rattle.desk_cli.specs.Lines.{AreEnrolments};
 ghost use Rattle.desk_wire.specs.Passage.{course};
 ghost use Rattle.desk_program.specs.Outside.{bytes_written};
 ghost use Rattle.desk_program.specs.Serving.{Grows};
-ghost use Rattle.desk_host.specs.Causes.{unread_by, unread_text};
+ghost use Rattle.desk_host.specs.Causes as cause;
+ghost use Rattle.desk_host.specs.Causes.{unread_text};
 ghost use Rattle.desk_host.specs.Operators as spec;
 ghost use Rattle.desk_host.specs.Operators.{AreEnrolmentsRead, AreNews, Asking, HasUnreadCause, IsStampOf, Read, Stamped, ok_of};
+ghost use Rattle.desk_host.specs.Operators.{IsUnstamped};
 ghost use Rattle.desk_host.specs.Telling.{IsWrittenIfRoom, line_of};
 
 use crate::files::LocalHost;
@@ -56,17 +58,25 @@ impl From<AllocError> for Unread {
 impl From<io::Error> for Unread {
     ghost use Rattle.std.specs.Prelude.{◌≡◌};
     ghost use Rattle.std.specs.IoError.{error_kind};
-    ghost use Rattle.desk_host.specs.Causes.{unread_by, unread_text};
+    ghost use Rattle.desk_host.specs.Causes as cause;
+    ghost use Rattle.desk_host.specs.Causes.{unread_text};
 
     ghost from_gives = { λ error it. unread_text it ≡ unread_by (error_kind error) };
 
     fn from(error: io::Error) -> Unread {
-        match error.kind() {
-            ErrorKind::OutOfMemory => Unread::Memory,
-            ErrorKind::NotFound => Unread::Cause("no such file"),
-            ErrorKind::PermissionDenied => Unread::Cause("no right to read it"),
-            _ => Unread::Cause("it can't be read"),
-        }
+        unread_by(error.kind())
+    }
+}
+
+// Why a file can't be read, by the kind of the error.
+fn unread_by(kind: ErrorKind) -> Unread
+    ensures { unread_text result ≡ cause.unread_by kind }
+{
+    match kind {
+        ErrorKind::OutOfMemory => Unread::Memory,
+        ErrorKind::NotFound => Unread::Cause("no such file"),
+        ErrorKind::PermissionDenied => Unread::Cause("no right to read it"),
+        _ => Unread::Cause("it can't be read"),
     }
 }
 
@@ -219,14 +229,17 @@ impl<F: TextFiles + Drop> EnrolmentSource for EnrolmentFile<'_, F> {
 }
 
 // When the file at a path was changed last, and its length.
-fn stamp_of(rt: &HostRuntime, path: &str) -> Result<Stamp, Unread> {
+fn stamp_of(rt: &HostRuntime, path: &str) -> Result<Stamp, Unread>
+    ensures { IfErr result IsUnstamped }
+{
     stamp_by(fs::metadata(rt, path))
 }
 
 // The same, by what the operating system says of the file.
 fn stamp_by(found: io::Result<Metadata>) -> Result<Stamp, Unread>
-    ensures { MatchResult found (λ said. IsStampOf said result)
-        (λ error. IfErr result (λ fault. unread_text fault ≡ unread_by (error_kind error))) }
+    ensures stamp { MatchResult found (λ said. IsStampOf said result)
+        (λ error. IfErr result (λ fault. unread_text fault ≡ cause.unread_by (error_kind error))) }
+    ensures cause { IfErr result IsUnstamped }
 {
     let found = found?;
     if !found.is_file() {
