@@ -4,3 +4,4 @@ mod FaultLemmas
 mod JournalLemmas
 mod OperatorLemmas
 mod ScratchLemmas
+mod ToldLemmas

@@ -255,7 +255,9 @@ fn tail_in<R: Read + Drop>(alloc: Global, file: R) -> Result<(Tail, TailEnd), Un
 /// # Errors
 ///
 /// As `Unkept` says. The record is cut only once the file beside it is on the disk.
-pub fn move_rest(rt: &HostRuntime, record: &FoundRecord, size: u64) -> Result<(), Unkept> {
+pub fn move_rest(rt: &HostRuntime, record: &FoundRecord, size: u64) -> Result<(), Unkept>
+    ensures { IfErr result IsUnkept }
+{
     let mut file = OpenOptions::new()
         .read(true)
         .write(true)
@@ -271,7 +273,10 @@ pub fn move_rest(rt: &HostRuntime, record: &FoundRecord, size: u64) -> Result<()
 }
 
 // Writes the file beside a record.
-fn write_rest(rt: &HostRuntime, path: &str, rest: &[u8]) -> Result<(), Unkept> {
+#[tactic(auto, using(crate::proofs::FaultLemmas::memory_unkept))]
+fn write_rest(rt: &HostRuntime, path: &str, rest: &[u8]) -> Result<(), Unkept>
+    ensures { IfErr result IsUnkept }
+{
     let path = format!(in rt.alloc(); "{path}.rest")?;
     let mut file = OpenOptions::new()
         .write(true)
