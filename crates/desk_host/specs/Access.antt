@@ -1,5 +1,6 @@
 -- Access: what a look at the path of a file that can't be had finds, and what is told of it.
-use Rattle.std.specs.Prelude.{◌≡◌, ℕ, ◌==◌, Bool, true, false, if◌then◌else◌, List, [], ◌∷◌, ◌++◌, codes}
+use Rattle.std.specs.Prelude.{◌≡◌, ◌≢◌, ⊤, ℕ, ◌==◌, Bool, true, false, if◌then◌else◌}
+use Rattle.std.specs.Prelude.{List, [], ◌∷◌, ◌++◌, codes}
 use Rattle.std.specs.Prelude.{bytes_eq, nat_eq, Option, None, Some, option_map, Result, Ok, Err, is_ok}
 use Rattle.std.specs.List.{starts_with}
 use Rattle.std.specs.declared.io.ErrorKind.{ErrorKind}
@@ -117,6 +118,34 @@ IsStateBy it path next.Start now = (begun : Result Start Denial) × (now ≡ sta
 abbrev pub IsStateAt : Answers → List ℕ → Bool → FileState → Type 0
 IsStateAt it path made = IsStateBy it path (next_at (place_of (it.found path)) (is_no_path path) made)
 
+-- what a look at a path may find, whatever the machine answers, by whether SQLite reads the name otherwise
+-- than as a path, and whether a file is made there
+abbrev pub MayFindUnasked : Bool → FileState → Type 0
+MayFindUnasked made state.NoPath = ⊤
+MayFindUnasked made (state.Made it) = made ≡ true
+MayFindUnasked made _ = ⊥
+
+abbrev pub MayFindAsked : Bool → FileState → Type 0
+MayFindAsked made state.NoPath = ⊥
+MayFindAsked made (state.Missing it) = (made ≡ true) → it ≢ missing.NoFile
+MayFindAsked made state.DeadLink = made ≡ true
+MayFindAsked made state.Free = made ≡ true
+MayFindAsked made state.NotRegular = ⊤
+MayFindAsked made state.Empty = made ≡ false
+MayFindAsked made (state.Made it) = made ≡ true
+MayFindAsked made (state.Filled it) = ⊤
+
+abbrev pub MayFind : Bool → Bool → FileState → Type 0
+MayFind true made found = MayFindUnasked made found
+MayFind false made found = MayFindAsked made found
+
+-- so, by what is still asked
+abbrev pub MayAsk : Bool → Bool → Next → Type 0
+MayAsk no_path made (next.Nothing found) = MayFind no_path made found
+MayAsk no_path made next.Link = (no_path ≡ false) × (made ≡ true)
+MayAsk no_path made next.Access = made ≡ true
+MayAsk no_path made next.Start = no_path ≡ false
+
 -- ---- what is told
 
 -- of a path at which nothing is reached
@@ -138,6 +167,10 @@ denial_text denial.Unopened = codes "no right to its log or folder, a second nam
 -- why a file can't be had, whatever it holds, if so
 abbrev pub access_cause : Answers → List ℕ → Option (List ℕ)
 access_cause it path = option_map denial_text (access_denial it path)
+
+-- a text is told of a file that can't be had, whatever it holds
+abbrev pub IsDenialText : List ℕ → Type 0
+IsDenialText text = (denial : Denial) × (text ≡ denial_text denial)
 
 -- of a file that can be had, and is refused for what it holds
 abbrev pub start_text : Start → List ℕ

@@ -3,6 +3,7 @@
 use Rattle.std.specs.Prelude.{◌≡◌, ◌⊎◌, ℕ, Bool, true, false, List, [], ◌∷◌, codes, Option, None, Some}
 use Rattle.std.specs.declared.io.ErrorKind.{ErrorKind}
 use Rattle.std.specs.declared.io.ErrorKind.TheVariants as kind
+use Rattle.desk_recording.specs.Tail.{HasNoTail}
 use Rattle.desk_recording.specs.declared.tail.TailFault.{TailFault}
 use Rattle.desk_recording.specs.declared.tail.TailFault.TheVariants as tail
 use Rattle.desk_host.specs.Naming.{Failed, Follows, Steps, Tried}
@@ -44,6 +45,21 @@ abbrev pub unkept_tail : TailFault → Option (List ℕ)
 unkept_tail tail.OutOfMemory = None
 unkept_tail tail.Read = Some (codes "its last record can't be read")
 unkept_tail tail.NoRecord = Some (codes "its last record is none of a desk")
+
+-- why a record can't be read or kept: by an error of the operating system
+pub record IsUnkept (fault : Unkept) : Type 0 where
+  pub kind : ErrorKind
+  pub text : unkept_text fault ≡ unkept_by kind
+
+-- why the end of a record is not read that holds these bytes, if they are known
+pub record IsTailFault (bytes : Option (List ℕ)) (fault : Unkept) : Type 0 where
+  pub tail : TailFault
+  pub has : HasNoTail bytes tail
+  pub text : unkept_text fault ≡ unkept_tail tail
+
+-- so, of one whose bytes are not known; or an error of the operating system
+abbrev pub IsTailUnread : Unkept → Type 0
+IsTailUnread fault = IsUnkept fault ⊎ ((bytes : Option (List ℕ)) × IsTailFault bytes fault)
 
 -- why SQLite refuses a file, by whether there is none, and what is told of what was found: where there is
 -- none, one is made for a trial, and if it can't be, that is told; else no folder is asked

@@ -10,7 +10,7 @@ use Rattle.desk_cli.specs.declared.failure.ErrorCode.{ErrorCode}
 use Rattle.desk_cli.specs.declared.failure.ErrorCode.TheVariants as failure
 use Rattle.db_file.specs.Damage.{IsDamaged}
 use Rattle.db_file.specs.Reads.{IsUnjudged}
-use Rattle.desk_host.specs.Telling.{IsWrittenIfRoom, IsWrittenUpTo, line_of}
+use Rattle.desk_host.specs.Telling.{IsWrittenIfRoom, IsWrittenOnce, IsWrittenUpTo, line_of}
 use Rattle.desk_host.specs.declared.logs.FoundLog.{FoundLog}
 use Rattle.desk_host.specs.declared.logs.FoundLog.TheVariants as found
 use Rattle.desk_host.specs.declared.damage.Look.{Look}
@@ -68,6 +68,31 @@ pub record HasLooked (E : Type 0) (copied : Bool) (path log : List ℕ) (result 
   pub look : Result (Look E) Unlooked
   pub looked : IsLookedAt copied path log look writes
   pub is : result ≡ admission_of look
+
+-- ---- of a log of which nothing is known
+
+-- damage is told, wherever in the log it is
+pub record TellsLoss (path : List ℕ) (writes : Course (Option (List ℕ))) : Type 0 where
+  pub frame : ℕ
+  pub commits : ℕ
+  pub told : IsWrittenOnce (damage_line path frame commits) writes
+
+-- what is told by what came of a look at a log: damage, of a log that is called damaged; else nothing
+abbrev pub IsLookTold :
+    {E : Type 0} → Bool → List ℕ → Result (Look E) Unlooked → Course (Option (List ℕ)) → Type 0
+IsLookTold copied path (Ok look) writes =
+    ((look.is_admitted ≡ true) × (look.is_damaged ≡ false) × (writes.after ≡ writes.before))
+    ⊎ ((look.is_admitted ≡ copied) × (look.is_damaged ≡ true) × TellsLoss path writes)
+IsLookTold copied path (Err it) writes = writes.after ≡ writes.before
+
+-- what is told by what came of it, and of a log that is there without its file
+abbrev pub IsBegun : Bool → List ℕ → Result Bool ErrorCode → Course (Option (List ℕ)) → Type 0
+IsBegun copied path (Ok false) writes = writes.after ≡ writes.before
+IsBegun copied path (Ok true) writes = (copied ≡ true) × TellsLoss path writes
+IsBegun copied path (Err failure.DamagedLog) writes = (copied ≡ false) × TellsLoss path writes
+IsBegun copied path (Err failure.Memory) writes = writes.after ≡ writes.before
+IsBegun copied path (Err failure.Store) writes = IsWrittenIfRoom (line_of path alone_text) writes
+IsBegun copied path (Err it) writes = ⊥
 
 -- what comes of the log that was found: a file is refused whose log is there without it, and that is told;
 -- else a log is looked at, if there is one

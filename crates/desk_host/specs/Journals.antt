@@ -1,8 +1,14 @@
 -- Journals: the names of the journals of a folder.
-use Rattle.std.specs.Prelude.{ℕ, ◌-◌, ◌^◌, ◌&&◌, Bool, nat_lt, List, ◌++◌, codes, length, decimal}
+use Rattle.std.specs.Prelude.{◌≡◌, ◌≢◌, ◌⊎◌, ℕ, ◌+◌, ◌-◌, ◌^◌, ◌==◌, ◌&&◌}
+use Rattle.std.specs.Prelude.{Bool, true, false, nat_lt, if◌then◌else◌}
+use Rattle.std.specs.Prelude.{List, ◌++◌, codes, length, decimal, drop, position, take}
+use Rattle.std.specs.Prelude.{Option, None, Some, option_and_then, string_bytes}
 use Rattle.std.specs.Char.{is_ascii_digit}
 use Rattle.std.specs.Fmt.{format_spec, styled_decimal}
 use Rattle.std.specs.List.{list_all}
+use Rattle.std.specs.Str.Parse.{digits_value}
+use Rattle.desk_host.specs.declared.folders.FoundRecord.{FoundRecord}
+use Rattle.desk_host.specs.declared.folders.Greatest.{Greatest}
 
 -- a text is digits alone, and has one
 unfoldable pub are_digits : List ℕ → Bool
@@ -11,6 +17,10 @@ are_digits text = nat_lt 0 (length text) && list_all is_ascii_digit text
 -- the path of what has a name in a folder
 unfoldable pub path_in : List ℕ → List ℕ → List ℕ
 path_in folder name = folder ++ (codes "/" ++ name)
+
+-- what the name of a journal ends with
+abbrev pub ending : List ℕ
+ending = codes ".record"
 
 -- the number of a journal in its name: ten digits at least, with zeros before them
 abbrev pub digits_of : ℕ → List ℕ
@@ -22,4 +32,67 @@ part_of folder number = folder ++ (codes "/.new-" ++ digits_of number)
 
 unfoldable pub name_of : List ℕ → ℕ → ℕ → List ℕ
 name_of folder number second =
-    folder ++ (codes "/" ++ (digits_of number ++ (codes "-" ++ (decimal second ++ codes ".record"))))
+    folder ++ (codes "/" ++ (digits_of number ++ (codes "-" ++ (decimal second ++ ending))))
+
+-- ---- the number in a name
+
+-- what parts the number from the second at which a journal begins
+abbrev pub is_dash : ℕ → Bool
+is_dash byte = byte == 45
+
+-- the number that digits write, if 64 bits hold it
+abbrev pub number_of : List ℕ → Option ℕ
+number_of digits = if nat_lt (digits_value 10 digits) (2 ^ 64) then Some (digits_value 10 digits) else None
+
+-- the number of a journal, by what stands for it, and for its second
+abbrev pub number_by : List ℕ → List ℕ → Option ℕ
+number_by number second = if nat_lt (length number) 10 then None
+    else (if are_digits number then (if are_digits second then number_of number else None) else None)
+
+-- so, by what stands before the end of the name
+abbrev pub number_before : List ℕ → Option ℕ
+number_before stem =
+    option_and_then (λ place. number_by (take place stem) (drop (place + 1) stem)) (position is_dash stem)
+
+-- a name is that of a journal of this number, or has none
+abbrev pub IsNumberIn : List ℕ → Option ℕ → Type 0
+IsNumberIn name number = ((stem : List ℕ) × (name ≡ stem ++ ending) × (number ≡ number_before stem))
+    ⊎ (((stem : List ℕ) → name ≢ stem ++ ending) × (number ≡ None))
+
+-- ---- the journal with the greatest number
+
+-- a number, and the path of the journal of a folder that has it in its name
+pub record IsJournalAt (folder : List ℕ) (number : ℕ) (path : List ℕ) : Type 0 where
+  pub name : List ℕ
+  pub has : IsNumberIn name (Some number)
+  pub is : path ≡ path_in folder name
+
+abbrev pub IsGreatestIn : List ℕ → Greatest → Type 0
+IsGreatestIn folder it = IsJournalAt folder it.number (string_bytes it.path)
+
+abbrev pub IsFoundIn : List ℕ → FoundRecord → Type 0
+IsFoundIn folder it = IsJournalAt folder it.number (string_bytes it.path)
+
+-- a number is above that which is the greatest so far
+abbrev pub is_above : Option Greatest → ℕ → Bool
+is_above None number = true
+is_above (Some it) number = nat_lt it.number number
+
+-- a journal has this number and this path
+abbrev pub IsGreatest : ℕ → List ℕ → Option Greatest → Type 0
+IsGreatest number path (Some it) = (it.number ≡ number) × (string_bytes it.path ≡ path)
+IsGreatest number path None = ⊥
+
+-- the greatest so far, and after a name: that of the name if its number is above, else as it was
+abbrev pub IsNextBy : Bool → ℕ → List ℕ → Option Greatest → Option Greatest → Type 0
+IsNextBy true number path before now = IsGreatest number path now
+IsNextBy false number path before now = now ≡ before
+
+abbrev pub IsNextOf : Option ℕ → List ℕ → Option Greatest → Option Greatest → Type 0
+IsNextOf (Some number) path before now = IsNextBy (is_above before number) number path before now
+IsNextOf None path before now = now ≡ before
+
+pub record IsNextAt (folder name : List ℕ) (before now : Option Greatest) : Type 0 where
+  pub number : Option ℕ
+  pub has : IsNumberIn name number
+  pub next : IsNextOf number (path_in folder name) before now

@@ -8,6 +8,7 @@ pub mod Scratch
 pub mod Paths
 pub mod Access
 pub mod Operators
+pub mod ToldLines
 pub mod Answers
 pub mod Openings
 pub mod LeftFiles

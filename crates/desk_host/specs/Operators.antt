@@ -1,10 +1,14 @@
 -- Operators: the file of enrolments that an administrator changes while a desk serves.
-use Rattle.std.specs.Prelude.{◌≡◌, ◌⊎◌, ⊤, ℕ, Bool, false, ◌==◌, if◌then◌else◌, List, [], ◌∷◌, ◌++◌, codes, decimal, length}
+use Rattle.std.specs.Prelude.{◌≡◌, ◌⊎◌, ◌<◌, ◌≤◌, ⊤, ℕ, Bool, false, ◌==◌, if◌then◌else◌, List}
+use Rattle.std.specs.Prelude.{[], ◌∷◌, ◌++◌, codes, decimal, length}
 use Rattle.std.specs.Prelude.{Option, None, Some, IsSome, Result, Ok, Err}
 use Rattle.std.specs.Option.{is_none}
 use Rattle.std.specs.Fs.{IsFile, file_type, metadata_len}
 use Rattle.std.specs.declared.fs.attrs.Metadata.{Metadata}
-use Rattle.desk_host.specs.Causes.{unread_text}
+use Rattle.std.specs.Result.{IsErrAnd}
+use Rattle.std.specs.Str.Lossy.{utf8_lossy}
+use Rattle.std.specs.declared.io.ErrorKind.{ErrorKind}
+use Rattle.desk_host.specs.Causes.{unread_by, unread_text}
 use Rattle.desk_cli.specs.Register.{enrolment_on, enrolments_on, lines_of}
 use Rattle.desk_cli.specs.declared.line.Enrolment.{Enrolment}
 use Rattle.desk_wire.specs.Passage.{Course, course}
@@ -27,6 +31,39 @@ ok_of (Err e) = None
 abbrev pub IsStampOf : Metadata → Result Stamp Unread → Type 0
 IsStampOf said (Ok stamp) = IsFile (file_type said) × (stamp.len ≡ metadata_len said)
 IsStampOf said (Err fault) = ¬ IsFile (file_type said) × (unread_text fault ≡ Some (codes "no file"))
+
+-- ---- the text of a file
+
+-- why a file can't be read, by an error of the operating system
+pub record IsUnreadBySystem (fault : Unread) : Type 0 where
+  pub kind : ErrorKind
+  pub text : unread_text fault ≡ unread_by kind
+
+-- so; or it is no file
+abbrev pub IsUnstamped : Unread → Type 0
+IsUnstamped fault = IsUnreadBySystem fault ⊎ (unread_text fault ≡ Some (codes "no file"))
+
+-- the most bytes of a file that is read, and what is told of a longer one
+abbrev pub max_bytes : ℕ
+max_bytes = 1048576
+
+abbrev pub too_long : List ℕ
+too_long = codes "longer than 1,048,576 bytes"
+
+abbrev pub IsTextFault : Unread → Type 0
+IsTextFault fault = IsUnreadBySystem fault ⊎ (unread_text fault ≡ Some too_long)
+
+-- the text of these first bytes of a file, where bytes that are no text stand for other ones; or why it
+-- is not read
+abbrev pub IsTextOf : List ℕ → Result (List ℕ) Unread → Type 0
+IsTextOf bytes (Ok text) = (length bytes ≤ max_bytes) × (text ≡ utf8_lossy bytes)
+IsTextOf bytes (Err fault) =
+    IsUnreadBySystem fault ⊎ ((max_bytes < length bytes) × (unread_text fault ≡ Some too_long))
+
+-- no text is read of a file that can't be opened
+abbrev pub IsUnreadIf : {A : Type 0} → Option ErrorKind → Result A Unread → Type 0
+IsUnreadIf (Some kind) result = IsErrAnd result (λ fault. unread_text fault ≡ unread_by kind)
+IsUnreadIf None result = ⊤
 
 -- a line is neither empty nor an enrolment
 abbrev pub is_unread : List ℕ → Bool

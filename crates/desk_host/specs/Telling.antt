@@ -28,6 +28,11 @@ abbrev pub IsWrittenUpTo : {E : Type 0} → List ℕ → Option (WriteError E) �
 IsWrittenUpTo line None writes = Appends writes.before writes.after line
 IsWrittenUpTo line (Some cut) writes = BreaksOff line writes.before writes.after cut.fault
 
+-- so, of which it isn't known where it broke off
+abbrev pub IsWrittenOnce : List ℕ → Course (Option (List ℕ)) → Type 0
+IsWrittenOnce line writes = Appends writes.before writes.after line
+    ⊎ ((fault : WriteFault) × BreaksOff line writes.before writes.after fault)
+
 -- the same, of which it isn't known where it broke off; or memory ran out for it
 abbrev pub IsWrittenIfRoom : List ℕ → Course (Option (List ℕ)) → Type 0
 IsWrittenIfRoom line writes =

@@ -1,5 +1,5 @@
 -- Unmade: what is reported of a file that can't be made, or has no scratch copy.
-use Rattle.std.specs.Prelude.{ℕ, Bool, true, false, List, codes, Option, None, Some}
+use Rattle.std.specs.Prelude.{◌≡◌, ◌⊎◌, ℕ, Bool, true, false, List, codes, Option, None, Some}
 use Rattle.std.specs.declared.io.ErrorKind.{ErrorKind}
 use Rattle.std.specs.declared.io.ErrorKind.TheVariants as kind
 use Rattle.desk_host.specs.declared.pairs.ScratchFault.{ScratchFault}
@@ -22,6 +22,11 @@ fault_text fault.OutOfMemory = None
 fault_text (fault.Source cause) = Some (true, cause.now)
 fault_text (fault.ScratchCopy cause) = Some (false, cause.now)
 
+-- the same of a new file that can't be made, by the kind of the error
+abbrev pub made_text : ErrorKind → Option (Bool × List ℕ)
+made_text kind.OutOfMemory = None
+made_text it = Some (false, unmade_text it)
+
 -- the same of a file that can't be read, and of one that can't be copied, by the kind of the error
 abbrev pub source_text : ErrorKind → Option (Bool × List ℕ)
 source_text kind.OutOfMemory = None
@@ -32,3 +37,13 @@ copy_text kind.OutOfMemory = None
 copy_text kind.StorageFull = Some (false, codes "a full disk")
 copy_text kind.QuotaExceeded = Some (false, codes "a full disk")
 copy_text _ = Some (false, codes "it can't be written, or what it is made of can't be read")
+
+-- why there is no scratch copy: by the kind of an error, of which this is reported
+pub record IsTwinFaultBy (text : ErrorKind → Option (Bool × List ℕ)) (fault : ScratchFault) : Type 0 where
+  pub kind : ErrorKind
+  pub is : fault_text fault ≡ text kind
+
+-- so, of a file that can't be read, of one that can't be made, or of one that can't be copied
+abbrev pub IsCopyFault : ScratchFault → Type 0
+IsCopyFault fault = IsTwinFaultBy source_text fault
+    ⊎ (IsTwinFaultBy made_text fault ⊎ IsTwinFaultBy copy_text fault)

@@ -1,5 +1,6 @@
 -- Ways: in which way the file of a look or of a copy is read.
-use Rattle.std.specs.Prelude.{◌≡◌, ◌⊎◌, ℕ, ◌==◌, Bool, true, false, if◌then◌else◌, List, Option, None, Some, Result, Ok, Err}
+use Rattle.std.specs.Prelude.{◌≡◌, ◌⊎◌, ⊤, ℕ, ◌==◌, Bool, true, false, if◌then◌else◌, List}
+use Rattle.std.specs.Prelude.{Option, None, Some, Result, Ok, Err}
 use Rattle.std.specs.declared.io.ErrorKind.{ErrorKind}
 use Rattle.desk_host.specs.Access.{is_no_path}
 use Rattle.desk_host.specs.Answers.{Answers}
@@ -50,6 +51,16 @@ abbrev pub way_with : Answers → List ℕ → Bool → Bool → ReadMode
 way_with it path true changed = way.Damaged
 way_with it path false changed = if is_no_path path then way.Itself
     else (if changed then way.Itself else way_for false (it.unsummed path) (it.disordered path))
+
+-- in which way a file may be read, whatever the machine answers, by whether its log is damaged, and whether
+-- SQLite reads the name otherwise than as a path
+abbrev pub MayBeRead : Bool → Bool → ReadMode → Type 0
+MayBeRead true no_path now = now ≡ way.Damaged
+MayBeRead false true now = now ≡ way.Itself
+MayBeRead false false way.Itself = ⊤
+MayBeRead false false way.Damaged = ⊥
+MayBeRead false false (way.BadChecksums count) = (count == 0) ≡ false
+MayBeRead false false way.OtherOrder = ⊤
 
 abbrev pub IsWayAt : Answers → List ℕ → Bool → ReadMode → Type 0
 IsWayAt it path damaged now = (now ≡ way_with it path damaged (has_changes it path))

@@ -4,6 +4,7 @@
 ghost use Rattle.std.specs.Prelude.{◌≡◌, IfSome, option_map};
 ghost use Rattle.desk_program.specs.Outside.{bytes_written};
 ghost use Rattle.desk_host.specs.Access as spec;
+ghost use Rattle.desk_host.specs.Access.{IsDenialText};
 ghost use Rattle.desk_host.specs.Causes.{IsCauseBy};
 ghost use Rattle.desk_host.specs.Openings.{OpensAtMost};
 ghost use Rattle.desk_host.specs.Telling.{Tells};
@@ -116,7 +117,9 @@ fn is_free(state: FileState) -> bool
 }
 
 /// Why a file can't be had, whatever it holds.
-pub fn access_cause(rt: &HostRuntime, path: &str) -> Option<&'static str> {
+pub fn access_cause(rt: &HostRuntime, path: &str) -> Option<&'static str>
+    ensures { IfSome result (λ cause. IsDenialText cause.now) }
+{
     cause_at(&mut LocalHost::new(rt), path)
 }
 
@@ -124,6 +127,7 @@ pub fn access_cause(rt: &HostRuntime, path: &str) -> Option<&'static str> {
 pub fn cause_at<F: HostFiles>(files: &mut F, path: &str) -> Option<&'static str>
     ensures answer { IfSome (F.answers files.old) (λ it.
         option_map (λ cause. cause.now) result ≡ spec.access_cause it path.now) }
+    ensures text { IfSome result (λ cause. IsDenialText cause.now) }
     ensures opens { OpensAtMost F.HostFiles path.now files.old files.new }
 {
     match probe_access(files, path) {

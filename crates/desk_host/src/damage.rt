@@ -1,16 +1,18 @@
 //! The log of a file, looked at before the file is opened.
 
-ghost use Rattle.std.specs.Prelude.{◌≡◌, ℕ, false, IfErr, IfOk, IfSome, List, length};
+ghost use Rattle.std.specs.Prelude.{◌≡◌, ℕ, false, IfErr, IfNone, IfOk, IfSome, List, Ok, length};
 ghost use Rattle.std.specs.Prelude.{string_bytes};
+ghost use Rattle.desk_cli.specs.Lines.{file_of};
 ghost use Rattle.desk_program.specs.Outside.{bytes_written};
 ghost use Rattle.db_file.specs.Commits.{HasCommit};
 ghost use Rattle.db_file.specs.Damage.{IsDamaged};
 ghost use Rattle.desk_host.specs.DamageTold as spec;
 ghost use Rattle.desk_host.specs.FoundLogs as logs;
-ghost use Rattle.desk_host.specs.DamageTold.{HasUnlookedCause, IsJudged, IsLookedAt};
+ghost use Rattle.desk_host.specs.DamageTold.{HasUnlookedCause, IsBegun, IsJudged, IsLookTold, IsLookedAt};
+ghost use Rattle.desk_host.specs.Openings.{OpensAtMost};
 ghost use Rattle.desk_host.specs.Telling.{IsWrittenUpTo};
 
-use crate::files::LocalHost;
+use crate::files::{HostFiles, LocalHost};
 use crate::logs::{FoundLog, find_log};
 use crate::telling::{tell_line, tell_of};
 use db_file::{LogFault, Verdict, commits_are_long, damaged_is_long, judge_log};
@@ -71,16 +73,36 @@ pub fn look_before<E: Write>(
     database: &Database,
     is_copied: bool,
     errors: &mut E,
-) -> Result<bool, ErrorCode> {
-    let Some(path) = database.path() else {
-        return Ok(false);
-    };
-    let found = find_log(rt.alloc(), &mut LocalHost::new(rt), path)?;
-    judge_found(rt.alloc(), path, is_copied, found, errors)
+) -> Result<bool, ErrorCode>
+    ensures file { IfSome (file_of database.now) (λ path.
+        IsBegun is_copied path result (bytes_written E.Write errors.old errors.new)) }
+    ensures none { IfNone (file_of database.now)
+        ((result ≡ Ok false) × (E.contents errors.new ≡ E.contents errors.old)) }
+{
+    match database.path() {
+        Some(path) => look_beside(rt.alloc(), &mut LocalHost::new(rt), path, is_copied, errors),
+        None => Ok(false),
+    }
+}
+
+// The same of the file at a path, among those of any machine.
+fn look_beside<F: HostFiles, E: Write>(
+    alloc: Global,
+    files: &mut F,
+    path: &str,
+    is_copied: bool,
+    errors: &mut E,
+) -> Result<bool, ErrorCode>
+    ensures begun { IsBegun is_copied path.now result (bytes_written E.Write errors.old errors.new) }
+    ensures opens { OpensAtMost F.HostFiles path.now files.old files.new }
+{
+    let found = find_log(alloc, files, path)?;
+    judge_found(alloc, path, is_copied, found, errors)
 }
 
 // Refuses a file whose log was found without it, or damaged, and tells why; or answers whether the log is
 // damaged of a file that is copied.
+#[tactic(auto, using(crate::proofs::TellLemmas::begins))]
 fn judge_found<R: Read + Drop, E: Write>(
     alloc: Global,
     path: &str,
@@ -88,7 +110,8 @@ fn judge_found<R: Read + Drop, E: Write>(
     found: FoundLog<R>,
     errors: &mut E,
 ) -> Result<bool, ErrorCode>
-    ensures { IsJudged R.Read E.Write is_copied path.now found result errors.old errors.new }
+    ensures judged { IsJudged R.Read E.Write is_copied path.now found result errors.old errors.new }
+    ensures begun { IsBegun is_copied path.now result (bytes_written E.Write errors.old errors.new) }
 {
     match found {
         FoundLog::Alone => {
@@ -120,6 +143,7 @@ fn admission_of<E>(look: Result<Look<E>, Unlooked>) -> Result<bool, ErrorCode>
 /// # Errors
 ///
 /// As `Unlooked` says.
+#[tactic(auto, using(crate::proofs::TellLemmas::loss_told))]
 pub fn look_at_log<R: Read, E: Write>(
     alloc: Global,
     path: &str,
@@ -130,6 +154,7 @@ pub fn look_at_log<R: Read, E: Write>(
     ensures looked { IfSome (R.remaining log.old) (λ bytes. IsLookedAt is_copied path.now bytes result
         (bytes_written E.Write errors.old errors.new)) }
     ensures cause { IfErr result (HasUnlookedCause (R.remaining log.old)) }
+    ensures told { IsLookTold is_copied path.now result (bytes_written E.Write errors.old errors.new) }
 {
     match judge_log(log) {
         Ok(Verdict::Sound) => Ok(Look {

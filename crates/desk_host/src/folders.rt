@@ -1,10 +1,14 @@
 //! The folder of a desk's records: the files in it, and how a new one gets its name. No clause tells what the
 //! operating system did.
 
-ghost use Rattle.std.specs.Prelude.{◌≡◌, IfOk, string_bytes};
+ghost use Rattle.std.specs.Prelude.{◌≡◌, ◌≢◌, ◌++◌, IfErr, IfOk, IfSome, List, MatchOption};
+ghost use Rattle.std.specs.Prelude.{ℕ, string_bytes, true};
 ghost use Rattle.std.specs.Char.{is_ascii_digit};
 ghost use Rattle.std.specs.List.{list_all};
+ghost use Rattle.desk_recording.specs.Tail.{IsTail, tail_shown};
+ghost use Rattle.desk_host.specs.Causes.{IsTailFault, IsTailUnread, IsUnkept};
 ghost use Rattle.desk_host.specs.Journals as spec;
+ghost use Rattle.desk_host.specs.Journals.{IsFoundIn, IsGreatestIn, IsNextAt, IsNumberIn};
 
 use crate::naming::{OWNER_ALONE, READ_ONLY, TAKEN, sync_folder};
 use desk_recording::{Tail, TailEnd, TailFault, read_tail};
@@ -86,36 +90,117 @@ pub struct FoundRecord {
     pub len: u64,
 }
 
+// The greatest number in the name of a record so far, and the path of that record.
+#[derive(Drop)]
+struct Greatest {
+    number: u64,
+    path: String,
+}
+
 /// The record of a folder that has the greatest number in its name, if the folder has one.
 ///
 /// # Errors
 ///
 /// As `Unkept` says.
-pub fn last_record(rt: &HostRuntime, folder: &str) -> Result<Option<FoundRecord>, Unkept> {
+#[tactic(auto, using(crate::proofs::FaultLemmas::memory_unkept))]
+pub fn last_record(rt: &HostRuntime, folder: &str) -> Result<Option<FoundRecord>, Unkept>
+    ensures found { IfOk result (λ found. IfSome found (IsFoundIn folder.now)) }
+    ensures cause { IfErr result IsUnkept }
+{
     let mut greatest = None;
-    let mut path = String::new(rt.alloc());
     for entry in fs::read_dir(rt, folder)? {
         let entry = entry?;
-        let later = greatest.max(record_number(entry.file_name()));
-        if later != greatest {
-            greatest = later;
-            path = path_in(rt.alloc(), folder, entry.file_name())?;
-        }
+        greatest = greater_of(rt.alloc(), folder, greatest, entry.file_name())?;
     }
-    let Some(number) = greatest else {
+    let Some(Greatest { number, path }) = greatest else {
         return Ok(None);
     };
     let len = fs::metadata(rt, &path)?.len();
     Ok(Some(FoundRecord { number, path, len }))
 }
 
+// The record with the greatest number, after one more name.
+fn greater_of(
+    alloc: Global,
+    folder: &str,
+    greatest: Option<Greatest>,
+    name: &str,
+) -> Result<Option<Greatest>, AllocError>
+    ensures next { IfOk result (IsNextAt folder.now name.now greatest) }
+    ensures there { IfSome greatest (IsGreatestIn folder.now)
+        → IfOk result (λ now. IfSome now (IsGreatestIn folder.now)) }
+{
+    let Some(number) = record_number(name) else {
+        return Ok(greatest);
+    };
+    if !is_above(&greatest, number) {
+        return Ok(greatest);
+    }
+    let path = path_in(alloc, folder, name)?;
+    Ok(Some(Greatest { number, path }))
+}
+
+// Whether a number is above the greatest one so far.
+fn is_above(greatest: &Option<Greatest>, number: u64) -> bool
+    ensures { result ≡ spec.is_above greatest.now number }
+{
+    match greatest {
+        Some(greatest) => greatest.number < number,
+        None => true,
+    }
+}
+
 // The number in the name of a record, if this is one: `NNNNNNNNNN-SECOND.record`.
-fn record_number(name: &str) -> Option<u64> {
-    let (number, second) = name.strip_suffix(ENDING)?.split_once('-')?;
-    if number.len() < DIGITS || !are_digits(number) || !are_digits(second) {
+fn record_number(name: &str) -> Option<u64>
+    ensures { IsNumberIn name.now result }
+{
+    match stem_of(name) {
+        Some(stem) => number_before(stem),
+        None => None,
+    }
+}
+
+// What stands before the end of a record's name.
+fn stem_of(name: &str) -> Option<&str>
+    ensures { MatchOption result ((stem : List ℕ) → name.now ≢ stem ++ spec.ending)
+        (λ stem. name.now ≡ stem.now ++ spec.ending) }
+{
+    name.strip_suffix(ENDING)
+}
+
+// The number of a record, by what stands before the end of its name.
+fn number_before(stem: &str) -> Option<u64>
+    ensures { result ≡ spec.number_before stem.now }
+{
+    let (number, second) = stem.split_once('-')?;
+    number_by(number, second)
+}
+
+// The number of a record, by what stands for it, and for its second.
+fn number_by(number: &str, second: &str) -> Option<u64>
+    ensures { result ≡ spec.number_by number.now second.now }
+{
+    if number.len() < DIGITS {
         return None;
     }
-    u64::from_str_radix(number, 10).ok()
+    if !are_digits(number) {
+        return None;
+    }
+    if !are_digits(second) {
+        return None;
+    }
+    number_of(number)
+}
+
+// The number that digits write, if 64 bits hold it.
+#[tactic(auto, using(crate::proofs::JournalLemmas::number_read, crate::proofs::JournalLemmas::number_unread))]
+fn number_of(digits: &str) -> Option<u64>
+    ensures { spec.are_digits digits.now ≡ true → result ≡ spec.number_of digits.now }
+{
+    match u64::from_str_radix(digits, 10) {
+        Ok(number) => Some(number),
+        Err(_) => None,
+    }
 }
 
 // Whether a text is digits alone, and has one.
@@ -149,10 +234,19 @@ fn path_in(alloc: Global, folder: &str, name: &str) -> Result<String, AllocError
 /// # Errors
 ///
 /// As `Unkept` says.
-pub fn tail_of(rt: &HostRuntime, record: &FoundRecord) -> Result<(Tail, TailEnd), Unkept> {
-    let file = File::open(rt, &record.path)?;
-    let mut input = BufReader::new(rt.alloc(), file)?;
-    Ok(read_tail(rt.alloc(), &mut input)?)
+pub fn tail_of(rt: &HostRuntime, record: &FoundRecord) -> Result<(Tail, TailEnd), Unkept>
+    ensures { IfErr result IsTailUnread }
+{
+    tail_in(rt.alloc(), File::open(rt, &record.path)?)
+}
+
+// The same of a record that is open.
+fn tail_in<R: Read + Drop>(alloc: Global, file: R) -> Result<(Tail, TailEnd), Unkept>
+    ensures ok { IfOk result (λ read. IsTail (R.remaining file) read.1 (tail_shown read.0)) }
+    ensures cause { IfErr result (IsTailFault (R.remaining file)) }
+{
+    let mut input = BufReader::new(alloc, file)?;
+    Ok(read_tail(alloc, &mut input)?)
 }
 
 /// Moves what stands behind the last whole entry of a record to a file beside it, `NAME.rest`: the record has
@@ -161,7 +255,9 @@ pub fn tail_of(rt: &HostRuntime, record: &FoundRecord) -> Result<(Tail, TailEnd)
 /// # Errors
 ///
 /// As `Unkept` says. The record is cut only once the file beside it is on the disk.
-pub fn move_rest(rt: &HostRuntime, record: &FoundRecord, size: u64) -> Result<(), Unkept> {
+pub fn move_rest(rt: &HostRuntime, record: &FoundRecord, size: u64) -> Result<(), Unkept>
+    ensures { IfErr result IsUnkept }
+{
     let mut file = OpenOptions::new()
         .read(true)
         .write(true)
@@ -177,7 +273,10 @@ pub fn move_rest(rt: &HostRuntime, record: &FoundRecord, size: u64) -> Result<()
 }
 
 // Writes the file beside a record.
-fn write_rest(rt: &HostRuntime, path: &str, rest: &[u8]) -> Result<(), Unkept> {
+#[tactic(auto, using(crate::proofs::FaultLemmas::memory_unkept))]
+fn write_rest(rt: &HostRuntime, path: &str, rest: &[u8]) -> Result<(), Unkept>
+    ensures { IfErr result IsUnkept }
+{
     let path = format!(in rt.alloc(); "{path}.rest")?;
     let mut file = OpenOptions::new()
         .write(true)
@@ -195,7 +294,10 @@ fn write_rest(rt: &HostRuntime, path: &str, rest: &[u8]) -> Result<(), Unkept> {
 /// # Errors
 ///
 /// As `Unkept` says.
-pub fn make_part(rt: &HostRuntime, folder: &str, number: u64) -> Result<File, Unkept> {
+#[tactic(auto, using(crate::proofs::FaultLemmas::memory_unkept))]
+pub fn make_part(rt: &HostRuntime, folder: &str, number: u64) -> Result<File, Unkept>
+    ensures { IfErr result IsUnkept }
+{
     let part = part_of(rt.alloc(), folder, number)?;
     // what a line left that was cut off
     let _ = fs::remove_file(rt, &part);
@@ -213,7 +315,10 @@ pub fn make_part(rt: &HostRuntime, folder: &str, number: u64) -> Result<File, Un
 /// # Errors
 ///
 /// As `Unkept` says.
-pub fn name_part(rt: &HostRuntime, folder: &str, number: u64, second: u64) -> Result<(), Unkept> {
+#[tactic(auto, using(crate::proofs::FaultLemmas::memory_unkept))]
+pub fn name_part(rt: &HostRuntime, folder: &str, number: u64, second: u64) -> Result<(), Unkept>
+    ensures { IfErr result IsUnkept }
+{
     let part = part_of(rt.alloc(), folder, number)?;
     let name = name_of(rt.alloc(), folder, number, second)?;
     fs::rename(rt, &part, &name)?;

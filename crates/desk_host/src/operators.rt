@@ -1,17 +1,24 @@
 //! The file of enrolments that the administrator changes while a desk serves: lines `NAME CEILING`.
 
-ghost use Rattle.std.specs.Prelude.{◌≡◌, List, [], ◌∷◌, IfErr, IfOk, MatchResult, None, Option, option_map, string_bytes};
+ghost use Rattle.std.specs.Prelude.{◌≡◌, List, [], ◌∷◌, IfErr, IfOk, IfSome, map};
+ghost use Rattle.std.specs.Prelude.{MatchResult, None, Option, option_map};
+ghost use Rattle.std.specs.Prelude.{string_bytes};
 ghost use Rattle.std.specs.IoError.{error_kind};
 ghost use Rattle.desk_cli.specs.Lines.{AreEnrolments};
 ghost use Rattle.desk_wire.specs.Passage.{course};
 ghost use Rattle.desk_program.specs.Outside.{bytes_written};
 ghost use Rattle.desk_program.specs.Serving.{Grows};
+ghost use Rattle.desk_host.specs.Answers.{by_ok};
+ghost use Rattle.desk_host.specs.Causes as cause;
 ghost use Rattle.desk_host.specs.Causes.{unread_by, unread_text};
 ghost use Rattle.desk_host.specs.Operators as spec;
 ghost use Rattle.desk_host.specs.Operators.{AreEnrolmentsRead, AreNews, Asking, HasUnreadCause, IsStampOf, Read, Stamped, ok_of};
-ghost use Rattle.desk_host.specs.Telling.{IsWrittenIfRoom, line_of};
+ghost use Rattle.desk_host.specs.Operators.{IsUnreadIf, IsTextFault, IsTextOf, IsUnstamped};
+ghost use Rattle.desk_host.specs.ToldLines as told;
+ghost use Rattle.desk_host.specs.ToldLines.{AreTold};
+ghost use Rattle.desk_host.specs.Telling.{IsWrittenIfRoom, Tells, line_of};
 
-use crate::files::LocalHost;
+use crate::files::{HostFiles, LocalHost};
 use crate::telling::tell_of;
 use desk_cli::{Enrolment, ErrorCode, enrolment_on, enrolments_on, lines_of};
 use desk_program::EnrolmentSource;
@@ -22,6 +29,9 @@ use std::time::SystemTime;
 
 /// The most bytes of the file: 1 MiB.
 const MAX_BYTES: u64 = 1_048_576;
+
+// What is told of a file that is longer.
+const TOO_LONG: &str = "longer than 1,048,576 bytes";
 
 /// How many lines are told of each time that the file is read.
 const TOLD_LINES: u32 = 20;
@@ -61,12 +71,19 @@ impl From<io::Error> for Unread {
     ghost from_gives = { λ error it. unread_text it ≡ unread_by (error_kind error) };
 
     fn from(error: io::Error) -> Unread {
-        match error.kind() {
-            ErrorKind::OutOfMemory => Unread::Memory,
-            ErrorKind::NotFound => Unread::Cause("no such file"),
-            ErrorKind::PermissionDenied => Unread::Cause("no right to read it"),
-            _ => Unread::Cause("it can't be read"),
-        }
+        unread_by(error.kind())
+    }
+}
+
+// Why a file can't be read, by the kind of the error.
+fn unread_by(kind: ErrorKind) -> Unread
+    ensures { unread_text result ≡ cause.unread_by kind }
+{
+    match kind {
+        ErrorKind::OutOfMemory => Unread::Memory,
+        ErrorKind::NotFound => Unread::Cause("no such file"),
+        ErrorKind::PermissionDenied => Unread::Cause("no right to read it"),
+        _ => Unread::Cause("it can't be read"),
     }
 }
 
@@ -100,7 +117,7 @@ impl TextFiles for LocalHost<'_> {
     }
 
     fn text(&mut self, alloc: Global, path: &str) -> Result<String, Unread> {
-        read_text(self.rt, alloc, path)
+        read_text(self, alloc, path)
     }
 }
 
@@ -169,7 +186,7 @@ impl<F: TextFiles + Drop> EnrolmentFile<'_, F> {
         let lines = lines_of(alloc, &text)?;
         if self.checked != Some(stamp) {
             self.checked = Some(stamp);
-            tell_lines(self.rt, path, &lines)?;
+            tell_lines(alloc, path, &lines, &mut self.rt.stderr())?;
         }
         Ok(enrolments_on(alloc, &lines)?)
     }
@@ -219,14 +236,17 @@ impl<F: TextFiles + Drop> EnrolmentSource for EnrolmentFile<'_, F> {
 }
 
 // When the file at a path was changed last, and its length.
-fn stamp_of(rt: &HostRuntime, path: &str) -> Result<Stamp, Unread> {
+fn stamp_of(rt: &HostRuntime, path: &str) -> Result<Stamp, Unread>
+    ensures { IfErr result IsUnstamped }
+{
     stamp_by(fs::metadata(rt, path))
 }
 
 // The same, by what the operating system says of the file.
 fn stamp_by(found: io::Result<Metadata>) -> Result<Stamp, Unread>
-    ensures { MatchResult found (λ said. IsStampOf said result)
-        (λ error. IfErr result (λ fault. unread_text fault ≡ unread_by (error_kind error))) }
+    ensures stamp { MatchResult found (λ said. IsStampOf said result)
+        (λ error. IfErr result (λ fault. unread_text fault ≡ cause.unread_by (error_kind error))) }
+    ensures cause { IfErr result IsUnstamped }
 {
     let found = found?;
     if !found.is_file() {
@@ -239,31 +259,119 @@ fn stamp_by(found: io::Result<Metadata>) -> Result<Stamp, Unread>
 }
 
 // The text of the file at a path. Bytes that are no text stand for themselves in no line that can be read.
-fn read_text(rt: &HostRuntime, alloc: Global, path: &str) -> Result<String, Unread> {
-    let mut bytes = Vec::new(alloc);
-    let mut file = File::open(rt, path)?.take(MAX_BYTES + 1);
-    file.read_to_end(&mut bytes)?;
-    if bytes.len() as u64 > MAX_BYTES {
-        return Err(Unread::Cause("longer than 1,048,576 bytes"));
+fn read_text<F: HostFiles>(files: &F, alloc: Global, path: &str) -> Result<String, Unread>
+    ensures unread { IfSome (F.answers files.now) (λ it. IsUnreadIf (it.unread path.now) result) }
+    ensures cause { IfErr result IsTextFault }
+{
+    match files.open(path) {
+        Ok(file) => text_in(alloc, file),
+        Err(kind) => Err(unread_by(kind)),
     }
-    Ok(String::from_utf8_lossy(alloc, &bytes)?)
+}
+
+// The same of a file that is open.
+fn text_in<R: Read + Drop>(alloc: Global, file: R) -> Result<String, Unread>
+    ensures { IfErr result IsTextFault }
+{
+    let mut bytes = Vec::new(alloc);
+    let mut file = file.take(MAX_BYTES + 1);
+    file.read_to_end(&mut bytes)?;
+    text_of(alloc, &bytes)
+}
+
+// The text of the first bytes of a file, if they are all.
+#[tactic(auto, using(crate::proofs::FaultLemmas::memory_unread))]
+fn text_of(alloc: Global, bytes: &[u8]) -> Result<String, Unread>
+    ensures text { IsTextOf bytes.now (by_ok string_bytes result) }
+    ensures cause { IfErr result IsTextFault }
+{
+    if bytes.len() as u64 > MAX_BYTES {
+        return Err(Unread::Cause(TOO_LONG));
+    }
+    Ok(String::from_utf8_lossy(alloc, bytes)?)
+}
+
+// How many lines of a file were looked at, and how many of them can't be read.
+#[derive(Clone, Copy)]
+struct Counted {
+    lines: u32,
+    unread: u32,
+}
+
+impl Counted {
+    // So many, with one line more.
+    fn with(self, line: &str) -> Counted
+        ensures { result ≡ told.counted_with line.now self }
+    {
+        Counted {
+            lines: self.lines.saturating_add(1),
+            unread: if is_unread(line) {
+                self.unread.saturating_add(1)
+            } else {
+                self.unread
+            },
+        }
+    }
 }
 
 // Tells which lines of a file can't be read, the first of them one by one.
-fn tell_lines(rt: &HostRuntime, path: &str, lines: &[&str]) -> Result<(), AllocError> {
-    let mut unread = 0u32;
-    let mut number = 0u32;
+#[tactic(auto, using(crate::proofs::TellLemmas::tells_both))]
+fn tell_lines<E: Write>(
+    alloc: Global,
+    path: &str,
+    lines: &[&str],
+    errors: &mut E,
+) -> Result<(), AllocError>
+    ensures told { IfOk result (λ _. AreTold (told.lines_told path.now (map (λ line. line.now) lines.now))
+        (E.contents errors.old) (E.contents errors.new)) }
+    ensures some { Tells (bytes_written E.Write errors.old errors.new) }
+{
+    let mut counted = Counted {
+        lines: 0,
+        unread: 0,
+    };
     for line in lines {
-        number = number.saturating_add(1);
-        if is_unread(line) {
-            unread = unread.saturating_add(1);
-            if unread <= TOLD_LINES {
-                tell_line(rt.alloc(), path, number, &mut rt.stderr())?;
-            }
+        counted = counted.with(line);
+        tell_next(alloc, path, line, counted, errors)?;
+    }
+    tell_rest(alloc, path, counted.unread, errors)
+}
+
+// Tells that the last of so many lines can't be read, if that is so, and it is one of the first of these.
+#[tactic(auto, using(crate::proofs::TellLemmas::tells_nothing, crate::proofs::ToldLemmas::told_one))]
+fn tell_next<E: Write>(
+    alloc: Global,
+    path: &str,
+    line: &str,
+    counted: Counted,
+    errors: &mut E,
+) -> Result<(), AllocError>
+    ensures told { IfOk result (λ _. AreTold (told.line_told path.now line.now counted)
+        (E.contents errors.old) (E.contents errors.new)) }
+    ensures some { Tells (bytes_written E.Write errors.old errors.new) }
+{
+    if is_unread(line) {
+        if counted.unread <= TOLD_LINES {
+            tell_line(alloc, path, counted.lines, errors)?;
         }
     }
+    Ok(())
+}
+
+// Tells how many lines more can't be read than those that were told one by one, if some can't.
+#[tactic(auto, using(crate::proofs::TellLemmas::tells_nothing, crate::proofs::ToldLemmas::told_one))]
+fn tell_rest<E: Write>(
+    alloc: Global,
+    path: &str,
+    unread: u32,
+    errors: &mut E,
+) -> Result<(), AllocError>
+    ensures told { IfOk result (λ _. AreTold (told.rest_told path.now unread)
+        (E.contents errors.old) (E.contents errors.new)) }
+    ensures some { Tells (bytes_written E.Write errors.old errors.new) }
+{
     if unread > TOLD_LINES {
-        tell_more(rt.alloc(), path, unread - TOLD_LINES, &mut rt.stderr())?;
+        tell_more(alloc, path, unread - TOLD_LINES, errors)?;
     }
     Ok(())
 }
@@ -279,6 +387,7 @@ fn is_unread(line: &str) -> bool
 }
 
 // Tells that a line can't be read.
+#[tactic(auto, using(crate::proofs::TellLemmas::tells_nothing))]
 fn tell_line<E: Write>(
     alloc: Global,
     path: &str,
@@ -288,6 +397,7 @@ fn tell_line<E: Write>(
     ensures told { IfOk result (λ _. IsWrittenIfRoom (line_of path.now (spec.unread_line number))
         (bytes_written E.Write errors.old errors.new)) }
     ensures untold { IfErr result (λ _. E.contents errors.new ≡ E.contents errors.old) }
+    ensures some { Tells (bytes_written E.Write errors.old errors.new) }
 {
     let text = line_text(alloc, number)?;
     tell_of(alloc, path, &text, errors);
@@ -302,6 +412,7 @@ fn line_text(alloc: Global, number: u32) -> Result<String, AllocError>
 }
 
 // Tells that there are more lines that can't be read.
+#[tactic(auto, using(crate::proofs::TellLemmas::tells_nothing))]
 fn tell_more<E: Write>(
     alloc: Global,
     path: &str,
@@ -311,6 +422,7 @@ fn tell_more<E: Write>(
     ensures told { IfOk result (λ _. IsWrittenIfRoom (line_of path.now (spec.more_lines count))
         (bytes_written E.Write errors.old errors.new)) }
     ensures untold { IfErr result (λ _. E.contents errors.new ≡ E.contents errors.old) }
+    ensures some { Tells (bytes_written E.Write errors.old errors.new) }
 {
     let text = more_text(alloc, count)?;
     tell_of(alloc, path, &text, errors);

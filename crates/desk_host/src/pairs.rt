@@ -1,8 +1,9 @@
 //! The twins of files of the operating system.
 
-ghost use Rattle.std.specs.Prelude.{◌≡◌, IfSome};
+ghost use Rattle.std.specs.Prelude.{◌≡◌, IfErr, IfSome};
 ghost use Rattle.desk_host.specs.LeftFiles as left;
 ghost use Rattle.desk_host.specs.Unmade as spec;
+ghost use Rattle.desk_host.specs.Unmade.{IsCopyFault, IsTwinFaultBy};
 
 use crate::access::access_cause;
 use crate::files::{HostFiles, LocalHost};
@@ -88,10 +89,18 @@ fn is_empty<F: HostFiles>(files: &F, path: &str) -> bool
 
 // Copies a file, mended. It is opened once, and closed after all else: its closing lets go
 // of it.
-fn write_mended(rt: &HostRuntime, source: &str, twin: &str) -> Result<(), ScratchFault> {
-    let mut file = File::open(rt, source).map_err(|error| source_fault(error.kind()))?;
+fn write_mended(rt: &HostRuntime, source: &str, twin: &str) -> Result<(), ScratchFault>
+    ensures { IfErr result IsCopyFault }
+{
+    let mut file = match File::open(rt, source) {
+        Ok(file) => file,
+        Err(error) => return Err(source_fault(error.kind())),
+    };
     let mut made = new_file(rt, twin)?;
-    copy_mended(&mut file, &mut made).map_err(|error| copy_fault(error.kind()))
+    match copy_mended(&mut file, &mut made) {
+        Ok(()) => Ok(()),
+        Err(error) => Err(copy_fault(error.kind())),
+    }
 }
 
 // Copies a file and its log. Both are closed after all else.
@@ -106,18 +115,28 @@ fn write_pair(rt: &HostRuntime, source: &str, log: &str, twin: &str) -> Result<(
 }
 
 // Makes a file where there is nothing, its owner's alone.
-fn new_file(rt: &HostRuntime, path: &str) -> Result<File, ScratchFault> {
-    OpenOptions::new()
+fn new_file(rt: &HostRuntime, path: &str) -> Result<File, ScratchFault>
+    ensures { IfErr result (IsTwinFaultBy spec.made_text) }
+{
+    let made = OpenOptions::new()
         .write(true)
         .create_new(true)
         .mode(OWNER_ALONE)
-        .open(rt, path)
-        .map_err(|error| {
-            match error.kind() {
-                ErrorKind::OutOfMemory => ScratchFault::OutOfMemory,
-                kind => ScratchFault::ScratchCopy(unmade_text(kind)),
-            }
-        })
+        .open(rt, path);
+    match made {
+        Ok(file) => Ok(file),
+        Err(error) => Err(made_fault(error.kind())),
+    }
+}
+
+// Why a file can't be made.
+fn made_fault(kind: ErrorKind) -> ScratchFault
+    ensures { spec.fault_text result ≡ spec.made_text kind }
+{
+    match kind {
+        ErrorKind::OutOfMemory => ScratchFault::OutOfMemory,
+        kind => ScratchFault::ScratchCopy(unmade_text(kind)),
+    }
 }
 
 // Why a file can't be read.

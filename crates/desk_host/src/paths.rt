@@ -23,7 +23,8 @@ pub trait OpenPaths {
 
     /// Takes the files to which the paths lead for those that are opened. It is asked before that, and once
     /// more when both are there, for one that wasn't.
-    fn hold(&mut self);
+    fn hold(&mut self)
+        ensures { looks self.new ≡ looks self.old };
 
     /// Whether the path of the database file leads to the file that is open.
     fn has_file(&mut self) -> bool

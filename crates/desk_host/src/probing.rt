@@ -5,7 +5,7 @@
 ghost use Rattle.std.specs.Prelude.{◌≡◌, Err, IfOk, IfSome, MatchResult, Option, List, ℕ};
 ghost use Rattle.std.specs.Io.KnownBytes.{Consumes};
 ghost use Rattle.desk_host.specs.Access as spec;
-ghost use Rattle.desk_host.specs.Access.{IsStartAt, IsStateAt};
+ghost use Rattle.desk_host.specs.Access.{IsStartAt, IsStateAt, MayFind};
 ghost use Rattle.desk_host.specs.Answers.{error_of};
 ghost use Rattle.desk_host.specs.Openings.{OpensAtMost};
 
@@ -18,13 +18,16 @@ use crate::state::{
 use std::io::{ErrorKind, Read};
 
 /// Looks at the path of a file that has to be there, or of one that is made where there is none (`is_made`).
-pub fn probe(rt: &HostRuntime, path: &str, is_made: bool) -> FileState {
+pub fn probe(rt: &HostRuntime, path: &str, is_made: bool) -> FileState
+    ensures { MayFind (spec.is_no_path path.now) is_made result }
+{
     probe_at(&mut LocalHost::new(rt), path, is_made)
 }
 
 // The same, of the files of any machine.
 fn probe_at<F: HostFiles>(files: &mut F, path: &str, is_made: bool) -> FileState
     ensures answer { IfSome (F.answers files.old) (λ it. IsStateAt it path.now is_made result) }
+    ensures may { MayFind (spec.is_no_path path.now) is_made result }
     ensures opens { OpensAtMost F.HostFiles path.now files.old files.new }
 {
     match next_at(place_of(files.find(path)), is_no_path(path), is_made) {

@@ -3,6 +3,7 @@
 
 ghost use Rattle.std.specs.Prelude.{◌≡◌};
 ghost use Rattle.desk_host.specs.Access as spec;
+ghost use Rattle.desk_host.specs.Access.{MayAsk};
 
 use crate::files::Found;
 use std::io::ErrorKind;
@@ -128,7 +129,8 @@ pub fn place_of(found: Result<Found, ErrorKind>) -> Place
 /// What is still to be asked, by what stands at a path, whether SQLite reads the name otherwise than as a
 /// path, and whether a file is made there.
 pub fn next_at(place: Place, is_no_path: bool, is_made: bool) -> Next
-    ensures { result ≡ spec.next_at place is_no_path is_made }
+    ensures next { result ≡ spec.next_at place is_no_path is_made }
+    ensures may { MayAsk is_no_path is_made result }
 {
     match place {
         Place::Empty if is_made => Next::Access,

@@ -1,9 +1,10 @@
 //! The way in which the file of a look or of a copy is read: itself, or by a twin, if another program spoilt
 //! it or put its tables in another order. It is decided before the file is opened as a desk's.
 
-ghost use Rattle.std.specs.Prelude.{◌≡◌, IfSome};
+ghost use Rattle.std.specs.Prelude.{◌≡◌, false, IfSome};
+ghost use Rattle.desk_host.specs.Access as access;
 ghost use Rattle.desk_host.specs.Ways as spec;
-ghost use Rattle.desk_host.specs.Ways.{HasChanges, IsWayAt};
+ghost use Rattle.desk_host.specs.Ways.{HasChanges, IsWayAt, MayBeRead};
 
 use crate::files::{HostFiles, LocalHost};
 use crate::logs::has_commit;
@@ -48,13 +49,16 @@ impl ReadMode {
 
 /// The way in which the file at a path is read, whose log may be damaged. One whose log may have a commit is
 /// read as it is: its pages may stand in the log anew.
-pub fn read_mode(rt: &HostRuntime, path: &str, is_damaged: bool) -> ReadMode {
+pub fn read_mode(rt: &HostRuntime, path: &str, is_damaged: bool) -> ReadMode
+    ensures { MayBeRead is_damaged (access.is_no_path path.now) result }
+{
     way_at(rt.alloc(), &LocalHost::new(rt), path, is_damaged)
 }
 
 // The same, of the files of any machine.
 fn way_at<F: HostFiles>(alloc: Global, files: &F, path: &str, is_damaged: bool) -> ReadMode
-    ensures { IfSome (F.answers files.now) (λ it. IsWayAt it path.now is_damaged result) }
+    ensures way { IfSome (F.answers files.now) (λ it. IsWayAt it path.now is_damaged result) }
+    ensures may { MayBeRead is_damaged (access.is_no_path path.now) result }
 {
     if is_damaged {
         return way_for(true, None, false);
@@ -71,7 +75,8 @@ fn way_at<F: HostFiles>(alloc: Global, files: &F, path: &str, is_damaged: bool) 
 // The way, by whether the log is damaged, how many pages end with another sum than theirs, and whether the
 // tables are a desk's in another order.
 fn way_for(is_damaged: bool, unsummed: Option<u64>, is_disordered: bool) -> ReadMode
-    ensures { result ≡ spec.way_for is_damaged unsummed is_disordered }
+    ensures way { result ≡ spec.way_for is_damaged unsummed is_disordered }
+    ensures may { MayBeRead is_damaged false result }
 {
     if is_damaged {
         return ReadMode::Damaged;
