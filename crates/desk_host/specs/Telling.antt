@@ -31,7 +31,7 @@ IsWrittenUpTo line (Some cut) writes = BreaksOff line writes.before writes.after
 -- so, of which it isn't known where it broke off
 abbrev pub IsWrittenOnce : List ℕ → Course (Option (List ℕ)) → Type 0
 IsWrittenOnce line writes = Appends writes.before writes.after line
-    ⊎ ((fault : WriteFault) × BreaksOff line writes.before writes.after fault)
+    ⊎ ((fault : PartialWrite) × BreaksOff line writes.before writes.after fault)
 
 -- the same, of which it isn't known where it broke off; or memory ran out for it
 abbrev pub IsWrittenIfRoom : List ℕ → Course (Option (List ℕ)) → Type 0
