@@ -8,3 +8,5 @@ pub mod RecordsPlayed
 pub mod RecordedPlays
 pub mod Watching
 pub mod FilesLeft
+pub mod Sessions
+pub mod WordsRefused

@@ -1,9 +1,13 @@
 //! A command of a desk: what it needs is got ready, its desk is opened, and then it is carried out there. No
 //! clause tells what the operating system did.
 
-ghost use Rattle.std.specs.Prelude.{◌≡◌, ◌↔◌, [], IsTrue, None};
-ghost use Rattle.desk_cli.specs.Lines.{IsLine, line_of};
+ghost use Rattle.std.specs.Prelude.{◌≡◌, ◌↔◌, [], IfOk, IsTrue, None};
+ghost use Rattle.desk_cli.specs.Lines.{IsLine, file_of, line_of};
+ghost use Rattle.desk_host.specs.Telling.{IsWrittenIfRoom, unenrolled_line};
+ghost use Rattle.desk_program.specs.Outside.{bytes_written};
 ghost use Rattle.uss_desk.specs.OpenedLines.{AreReadsTested};
+ghost use Rattle.uss_desk.specs.Sessions as spec;
+ghost use Rattle.uss_desk.specs.Sessions.{IsPrepared, IsUnenrolled};
 
 use crate::closing::{close_after, status_closed};
 use crate::fail;
@@ -25,7 +29,7 @@ use desk_program::{LocalPort, Streams};
 use desk_recording::{InputPort, RecordedPort};
 use sqlite::Unknown;
 use sqlite_disk::Disk;
-use std::io::{BufReader, Stderr, Stdin, Stdout};
+use std::io::{BufReader, Stderr, Stdin, Stdout, Write};
 
 /// What a command needs beside its desk and the paths of that.
 #[derive(Drop)]
@@ -48,7 +52,9 @@ impl<'s> Session<'s> {
         words: &'s DeskArgs,
         enrolments: &'s [Enrolment],
         action: Action<'_>,
-    ) -> Result<(Session<'s>, LocalOpenPaths<'s>), ErrorCode> {
+    ) -> Result<(Session<'s>, LocalOpenPaths<'s>), ErrorCode>
+        ensures { IfOk result (λ it. IsPrepared words.entry.now enrolments.entry.now it.0 it.1) }
+    {
         look_before(rt, &words.database, false, &mut rt.stderr())?;
         let Ok(input) = BufReader::new(rt.alloc(), rt.stdin()) else {
             return Err(ErrorCode::Memory);
@@ -75,7 +81,9 @@ impl<'s> Session<'s> {
     }
 
     // Whether the last record left something undone, so that the desk's file has to be there.
-    fn has_undone(&self) -> bool {
+    fn has_undone(&self) -> bool
+        ensures { result ≡ spec.has_undone self.now.folder }
+    {
         match &self.folder {
             Some(folder) => folder.has_undone(),
             None => false,
@@ -98,11 +106,23 @@ impl<'s> Session<'s> {
         }
     }
 
+    // Whether it is known that no operator is enrolled, and the command names none.
+    fn is_unenrolled(&self) -> bool
+        ensures { IsTrue result ↔ IsUnenrolled self.now }
+    {
+        self.roll.is_empty() && enrols_none(self.words, self.enrolments)
+    }
+
     // Tells that no operator is enrolled, if that is known of the desk, and the command names none.
-    fn tell_if_unenrolled(&self) {
-        if self.roll.is_empty() && enrols_none(self.words, self.enrolments) {
+    fn tell_if_unenrolled<E: Write>(&self, errors: &mut E)
+        ensures told { IsUnenrolled self.now
+            → IsWrittenIfRoom (unenrolled_line (file_of self.now.words.now.database))
+            (bytes_written E.Write errors.old errors.new) }
+        ensures quiet { ¬ IsUnenrolled self.now → E.contents errors.new ≡ E.contents errors.old }
+    {
+        if self.is_unenrolled() {
             let path = self.words.database.path();
-            tell_unenrolled(self.rt.alloc(), path, &mut self.rt.stderr());
+            tell_unenrolled(self.rt.alloc(), path, errors);
         }
     }
 
@@ -181,7 +201,7 @@ pub fn at_desk(
     let (mut session, paths) = Session::prepare(rt, words, enrolments, action)?;
     match open_database(rt, &words.database, Unknown, paths, &mut session.roll) {
         Opened::Memory(desk) => {
-            session.tell_if_unenrolled();
+            session.tell_if_unenrolled(&mut rt.stderr());
             Ok(session.run(action, desk).0)
         }
         Opened::Files(found) => {
@@ -189,7 +209,7 @@ pub fn at_desk(
             tell_refusal(rt, &words.database, is_made, &found, &mut rt.stderr());
             let desk = session.recover(or_failure(found));
             if desk.is_ok() {
-                session.tell_if_unenrolled();
+                session.tell_if_unenrolled(&mut rt.stderr());
             }
             let (status, desk) = session.run(action, desk);
             Ok(status_closed(close_after(status, desk, &mut rt.stderr())))

@@ -1,0 +1,35 @@
+-- Sessions: what a command has before its desk is opened, and of which desk it is told that it has no
+-- operator.
+use Rattle.std.specs.Prelude.{◌≡◌, Bool, true, false, List, [], Option, None, Some, IfSome, option_map}
+use Rattle.std.specs.Prelude.{string_bytes, unwrap_or}
+use Rattle.std.specs.Option.{is_some}
+use Rattle.desk_cli.specs.Lines.{file_of}
+use Rattle.desk_cli.specs.declared.line.DeskArgs.{DeskArgs}
+use Rattle.desk_cli.specs.declared.line.Enrolment.{Enrolment}
+use Rattle.desk_host.specs.Paths.{IsUnheldAt}
+use Rattle.desk_host.specs.declared.paths.LocalOpenPaths.{LocalOpenPaths}
+use Rattle.uss_desk.specs.declared.recording.RecordFolder.{RecordFolder}
+use Rattle.uss_desk.specs.declared.session.Session.{Session}
+
+-- a session has these words and these enrolments, the file of enrolments that the words name, and no operator
+-- is noted yet; the paths are those of its database, and hold no file
+pub record IsPrepared (words : DeskArgs) (enrolments : List Enrolment) (session : Session)
+    (paths : LocalOpenPaths) : Type 0
+  where
+    pub words_are : session.words.now ≡ words
+    pub enrolments_are : session.enrolments.now ≡ enrolments
+    pub register :
+        option_map (λ path. path.now) session.register.path ≡ option_map string_bytes words.operators
+    pub unnoted : IfSome session.roll.operators (λ all. all.items ≡ [])
+    pub unheld : IsUnheldAt (unwrap_or (file_of words.database) []) paths
+
+-- the last record of a journal left something undone; a command without a journal has no record
+abbrev pub has_undone : Option RecordFolder → Bool
+has_undone None = false
+has_undone (Some folder) = is_some folder.undone
+
+-- it is known that the desk has no operator, and the command names none
+pub record IsUnenrolled (session : Session) : Type 0 where
+  pub empty : session.roll.is_empty ≡ true
+  pub alone : session.enrolments.now ≡ []
+  pub fileless : session.words.now.operators ≡ None
