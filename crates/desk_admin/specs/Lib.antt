@@ -1,5 +1,6 @@
--- Read first: OpenError, FilesTold, Twins, Reordering.
+-- Read first: Unopened, Causes, FilesTold, Twins, Reordering.
 pub mod Unopened
+pub mod Causes
 pub mod AdminOutside
 pub mod Stored
 pub mod FilesTold

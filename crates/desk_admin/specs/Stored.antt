@@ -1,4 +1,6 @@
--- Stored: a copy whose store was made and isn't closed.
+-- Stored: how large a file is, and a copy whose store was made and isn't closed.
+use Rattle.std.specs.Prelude.{ℕ, Result, Ok, Err}
+use Rattle.std.specs.declared.io.ErrorKind.{ErrorKind}
 use Rattle.sqlite_disk.specs.declared.Disk as disk
 use Rattle.sqlite_wal.specs.Recovery.{Image}
 use Rattle.sqlite_store.specs.declared.store.FileStore.{FileStore}
@@ -8,6 +10,12 @@ use Rattle.desk_tables.specs.Copying.{AreHoldingsOf, IsMadeIn, LooksIn}
 use Rattle.desk_tables.specs.Leaving.{IsSettledAt}
 use Rattle.desk_tables.specs.Store.{Shown}
 use Rattle.desk_tables.specs.declared.opening.looking.DbStats.{DbStats}
+use Rattle.desk_host.specs.declared.files.Found.{Found}
+
+-- how many bytes were found at a path; none if nothing is reached
+abbrev pub found_size : Result Found ErrorKind → ℕ
+found_size (Ok found) = found.len
+found_size (Err kind) = 0
 
 -- a connection to files that held this leaves them, and a store of what they hold, with its numbers, was made
 -- in new files that held the other

@@ -4,6 +4,7 @@
 ghost use Rattle.std.specs.Prelude.{◌≡◌, IfErr, IfOk, None};
 ghost use Rattle.desk_program.specs.Outside.{bytes_written};
 ghost use Rattle.desk_host.specs.Telling.{Tells};
+ghost use Rattle.desk_admin.specs.Causes as spec;
 
 use db_file::order_text;
 use desk_cli::{Database, ErrorCode};
@@ -70,10 +71,7 @@ fn desk_cause(rt: &HostRuntime, path: &str) -> &'static str {
     if read_mode(rt, path, false) == ReadMode::OtherOrder {
         return order_text();
     }
-    match part_of(part_at(rt, path, Unknown)) {
-        Some(part) => part_cause(part),
-        None => "no table, other tables than a desk's, or rows of no content",
-    }
+    named_cause(part_of(part_at(rt, path, Unknown)))
 }
 
 // The part that was named of files, on whatever disk they are. They are closed.
@@ -87,8 +85,20 @@ fn part_of<D: Disk + Drop>(named: Result<Named<D>, NotOpened<D>>) -> Option<Inva
     }
 }
 
+// Why a file holds no desk, by the part that was named of it, if one was.
+fn named_cause(named: Option<InvalidPart>) -> &'static str
+    ensures { result.now ≡ spec.named_text named }
+{
+    match named {
+        Some(part) => part_cause(part),
+        None => "no table, other tables than a desk's, or rows of no content",
+    }
+}
+
 // Which part of a file is that of no desk.
-fn part_cause(part: InvalidPart) -> &'static str {
+fn part_cause(part: InvalidPart) -> &'static str
+    ensures { result.now ≡ spec.part_text part }
+{
     match part {
         InvalidPart::NoTable => "no table",
         InvalidPart::OtherTables => "other tables than a desk's",

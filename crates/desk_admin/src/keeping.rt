@@ -1,6 +1,7 @@
 //! What an administrator does to a file: a look at what it holds, and a copy of it.
 
-ghost use Rattle.std.specs.Prelude.{◌≡◌, ℕ, [], List, IfErr, IfOk, Ok, OnErr, OnOk, string_bytes};
+ghost use Rattle.std.specs.Prelude.{◌≡◌, ℕ, [], List, IfErr, IfOk, IfSome, Ok};
+ghost use Rattle.std.specs.Prelude.{OnErr, OnOk, option_copied, string_bytes, unwrap_or};
 ghost use Rattle.sqlite_wal.specs.Files.{image_at};
 ghost use Rattle.sqlite_wal.specs.Recovery.{Image};
 ghost use Rattle.desk_store.specs.World.{World};
@@ -12,7 +13,7 @@ ghost use Rattle.desk_admin.specs.FilesTold.{FailsToRead};
 ghost use Rattle.desk_admin.specs.FilesTold.{FailsUntried, IsChecked, IsCopied, IsCopyMade, IsNamedIf, IsReadAs};
 ghost use Rattle.desk_admin.specs.FilesTold.{IsAsCopied, IsNamedNow, TellsHoldings};
 ghost use Rattle.desk_host.specs.Telling.{Tells};
-ghost use Rattle.desk_admin.specs.Stored.{IsStoredAs};
+ghost use Rattle.desk_admin.specs.Stored.{IsStoredAs, found_size};
 ghost use Rattle.desk_admin.specs.AdminOutside.{admin_outside};
 ghost use Rattle.desk_host.specs.Naming.{AreNames, ChangesOwn, Follows, GivesUp, HasFailedStep, IsNotFree};
 ghost use Rattle.desk_host.specs.Naming.{IsUnnamed, LeavesOthers, Synced, TakesAll, free_steps, named_steps};
@@ -22,6 +23,7 @@ use crate::causes::{tell, tell_database};
 use crate::unopened::{OpenError, Unread, open_failure};
 use db_file::has_sums;
 use desk_cli::{CopyArgs, Database, ErrorCode, ExitReport, report_exit};
+use desk_host::files::{Found, HostFiles, LocalHost};
 use desk_host::naming::{Folder, NewFile, name_with, names_of, put_in_place};
 use desk_host::room::make_room;
 use desk_host::telling::tell_of;
@@ -32,8 +34,7 @@ use desk_tables::{
 use sqlite::{Connection, FileFrom, FileStore, Files, Start};
 use sqlite_disk::Disk;
 use std::alloc::{AllocError, Global};
-use std::fs;
-use std::io::Write;
+use std::io::{ErrorKind, Write};
 use std::snapshot::Snapshot;
 
 /// A connection with which a file was read, where `F` stands for what the file held.
@@ -223,6 +224,7 @@ pub fn look_in<F: Start>(
 fn told_of(holdings: &DbStats, bulk: FileStats) -> CheckedFile
     ensures counted { (w : World) → AreHoldingsOf holdings.now w → TellsHoldings result w }
     ensures schema { result.is_old ≡ holdings.now.is_old }
+    ensures bulk { (result.has_sums ≡ bulk.has_sums) × (result.size ≡ bulk.size) × (result.log ≡ bulk.log) }
 {
     CheckedFile {
         is_old: holdings.is_old,
@@ -242,16 +244,29 @@ fn told_of(holdings: &DbStats, bulk: FileStats) -> CheckedFile
 // called while no connection has it: that this closes the file would take the connection's lock away.
 fn bulk_of(rt: &HostRuntime, path: &str) -> Result<FileStats, AllocError> {
     let log = name_with(rt.alloc(), path, "-wal")?;
-    Ok(FileStats {
-        has_sums: has_sums(rt, path),
-        size: size_of(rt, path),
-        log: size_of(rt, &log),
-    })
+    let has_sums = has_sums(rt, path);
+    Ok(bulk_at(&LocalHost::new(rt), path, &log, has_sums))
 }
 
-fn size_of(rt: &HostRuntime, path: &str) -> u64 {
-    match fs::metadata(rt, path) {
-        Ok(found) => found.len(),
+// The same, of the files of any machine, if it is known whether its pages have sums.
+fn bulk_at<F: HostFiles>(files: &F, path: &str, log: &str, has_sums: bool) -> FileStats
+    ensures sums { result.has_sums ≡ has_sums }
+    ensures sizes { IfSome (F.answers files.now) (λ it. (result.size ≡ found_size (it.found path.now))
+        × (result.log ≡ found_size (it.found log.now))) }
+{
+    FileStats {
+        has_sums,
+        size: size_of(files.find(path)),
+        log: size_of(files.find(log)),
+    }
+}
+
+// How many bytes were found at a path; none if nothing is reached.
+fn size_of(found: Result<Found, ErrorKind>) -> u64
+    ensures { result ≡ found_size found }
+{
+    match found {
+        Ok(found) => found.len,
         Err(_) => 0,
     }
 }
@@ -358,7 +373,10 @@ struct Source<'s> {
 
 impl<'s> Source<'s> {
     // The file at a path, or its twin, if it has one.
-    fn of(path: &'s str, twin: Option<&'s str>) -> Source<'s> {
+    fn of(path: &'s str, twin: Option<&'s str>) -> Source<'s>
+        ensures name { result.name.now ≡ path.now }
+        ensures path { result.path.now ≡ unwrap_or (option_copied twin.entry) path.now }
+    {
         Source {
             name: path,
             path: twin.unwrap_or(path),
