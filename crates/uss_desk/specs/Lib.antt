@@ -10,3 +10,4 @@ pub mod Watching
 pub mod FilesLeft
 pub mod Sessions
 pub mod WordsRefused
+pub mod Refused

@@ -1,8 +1,8 @@
 -- Sessions: what a command has before its desk is opened, and of which desk it is told that it has no
 -- operator.
-use Rattle.std.specs.Prelude.{◌≡◌, Bool, true, false, List, [], Option, None, Some, IfSome, option_map}
+use Rattle.std.specs.Prelude.{◌≡◌, Bool, true, false, List, [], Option, None, Some, option_map}
 use Rattle.std.specs.Prelude.{string_bytes, unwrap_or}
-use Rattle.std.specs.Option.{is_some}
+use Rattle.std.specs.Option.{IsSomeAnd, is_some}
 use Rattle.desk_cli.specs.Lines.{file_of}
 use Rattle.desk_cli.specs.declared.line.DeskArgs.{DeskArgs}
 use Rattle.desk_cli.specs.declared.line.Enrolment.{Enrolment}
@@ -20,7 +20,7 @@ pub record IsPrepared (words : DeskArgs) (enrolments : List Enrolment) (session 
     pub enrolments_are : session.enrolments.now ≡ enrolments
     pub register :
         option_map (λ path. path.now) session.register.path ≡ option_map string_bytes words.operators
-    pub unnoted : IfSome session.roll.operators (λ all. all.items ≡ [])
+    pub unnoted : IsSomeAnd session.roll.operators (λ all. all.items ≡ [])
     pub unheld : IsUnheldAt (unwrap_or (file_of words.database) []) paths
 
 -- the last record of a journal left something undone; a command without a journal has no record

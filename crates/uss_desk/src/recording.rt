@@ -1,13 +1,16 @@
 //! The folder of a desk's records: what the last one left undone is done at the desk that is open, and then
 //! the next one is begun. No clause tells what the operating system did.
 
-ghost use Rattle.std.specs.Prelude.{◌≡◌, ◌++◌, ◌↔◌, IfOk, IsTrue, Ok, option_map};
-ghost use Rattle.std.specs.Option.{is_some};
+ghost use Rattle.std.specs.Prelude.{◌≡◌, ◌⊎◌, ◌++◌, ◌↔◌, false, true, IfErr, IfOk, IfSome, IsSome, IsTrue};
+ghost use Rattle.std.specs.Prelude.{None, Ok, OnErr, OnOk, Some, option_map};
+ghost use Rattle.std.specs.Option.{IsSomeAnd, is_some};
 ghost use Rattle.sqlite.specs.Files.{over_files};
 ghost use Rattle.desk_cli.specs.Lines.{line_of};
 ghost use Rattle.uss_desk.specs.LineRecord as spec;
 ghost use Rattle.uss_desk.specs.LineRecord.{BeginsAlone, LeavesNothing};
 ghost use Rattle.uss_desk.specs.OpenedLines.{AreReadsTested, RemembersDesk};
+ghost use Rattle.uss_desk.specs.Refused.{GoesOnUnless, HandsOn, IsKeptOut, IsUnbegun, IsUndoneAt, IsUnfound};
+ghost use Rattle.uss_desk.specs.Refused.{MayGoOn};
 
 use crate::closing::close_after;
 use crate::opening::{DeskAt, opened_anew};
@@ -48,7 +51,9 @@ pub struct FileError {
 
 impl LocalJournal<'_> {
     // Tells that the record can't be written, if that is so and wasn't told, and hands the error on.
-    fn hand_on(&mut self, done: io::Result<()>) -> Result<(), FileError> {
+    fn hand_on(&mut self, done: io::Result<()>) -> Result<(), FileError>
+        ensures { HandsOn done self.old self.new result }
+    {
         let Err(error) = done else {
             return Ok(());
         };
@@ -112,7 +117,12 @@ pub fn folder_for<'s>(
     rt: &'s HostRuntime,
     words: &'s DeskArgs,
     action: Action<'_>,
-) -> Result<Option<RecordFolder<'s>>, ErrorCode> {
+) -> Result<Option<RecordFolder<'s>>, ErrorCode>
+    ensures none { words.now.folder ≡ None → result ≡ Ok None }
+    ensures some { IsSome words.now.folder → IfOk result IsSome }
+    ensures begun { IfOk result (λ found. IfSome found (λ folder. folder.is_held ≡ false)) }
+    ensures fault { IfErr result IsUnfound }
+{
     let Some(path) = words.folder.as_deref() else {
         return Ok(None);
     };
@@ -167,7 +177,12 @@ fn undone_at<'s>(
     folder: &str,
     file: &'s str,
     last: Option<FoundRecord>,
-) -> Result<Option<PendingRecovery<'s>>, ErrorCode> {
+) -> Result<Option<PendingRecovery<'s>>, ErrorCode>
+    ensures none { last ≡ None → result ≡ Ok None }
+    ensures is { IfOk result (λ undone. IfSome undone (λ it.
+        IsSomeAnd last (λ found. IsUndoneAt file.now found it))) }
+    ensures fault { IfErr result IsUnfound }
+{
     let Some(record) = last else {
         return Ok(None);
     };
@@ -175,10 +190,7 @@ fn undone_at<'s>(
         return Err(store_failure(rt, file, "no such file, and there are records of it"));
     }
     let (tail, ended) = told(rt, folder, read_last(rt, &record))?;
-    if leaves_nothing(&tail, ended) {
-        return Ok(None);
-    }
-    Ok(Some(PendingRecovery {
+    Ok(undone_by(PendingRecovery {
         file,
         record,
         tail,
@@ -186,10 +198,30 @@ fn undone_at<'s>(
     }))
 }
 
+// What a record leaves undone, if that is something.
+fn undone_by(left: PendingRecovery<'_>) -> Option<PendingRecovery<'_>>
+    ensures none { LeavesNothing left.entry.tail left.entry.ended → result ≡ None }
+    ensures some { (result ≡ Some left.entry) ⊎ LeavesNothing left.entry.tail left.entry.ended }
+{
+    if leaves_nothing(&left.tail, left.ended) {
+        return None;
+    }
+    Some(left)
+}
+
 // What the last record of a folder says as it ends.
-fn read_last(rt: &HostRuntime, record: &FoundRecord) -> Result<(Tail, TailEnd), Unkept> {
-    let (tail, ended) = tail_of(rt, record)?;
-    match cause_of_tail(record.number, tail.record, ended) {
+fn read_last(rt: &HostRuntime, last: &FoundRecord) -> Result<(Tail, TailEnd), Unkept>
+    ensures { IfOk result (λ read. MayGoOn last.now.number read.0 read.1) }
+{
+    let (tail, ended) = tail_of(rt, last)?;
+    going_on(last.number, tail, ended)
+}
+
+// The end of a record, or why nothing goes on from it.
+fn going_on(number: u64, tail: Tail, ended: TailEnd) -> Result<(Tail, TailEnd), Unkept>
+    ensures { GoesOnUnless (spec.cause_of_tail number tail.record ended) (tail, ended) result }
+{
+    match cause_of_tail(number, tail.record, ended) {
         Some(cause) => Err(Unkept::Cause(cause)),
         None => Ok((tail, ended)),
     }
@@ -218,7 +250,8 @@ fn leaves_nothing(tail: &Tail, ended: TailEnd) -> bool
 
 // The value, or the failure once its cause is told.
 fn told<T: Drop>(rt: &HostRuntime, folder: &str, done: Result<T, Unkept>) -> Result<T, ErrorCode>
-    ensures { result ≡ spec.failure_of done }
+    ensures is { result ≡ spec.failure_of done }
+    ensures fault { IfErr result IsKeptOut }
 {
     match done {
         Ok(value) => Ok(value),
@@ -315,7 +348,12 @@ impl<'s> RecordFolder<'s> {
 
     // Tests that the last record is still the last one and as long as it was, if that wasn't tested yet. The
     // desk is open, so that no other desk of its file goes on from it.
-    fn hold(&mut self) -> Result<(), ErrorCode> {
+    fn hold(&mut self) -> Result<(), ErrorCode>
+        ensures held { OnOk result (self.new ≡ record self.old { is_held = true }) }
+        ensures same { OnErr result (self.new ≡ self.old) }
+        ensures once { IsTrue self.old.is_held → result ≡ Ok (tt {0}) }
+        ensures fault { IfErr result IsKeptOut }
+    {
         if self.is_held {
             return Ok(());
         }
@@ -340,7 +378,11 @@ impl<'s> RecordFolder<'s> {
         terms: &Terms,
         enrolments: &[Enrolment],
         roll: NotedOperators,
-    ) -> Result<Option<LocalRecord<'s>>, ErrorCode> {
+    ) -> Result<Option<LocalRecord<'s>>, ErrorCode>
+        ensures none { is_open ≡ false → result ≡ Ok None }
+        ensures some { IsTrue is_open → IfOk result IsSome }
+        ensures fault { IfErr result IsUnbegun }
+    {
         if !is_open {
             return Ok(None);
         }
@@ -359,7 +401,9 @@ impl<'s> RecordFolder<'s> {
         terms: &Terms,
         enrolments: &[Enrolment],
         mut roll: NotedOperators,
-    ) -> Result<LocalRecord<'s>, ErrorCode> {
+    ) -> Result<LocalRecord<'s>, ErrorCode>
+        ensures { IfErr result IsUnbegun }
+    {
         self.hold()?;
         let (rt, path) = (self.rt, self.path);
         let Some(operators) = roll.take() else {
@@ -420,7 +464,9 @@ fn begin_part<'s>(
     number: u64,
     terms: &Terms,
     operators: &[Enrolment],
-) -> Result<LocalJournal<'s>, ErrorCode> {
+) -> Result<LocalJournal<'s>, ErrorCode>
+    ensures { IfErr result IsKeptOut }
+{
     let mut journal = LocalJournal {
         rt,
         folder,
@@ -434,7 +480,9 @@ fn begin_part<'s>(
 }
 
 // The Unix second that the clock gives.
-fn second_now(rt: &HostRuntime) -> Result<u64, ErrorCode> {
+fn second_now(rt: &HostRuntime) -> Result<u64, ErrorCode>
+    ensures { IfErr result (λ f. f ≡ ErrorCode.Clock) }
+{
     let Ok(now) = SystemTime::now(rt) else {
         return Err(ErrorCode::Clock);
     };
@@ -461,7 +509,10 @@ struct AskedRecord<'s> {
 
 impl<'s> AskedRecord<'s> {
     // The record, with the request in it, under its name.
-    fn begin(&mut self, moment: Moment, bytes: &[u8]) -> Result<LocalRecord<'s>, ErrorCode> {
+    fn begin(&mut self, moment: Moment, bytes: &[u8]) -> Result<LocalRecord<'s>, ErrorCode>
+        ensures same { self.new ≡ self.old }
+        ensures fault { IfErr result IsUnbegun }
+    {
         let journal = begin_part(
             self.rt,
             self.folder,

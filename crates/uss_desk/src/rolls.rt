@@ -1,9 +1,10 @@
 //! The operators that a desk has as it is opened, with which its record begins.
 
-ghost use Rattle.std.specs.Prelude.{◌≡◌, ◌↔◌, [], IfOk, IfSome, IsTrue, map};
+ghost use Rattle.std.specs.Prelude.{◌≡◌, ◌↔◌, [], IfOk, IsTrue, None, is_none, map};
 ghost use Rattle.std.specs.Option.{IsSomeAnd};
 ghost use Rattle.sqlite.specs.Files.{file_state};
 ghost use Rattle.sqlite.specs.State.{HasCleanDisk};
+ghost use Rattle.desk_cli.specs.Lines.{file_of};
 ghost use Rattle.uss_desk.specs.Rolls.{AreOperatorsOf, HasNoted, as_listed};
 
 use desk_cli::{Database, Enrolment};
@@ -25,7 +26,9 @@ impl NotedOperators {
     /// The roll of a desk over this database: none has an operator in memory, and of files nothing is noted
     /// yet.
     pub fn new(alloc: Global, database: &Database, is_wanted: bool) -> NotedOperators
-        ensures { IfSome result.operators (λ all. all.items ≡ []) }
+        ensures wanted { result.is_wanted ≡ is_wanted }
+        ensures empty { result.is_empty ≡ is_none (file_of database.now) }
+        ensures none { IsSomeAnd result.operators (λ all. all.items ≡ []) }
     {
         NotedOperators {
             is_wanted,
@@ -55,7 +58,8 @@ impl NotedOperators {
 
     /// The operators, ascending by name, if they were noted. They are to be noted anew then.
     pub fn take(&mut self) -> Option<Vec<Enrolment>>
-        ensures { result ≡ self.old.operators }
+        ensures value { result ≡ self.old.operators }
+        ensures left { self.new ≡ record self.old { operators = None } }
     {
         self.operators.take()
     }
