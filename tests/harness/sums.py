@@ -30,7 +30,7 @@ def pages_of(data: bytes) -> Iterator[bytes]:
     return (data[start : start + size] for start in range(0, len(data), size))
 
 
-def count_unsummed(path: pathlib.Path) -> int:
+def count_bad_pages(path: pathlib.Path) -> int:
     """How many pages of a file end with another sum than theirs."""
     return sum(page[-SUM:] != sum_of(page) for page in pages_of(path.read_bytes()))
 

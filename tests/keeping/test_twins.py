@@ -13,7 +13,7 @@ from harness.places import DEPLOY
 from harness.printed import page
 from harness.program import DESK, PROGRAM, Ran, command
 from harness.rows import Rows
-from harness.sums import count_unsummed
+from harness.sums import count_bad_pages
 from keeping.given import made_file, run, shown
 
 pytestmark = pytest.mark.alone
@@ -60,7 +60,7 @@ def copy(file: pathlib.Path, new: pathlib.Path) -> Ran:
 
 def told(file: pathlib.Path, rows: str) -> str:
     """The line that tells of pages without their sums."""
-    text = f"{count_unsummed(file)} pages without their sums, as sqlite3 leaves them; the rows {rows}"
+    text = f"{count_bad_pages(file)} pages without their sums, as sqlite3 leaves them; the rows {rows}"
     return f"uss_desk: {file}: {text}\n"
 
 
@@ -96,7 +96,7 @@ def test_by_sqlite3(rows: Rows, file: pathlib.Path, text: str) -> None:
     spoilt = spoil(file, text)
     new, content = file.with_name("copy.db"), dump(spoilt)
     rows.equal("its own test", "ok\n", run(["sqlite3", spoilt, "PRAGMA integrity_check"]))
-    rows.holds("pages lack their sums", count_unsummed(spoilt) > 0)
+    rows.holds("pages lack their sums", count_bad_pages(spoilt) > 0)
     before = stamp(spoilt.parent)
     looked = check(spoilt)
     rows.equal("check tells it", (0, told(spoilt, "are a desk's")), (looked.status, looked.errors))
@@ -104,11 +104,11 @@ def test_by_sqlite3(rows: Rows, file: pathlib.Path, text: str) -> None:
     rows.equal("it is left alone", before, stamp(spoilt.parent))
     rows.equal("copy tells it", (0, COPIED, told(spoilt, "alone were tested")), copy(spoilt, new))
     rows.equal("it is left alone by that too", before, stamp(spoilt.parent))
-    rows.equal("the copy is the desk", (content, 0), (dump(new), count_unsummed(new)))
+    rows.equal("the copy is the desk", (content, 0), (dump(new), count_bad_pages(new)))
     looked = check(new)
     rows.equal("and has sums", (0, ""), (looked.status, looked.errors))
     rows.equal("nothing is beside it", [], sorted(new.parent.glob("copy.db.*")))
-    cause = f"{count_unsummed(spoilt)} pages without their sums, as sqlite3 leaves them, or damaged"
+    cause = f"{count_bad_pages(spoilt)} pages without their sums, as sqlite3 leaves them, or damaged"
     for words in (["enrol", "bravo", "1"], ["migrate"]):
         ran = line(words[0], "--db", spoilt, *words[1:])
         refused = (4, f"uss_desk: {spoilt}: {cause}\nuss_desk: store\n")

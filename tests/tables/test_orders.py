@@ -18,7 +18,7 @@ from harness.program import Ran, run
 from harness.requests import request
 from harness.rows import named
 from harness.serving import Served
-from harness.sums import count_unsummed, sum_anew
+from harness.sums import count_bad_pages, sum_anew
 from harness.tracing import killed_at, was_killed
 from tables.causes import IN_USE, JOURNAL, MIGRATE, ORDER, ORDERED, OTHER, SPAN, TAKEN
 from tables.files import bytes_of, made_file, names_beside, old_file, rows_of, stated_file
@@ -214,7 +214,7 @@ def test_with_sums(room: pathlib.Path) -> None:
     stated_file(str(path), INDEX_AGAIN)
     sum_anew(path)
     assert_taken(str(path), "1 operators, 1 plans, 1 live", "1 operators, 1 plans", sums="yes")
-    assert count_unsummed(room / "summed.db.new") == 0
+    assert count_bad_pages(room / "summed.db.new") == 0
 
 
 def test_without_its_sums(room: pathlib.Path) -> None:
@@ -224,8 +224,8 @@ def test_without_its_sums(room: pathlib.Path) -> None:
     stated_file(str(path), INDEX_AGAIN)
     rows = "pages without their sums, as sqlite3 leaves them; the rows"
     look = looked(str(path))
-    assert (look.status, look.errors) == (0, f"uss_desk: {path}: {count_unsummed(path)} {rows} are a desk's\n")
-    line = f"uss_desk: {path}: {count_unsummed(path)} {rows} alone were tested\n"
+    assert (look.status, look.errors) == (0, f"uss_desk: {path}: {count_bad_pages(path)} {rows} are a desk's\n")
+    line = f"uss_desk: {path}: {count_bad_pages(path)} {rows} alone were tested\n"
     assert copied(str(path), f"{path}.new") == (0, b"copied 1 operators, 1 plans\n", line)
     assert_in_schema_2(rows_of(str(path)), f"{path}.new")
 

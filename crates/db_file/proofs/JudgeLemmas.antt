@@ -1,15 +1,15 @@
--- What is told of a whole log.
+-- What is reported of a whole log.
 use Rattle.std.proofs.Common.{◌≡◌, inl, inr, ℕ, suc, ◌<◌, List, ◌++◌, length, drop, Option, None, Some, Result, Ok, Err, IfOk, IfSome, sym, ap, ◌∙◌, subst, arith, drop_at}
 use Rattle.std.proofs.lemmas.Bool.{leb-true, true≢false}
-use Rattle.std.proofs.lemmas.Bool.Decides.{leb_tells}
+use Rattle.std.proofs.lemmas.Bool.Decides.{leb_reports}
 use Rattle.std.proofs.lemmas.List.{take_at}
 use Rattle.std.specs.Io.KnownBytes.{Consumes}
 use Rattle.sqlite_wal.specs.Format.{part, be32, IsHeader}
 use Rattle.sqlite_wal.specs.PageSize.{IsPageSize}
 use Rattle.sqlite_wal.specs.Recovery.{frame_at, header}
 use Rattle.sqlite_wal.proofs.PartLemmas.{frames_len-zero}
-use Rattle.db_file.specs.declared.judging.Verdict.{Verdict}
-use Rattle.db_file.specs.declared.judging.Verdict.TheVariants.{Damaged, Sound}
+use Rattle.db_file.specs.declared.judging.WalState.{WalState}
+use Rattle.db_file.specs.declared.judging.WalState.TheVariants.{Damaged, Sound}
 use Rattle.db_file.specs.Damage.{IsDamaged, IsDamagedAt, IsVerdict, ends_in}
 use Rattle.db_file.specs.Walks.{IsAllTaken, IsBefore, IsStop, IsVerdictAt, LosesCommits}
 use Rattle.db_file.proofs.DamageLemmas.{first_whole, is_at_stop, one_run, whole_before}
@@ -24,17 +24,17 @@ first_of page head rest len =
     let at : frame_at page 0 ≡ 32 = omega (arith, frames_len-zero page) in
     ap Some (sym (ap (λ n. drop n (head ++ rest)) at ∙ drop_at head rest 32 len))
 
--- what is told of the bytes behind the header is told of all
-pub told_of_all : {E : Type 0} (page : ℕ) (head : List ℕ) (old new : Option (List ℕ)) (r : Result Verdict E)
+-- what is reported of the bytes behind the header is reported of all
+pub reported_of_all : {E : Type 0} (page : ℕ) (head : List ℕ) (old new : Option (List ℕ)) (r : Result WalState E)
     → length head ≡ 32 → Consumes old new head
     → ((bytes : List ℕ) → header bytes ≡ head → IsBefore page bytes 0 new → IfOk r (IsVerdict bytes))
     → IfOk r (λ verdict. IfSome old (λ bytes. IsVerdict bytes verdict))
-told_of_all page head old new (Err e) len taken told = tt
-told_of_all page head None new (Ok verdict) len taken told = tt
-told_of_all page head (Some bytes) None (Ok verdict) len taken told = absurd taken
-told_of_all page head (Some bytes) (Some rest) (Ok verdict) len taken told =
+reported_of_all page head old new (Err e) len taken reported = tt
+reported_of_all page head None new (Ok verdict) len taken reported = tt
+reported_of_all page head (Some bytes) None (Ok verdict) len taken reported = absurd taken
+reported_of_all page head (Some bytes) (Some rest) (Ok verdict) len taken reported =
     subst (λ b. IsVerdict b verdict) (sym taken)
-    (told (head ++ rest) (header_of head rest len) (first_of page head rest len))
+    (reported (head ++ rest) (header_of head rest len) (first_of page head rest len))
 
 -- a log with no header of one is sound
 pub no_log : (head : List ℕ) (old new : Option (List ℕ)) → length head ≡ 32 → Consumes old new head
@@ -66,7 +66,7 @@ module _ (page : ℕ) (log head : List ℕ) (same : header log ≡ head) (is_hea
   pub all_taken : IsAllTaken page log → IsVerdict log Sound
   all_taken taken stop commits damaged =
       let whole = first_whole page log stop commits (with_page stop commits damaged) in
-      elim (leb_tells (suc stop) taken.0) [
+      elim (leb_reports (suc stop) taken.0) [
         | inl h ↦ (with_page stop commits damaged).refused (taken.2 stop h.1)
         | inr h ↦ true≢false (sym (whole_before page log taken.0 stop (omega (arith, h.1)) whole) ∙ taken.1)
       ]
@@ -77,27 +77,27 @@ module _ (page : ℕ) (log head : List ℕ) (same : header log ≡ head) (is_hea
       let run = one_run page log n damaged.frames counted.frames damaged.run counted.run in
       damaged.lost ∙ ap (ends_in page log n) run ∙ sym counted.lost
 
-  -- what is told of a log in which recovery stops at frame n
-  pub told_at : {E : Type 0} (n : ℕ) (room : List ℕ) (left : Option (List ℕ)) (r : Result Verdict E)
+  -- what is reported of a log in which recovery stops at frame n
+  pub reported_at : {E : Type 0} (n : ℕ) (room : List ℕ) (left : Option (List ℕ)) (r : Result WalState E)
       → IsStop page log n room left
       → IfOk r (IsVerdictAt page log n) → IfOk r (IsVerdict log)
-  told_at n room left (Err e) at told = tt
-  told_at n room left (Ok Sound) at told =
+  reported_at n room left (Err e) at reported = tt
+  reported_at n room left (Ok Sound) at reported =
       λ stop commits damaged.
       let here = is_at_stop page log stop n commits (with_page stop commits damaged) at.taken at.refused in
       let there = subst (λ k. IsDamagedAt page log k commits) here (with_page stop commits damaged) in
-      omega (arith, counted_once n commits told.0 there told.1, told.2, there.several)
-  told_at n room left (Ok (Damaged stop commits)) at told =
+      omega (arith, counted_once n commits reported.0 there reported.1, reported.2, there.several)
+  reported_at n room left (Ok (Damaged stop commits)) at reported =
       let there : IsDamagedAt page log n commits =
       record {
         head = subst (IsHeader page) (sym same) is_head;
         size = size;
         taken = at.taken;
         refused = at.refused;
-        frames = told.1.frames;
-        run = told.1.run;
-        lost = told.1.lost;
-        several = told.2;
+        frames = reported.1.frames;
+        run = reported.1.run;
+        lost = reported.1.lost;
+        several = reported.2;
       } in
       subst (λ p. IsDamagedAt p log stop commits) (sym page_is)
-      (subst (λ k. IsDamagedAt page log k commits) (sym told.0) there)
+      (subst (λ k. IsDamagedAt page log k commits) (sym reported.0) there)

@@ -4,7 +4,7 @@ use Rattle.std.proofs.lemmas.List.{drop_at, get_or_append_left, take_at}
 use Rattle.sqlite_wal.specs.PageSize.{IsPageSize, size_in_file}
 use Rattle.std.specs.Fmt.{option_append}
 use Rattle.std.specs.Io.KnownBytes.{Appends, Consumes}
-use Rattle.db_file.specs.Header.{keeps_sums}
+use Rattle.db_file.specs.Header.{keeps_checksums}
 use Rattle.db_file.specs.Orders.{has_other_order, mended, ordered, ordered_file, ordered_page, with_sums, are_moved, is_moved_by_name, is_slot_named, placed, placed_by_name, slot_from}
 
 less_one : (n k : ℕ) → k < n → n - k ≡ suc (n - (k + 1))
@@ -147,40 +147,40 @@ page_read (Ok u) (Some rest) whole after header page is read =
     first_of after (header ++ rest) page (header ++ rest) (length page) refl
     (subst (λ w. Consumes w after page) is read) refl
 
--- whether it lists a desk's tables so is told of it
-pub page_told : (left : Option (List ℕ)) (told : Bool) (header page : List ℕ) (size : ℕ)
+-- whether it lists a desk's tables so is reported of it
+pub page_reported : (left : Option (List ℕ)) (reported : Bool) (header page : List ℕ) (size : ℕ)
     → IfSome left (λ rest. page ≡ take (length page) (header ++ rest)) → length page ≡ size
-    → told ≡ is_some (ordered page)
-    → IfSome left (λ rest. told ≡ is_some (ordered (take size (header ++ rest))))
-page_told None told header page size is long says = tt
-page_told (Some rest) told header page size is long says =
+    → reported ≡ is_some (ordered page)
+    → IfSome left (λ rest. reported ≡ is_some (ordered (take size (header ++ rest))))
+page_reported None reported header page size is long says = tt
+page_reported (Some rest) reported header page size is long says =
     says ∙ ap (λ p. is_some (ordered p)) (is ∙ ap (λ n. take n (header ++ rest)) long)
 
 -- and so of the file
-pub file_told : {E : Type 0} (done : Result Bool E) (known left : Option (List ℕ)) (header : List ℕ) (size : ℕ)
+pub file_reported : {E : Type 0} (done : Result Bool E) (known left : Option (List ℕ)) (header : List ℕ) (size : ℕ)
     → Consumes known left header → IfSome known (λ bytes. size_in_file bytes ≡ size_in_file header)
     → size ≡ size_in_file header
-    → IfOk done (λ told. IfSome left (λ rest. told ≡ is_some (ordered (take size (header ++ rest)))))
-    → IfOk done (λ told. IfSome known (λ bytes. IsPageSize (size_in_file bytes) → told ≡ has_other_order bytes))
-file_told (Err e) known left header size took says named told = tt
-file_told (Ok it) None left header size took says named told = tt
-file_told (Ok it) (Some bytes) None header size took says named told = absurd took
-file_told (Ok it) (Some bytes) (Some rest) header size took says named told = λ sized.
-    told ∙ ap (λ p. is_some (ordered p))
+    → IfOk done (λ reported. IfSome left (λ rest. reported ≡ is_some (ordered (take size (header ++ rest)))))
+    → IfOk done (λ reported. IfSome known (λ bytes. IsPageSize (size_in_file bytes) → reported ≡ has_other_order bytes))
+file_reported (Err e) known left header size took says named reported = tt
+file_reported (Ok it) None left header size took says named reported = tt
+file_reported (Ok it) (Some bytes) None header size took says named reported = absurd took
+file_reported (Ok it) (Some bytes) (Some rest) header size took says named reported = λ sized.
+    reported ∙ ap (λ p. is_some (ordered p))
     (ap (take size) (sym took) ∙ ap (λ n. take n bytes) (named ∙ sym says))
 
 -- a file that says no size of its pages
 pub is_sized : {E : Type 0} (done : Result Bool E) (known : Option (List ℕ)) (header : List ℕ)
     → IfSome known (λ bytes. size_in_file bytes ≡ size_in_file header) → IsPageSize (size_in_file header)
-    → IfOk done (λ told. IfSome known (λ bytes. ¬ IsPageSize (size_in_file bytes) → told ≡ false))
+    → IfOk done (λ reported. IfSome known (λ bytes. ¬ IsPageSize (size_in_file bytes) → reported ≡ false))
 is_sized (Err e) known header says is = tt
-is_sized (Ok told) None header says is = tt
-is_sized (Ok told) (Some bytes) header says is = λ none. absurd (none (subst IsPageSize (sym says) is))
+is_sized (Ok reported) None header says is = tt
+is_sized (Ok reported) (Some bytes) header says is = λ none. absurd (none (subst IsPageSize (sym says) is))
 
 -- ---- a file that is copied as its header says
 
 sums_said : (bytes header rest : List ℕ) → length header ≡ 24 → bytes ≡ header ++ rest
-    → keeps_sums bytes ≡ keeps_sums header
+    → keeps_checksums bytes ≡ keeps_checksums header
 sums_said bytes header rest long took =
     let more = length-append header rest in
     let said = get_or_append_left header rest 0 20 (omega (arith, long)) in
@@ -189,10 +189,10 @@ sums_said bytes header rest long took =
 pub copied_as_said : {U E : Type 0} (done : Result U E) (known left whole : Option (List ℕ)) (header : List ℕ)
     (size len : ℕ) (sums : Bool) (out now : Option (List ℕ))
     → length header ≡ 24 → Consumes known left header → whole ≡ option_append (Some header) left
-    → size ≡ size_in_file header → sums ≡ keeps_sums header
+    → size ≡ size_in_file header → sums ≡ keeps_checksums header
     → OnOk done (IfSome whole (λ bytes. length bytes ≡ len → Appends out now (mended sums size bytes)))
     → OnOk done (IfSome known (λ bytes. length bytes ≡ len
-    → Appends out now (mended (keeps_sums bytes) (size_in_file bytes) bytes)))
+    → Appends out now (mended (keeps_checksums bytes) (size_in_file bytes) bytes)))
 copied_as_said (Err e) known left whole header size len sums out now long took is named said given = tt
 copied_as_said (Ok u) None left whole header size len sums out now long took is named said given = tt
 copied_as_said (Ok u) (Some bytes) None whole header size len sums out now long took is named said given =
@@ -201,7 +201,7 @@ copied_as_said (Ok u) (Some bytes) (Some rest) whole header size len sums out no
     let copied : length bytes ≡ len → Appends out now (mended sums size bytes) =
     subst (λ w. IfSome w (λ it. length it ≡ len → Appends out now (mended sums size it)))
     (is ∙ ap (λ it. Some it) (sym took)) given in λ same.
-    subst (λ n. Appends out now (mended (keeps_sums bytes) n bytes))
+    subst (λ n. Appends out now (mended (keeps_checksums bytes) n bytes))
     (named ∙ sym (header_says (Some bytes) (Some rest) header long took))
     (subst (λ b. Appends out now (mended b size bytes)) (said ∙ sym (sums_said bytes header rest long took))
     (copied same))

@@ -13,7 +13,7 @@ use Rattle.sqlite_wal.specs.declared.error.Error.{Error}
 use Rattle.sqlite_wal.specs.declared.error.Error.TheVariants.{Corrupt, Full}
 use Rattle.sqlite_pager.specs.Pager.{AreUsable, IsAtLimit, RefusesPage, image as seen_by, state}
 use Rattle.sqlite_pager.specs.declared.pager.Pager.{Pager}
-use Rattle.db_file.specs.Header.{keeps_sums}
+use Rattle.db_file.specs.Header.{keeps_checksums}
 use Rattle.db_file.specs.Orders.{ordered_page}
 use Rattle.db_file.specs.Sums.{summed}
 use Rattle.db_file.specs.declared.committing.Left.{Left}
@@ -21,7 +21,7 @@ use Rattle.db_file.specs.declared.committing.Left.TheVariants as kind
 
 -- a file's first page in a desk's own order, with its sum, if it keeps sums
 abbrev pub in_order : List ℕ → List ℕ
-in_order page = if keeps_sums page then summed (ordered_page page) else ordered_page page
+in_order page = if keeps_checksums page then summed (ordered_page page) else ordered_page page
 
 -- the first page is put in order, and no other page changes
 pub record OrdersFirst (old new : Pages) : Type 0 where

@@ -9,8 +9,8 @@ use Rattle.std.specs.Str.{bytes_eq}
 use Rattle.sqlite_wal.specs.Format.{part, be32, IsHeader, commit_size}
 use Rattle.sqlite_wal.specs.PageSize.{IsPageSize}
 use Rattle.sqlite_wal.specs.Recovery.{Passes, frame, frame_at, header}
-use Rattle.db_file.specs.declared.judging.Verdict.{Verdict}
-use Rattle.db_file.specs.declared.judging.Verdict.TheVariants.{Damaged, Sound}
+use Rattle.db_file.specs.declared.judging.WalState.{WalState}
+use Rattle.db_file.specs.declared.judging.WalState.TheVariants.{Damaged, Sound}
 
 -- frame i, counted from 0, is whole
 abbrev pub is_frame_whole : ℕ → List ℕ → ℕ → Bool
@@ -59,7 +59,7 @@ IsDamaged log = IsDamagedAt (be32 (header log) 8) log
 abbrev pub least_damaged : ℕ
 least_damaged = 1_104
 
--- what is told of a log
-abbrev pub IsVerdict : List ℕ → Verdict → Type 0
+-- what is reported of a log
+abbrev pub IsVerdict : List ℕ → WalState → Type 0
 IsVerdict log Sound = (stop commits : ℕ) → ¬ IsDamaged log stop commits
 IsVerdict log (Damaged stop commits) = IsDamaged log stop commits

@@ -6,5 +6,5 @@ abbrev pub byte : List ℕ → ℕ → ℕ
 byte bytes at = slice_index_or bytes at 0
 
 -- the pages have sums: eight bytes are reserved at the end of each (section 1.3.4)
-abbrev pub keeps_sums : List ℕ → Bool
-keeps_sums header = byte header 20 == 8
+abbrev pub keeps_checksums : List ℕ → Bool
+keeps_checksums header = byte header 20 == 8

@@ -3,8 +3,8 @@ use Rattle.std.specs.Prelude.{◌≡◌, ◌≢◌, ◌≤◌, ◌⊎◌, ◌-�
 use Rattle.std.specs.IoError.{error_kind}
 use Rattle.std.specs.declared.io.Error.{Error}
 use Rattle.std.specs.declared.io.ErrorKind.TheVariants.{Interrupted}
-use Rattle.db_file.specs.declared.judging.LogFault.{LogFault}
-use Rattle.db_file.specs.declared.judging.LogFault.TheVariants.{Endless, Unread}
+use Rattle.db_file.specs.declared.judging.WalError.{WalError}
+use Rattle.db_file.specs.declared.judging.WalError.TheVariants.{Endless, Unread}
 use Rattle.db_file.specs.declared.reads.LastRead.{LastRead}
 use Rattle.db_file.specs.declared.reads.LastRead.TheVariants.{Failed, Passed}
 use Rattle.db_file.specs.declared.reads.Reads.{Reads}
@@ -25,6 +25,6 @@ abbrev pub HaveBrokenOff : Reads → Type 0
 HaveBrokenOff reads = (reads.last ≡ Failed) ⊎ ((reads.last ≡ Passed) × (reads.count ≡ most_reads))
 
 -- why nothing is found of a log: its reading broke off; or it has 2 ^ 64 bytes or more
-abbrev pub IsUnjudged : Option (List ℕ) → LogFault → Type 0
+abbrev pub IsUnjudged : Option (List ℕ) → WalError → Type 0
 IsUnjudged log (Unread reads) = HaveBrokenOff reads
 IsUnjudged log Endless = IfSome log (λ bytes. 2 ^ 64 ≤ length bytes)

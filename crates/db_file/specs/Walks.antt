@@ -2,8 +2,8 @@
 use Rattle.std.specs.Prelude.{◌≡◌, ◌<◌, ◌≤◌, ◌+◌, ⊤, ℕ, suc, Bool, true, false, List, drop, length, Option, Some, None}
 use Rattle.sqlite_wal.specs.Recovery.{Passes, frame, frame_at, sum_before}
 use Rattle.db_file.specs.Damage.{IsRunOfFrames, ends_in, is_frame_whole}
-use Rattle.db_file.specs.declared.judging.Verdict.{Verdict}
-use Rattle.db_file.specs.declared.judging.Verdict.TheVariants.{Damaged, Sound}
+use Rattle.db_file.specs.declared.judging.WalState.{WalState}
+use Rattle.db_file.specs.declared.judging.WalState.TheVariants.{Damaged, Sound}
 
 -- what is left to be read begins at frame n
 abbrev pub IsBefore : ℕ → List ℕ → ℕ → Option (List ℕ) → Type 0
@@ -46,8 +46,8 @@ pub record LosesCommits (page : ℕ) (log : List ℕ) (n commits : ℕ) : Type 0
   pub run : IsRunOfFrames page log n frames
   pub lost : commits ≡ ends_in page log n frames
 
--- what is told of a log in which recovery stops at frame n
-abbrev pub IsVerdictAt : ℕ → List ℕ → ℕ → Verdict → Type 0
+-- what is reported of a log in which recovery stops at frame n
+abbrev pub IsVerdictAt : ℕ → List ℕ → ℕ → WalState → Type 0
 IsVerdictAt page log n Sound = (commits : ℕ) × LosesCommits page log n commits × (commits < 2)
 IsVerdictAt page log n (Damaged stop commits) = (stop ≡ n) × LosesCommits page log n commits × (2 ≤ commits)
 

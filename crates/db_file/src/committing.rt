@@ -13,9 +13,9 @@ ghost use Rattle.db_file.specs.Committing.{OrdersFirst, RefusesFiles, RefusesFir
 ghost use Rattle.db_file.specs.Committing.{faults_of, image_of, leaves};
 ghost use Rattle.db_file.specs.Orders.{IsFirstPage};
 
-use crate::db_header::{MAX_PAGE, keeps_sums};
+use crate::db_header::{MAX_PAGE, keeps_checksums};
 use crate::orders::order_page;
-use crate::sums::give_sum;
+use crate::sums::set_checksum;
 use sqlite_disk::{Disk, Files, Start};
 use sqlite_pager::{Error, Options, Pager};
 use sqlite_std_file::FileFrom;
@@ -147,7 +147,7 @@ fn find_and_order<D: Disk>(pager: &mut Pager<D>, size: PageSize) -> Result<(), E
         → (left : Image) → (state pager.new).may_leave left → (state pager.old).may_leave left }
 {
     pager.recover()?;
-    order_first(pager, size)
+    reorder_first_page(pager, size)
 }
 
 /// Puts the first page of a database into a desk's own order, with its sum, if it keeps sums, in one commit.
@@ -155,7 +155,7 @@ fn find_and_order<D: Disk>(pager: &mut Pager<D>, size: PageSize) -> Result<(), E
 /// # Errors
 ///
 /// What the reading or the writing failed with.
-pub fn order_first<D: Disk>(pager: &mut Pager<D>, size: PageSize) -> Result<(), Error>
+pub fn reorder_first_page<D: Disk>(pager: &mut Pager<D>, size: PageSize) -> Result<(), Error>
     requires { (state pager.old).page_size ≡ bytes_of size }
     ensures ordered { OnOk result (IsTrue (state pager.new).is_clean
         → OrdersFirst (visible pager.old) (state pager.new).committed) }
@@ -169,19 +169,19 @@ pub fn order_first<D: Disk>(pager: &mut Pager<D>, size: PageSize) -> Result<(), 
     let page = &mut room[..size.bytes()];
     pager.load(1)?;
     page.copy_from_slice(pager.loaded());
-    order_summed(page);
+    reorder_checksummed(page);
     pager.write(1, page)?;
     pager.commit()
 }
 
 // Puts the first page of a file into a desk's own order, with its sum, if it keeps sums.
-fn order_summed(page: &mut [u8])
+fn reorder_checksummed(page: &mut [u8])
     requires { IsFirstPage page.old }
     ensures { page.new ≡ spec.in_order page.old }
 {
-    let has_sum = keeps_sums(page);
+    let has_sum = keeps_checksums(page);
     order_page(page);
     if has_sum {
-        give_sum(page);
+        set_checksum(page);
     }
 }

@@ -32,8 +32,8 @@ pub fn byte(bytes: &[u8], at: usize) -> u8
 }
 
 /// Whether the pages of a database have sums, by its header.
-pub fn keeps_sums(header: &[u8]) -> bool
-    ensures { result ≡ spec.keeps_sums header.now }
+pub fn keeps_checksums(header: &[u8]) -> bool
+    ensures { result ≡ spec.keeps_checksums header.now }
 {
     usize::from(byte(header, RESERVED_AT)) == SUM
 }

@@ -21,7 +21,7 @@ const ROOM: usize = 65_560;
 
 /// What is found of a log.
 #[derive(Clone, Copy, Debug, PartialEq, Eq)]
-pub enum Verdict {
+pub enum WalState {
     /// It is as it was written, or as a crash may have left it.
     Sound,
     /// It is damaged at a frame, counted from 0, and so many commits from there on are lost.
@@ -30,21 +30,21 @@ pub enum Verdict {
 
 /// Why nothing is found of a log.
 #[derive(Clone, Copy, Debug, PartialEq, Eq)]
-pub enum LogFault {
+pub enum WalError {
     /// Its reading broke off: the last of these reads failed, or there were as many as a frame may take.
     Unread(Reads),
     /// It has 2^64 bytes or more.
     Endless,
 }
 
-impl From<Reads> for LogFault {
+impl From<Reads> for WalError {
     ghost use Rattle.std.specs.Prelude.{◌≡◌};
-    ghost use Rattle.db_file.specs.declared.judging.LogFault.TheVariants.{Unread};
+    ghost use Rattle.db_file.specs.declared.judging.WalError.TheVariants.{Unread};
 
     ghost from_gives = { λ reads fault. fault ≡ Unread reads };
 
-    fn from(reads: Reads) -> LogFault {
-        LogFault::Unread(reads)
+    fn from(reads: Reads) -> WalError {
+        WalError::Unread(reads)
     }
 }
 
@@ -52,8 +52,8 @@ impl From<Reads> for LogFault {
 ///
 /// # Errors
 ///
-/// As `LogFault` says.
-pub fn judge_log<R: Read>(log: &mut R) -> Result<Verdict, LogFault>
+/// As `WalError` says.
+pub fn check_wal<R: Read>(log: &mut R) -> Result<WalState, WalError>
     ensures value { IfOk result (λ verdict. IfSome (R.remaining log.old) (λ bytes. IsVerdict bytes verdict)) }
     ensures fault { IfErr result (IsUnjudged (R.remaining log.old)) }
 {
@@ -62,18 +62,18 @@ pub fn judge_log<R: Read>(log: &mut R) -> Result<Verdict, LogFault>
 }
 
 // What is found of a log, with room for a frame.
-fn judge_with<R: Read>(log: &mut R, room: &mut [u8]) -> Result<Verdict, LogFault>
+fn judge_with<R: Read>(log: &mut R, room: &mut [u8]) -> Result<WalState, WalError>
     requires { length room.old ≡ 65560 }
     ensures value { IfOk result (λ verdict. IfSome (R.remaining log.old) (λ bytes. IsVerdict bytes verdict)) }
     ensures fault { IfErr result (IsUnjudged (R.remaining log.old)) }
 {
     let mut head = [0u8; HEADER];
     if !read_whole(log, &mut head)? {
-        return Ok(Verdict::Sound);
+        return Ok(WalState::Sound);
     }
     match page_size_in(&head) {
         Some(page) => judge_frames(log, &head, &mut room[..FRAME_HEADER + page]),
-        None => Ok(Verdict::Sound),
+        None => Ok(WalState::Sound),
     }
 }
 
@@ -82,7 +82,7 @@ fn judge_frames<R: Read>(
     log: &mut R,
     head: &[u8; HEADER],
     frame: &mut [u8],
-) -> Result<Verdict, LogFault>
+) -> Result<WalState, WalError>
     requires { 24 ≤ length frame.old }
     ensures value { (page : ℕ) (bytes : List ℕ) → length frame.old ≡ 24 + page → header bytes ≡ head.now
         → IsHeader page head.now → IsPageSize page → IsBefore page bytes 0 (R.remaining log.old)
@@ -91,7 +91,7 @@ fn judge_frames<R: Read>(
 {
     match follow(log, head, frame)? {
         Some(stop) => judge_rest(log, head, frame, stop),
-        None => Ok(Verdict::Sound),
+        None => Ok(WalState::Sound),
     }
 }
 
@@ -101,7 +101,7 @@ fn judge_rest<R: Read>(
     head: &[u8; HEADER],
     frame: &mut [u8],
     stop: u64,
-) -> Result<Verdict, LogFault>
+) -> Result<WalState, WalError>
     requires { 24 ≤ length frame.old }
     ensures value { (page : ℕ) (bytes : List ℕ) → length frame.old ≡ 24 + page → header bytes ≡ head.now
         → HasFrame page bytes stop frame.old (R.remaining log.old)
@@ -110,9 +110,9 @@ fn judge_rest<R: Read>(
 {
     let commits = count_commits(log, head, frame)?;
     if commits < 2 {
-        return Ok(Verdict::Sound);
+        return Ok(WalState::Sound);
     }
-    Ok(Verdict::Damaged {
+    Ok(WalState::Damaged {
         frame: stop,
         commits,
     })
@@ -124,7 +124,7 @@ fn follow<R: Read>(
     log: &mut R,
     head: &[u8; HEADER],
     frame: &mut [u8],
-) -> Result<Option<u64>, LogFault>
+) -> Result<Option<u64>, WalError>
     requires { 24 ≤ length frame.old }
     ensures value { (page : ℕ) (bytes : List ℕ) → length frame.old ≡ 24 + page → header bytes ≡ head.now
         → IsBefore page bytes 0 (R.remaining log.old)
@@ -143,7 +143,7 @@ fn follow<R: Read>(
         }
         sum = sum_at(frame, 16);
     }
-    Err(LogFault::Endless)
+    Err(WalError::Endless)
 }
 
 // How many commits end at the frame that was read last, or behind it as far as frames have the salts of the
@@ -152,7 +152,7 @@ fn count_commits<R: Read>(
     log: &mut R,
     head: &[u8; HEADER],
     frame: &mut [u8],
-) -> Result<u64, LogFault>
+) -> Result<u64, WalError>
     requires { 24 ≤ length frame.old }
     ensures value { (page stop : ℕ) (bytes : List ℕ) → length frame.old ≡ 24 + page → header bytes ≡ head.now
         → HasFrame page bytes stop frame.old (R.remaining log.old)
@@ -169,7 +169,7 @@ fn count_commits<R: Read>(
             return Ok(commits);
         }
     }
-    Err(LogFault::Endless)
+    Err(WalError::Endless)
 }
 
 // Reads the next frame, and answers whether it is whole.

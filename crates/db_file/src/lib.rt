@@ -17,8 +17,8 @@ mod sums;
 mod wal_header;
 
 pub use commits::takes_commit;
-pub use committing::{Ordered, Unordered, is_in_order, order_first, put_in_order};
-pub use judging::{LogFault, Verdict, judge_log};
+pub use committing::{Ordered, Unordered, is_in_order, put_in_order, reorder_first_page};
+pub use judging::{WalError, WalState, check_wal};
 pub use laws::{
     commits_are_long, damaged_is_long, damaged_once, empty_is_sound, good_is_sound, shut_is_sound,
     torn_is_sound,
@@ -26,4 +26,6 @@ pub use laws::{
 pub use orders::{copy_in_order, copy_mended, has_other_order, order_page, order_text};
 pub use ram::Ram;
 pub use reads::{LastRead, Reads};
-pub use sums::{copy_bytes, copy_summed, count_unsummed, give_sum, has_sums, pages_without_sums};
+pub use sums::{
+    copy_bytes, copy_checksummed, count_bad_checksums, count_bad_pages, has_checksums, set_checksum,
+};

@@ -5,12 +5,12 @@ ghost use Rattle.std.specs.Prelude.{None, OnOk, Some, false, true};
 ghost use Rattle.std.specs.Fmt.{option_append};
 ghost use Rattle.std.specs.Io.KnownBytes.{Appends};
 ghost use Rattle.sqlite_wal.specs.PageSize.{IsPageSize, bytes_of, size_in_file};
-ghost use Rattle.db_file.specs.Header.{keeps_sums as has_sums};
+ghost use Rattle.db_file.specs.Header.{keeps_checksums as has_checksums};
 ghost use Rattle.db_file.specs.Orders as spec;
 ghost use Rattle.db_file.specs.Orders.{IsFirstPage};
 
-use crate::db_header::{HEADER, MAX_PAGE, byte, keeps_sums, page_size_in};
-use crate::sums::{copy_bytes, copy_summed, open_regular};
+use crate::db_header::{HEADER, MAX_PAGE, byte, keeps_checksums, page_size_in};
+use crate::sums::{copy_bytes, copy_checksummed, open_regular};
 use sqlite_wal::PageSize;
 use std::fs::File;
 use std::io::{self, ErrorKind, Read, Write};
@@ -21,7 +21,8 @@ const LEAF: u8 = 13;
 // How many tables and indexes a desk has.
 const ALL: u16 = 14;
 
-/// What is told of a file that lists the tables and indexes of a desk in another order than the desk takes.
+/// What is reported of a file that lists the tables and indexes of a desk in another order than the desk
+/// takes.
 pub fn order_text() -> &'static str
     ensures { result.now ≡ spec.order_text }
 {
@@ -359,8 +360,8 @@ fn read_in_order<R: Read>(file: &mut R, page: &mut [u8]) -> io::Result<()>
 }
 
 /// Whether the file at a path lists the tables and indexes of a desk, or the first few of them, in another
-/// order than the desk takes; not if it can't be read. One with a log is not told by it: its first page may
-/// stand in the log anew.
+/// order than the desk takes; not if it can't be read. One with a log is not reported by it: its first page
+/// may stand in the log anew.
 pub fn has_other_order(rt: &HostRuntime, path: &str) -> bool {
     is_other_file(open_regular(rt, path))
 }
@@ -439,7 +440,7 @@ pub fn copy_mended<W: Write>(file: &mut File, twin: &mut W) -> io::Result<()> {
 fn copy_by_header<R: Read, W: Write>(file: &mut R, twin: &mut W, len: u64) -> io::Result<()>
     ensures mended { OnOk result (IfSome (R.remaining file.old) (λ bytes. length bytes ≡ len →
         Appends (W.contents twin.old) (W.contents twin.new)
-        (spec.mended (has_sums bytes) (size_in_file bytes) bytes))) }
+        (spec.mended (has_checksums bytes) (size_in_file bytes) bytes))) }
     ensures sized { OnOk result (IfSome (R.remaining file.old) (λ bytes.
         IsPageSize (size_in_file bytes))) }
 {
@@ -448,7 +449,7 @@ fn copy_by_header<R: Read, W: Write>(file: &mut R, twin: &mut W, len: u64) -> io
     match page_size_in(&header) {
         Some(size) => {
             let mut whole = (&header[..]).chain(file);
-            copy_in_order(&mut whole, twin, size, len, keeps_sums(&header))
+            copy_in_order(&mut whole, twin, size, len, keeps_checksums(&header))
         }
         None => Err(io::Error::from(ErrorKind::Unsupported)),
     }
@@ -465,17 +466,17 @@ pub fn copy_in_order<R: Read, W: Write>(
     twin: &mut W,
     size: PageSize,
     len: u64,
-    has_sums: bool,
+    has_checksums: bool,
 ) -> io::Result<()>
     ensures { OnOk result (IfSome (R.remaining file.old) (λ bytes. length bytes ≡ len →
         Appends (W.contents twin.old) (W.contents twin.new)
-        (spec.mended has_sums (bytes_of size) bytes))) }
+        (spec.mended has_checksums (bytes_of size) bytes))) }
 {
     let mut room = [0u8; MAX_PAGE];
     let page = &mut room[..size.bytes()];
     read_in_order(file, page)?;
     let mut whole = (&*page).chain(file);
-    copy_with(&mut whole, twin, size, len, has_sums)
+    copy_with(&mut whole, twin, size, len, has_checksums)
 }
 
 // Copies a file of so many bytes, each page with its sum, if the file has sums.
@@ -484,14 +485,14 @@ fn copy_with<R: Read, W: Write>(
     twin: &mut W,
     size: PageSize,
     len: u64,
-    has_sums: bool,
+    has_checksums: bool,
 ) -> io::Result<()>
     ensures { OnOk result (IfSome (R.remaining file.old) (λ bytes. length bytes ≡ len →
         Appends (W.contents twin.old) (W.contents twin.new)
-        (spec.with_sums has_sums (bytes_of size) bytes))) }
+        (spec.with_sums has_checksums (bytes_of size) bytes))) }
 {
-    if has_sums {
-        copy_summed(file, twin, size, len)
+    if has_checksums {
+        copy_checksummed(file, twin, size, len)
     } else {
         copy_bytes(file, twin)
     }

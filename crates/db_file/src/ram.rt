@@ -72,7 +72,7 @@ impl Disk for Ram {
         false
     }
 
-    // Memory tells no lie, so it needs no secret.
+    // Memory reports no lie, so it needs no secret.
     fn key(&self) -> u64 {
         0
     }

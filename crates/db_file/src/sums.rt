@@ -8,23 +8,23 @@ ghost use Rattle.std.specs.Io.KnownBytes.{Appends};
 ghost use Rattle.std.specs.IoError.{error_kind};
 ghost use Rattle.std.specs.declared.io.ErrorKind.TheVariants.{Unsupported};
 ghost use Rattle.sqlite_wal.specs.PageSize.{IsPageSize, bytes_of, size_in_file};
-ghost use Rattle.db_file.specs.Header.{keeps_sums};
+ghost use Rattle.db_file.specs.Header.{keeps_checksums};
 ghost use Rattle.db_file.specs.Sums as spec;
 
-use crate::db_header::{HEADER, MAX_PAGE, SUM, keeps_sums, page_size_in};
+use crate::db_header::{HEADER, MAX_PAGE, SUM, keeps_checksums, page_size_in};
 use sqlite_wal::{PageSize, checksum_of};
 use std::fs::{self, File, Metadata};
 use std::io::{self, ErrorKind, Read, Write};
 
 /// Whether the pages of the database at a path have sums; they haven't if it can't be looked at.
-pub fn has_sums(rt: &HostRuntime, path: &str) -> bool {
-    summed_size(open_regular(rt, path)).is_some()
+pub fn has_checksums(rt: &HostRuntime, path: &str) -> bool {
+    checksummed_size(open_regular(rt, path)).is_some()
 }
 
 /// How many pages of the database at a path have another sum than theirs. None if its pages have no sums, or
 /// can't be read.
-pub fn pages_without_sums(rt: &HostRuntime, path: &str) -> Option<u64> {
-    let size = summed_size(open_regular(rt, path))?;
+pub fn count_bad_checksums(rt: &HostRuntime, path: &str) -> Option<u64> {
+    let size = checksummed_size(open_regular(rt, path))?;
     let len = fs::metadata(rt, path).ok()?.len();
     unsummed(File::open(rt, path), size, len)
 }
@@ -37,44 +37,44 @@ fn unsummed<R: Read + Drop>(opened: io::Result<R>, size: PageSize, len: u64) -> 
         length bytes ≡ len → unsummed ≡ spec.unsummed_in (bytes_of size) bytes))) }
 {
     match opened {
-        Ok(mut file) => count_unsummed(&mut file, size, len).ok(),
+        Ok(mut file) => count_bad_pages(&mut file, size, len).ok(),
         Err(_) => None,
     }
 }
 
 // The size of a page of a file that was opened, if its pages have sums; none if it wasn't opened, or can't be
 // read.
-fn summed_size<R: Read + Drop>(opened: io::Result<R>) -> Option<PageSize>
+fn checksummed_size<R: Read + Drop>(opened: io::Result<R>) -> Option<PageSize>
     ensures unread { IsErr opened → result ≡ None }
     ensures sized { IfSome result (λ size. IfOk opened (λ file. IfSome (R.remaining file) (λ bytes.
-        (keeps_sums bytes ≡ true) × (bytes_of size ≡ size_in_file bytes)))) }
+        (keeps_checksums bytes ≡ true) × (bytes_of size ≡ size_in_file bytes)))) }
 {
     match opened {
-        Ok(mut file) => reads_summed(&mut file).ok()?,
+        Ok(mut file) => reads_checksummed(&mut file).ok()?,
         Err(_) => None,
     }
 }
 
 // The size of a page by the first bytes of a file, if its pages have sums.
-fn reads_summed<R: Read>(file: &mut R) -> io::Result<Option<PageSize>>
+fn reads_checksummed<R: Read>(file: &mut R) -> io::Result<Option<PageSize>>
     ensures some { IfOk result (λ found. IfSome found (λ size. IfSome (R.remaining file.old) (λ bytes.
-        (keeps_sums bytes ≡ true) × (bytes_of size ≡ size_in_file bytes)))) }
+        (keeps_checksums bytes ≡ true) × (bytes_of size ≡ size_in_file bytes)))) }
     ensures none { IfOk result (λ found. IfNone found (IfSome (R.remaining file.old) (λ bytes.
-        keeps_sums bytes ≡ true → ¬ IsPageSize (size_in_file bytes)))) }
+        keeps_checksums bytes ≡ true → ¬ IsPageSize (size_in_file bytes)))) }
 {
     let mut header = [0u8; HEADER];
     file.read_exact(&mut header)?;
-    Ok(summed_size_in(&header))
+    Ok(checksummed_size_in(&header))
 }
 
 // The size of a page by the header of a database, if its pages have sums.
-fn summed_size_in(header: &[u8; HEADER]) -> Option<PageSize>
+fn checksummed_size_in(header: &[u8; HEADER]) -> Option<PageSize>
     ensures some { IfSome result (λ size.
-        (keeps_sums header.now ≡ true) × (bytes_of size ≡ size_in_file header.now)) }
-    ensures none { result ≡ None → keeps_sums header.now ≡ true
+        (keeps_checksums header.now ≡ true) × (bytes_of size ≡ size_in_file header.now)) }
+    ensures none { result ≡ None → keeps_checksums header.now ≡ true
         → ¬ IsPageSize (size_in_file header.now) }
 {
-    if !keeps_sums(header) {
+    if !keeps_checksums(header) {
         return None;
     }
     page_size_in(header)
@@ -107,7 +107,7 @@ fn refuse_irregular(found: &Metadata) -> io::Result<()>
 /// # Errors
 ///
 /// What the reading or the writing failed with.
-pub fn copy_summed<R: Read, W: Write>(
+pub fn copy_checksummed<R: Read, W: Write>(
     file: &mut R,
     twin: &mut W,
     size: PageSize,
@@ -150,7 +150,7 @@ fn copy_page<R: Read, W: Write>(file: &mut R, twin: &mut W, page: &mut [u8]) -> 
         (spec.summed (take (length page.old) bytes)))) }
 {
     file.read_exact(page)?;
-    give_sum(page);
+    set_checksum(page);
     twin.write_all(page)
 }
 
@@ -159,7 +159,7 @@ fn copy_page<R: Read, W: Write>(file: &mut R, twin: &mut W, page: &mut [u8]) -> 
 /// # Errors
 ///
 /// What the reading failed with.
-pub fn count_unsummed<R: Read>(file: &mut R, size: PageSize, len: u64) -> io::Result<u64>
+pub fn count_bad_pages<R: Read>(file: &mut R, size: PageSize, len: u64) -> io::Result<u64>
     ensures { IfOk result (λ unsummed. IfSome (R.remaining file.old) (λ bytes. length bytes ≡ len →
         unsummed ≡ spec.unsummed_in (bytes_of size) bytes)) }
 {
@@ -191,11 +191,11 @@ fn count_page<R: Read>(file: &mut R, page: &mut [u8]) -> io::Result<u64>
         unsummed ≡ spec.unsummed_page (take (length page.old) bytes))) }
 {
     file.read_exact(page)?;
-    Ok(if has_its_sum(page) { 0 } else { 1 })
+    Ok(if has_own_checksum(page) { 0 } else { 1 })
 }
 
 // Whether a page ends with the sum of what stands before.
-fn has_its_sum(page: &[u8]) -> bool
+fn has_own_checksum(page: &[u8]) -> bool
     requires { 8 ≤ length page.now }
     ensures { result ≡ spec.has_sum page.now }
 {
@@ -204,7 +204,7 @@ fn has_its_sum(page: &[u8]) -> bool
 }
 
 /// Writes the sum of a page in the place of its last bytes.
-pub fn give_sum(page: &mut [u8])
+pub fn set_checksum(page: &mut [u8])
     requires { 8 ≤ length page.old }
     ensures { page.new ≡ spec.summed page.old }
 {

@@ -24,8 +24,8 @@ use Rattle.desk_tables.specs.declared.closing.CheckpointError.{CheckpointError}
 use Rattle.desk_tables.specs.declared.opening.files.CopyFault.{CopyFault}
 use Rattle.desk_tables.specs.declared.opening.files.FilesFault.{FilesFault}
 use Rattle.desk_admin.specs.declared.unopened.OpenError.{OpenError}
-use Rattle.desk_admin.specs.FilesTold.{CopyEnd, FailsAtFiles, FailsBy, FailsToCopy, FailsToLook, FailsToRead, IsAsCopied, IsCopyMade, IsNamedIf, IsNamedNow, IsReadAs, IsUncopied, IsUntold, TellsHoldings}
-use Rattle.desk_host.specs.Telling.{Tells}
+use Rattle.desk_admin.specs.FilesReported.{CopyEnd, FailsAtFiles, FailsBy, FailsToCopy, FailsToLook, FailsToRead, IsAsCopied, IsCopyMade, IsNamedIf, IsNamedNow, IsReadAs, IsUncopied, IsUnreported, ReportsHoldings}
+use Rattle.desk_host.specs.Reporting.{Reports}
 use Rattle.desk_host.specs.Naming.{Follows, Step, Steps, Synced, free_steps, named_steps}
 use Rattle.desk_admin.specs.Unopened.{open_failure}
 use Rattle.desk_admin.specs.Stored.{IsStoredAs}
@@ -41,7 +41,7 @@ pub refused_fails : {D : Type 0} {g : disk.Ghosts D} (image : Image) (it : OpenE
 refused_fails image it refused failure same says =
     inr (fails_over (λ files. AreNotRead image files.fault files.connection) it refused failure same says)
 
--- what is not read in a file is not told of a database
+-- what is not read in a file is not reported of a database
 pub look_fails : {D V : Type 0} {g : disk.Ghosts D} (image : Image) (database : Database)
     (r : Result V (OpenError D g)) → IfErr r (FailsToRead image)
     → IfErr r (FailsToLook image database)
@@ -51,13 +51,13 @@ look_fails image database (Err it) fails = inr fails
 module _ {D : Type 0} {g : disk.Ghosts D} (image : Image) (database : Database)
     (it : OpenError D g)
   where
-    -- a failure is told after its cause, and nothing is printed
-    pub untold : (end : Ending) (between out : Option (List ℕ)) → FailsToLook image database it
-        → Tells (course end.before between) → FailsWith it.failure (record end { before = between })
-        → IsUntold image database end it (course out out)
-    untold end between out look cause fails = record {
+    -- a failure is reported after its cause, and nothing is printed
+    pub unreported : (end : Ending) (between out : Option (List ℕ)) → FailsToLook image database it
+        → Reports (course end.before between) → FailsWith it.failure (record end { before = between })
+        → IsUnreported image database end it (course out out)
+    unreported end between out look cause fails = record {
       look = look;
-      told = record { between = between; cause = cause; fails = fails };
+      reported = record { between = between; cause = cause; fails = fails };
       unprinted = refl;
     }
 
@@ -77,12 +77,12 @@ module _ {D E : Type 0} {g : disk.Ghosts D} {k : disk.Ghosts E} (image other : I
 
   pub uncopied : (database : Database) (steps : Steps) (end : Ending) (it : CopyEnd g k)
       (between out : Option (List ℕ)) → FailsToCopy {g = g} {k = k} image other database steps it
-      → Tells (course end.before between) → FailsWith it.failure (record end { before = between })
+      → Reports (course end.before between) → FailsWith it.failure (record end { before = between })
       → IsUncopied {g = g} {k = k} image other database
       (record { steps = steps; writes = course out out; end = end }) it
   uncopied database steps end it between out why cause fails = record {
     why = why;
-    told = record { between = between; cause = cause; fails = fails };
+    reported = record { between = between; cause = cause; fails = fails };
     unprinted = refl;
   }
 
@@ -110,15 +110,15 @@ module _ (old mid new : Option (List Step)) (to : List ℕ) (free : Follows (cou
     named_if (Ok v) named = follows_both old mid new (free_steps to) (named_steps to (Synced to)) free named
     named_if (Err e) unnamed = unnamed_after old mid new to free unnamed
 
--- what was read is told as it was counted
+-- what was read is reported as it was counted
 pub read_as : {D : Type 0} {g : disk.Ghosts D} (image : Image) (left : Held (FileStore D g))
     (file : CheckedFile) (holdings : DbStats) → file.is_old ≡ holdings.is_old
-    → ((w : World) → AreHoldingsOf holdings w → TellsHoldings file w)
+    → ((w : World) → AreHoldingsOf holdings w → ReportsHoldings file w)
     → ((w : World) × AreHoldingsOf holdings w × LooksIn image left holdings.is_old w)
     → IsReadAs image left file
 read_as {g = g} image left file holdings same counted found = record {
   w = found.0;
-  told = counted found.0 found.1;
+  reported = counted found.0 found.1;
   looks = subst (λ b. LooksIn {g = g} image left b found.0) (sym same) found.2;
 }
 

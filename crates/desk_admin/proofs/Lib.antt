@@ -1,3 +1,3 @@
 pub mod UnopenedLemmas
 mod KeepLemmas
-mod TwinLemmas
+mod ScratchLemmas

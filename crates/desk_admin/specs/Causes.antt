@@ -1,9 +1,9 @@
--- Causes: what an administrator is told of a file that can't be opened.
+-- Causes: what an administrator is reported of a file that can't be opened.
 use Rattle.std.specs.Prelude.{ℕ, List, codes, Option, None, Some}
 use Rattle.desk_tables.specs.declared.opening.naming.InvalidPart.{InvalidPart}
 use Rattle.desk_tables.specs.declared.opening.naming.InvalidPart.TheVariants as part
 
--- what is told of the part of a file that is that of no desk
+-- what is reported of the part of a file that is that of no desk
 abbrev pub part_text : InvalidPart → List ℕ
 part_text part.NoTable = codes "no table"
 part_text part.OtherTables = codes "other tables than a desk's"

@@ -1,8 +1,8 @@
--- Read first: Unopened, Causes, FilesTold, Twins, Reordering.
+-- Read first: Unopened, Causes, FilesReported, Scratch copies, Reordering.
 pub mod Unopened
 pub mod Causes
 pub mod AdminOutside
 pub mod Stored
-pub mod FilesTold
-pub mod Twins
+pub mod FilesReported
+pub mod ScratchCopies
 pub mod Reordering

@@ -1,4 +1,5 @@
--- Reordering: the file that a line opens is put in a desk's own order, once its twin was read as a desk's.
+-- Reordering: the file that a line opens is put in a desk's own order, once its scratch copy was read as a
+-- desk's.
 use Rattle.std.specs.Prelude.{◌≡◌, ⊤, Bool, true, false, List, ℕ, [], ◌∷◌, codes}
 use Rattle.std.specs.Prelude.{Option, None, Some, Result, Ok, Err}
 use Rattle.std.specs.Result.{IsErrAnd}
@@ -14,12 +15,12 @@ use Rattle.desk_program.specs.declared.looking.CheckedFile.{CheckedFile}
 use Rattle.desk_admin.specs.declared.unopened.OpenError.{OpenError}
 use Rattle.desk_host.specs.declared.ways.ReadMode.{ReadMode}
 use Rattle.desk_host.specs.declared.ways.ReadMode.TheVariants as way
-use Rattle.desk_admin.specs.FilesTold.{FailsToRead, IsReadAs}
-use Rattle.desk_host.specs.Telling.{IsWrittenIfRoom, Tells, line_of}
+use Rattle.desk_admin.specs.FilesReported.{FailsToRead, IsReadAs}
+use Rattle.desk_host.specs.Reporting.{IsWrittenIfRoom, Reports, line_of}
 use Rattle.desk_host.specs.Naming.{Failed, Follows, Ordered, Step, Steps}
-use Rattle.desk_host.specs.Scratch.{AreRemoved, IsUntwinned, making, twin_of}
+use Rattle.desk_host.specs.Scratch.{AreRemoved, IsUntwinned, making, scratch_of}
 
--- what is told of a file that is put in order
+-- what is reported of a file that is put in order
 abbrev pub reordered_text : List ℕ
 reordered_text = codes "its tables are put in a desk's own order"
 
@@ -28,13 +29,13 @@ abbrev pub IsOrderedOr : List ℕ → Result ⊤ ErrorCode → Steps → Type 0
 IsOrderedOr path (Ok done) steps = Follows steps (Ordered path ∷ [])
 IsOrderedOr path (Err f) steps = (f ≡ failure.Store) × Follows steps (Failed ∷ [])
 
--- so, if its twin was admitted; else nothing is asked of it, and this is the failure
+-- so, if its scratch copy was admitted; else nothing is asked of it, and this is the failure
 abbrev pub IsOrderedIf : List ℕ → Result ⊤ ErrorCode → Result ⊤ ErrorCode → Steps → Type 0
 IsOrderedIf path (Ok it) done steps = IsOrderedOr path done steps
 IsOrderedIf path (Err f) done steps = (done ≡ Err f) × (steps.after ≡ steps.before)
 
 module _ {D : Type 0} {g : disk.Ghosts D} (image : Image) (takes : Bool) where
-  -- a twin was read as a desk's that the line takes
+  -- a scratch copy was read as a desk's that the line takes
   pub record IsTaken (left : Held (FileStore D g)) : Type 0 where
     pub file : CheckedFile
     pub read : IsReadAs image left file
@@ -48,7 +49,7 @@ module _ {D : Type 0} {g : disk.Ghosts D} (image : Image) (takes : Bool) where
     pub old : file.is_old ≡ true
     pub failure : f ≡ failure.OldSchema
 
-  -- a twin is admitted, or not, by what it showed
+  -- a scratch copy is admitted, or not, by what it showed
   abbrev pub IsAdmitted :
       Result ⊤ ErrorCode → Result (Held (FileStore D g)) (OpenError D g) → Type 0
   IsAdmitted (Ok it) (Ok left) = IsTaken left
@@ -56,27 +57,27 @@ module _ {D : Type 0} {g : disk.Ghosts D} (image : Image) (takes : Bool) where
   IsAdmitted admitted (Err unread) = FailsToRead image unread × (admitted ≡ Err unread.failure)
 
 module _ {D : Type 0} {g : disk.Ghosts D} (image : Image) (path : List ℕ) (takes : Bool) where
-  -- a twin is admitted or not, and is removed; then the file is put in order, if it was
-  pub record IsOrderedByTwin (done : Result ⊤ ErrorCode)
+  -- a scratch copy is admitted or not, and is removed; then the file is put in order, if it was
+  pub record IsOrderedByScratch (done : Result ⊤ ErrorCode)
       (judged : Result (Held (FileStore D g)) (OpenError D g)) (steps : Steps) : Type 0 where
     pub admitted : Result ⊤ ErrorCode
     pub between : Option (List Step)
     pub is : IsAdmitted image takes admitted judged
-    pub removed : AreRemoved (twin_of path) (course steps.before between)
+    pub removed : AreRemoved (scratch_of path) (course steps.before between)
     pub ordered : IsOrderedIf path admitted done (course between steps.after)
 
   -- so, once it was made of the file
   pub record WasJudged (done : Result ⊤ ErrorCode)
       (judged : Result (Held (FileStore D g)) (OpenError D g)) (steps : Steps) : Type 0 where
     pub from : Option (List Step)
-    pub made : Follows (course steps.before from) (making path (twin_of path) true)
-    pub ordered : IsOrderedByTwin done judged (course from steps.after)
+    pub made : Follows (course steps.before from) (making path (scratch_of path) true)
+    pub ordered : IsOrderedByScratch done judged (course from steps.after)
 
-  -- what is done of a disordered file: so, or there is no twin
+  -- what is done of a disordered file: so, or there is no scratch copy
   abbrev pub IsReordered :
       Result ⊤ ErrorCode → Option (Result (Held (FileStore D g)) (OpenError D g)) → Steps → Type 0
   IsReordered done (Some judged) steps = WasJudged done judged steps
-  IsReordered done None steps = IsErrAnd done (λ f. IsLineBreakdown f × IsUntwinned (twin_of path) steps f)
+  IsReordered done None steps = IsErrAnd done (λ f. IsLineBreakdown f × IsUntwinned (scratch_of path) steps f)
 
   -- nothing is done of any other
   abbrev pub IsLeftAlone :
@@ -88,13 +89,13 @@ module _ {D : Type 0} {g : disk.Ghosts D} (image : Image) (path : List ℕ) (tak
   IsReorderedIf way.OtherOrder done judged steps = IsReordered done judged steps
   IsReorderedIf _ done judged steps = IsLeftAlone done judged steps
 
--- the line that tells that a file was put in order
+-- the line that reports that a file was put in order
 abbrev pub reordered_line : List ℕ → List ℕ
 reordered_line path = line_of path reordered_text
 
--- of a file that was put in order that is told, of one that is left nothing, and else why
-abbrev pub IsReorderTold :
+-- of a file that was put in order that is reported, of one that is left nothing, and else why
+abbrev pub IsReorderReported :
     {X : Type 0} → List ℕ → Result ⊤ ErrorCode → Option X → Course (Option (List ℕ)) → Type 0
-IsReorderTold path (Ok done) None writes = writes.after ≡ writes.before
-IsReorderTold path (Ok done) (Some judged) writes = IsWrittenIfRoom (reordered_line path) writes
-IsReorderTold path (Err f) judged writes = Tells writes
+IsReorderReported path (Ok done) None writes = writes.after ≡ writes.before
+IsReorderReported path (Ok done) (Some judged) writes = IsWrittenIfRoom (reordered_line path) writes
+IsReorderReported path (Err f) judged writes = Reports writes

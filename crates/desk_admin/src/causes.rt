@@ -1,69 +1,75 @@
-//! Why a file can't be opened, as far as that can be told afterwards: a line for the administrator. Clauses
-//! say that something is told, and not what.
+//! Why a file can't be opened, as far as that can be reported afterwards: a line for the administrator.
+//! Clauses say that something is reported, and not what.
 
 ghost use Rattle.std.specs.Prelude.{◌≡◌, IfErr, IfOk, None};
 ghost use Rattle.desk_program.specs.Outside.{bytes_written};
-ghost use Rattle.desk_host.specs.Telling.{Tells};
+ghost use Rattle.desk_host.specs.Reporting.{Reports};
 ghost use Rattle.desk_admin.specs.Causes as spec;
 
 use db_file::order_text;
 use desk_cli::{Database, ErrorCode};
-use desk_host::access::tell_store;
+use desk_host::access::report_store;
 use desk_host::probing::probe;
-use desk_host::telling::tell_of;
+use desk_host::reporting::report_of;
 use desk_host::ways::{ReadMode, read_mode};
 use desk_tables::{InvalidPart, Named, NotOpened, part_at};
 use sqlite::Unknown;
 use sqlite_disk::Disk;
 use std::io::Write;
 
-/// Tells why a database can't be opened by a line that makes its file where there is none.
-#[tactic(auto, using(desk_host::proofs::TellLemmas::tells_nothing))]
-pub fn tell_made<E: Write>(
+/// Reports why a database can't be opened by a line that makes its file where there is none.
+#[tactic(auto, using(desk_host::proofs::ReportLemmas::reports_nothing))]
+pub fn report_made<E: Write>(
     rt: &HostRuntime,
     database: &Database,
     failure: ErrorCode,
     errors: &mut E,
 )
-    ensures { Tells (bytes_written E.Write errors.old errors.new) }
+    ensures { Reports (bytes_written E.Write errors.old errors.new) }
 {
     match (database, failure) {
         (Database::File(path), ErrorCode::Store) => {
-            tell_store(rt, path, path, probe(rt, path, true), errors);
+            report_store(rt, path, path, probe(rt, path, true), errors);
         }
-        _ => tell_database(rt, database, failure, errors),
+        _ => report_database(rt, database, failure, errors),
     }
 }
 
-/// Tells why a database can't be opened, if it is in a file that has to be there.
-#[tactic(auto, using(desk_host::proofs::TellLemmas::tells_nothing))]
-pub fn tell_database<E: Write>(
+/// Reports why a database can't be opened, if it is in a file that has to be there.
+#[tactic(auto, using(desk_host::proofs::ReportLemmas::reports_nothing))]
+pub fn report_database<E: Write>(
     rt: &HostRuntime,
     database: &Database,
     failure: ErrorCode,
     errors: &mut E,
 )
-    ensures { Tells (bytes_written E.Write errors.old errors.new) }
+    ensures { Reports (bytes_written E.Write errors.old errors.new) }
 {
     match database {
-        Database::File(path) => tell(rt, path, path, failure, errors),
+        Database::File(path) => report_cause(rt, path, path, failure, errors),
         Database::InMemory => {}
     }
 }
 
-/// Tells why the file at a path can't be opened: `uss_desk: NAME: CAUSE`. A fault of the writer is passed
+/// Reports why the file at a path can't be opened: `uss_desk: NAME: CAUSE`. A fault of the writer is passed
 /// over.
-#[tactic(auto, using(desk_host::proofs::TellLemmas::tells_nothing))]
-pub fn tell<E: Write>(rt: &HostRuntime, path: &str, name: &str, failure: ErrorCode, errors: &mut E)
-    ensures { Tells (bytes_written E.Write errors.old errors.new) }
+#[tactic(auto, using(desk_host::proofs::ReportLemmas::reports_nothing))]
+pub fn report_cause<E: Write>(
+    rt: &HostRuntime,
+    path: &str,
+    name: &str,
+    failure: ErrorCode,
+    errors: &mut E,
+)
+    ensures { Reports (bytes_written E.Write errors.old errors.new) }
 {
     let cause = match failure {
-        ErrorCode::Store => return tell_store(rt, path, name, probe(rt, path, false), errors),
+        ErrorCode::Store => return report_store(rt, path, name, probe(rt, path, false), errors),
         ErrorCode::NotADesk => desk_cause(rt, path),
         ErrorCode::OldSchema => "rows of schema 1: migrate it",
         _ => return,
     };
-    tell_of(rt.alloc(), name, cause, errors);
+    report_of(rt.alloc(), name, cause, errors);
 }
 
 // Why a file holds no desk, if that is found once more.

@@ -8,25 +8,25 @@ ghost use Rattle.desk_store.specs.World.{World};
 ghost use Rattle.desk_program.specs.Looking.{IsTextPrinted, copied_line};
 ghost use Rattle.desk_program.specs.Outside.{bytes_written, ended};
 ghost use Rattle.desk_tables.specs.Copying.{AreHoldingsOf, AreNotCopied};
-ghost use Rattle.desk_admin.specs.FilesTold.{FailsAtFiles, FailsBy, FailsTelling, FailsToCopy, FailsToLook};
-ghost use Rattle.desk_admin.specs.FilesTold.{FailsToRead};
-ghost use Rattle.desk_admin.specs.FilesTold.{FailsUntried, IsChecked, IsCopied, IsCopyMade, IsNamedIf, IsReadAs};
-ghost use Rattle.desk_admin.specs.FilesTold.{IsAsCopied, IsNamedNow, TellsHoldings};
-ghost use Rattle.desk_host.specs.Telling.{Tells};
+ghost use Rattle.desk_admin.specs.FilesReported.{FailsAtFiles, FailsBy, FailsReporting, FailsToCopy, FailsToLook};
+ghost use Rattle.desk_admin.specs.FilesReported.{FailsToRead};
+ghost use Rattle.desk_admin.specs.FilesReported.{FailsUntried, IsChecked, IsCopied, IsCopyMade, IsNamedIf, IsReadAs};
+ghost use Rattle.desk_admin.specs.FilesReported.{IsAsCopied, IsNamedNow, ReportsHoldings};
+ghost use Rattle.desk_host.specs.Reporting.{Reports};
 ghost use Rattle.desk_admin.specs.Stored.{IsStoredAs, found_size};
 ghost use Rattle.desk_admin.specs.AdminOutside.{admin_outside};
 ghost use Rattle.desk_host.specs.Naming.{AreNames, ChangesOwn, Follows, GivesUp, HasFailedStep, IsNotFree};
 ghost use Rattle.desk_host.specs.Naming.{IsUnnamed, LeavesOthers, Synced, TakesAll, free_steps, named_steps};
 ghost use Rattle.desk_host.specs.FolderSteps.{steps_of};
 
-use crate::causes::{tell, tell_database};
-use crate::unopened::{OpenError, Unread, open_failure};
-use db_file::has_sums;
+use crate::causes::{report_cause, report_database};
+use crate::unopened::{FileOpenError, OpenError, open_failure};
+use db_file::has_checksums;
 use desk_cli::{CopyArgs, Database, ErrorCode, ExitReport, report_exit};
 use desk_host::files::{Found, HostFiles, LocalHost};
-use desk_host::naming::{Folder, NewFile, name_with, names_of, put_in_place};
+use desk_host::naming::{Folder, NewFile, name_with, names_of, publish};
+use desk_host::reporting::report_of;
 use desk_host::room::make_room;
-use desk_host::telling::tell_of;
 use desk_program::{CheckedFile, print_checked, print_copied};
 use desk_tables::{
     CheckpointError, Copied, CopyFault, DbStats, FilesFault, OpenFault, copy_from, look_at,
@@ -38,7 +38,7 @@ use std::io::{ErrorKind, Write};
 use std::snapshot::Snapshot;
 
 /// A connection with which a file was read, where `F` stands for what the file held.
-pub type Look<F> = Connection<FileStore<FileFrom<F>>>;
+pub type ReadConnection<F> = Connection<FileStore<FileFrom<F>>>;
 
 /// What was copied from files of a disk `D` to files of `N`: the connection to the first, the new files, and
 /// what they hold.
@@ -77,7 +77,7 @@ impl<D: Disk + Drop, N: Disk + Drop> CopyError<FilesFault<D>, FilesFault<N>, Che
 impl<D: Disk + Drop, N: Disk + Drop> From<AllocError>
     for CopyError<FilesFault<D>, FilesFault<N>, CheckpointError<N>> {
     ghost use Rattle.desk_cli.specs.declared.failure.ErrorCode.TheVariants.{Memory};
-    ghost use Rattle.desk_admin.specs.FilesTold.{FailsUntried};
+    ghost use Rattle.desk_admin.specs.FilesReported.{FailsUntried};
 
     ghost from_gives = { λ _ it. FailsUntried Memory it };
 
@@ -111,7 +111,7 @@ fn refused_copy<D: Disk + Drop, N: Disk + Drop>(refused: &CopyFault<D, N>) -> Co
 pub struct Writers<W: Drop, E: Drop> {
     /// What it prints to.
     pub output: W,
-    /// What it tells why it fails, and the word of that.
+    /// What it reports why it fails, and the word of that.
     pub errors: E,
 }
 
@@ -127,7 +127,7 @@ pub struct Starts<F: Drop, N: Drop> {
 // What is known of a file beside what it holds.
 #[derive(Clone, Copy)]
 struct FileStats {
-    has_sums: bool,
+    has_checksums: bool,
     size: u64,
     log: u64,
 }
@@ -140,7 +140,7 @@ pub fn check_file<F: Start, W: Write + Drop, E: Write + Drop>(
     database: &Database,
     start: F,
     writers: &mut Writers<W, E>,
-) -> (ExitReport<E>, Result<Look<F>, Unread<F>>)
+) -> (ExitReport<E>, Result<ReadConnection<F>, FileOpenError<F>>)
     ensures { IsChecked (image_at F.Start) database.now
         (ended E.Write result.0 writers.old.errors writers.new.errors) result.1
         (bytes_written W.Write writers.old.output writers.new.output) }
@@ -151,7 +151,7 @@ pub fn check_file<F: Start, W: Write + Drop, E: Write + Drop>(
             (exit, Ok(connection))
         }
         Err(unread) => {
-            let exit = tell_unread(rt, database, unread.failure, &mut writers.errors);
+            let exit = report_unread(rt, database, unread.failure, &mut writers.errors);
             (exit, Err(unread))
         }
     }
@@ -170,16 +170,16 @@ pub fn status_checked<D: Disk + Drop, E>(
     exit.status
 }
 
-// Tells why a database can't be read, and the word of the failure.
-fn tell_unread<E: Write>(
+// Reports why a database can't be read, and the word of the failure.
+fn report_unread<E: Write>(
     rt: &HostRuntime,
     database: &Database,
     failure: ErrorCode,
     errors: &mut E,
 ) -> ExitReport<E>
-    ensures { FailsTelling failure (ended E.Write result errors.old errors.new) }
+    ensures { FailsReporting failure (ended E.Write result errors.old errors.new) }
 {
-    tell_database(rt, database, failure, errors);
+    report_database(rt, database, failure, errors);
     report_exit(errors, Err(failure))
 }
 
@@ -189,7 +189,7 @@ fn look_for<F: Start>(
     rt: &HostRuntime,
     database: &Database,
     start: F,
-) -> Result<(Look<F>, CheckedFile), Unread<F>>
+) -> Result<(ReadConnection<F>, CheckedFile), FileOpenError<F>>
     ensures looks { IfOk result (λ found. IsReadAs (image_at F.Start) found.0 found.1) }
     ensures fault { IfErr result (FailsToLook (image_at F.Start) database.now) }
 {
@@ -209,26 +209,27 @@ pub fn look_in<F: Start>(
     rt: &HostRuntime,
     path: &str,
     start: F,
-) -> Result<(Look<F>, CheckedFile), Unread<F>>
+) -> Result<(ReadConnection<F>, CheckedFile), FileOpenError<F>>
     ensures looks { IfOk result (λ found. IsReadAs (image_at F.Start) found.0 found.1) }
     ensures fault { IfErr result (FailsToRead (image_at F.Start)) }
 {
     let bulk = bulk_of(rt, path)?;
     match look_at(rt, path, start) {
-        Ok((connection, holdings)) => Ok((connection, told_of(&holdings, bulk))),
+        Ok((connection, holdings)) => Ok((connection, reported_of(&holdings, bulk))),
         Err(refused) => Err(OpenError::of(refused)),
     }
 }
 
-// What is told of a file.
-fn told_of(holdings: &DbStats, bulk: FileStats) -> CheckedFile
-    ensures counted { (w : World) → AreHoldingsOf holdings.now w → TellsHoldings result w }
+// What is reported of a file.
+fn reported_of(holdings: &DbStats, bulk: FileStats) -> CheckedFile
+    ensures counted { (w : World) → AreHoldingsOf holdings.now w → ReportsHoldings result w }
     ensures schema { result.is_old ≡ holdings.now.is_old }
-    ensures bulk { (result.has_sums ≡ bulk.has_sums) × (result.size ≡ bulk.size) × (result.log ≡ bulk.log) }
+    ensures bulk { (result.has_checksums ≡ bulk.has_checksums) × (result.size ≡ bulk.size)
+        × (result.log ≡ bulk.log) }
 {
     CheckedFile {
         is_old: holdings.is_old,
-        has_sums: bulk.has_sums,
+        has_checksums: bulk.has_checksums,
         operators: holdings.operators,
         plans: holdings.plans,
         live: holdings.live,
@@ -244,18 +245,18 @@ fn told_of(holdings: &DbStats, bulk: FileStats) -> CheckedFile
 // called while no connection has it: that this closes the file would take the connection's lock away.
 fn bulk_of(rt: &HostRuntime, path: &str) -> Result<FileStats, AllocError> {
     let log = name_with(rt.alloc(), path, "-wal")?;
-    let has_sums = has_sums(rt, path);
-    Ok(bulk_at(&LocalHost::new(rt), path, &log, has_sums))
+    let has_checksums = has_checksums(rt, path);
+    Ok(bulk_at(&LocalHost::new(rt), path, &log, has_checksums))
 }
 
 // The same, of the files of any machine, if it is known whether its pages have sums.
-fn bulk_at<F: HostFiles>(files: &F, path: &str, log: &str, has_sums: bool) -> FileStats
-    ensures sums { result.has_sums ≡ has_sums }
+fn bulk_at<F: HostFiles>(files: &F, path: &str, log: &str, has_checksums: bool) -> FileStats
+    ensures sums { result.has_checksums ≡ has_checksums }
     ensures sizes { IfSome (F.answers files.now) (λ it. (result.size ≡ found_size (it.found path.now))
         × (result.log ≡ found_size (it.found log.now))) }
 {
     FileStats {
-        has_sums,
+        has_checksums,
         size: size_of(files.find(path)),
         log: size_of(files.find(log)),
     }
@@ -273,14 +274,14 @@ fn size_of(found: Result<Found, ErrorKind>) -> u64
 
 /// Copies what a database holds to a new file, prints how much it is, and answers how that ended and the
 /// connection to the first with the new files, or why nothing is copied. The first is left as it is. Why, and
-/// the word of the failure, go to `errors`; a fault there is passed over. If there is a `twin`, the file is
-/// read at that path, and told of as itself.
+/// the word of the failure, go to `errors`; a fault there is passed over. If there is a `scratch copy`, the
+/// file is read at that path, and reported of as itself.
 #[tactic(auto, using(crate::proofs::KeepLemmas::uncopied))]
 pub fn copy_file<F: Start, N: Start, P: Folder, W: Write + Drop, E: Write + Drop>(
     rt: &HostRuntime,
     folder: &mut P,
     words: &CopyArgs,
-    twin: Option<&str>,
+    scratch: Option<&str>,
     starts: Starts<F, N>,
     writers: &mut Writers<W, E>,
 ) -> (
@@ -292,7 +293,7 @@ pub fn copy_file<F: Start, N: Start, P: Folder, W: Write + Drop, E: Write + Drop
     ensures named { IsNamedIf result.1 (string_bytes words.now.to) (steps_of P.Folder folder.old folder.new) }
     ensures own { LeavesOthers (string_bytes words.now.to) (steps_of P.Folder folder.old folder.new) }
 {
-    match copy_for(rt, folder, words, twin, starts, &mut writers.errors) {
+    match copy_for(rt, folder, words, scratch, starts, &mut writers.errors) {
         Ok(copies) => {
             let exit = print_holdings(
                 rt.alloc(),
@@ -339,7 +340,7 @@ fn copy_for<F: Start, N: Start, P: Folder, E: Write>(
     rt: &HostRuntime,
     folder: &mut P,
     words: &CopyArgs,
-    twin: Option<&str>,
+    scratch: Option<&str>,
     starts: Starts<F, N>,
     errors: &mut E,
 ) -> Result<Copies<FileFrom<F>, FileFrom<N>>, CopyEnd<FileFrom<F>, FileFrom<N>>>
@@ -348,7 +349,7 @@ fn copy_for<F: Start, N: Start, P: Folder, E: Write>(
     ensures fault { IfErr result (FailsToCopy (image_at F.Start) (image_at N.Start) words.now.database
         (steps_of P.Folder folder.old folder.new)) }
     ensures quiet { OnOk result (E.contents errors.new ≡ E.contents errors.old) }
-    ensures told { Tells (bytes_written E.Write errors.old errors.new) }
+    ensures reported { Reports (bytes_written E.Write errors.old errors.new) }
     ensures named { IsNamedIf result (string_bytes words.now.to) (steps_of P.Folder folder.old folder.new) }
     ensures own { LeavesOthers (string_bytes words.now.to) (steps_of P.Folder folder.old folder.new) }
 {
@@ -356,40 +357,40 @@ fn copy_for<F: Start, N: Start, P: Folder, E: Write>(
         return Err(CopyError::untried(ErrorCode::Store));
     };
     let names = names_of(rt.alloc(), &words.to)?;
-    if let Err(failure) = make_room_or_tell(rt.alloc(), folder, path, &names, errors) {
+    if let Err(failure) = make_room_or_report(rt.alloc(), folder, path, &names, errors) {
         return Err(CopyError::untried(failure));
     }
-    let source = Source::of(path, twin);
+    let source = CopySource::of(path, scratch);
     let copied = copy_closed(rt, source.path, &names.part, starts);
     keep_copy(rt, folder, source, &names, copied, errors)
 }
 
-// A file that is copied: how it is told of, and where it is read.
+// A file that is copied: how it is reported of, and where it is read.
 #[derive(Clone, Copy)]
-struct Source<'s> {
+struct CopySource<'s> {
     name: &'s str,
     path: &'s str,
 }
 
-impl<'s> Source<'s> {
-    // The file at a path, or its twin, if it has one.
-    fn of(path: &'s str, twin: Option<&'s str>) -> Source<'s>
+impl<'s> CopySource<'s> {
+    // The file at a path, or its scratch copy, if it has one.
+    fn of(path: &'s str, scratch: Option<&'s str>) -> CopySource<'s>
         ensures name { result.name.now ≡ path.now }
-        ensures path { result.path.now ≡ unwrap_or (option_copied twin.entry) path.now }
+        ensures path { result.path.now ≡ unwrap_or (option_copied scratch.entry) path.now }
     {
-        Source {
+        CopySource {
             name: path,
-            path: twin.unwrap_or(path),
+            path: scratch.unwrap_or(path),
         }
     }
 }
 
 // Gives new files their names, if they were made, or removes what was made, on whatever disks the files are.
-// Why they were not made, or have no names, is told.
+// Why they were not made, or have no names, is reported.
 fn keep_copy<D: Disk + Drop, N: Disk + Drop, P: Folder, E: Write>(
     rt: &HostRuntime,
     folder: &mut P,
-    source: Source<'_>,
+    source: CopySource<'_>,
     names: &NewFile,
     copied: Result<Copies<D, N>, CopyEnd<D, N>>,
     errors: &mut E,
@@ -397,7 +398,7 @@ fn keep_copy<D: Disk + Drop, N: Disk + Drop, P: Folder, E: Write>(
     ensures made { IfOk result (λ it. copied ≡ Ok it) }
     ensures fault { IfErr result (IsAsCopied copied (steps_of P.Folder folder.old folder.new)) }
     ensures quiet { OnOk result (E.contents errors.new ≡ E.contents errors.old) }
-    ensures told { Tells (bytes_written E.Write errors.old errors.new) }
+    ensures reported { Reports (bytes_written E.Write errors.old errors.new) }
     ensures named { (to : List ℕ) → AreNames to names.now
         → IsNamedNow result to (steps_of P.Folder folder.old folder.new) }
     ensures own { (to : List ℕ) → AreNames to names.now
@@ -416,8 +417,8 @@ fn keep_copy<D: Disk + Drop, N: Disk + Drop, P: Folder, E: Write>(
     Ok(copies)
 }
 
-// Gives a new file that is whole its name, or tells that it can't be given it.
-#[tactic(auto, using(desk_host::proofs::TellLemmas::tells_nothing))]
+// Gives a new file that is whole its name, or reports that it can't be given it.
+#[tactic(auto, using(desk_host::proofs::ReportLemmas::reports_nothing))]
 fn publish_copy<P: Folder, E: Write>(
     alloc: Global,
     folder: &mut P,
@@ -425,7 +426,7 @@ fn publish_copy<P: Folder, E: Write>(
     errors: &mut E,
 ) -> Result<(), ErrorCode>
     ensures quiet { OnOk result (E.contents errors.new ≡ E.contents errors.old) }
-    ensures told { Tells (bytes_written E.Write errors.old errors.new) }
+    ensures reported { Reports (bytes_written E.Write errors.old errors.new) }
     ensures named { (to : List ℕ) → AreNames to names.now
         → OnOk result (Follows (steps_of P.Folder folder.old folder.new) (named_steps to (Synced to))) }
     ensures unnamed { (to : List ℕ) → AreNames to names.now
@@ -435,11 +436,11 @@ fn publish_copy<P: Folder, E: Write>(
     ensures failed { IfErr result (λ f. (f ≡ ErrorCode.Store)
         × HasFailedStep (steps_of P.Folder folder.old folder.new)) }
 {
-    if put_in_place(folder, names) {
+    if publish(folder, names) {
         return Ok(());
     }
     let cause = "it can't be given its name, or its folder can't be synced";
-    tell_of(alloc, &names.to, cause, errors);
+    report_of(alloc, &names.to, cause, errors);
     Err(ErrorCode::Store)
 }
 
@@ -494,10 +495,10 @@ fn close_copy<D: Disk + Drop, N: Disk + Drop>(
     }
 }
 
-// Makes room for a new file, or tells what stands in the way. Nothing of what is copied (`source`) is
+// Makes room for a new file, or reports what stands in the way. Nothing of what is copied (`source`) is
 // removed.
-#[tactic(auto, using(desk_host::proofs::TellLemmas::tells_nothing))]
-fn make_room_or_tell<P: Folder, E: Write>(
+#[tactic(auto, using(desk_host::proofs::ReportLemmas::reports_nothing))]
+fn make_room_or_report<P: Folder, E: Write>(
     alloc: Global,
     folder: &mut P,
     source: &str,
@@ -505,7 +506,7 @@ fn make_room_or_tell<P: Folder, E: Write>(
     errors: &mut E,
 ) -> Result<(), ErrorCode>
     ensures quiet { OnOk result (E.contents errors.new ≡ E.contents errors.old) }
-    ensures told { Tells (bytes_written E.Write errors.old errors.new) }
+    ensures reported { Reports (bytes_written E.Write errors.old errors.new) }
     ensures free { (to : List ℕ) → AreNames to names.now
         → OnOk result (Follows (steps_of P.Folder folder.old folder.new) (free_steps to)) }
     ensures refused { (to : List ℕ) → AreNames to names.now
@@ -515,33 +516,33 @@ fn make_room_or_tell<P: Folder, E: Write>(
     match make_room(folder, source, names) {
         Ok(()) => Ok(()),
         Err(taken) => {
-            tell_of(alloc, taken.path, taken.cause, errors);
+            report_of(alloc, taken.path, taken.cause, errors);
             Err(ErrorCode::Store)
         }
     }
 }
 
-// Tells why nothing is copied, and removes what was made.
-#[tactic(auto, using(desk_host::proofs::TellLemmas::tells_nothing))]
+// Reports why nothing is copied, and removes what was made.
+#[tactic(auto, using(desk_host::proofs::ReportLemmas::reports_nothing))]
 fn give_up<P: Folder, E: Write>(
     rt: &HostRuntime,
     folder: &mut P,
-    source: Source<'_>,
+    source: CopySource<'_>,
     names: &NewFile,
     failure: ErrorCode,
     errors: &mut E,
 )
-    ensures told { Tells (bytes_written E.Write errors.old errors.new) }
+    ensures reported { Reports (bytes_written E.Write errors.old errors.new) }
     ensures gone { (to : List ℕ) → AreNames to names.now
         → GivesUp to (steps_of P.Folder folder.old folder.new) }
 {
     if folder.is_free(&names.part) {
-        tell(rt, source.path, source.name, failure, errors);
+        report_cause(rt, source.path, source.name, failure, errors);
         return;
     }
     if let ErrorCode::Store = failure {
         let cause = "it can't be written: a full disk, or one that fails";
-        tell_of(rt.alloc(), &names.to, cause, errors);
+        report_of(rt.alloc(), &names.to, cause, errors);
     }
     folder.remove(&names.part);
     folder.remove(&names.part_log);

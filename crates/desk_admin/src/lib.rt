@@ -5,5 +5,5 @@
 pub mod causes;
 pub mod keeping;
 pub mod reordering;
-pub mod twins;
+pub mod scratch_copies;
 pub mod unopened;

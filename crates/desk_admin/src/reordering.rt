@@ -1,35 +1,35 @@
-//! The file that a line opens, put in order before that if its tables stand in another, once a twin of it was
-//! read as a desk's.
+//! The file that a line opens, put in order before that if its tables stand in another, once a scratch copy
+//! of it was read as a desk's.
 
 ghost use Rattle.std.specs.Prelude.{◌≡◌, IfErr, IfOk, OnErr, OnOk, false, true};
 ghost use Rattle.sqlite_wal.specs.Files.{image_at};
 ghost use Rattle.sqlite_wal.specs.Recovery.{Image};
 ghost use Rattle.desk_program.specs.Outside.{bytes_written};
-ghost use Rattle.desk_admin.specs.FilesTold.{FailsToRead, IsReadAs};
+ghost use Rattle.desk_admin.specs.FilesReported.{FailsToRead, IsReadAs};
 ghost use Rattle.desk_host.specs.FolderSteps.{steps_of};
 ghost use Rattle.desk_admin.specs.Reordering as spec;
-ghost use Rattle.desk_admin.specs.Reordering.{IsAdmitted, IsOrderedByTwin, IsOrderedOr, IsReorderTold, IsReordered};
+ghost use Rattle.desk_admin.specs.Reordering.{IsAdmitted, IsOrderedByScratch, IsOrderedOr, IsReorderReported, IsReordered};
 ghost use Rattle.desk_admin.specs.Reordering.{IsReorderedIf};
 ghost use Rattle.desk_host.specs.Scratch.{AreTwins};
-ghost use Rattle.desk_host.specs.Telling.{IsWrittenIfRoom, Tells};
+ghost use Rattle.desk_host.specs.Reporting.{IsWrittenIfRoom, Reports};
 
-use crate::causes::tell;
+use crate::causes::report_cause;
 use crate::keeping::look_in;
-use crate::twins::{Found, Judged};
+use crate::scratch_copies::{CheckResult, Judged};
 use db_file::has_other_order;
 use desk_cli::{Database, ErrorCode};
 use desk_host::access::access_cause;
 use desk_host::files::LocalHost;
 use desk_host::naming::Folder;
-use desk_host::scratch::{ScratchCopy, make_twin, remove_twin};
-use desk_host::telling::tell_of;
+use desk_host::reporting::report_of;
+use desk_host::scratch::{ScratchCopy, make_scratch, remove_scratch};
 use desk_host::ways::{ReadMode, read_mode};
 use sqlite::{FileFrom, Start, Unknown};
 use sqlite_disk::Disk;
 use std::alloc::Global;
 use std::io::Write;
 
-// What is told of a file that can't be put in order, though it can be had.
+// What is reported of a file that can't be put in order, though it can be had.
 const UNWRITTEN: &str = "it can't be written: a full disk, or one that fails";
 
 /// A file that a line is about to open.
@@ -43,12 +43,12 @@ pub struct ReorderTarget<'p> {
     pub takes_old: bool,
 }
 
-/// Puts the file of a database in order, if its tables stand in another, and tells that. A file of schema 1
+/// Puts the file of a database in order, if its tables stand in another, and reports that. A file of schema 1
 /// is taken, or not (`takes_old`). Of files nothing is known.
 ///
 /// # Errors
 ///
-/// Why it can't be put in order, which is told.
+/// Why it can't be put in order, which is reported.
 pub fn reorder_for(
     rt: &HostRuntime,
     database: &Database,
@@ -69,7 +69,7 @@ pub fn reorder_for(
     done_of(reorder(rt, &mut folder, file, Unknown, &mut rt.stderr()))
 }
 
-/// What came of it. The twin that was read, on whatever disk it is, is closed.
+/// What came of it. The scratch copy that was read, on whatever disk it is, is closed.
 pub fn done_of<D: Disk + Drop>(
     reordered: (Result<(), ErrorCode>, Option<Judged<D>>),
 ) -> Result<(), ErrorCode>
@@ -79,10 +79,10 @@ pub fn done_of<D: Disk + Drop>(
     done
 }
 
-/// Puts a file in order, if its tables stand in another: a twin that lists them in a desk's own is made, read
-/// and removed, and if it is a desk's that the line takes, the file is put in the same order.
-/// That the file was put in order goes to `errors`, or why not; a fault there is passed over. Answered with
-/// it is the connection to the twin, or why that can't be read; nothing if there was no twin.
+/// Puts a file in order, if its tables stand in another: a scratch copy that lists them in a desk's own is
+/// made, read and removed, and if it is a desk's that the line takes, the file is put in the same order. That
+/// the file was put in order goes to `errors`, or why not; a fault there is passed over. Answered with it is
+/// the connection to the scratch copy, or why that can't be read; nothing if there was no scratch copy.
 ///
 /// # Errors
 ///
@@ -96,17 +96,17 @@ pub fn reorder<F: Start, P: Folder, E: Write>(
 ) -> (Result<(), ErrorCode>, Option<Judged<FileFrom<F>>>)
     ensures reordered { IsReorderedIf (image_at F.Start) file.entry.path.now file.entry.takes_old
         file.entry.way result.0 result.1 (steps_of P.Folder folder.old folder.new) }
-    ensures told { IsReorderTold file.entry.path.now result.0 result.1
+    ensures reported { IsReorderReported file.entry.path.now result.0 result.1
         (bytes_written E.Write errors.old errors.new) }
 {
     match file.way {
-        ReadMode::OtherOrder => reorder_by_twin(rt, folder, file, start, errors),
+        ReadMode::OtherOrder => reorder_by_scratch(rt, folder, file, start, errors),
         ReadMode::Itself | ReadMode::Damaged | ReadMode::BadChecksums(_) => (Ok(()), None),
     }
 }
 
-// Makes the twin of a file that is disordered, and puts the file in order by what that shows.
-fn reorder_by_twin<F: Start, P: Folder, E: Write>(
+// Makes the scratch copy of a file that is disordered, and puts the file in order by what that shows.
+fn reorder_by_scratch<F: Start, P: Folder, E: Write>(
     rt: &HostRuntime,
     folder: &mut P,
     file: ReorderTarget<'_>,
@@ -115,74 +115,74 @@ fn reorder_by_twin<F: Start, P: Folder, E: Write>(
 ) -> (Result<(), ErrorCode>, Option<Judged<FileFrom<F>>>)
     ensures reordered { IsReordered (image_at F.Start) file.entry.path.now file.entry.takes_old
         result.0 result.1 (steps_of P.Folder folder.old folder.new) }
-    ensures told { IsReorderTold file.entry.path.now result.0 result.1
+    ensures reported { IsReorderReported file.entry.path.now result.0 result.1
         (bytes_written E.Write errors.old errors.new) }
 {
-    let twin = match make_twin(rt.alloc(), folder, file.path, file.path, true, errors) {
-        Ok(twin) => twin,
+    let scratch = match make_scratch(rt.alloc(), folder, file.path, file.path, true, errors) {
+        Ok(scratch) => scratch,
         Err(failure) => return (Err(failure), None),
     };
-    let found = look_in(rt, &twin.path, start);
-    let (done, judged) = order_by_twin(rt, folder, file, &twin, found, errors);
+    let found = look_in(rt, &scratch.path, start);
+    let (done, judged) = order_by_scratch(rt, folder, file, &scratch, found, errors);
     (done, Some(judged))
 }
 
-// Removes the twin of a file, and puts the file in order, if the twin was read as a desk's that the line
-// takes.
-fn order_by_twin<D: Disk + Drop, P: Folder, E: Write>(
+// Removes the scratch copy of a file, and puts the file in order, if the scratch copy was read as a desk's
+// that the line takes.
+fn order_by_scratch<D: Disk + Drop, P: Folder, E: Write>(
     rt: &HostRuntime,
     folder: &mut P,
     file: ReorderTarget<'_>,
-    twin: &ScratchCopy,
-    found: Found<D>,
+    scratch: &ScratchCopy,
+    found: CheckResult<D>,
     errors: &mut E,
 ) -> (Result<(), ErrorCode>, Judged<D>)
     ensures ordered { (image : Image) → IfOk found (λ it. IsReadAs image it.0 it.1)
-        → IfErr found (FailsToRead image) → AreTwins file.entry.path.now twin.now
-        → IsOrderedByTwin image file.entry.path.now file.entry.takes_old result.0 result.1
+        → IfErr found (FailsToRead image) → AreTwins file.entry.path.now scratch.now
+        → IsOrderedByScratch image file.entry.path.now file.entry.takes_old result.0 result.1
         (steps_of P.Folder folder.old folder.new) }
     ensures noted { OnOk result.0 (IsWrittenIfRoom (spec.reordered_line file.entry.path.now)
         (bytes_written E.Write errors.old errors.new)) }
-    ensures told { OnErr result.0 (Tells (bytes_written E.Write errors.old errors.new)) }
+    ensures reported { OnErr result.0 (Reports (bytes_written E.Write errors.old errors.new)) }
 {
-    let (admitted, judged) = judge(rt, file, &twin.path, found, errors);
-    remove_twin(folder, twin);
+    let (admitted, judged) = judge(rt, file, &scratch.path, found, errors);
+    remove_scratch(folder, scratch);
     match admitted {
         Ok(()) => (order(rt, folder, file.path, errors), judged),
         Err(failure) => (Err(failure), judged),
     }
 }
 
-// Whether the twin of a file, at another path, was read as a desk's that the line takes; or tells why not.
-// The twin is still there.
+// Whether the scratch copy of a file, at another path, was read as a desk's that the line takes; or reports
+// why not. The scratch copy is still there.
 fn judge<D: Disk + Drop, E: Write>(
     rt: &HostRuntime,
     file: ReorderTarget<'_>,
-    twin: &str,
-    found: Found<D>,
+    scratch: &str,
+    found: CheckResult<D>,
     errors: &mut E,
 ) -> (Result<(), ErrorCode>, Judged<D>)
     ensures admitted { (image : Image) → IfOk found (λ it. IsReadAs image it.0 it.1)
         → IfErr found (FailsToRead image) → IsAdmitted image file.entry.takes_old result.0 result.1 }
     ensures quiet { OnOk result.0 (E.contents errors.new ≡ E.contents errors.old) }
-    ensures told { OnErr result.0 (Tells (bytes_written E.Write errors.old errors.new)) }
+    ensures reported { OnErr result.0 (Reports (bytes_written E.Write errors.old errors.new)) }
 {
     match found {
         Ok((connection, read)) => {
             if is_too_old(file.takes_old, read.is_old) {
-                tell(rt, twin, file.path, ErrorCode::OldSchema, errors);
+                report_cause(rt, scratch, file.path, ErrorCode::OldSchema, errors);
                 return (Err(ErrorCode::OldSchema), Ok(connection));
             }
             (Ok(()), Ok(connection))
         }
         Err(unread) => {
-            tell(rt, twin, file.path, unread.failure, errors);
+            report_cause(rt, scratch, file.path, unread.failure, errors);
             (Err(unread.failure), Err(unread))
         }
     }
 }
 
-// Puts a file in order, and tells that; or tells why not.
+// Puts a file in order, and reports that; or reports why not.
 fn order<P: Folder, E: Write>(
     rt: &HostRuntime,
     folder: &mut P,
@@ -192,14 +192,14 @@ fn order<P: Folder, E: Write>(
     ensures ordered { IsOrderedOr path.now result (steps_of P.Folder folder.old folder.new) }
     ensures noted { OnOk result (IsWrittenIfRoom (spec.reordered_line path.now)
         (bytes_written E.Write errors.old errors.new)) }
-    ensures told { OnErr result (Tells (bytes_written E.Write errors.old errors.new)) }
+    ensures reported { OnErr result (Reports (bytes_written E.Write errors.old errors.new)) }
 {
     if !folder.order(path) {
         let cause = access_cause(rt, path).unwrap_or(UNWRITTEN);
-        tell_of(rt.alloc(), path, cause, errors);
+        report_of(rt.alloc(), path, cause, errors);
         return Err(ErrorCode::Store);
     }
-    tell_reordered(rt.alloc(), path, errors);
+    report_reordered(rt.alloc(), path, errors);
     Ok(())
 }
 
@@ -214,14 +214,14 @@ fn is_too_old(takes_old: bool, is_old: bool) -> bool
     is_old
 }
 
-// Tells that a file was put in order. A fault of the writer is passed over, and so is want of memory.
-fn tell_reordered<E: Write>(alloc: Global, path: &str, errors: &mut E)
+// Reports that a file was put in order. A fault of the writer is passed over, and so is want of memory.
+fn report_reordered<E: Write>(alloc: Global, path: &str, errors: &mut E)
     ensures { IsWrittenIfRoom (spec.reordered_line path.now) (bytes_written E.Write errors.old errors.new) }
 {
-    tell_of(alloc, path, reordered_text(), errors);
+    report_of(alloc, path, reordered_text(), errors);
 }
 
-// What is told of a file that was put in order.
+// What is reported of a file that was put in order.
 fn reordered_text() -> &'static str
     ensures { result.now ≡ spec.reordered_text }
 {

@@ -58,7 +58,7 @@ impl<D: Disk + Drop> From<AllocError> for OpenError<D> {
 }
 
 /// Why files were not opened, where `F` stands for what they held.
-pub type Unread<F> = OpenError<FileFrom<F>>;
+pub type FileOpenError<F> = OpenError<FileFrom<F>>;
 
 /// What was opened over files, on whatever disk they are, or the failure alone.
 pub fn or_failure<D: Disk + Drop, T>(opened: Result<T, OpenError<D>>) -> Result<T, ErrorCode>

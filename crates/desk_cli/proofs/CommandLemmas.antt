@@ -8,8 +8,8 @@ use Rattle.desk_cli.specs.Forms.{of_kind, rule_of_row, shape_of_form}
 use Rattle.desk_cli.specs.Grammar.{bare_program, line_shape, program, with_lines}
 use Rattle.desk_cli.specs.declared.command.Form.{Form}
 use Rattle.desk_cli.specs.declared.command.ArgRow.{ArgRow}
-use Rattle.desk_cli.specs.declared.command.Kind.{Kind}
-use Rattle.desk_cli.specs.declared.command.Kind.TheVariants as kind
+use Rattle.desk_cli.specs.declared.command.ArgKind.{ArgKind}
+use Rattle.desk_cli.specs.declared.command.ArgKind.TheVariants as kind
 
 pub second : (a b : Bool) → (a && b) ≡ true → b ≡ true
 second true b h = h
@@ -36,7 +36,7 @@ simple_local a b c d e f g h i x is =
     (second c _ (second b _ (second a _ is)))))))))
 
 -- an argument of any kind is as simple as a bare one
-pub simple_kind : (k : Kind) (r : Rule) → r.is_simple ≡ true → (of_kind k r).is_simple ≡ true
+pub simple_kind : (k : ArgKind) (r : Rule) → r.is_simple ≡ true → (of_kind k r).is_simple ≡ true
 simple_kind kind.Text r is = is
 simple_kind kind.Texts r is = is
 simple_kind (kind.Number least most) r is = is

@@ -82,7 +82,7 @@ pub untaken : {A : Type 0} (words : List Text) (app : App) (done : Result A Word
     → IsErrAnd done (λ f. (f ≡ fault.OutOfMemory)
     ⊎ ((f ≡ fault.Words e) × (kind_of e ≢ kind.OutOfMemory)))
     → (takes app words ≡ true → kind_of e ≡ kind.OutOfMemory) → IfErr done (IsUntaken words)
-untaken words app (Ok value) e same told passes = tt
+untaken words app (Ok value) e same reported passes = tt
 untaken words app (Err f) e same (inl is) passes = subst (IsUntaken words) (sym is) tt
 untaken words app (Err f) e same (inr other) passes = subst (IsUntaken words) (sym other.0) (
   λ taken. other.1 (passes (subst (λ a. takes a words ≡ true) (sym same) taken)),

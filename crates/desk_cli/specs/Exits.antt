@@ -75,7 +75,7 @@ failure_word failure.DamagedLog = codes "damaged_log"
 failure_word failure.NoRecord = codes "no_record"
 failure_word failure.Differs = codes "differs"
 
--- the line that tells a failure
+-- the line that reports a failure
 abbrev pub failure_line : ErrorCode → List ℕ
 failure_line f = (codes "uss_desk: " ++ failure_word f) ++ codes "\n"
 
@@ -106,7 +106,7 @@ IsConcluded (Err f) cut out now = HasWritten cut (failure_line f) out now
 abbrev pub EndsWith : {A : Type 0} → Result A ErrorCode → Ending → Type 0
 EndsWith done end = (end.status ≡ exit_status done) × IsConcluded done end.cut end.before end.now
 
--- nothing is told of how a line ended
+-- nothing is reported of how a line ended
 abbrev pub IsSilent : Ending → Type 0
 IsSilent end = (end.cut ≡ false) × (end.now ≡ end.before)
 

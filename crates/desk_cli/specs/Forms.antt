@@ -8,11 +8,11 @@ use Rattle.clap.specs.declared.builder.value_parser.ValueParser.TheVariants.{Sig
 use Rattle.desk_cli.specs.Grammar.{line_shape}
 use Rattle.desk_cli.specs.declared.command.ArgRow.{ArgRow}
 use Rattle.desk_cli.specs.declared.command.Form.{Form}
-use Rattle.desk_cli.specs.declared.command.Kind.{Kind}
-use Rattle.desk_cli.specs.declared.command.Kind.TheVariants as kind
+use Rattle.desk_cli.specs.declared.command.ArgKind.{ArgKind}
+use Rattle.desk_cli.specs.declared.command.ArgKind.TheVariants as kind
 
 -- a rule whose values are of a kind
-abbrev pub of_kind : Kind → Rule → Rule
+abbrev pub of_kind : ArgKind → Rule → Rule
 of_kind kind.Text rule = rule
 of_kind kind.Texts rule = record rule { action = Some Append }
 of_kind (kind.Number least most) rule = record rule { parser = Some (Signed least most) }

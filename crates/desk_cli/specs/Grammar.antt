@@ -25,15 +25,15 @@ use Rattle.desk_cli.specs.Equal.{ArePermittedBy, priority_in}
 use Rattle.desk_cli.specs.Lines.{IsLine, file_of, max_connections, max_port}
 use Rattle.desk_cli.specs.Lines.{min_connections, min_most, min_port, named_file}
 use Rattle.desk_cli.specs.declared.line.CopyArgs.{CopyArgs as CopyWords}
-use Rattle.desk_cli.specs.declared.line.Cover.{Cover as CoverWords}
+use Rattle.desk_cli.specs.declared.line.CoverArgs.{CoverArgs}
 use Rattle.desk_cli.specs.declared.line.DeskArgs.{DeskArgs}
-use Rattle.desk_cli.specs.declared.line.Enrol.{Enrol as EnrolWords}
+use Rattle.desk_cli.specs.declared.line.EnrolArgs.{EnrolArgs}
 use Rattle.desk_cli.specs.declared.line.Enrolment.{Enrolment}
 use Rattle.desk_cli.specs.declared.line.Line.{Line}
 use Rattle.desk_cli.specs.declared.line.Line.TheVariants as line
-use Rattle.desk_cli.specs.declared.line.Play.{Play as PlayWords}
+use Rattle.desk_cli.specs.declared.line.PlayArgs.{PlayArgs}
 use Rattle.desk_cli.specs.declared.line.ReplayArgs.{ReplayArgs as ReplayWords}
-use Rattle.desk_cli.specs.declared.line.Serve.{Serve as ServeWords}
+use Rattle.desk_cli.specs.declared.line.ServeArgs.{ServeArgs}
 use Rattle.desk_cli.specs.declared.line.WordsFault.{WordsFault}
 use Rattle.desk_cli.specs.declared.line.WordsFault.TheVariants as fault
 
@@ -232,20 +232,20 @@ pub record IsBareDeskGiven (rows : List Row) (desk : DeskArgs) : Type 0 where
   pub operators : desk.operators ≡ None
   pub folder : option_map string_bytes desk.folder ≡ first_of (codes "record") rows
 
-pub record IsPlayGiven (rows : List Row) (play : PlayWords) : Type 0 where
+pub record IsPlayGiven (rows : List Row) (play : PlayArgs) : Type 0 where
   pub desk : IsDeskGiven rows None play.desk
   pub moment : IsSecondGiven (codes "moment") rows play.moment.second
 
-pub record IsServeGiven (rows : List Row) (serve : ServeWords) : Type 0 where
+pub record IsServeGiven (rows : List Row) (serve : ServeArgs) : Type 0 where
   pub desk : IsDeskGiven rows (first_of (codes "operators") rows) serve.desk
   pub port : IsNumberGiven (codes "port") rows serve.port
   pub connections : IsNumberGiven (codes "connections") rows serve.connections
 
-pub record IsEnrolGiven (rows : List Row) (enrol : EnrolWords) : Type 0 where
+pub record IsEnrolGiven (rows : List Row) (enrol : EnrolArgs) : Type 0 where
   pub desk : IsBareDeskGiven rows enrol.desk
   pub enrolment : enrolment_given rows ≡ Some enrol.enrolment
 
-pub record IsCoverGiven (rows : List Row) (cover : CoverWords) : Type 0 where
+pub record IsCoverGiven (rows : List Row) (cover : CoverArgs) : Type 0 where
   pub face : IsNumberGiven (codes "FACE") rows cover.face
   pub i_min : IsNumberGiven (codes "I_MIN") rows cover.i_min
   pub i_max : IsNumberGiven (codes "I_MAX") rows cover.i_max

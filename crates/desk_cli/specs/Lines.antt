@@ -4,19 +4,19 @@ use Rattle.std.specs.Prelude.{string_bytes}
 use Rattle.std.specs.Int.{IsInRange}
 use Rattle.desk_rules.specs.Limits.{max_priority}
 use Rattle.io_ends.specs.Moments.{IsMoment}
-use Rattle.desk_cli.specs.declared.line.Action.{Action}
-use Rattle.desk_cli.specs.declared.line.Action.TheVariants as action
-use Rattle.desk_cli.specs.declared.line.Cover.{Cover as CoverWords}
+use Rattle.desk_cli.specs.declared.line.DeskCommand.{DeskCommand}
+use Rattle.desk_cli.specs.declared.line.DeskCommand.TheVariants as action
+use Rattle.desk_cli.specs.declared.line.CoverArgs.{CoverArgs}
 use Rattle.desk_cli.specs.declared.line.Database.{Database}
 use Rattle.desk_cli.specs.declared.line.Database.TheVariants.{InMemory, File}
 use Rattle.desk_cli.specs.declared.line.DeskArgs.{DeskArgs}
-use Rattle.desk_cli.specs.declared.line.Enrol.{Enrol as EnrolWords}
+use Rattle.desk_cli.specs.declared.line.EnrolArgs.{EnrolArgs}
 use Rattle.desk_cli.specs.declared.line.Enrolment.{Enrolment}
 use Rattle.desk_cli.specs.declared.line.Line.{Line}
 use Rattle.desk_cli.specs.declared.line.Line.TheVariants.{Cover, Play, Serve, Enrol, Replay}
-use Rattle.desk_cli.specs.declared.line.Play.{Play as PlayWords}
+use Rattle.desk_cli.specs.declared.line.PlayArgs.{PlayArgs}
 use Rattle.desk_cli.specs.declared.line.ReplayArgs.{ReplayArgs as ReplayWords}
-use Rattle.desk_cli.specs.declared.line.Serve.{Serve as ServeWords}
+use Rattle.desk_cli.specs.declared.line.ServeArgs.{ServeArgs}
 
 abbrev pub min_port : ℕ
 min_port = 1
@@ -49,17 +49,17 @@ abbrev pub AreEnrolments : List Enrolment → Type 0
 AreEnrolments enrolments = All (λ e. e.ceiling ≤ max_priority) enrolments
 
 -- the numbers of `play`
-abbrev pub IsPlay : PlayWords → Type 0
+abbrev pub IsPlay : PlayArgs → Type 0
 IsPlay play = AreEnrolments play.desk.enrolments.items
 
 -- the numbers of `serve`
-pub record IsServe (serve : ServeWords) : Type 0 where
+pub record IsServe (serve : ServeArgs) : Type 0 where
   pub port : IsInRange min_port max_port serve.port
   pub connections : IsInRange min_connections max_connections serve.connections
   pub enrolments : AreEnrolments serve.desk.enrolments.items
 
 -- the numbers of `enrol`
-abbrev pub IsEnrol : EnrolWords → Type 0
+abbrev pub IsEnrol : EnrolArgs → Type 0
 IsEnrol enrol = enrol.enrolment.ceiling ≤ max_priority
 
 -- the numbers of `cover`: one of 8 bits, or of 32
@@ -70,7 +70,7 @@ abbrev pub max_coordinate : ℕ
 max_coordinate = 4294967295
 
 -- the numbers of `cover`
-pub record IsCover (cover : CoverWords) : Type 0 where
+pub record IsCover (cover : CoverArgs) : Type 0 where
   pub face : cover.face ≤ max_small
   pub i_min : cover.i_min ≤ max_coordinate
   pub i_max : cover.i_max ≤ max_coordinate
@@ -96,12 +96,12 @@ IsLine (Replay replay) = IsReplay replay
 IsLine _ = ⊤
 
 -- the line of a command at a desk, and its desk
-abbrev pub line_of : Action → Line
+abbrev pub line_of : DeskCommand → Line
 line_of (action.Play play) = Play play.now
 line_of (action.Serve serve) = Serve serve.now
 line_of (action.Enrol enrol) = Enrol enrol.now
 
-abbrev pub desk_of : Action → DeskArgs
+abbrev pub desk_of : DeskCommand → DeskArgs
 desk_of (action.Play play) = play.now.desk
 desk_of (action.Serve serve) = serve.now.desk
 desk_of (action.Enrol enrol) = enrol.now.desk

@@ -1,4 +1,4 @@
--- Malformed: the word that is told to an administrator, since its line was refused for it.
+-- Malformed: the word that is reported to an administrator, since its line was refused for it.
 use Rattle.std.specs.Prelude.{◌≡◌, ◌≢◌, ◌⊎◌, ℕ, List, [], find, is_none, unwrap_or, codes, Option, None, Some, IfSome, true, false}
 use Rattle.clap.specs.Simple.{subcommand_of}
 use Rattle.clap.specs.Walk.{Row, Text, all_of, first_of}

@@ -3,7 +3,7 @@ use Rattle.std.specs.Prelude.{ℕ, ◌+◌, ◌-◌, ◌*◌, ◌/◌, ◌^◌, 
 use Rattle.s2_hilbert.specs.Curve.{grid_leaf_at}
 use Rattle.s2_cellid.specs.Cell.{first_leaf, level_of}
 use Rattle.desk_cli.specs.declared.picture.Frame.{Frame}
-use Rattle.desk_cli.specs.declared.picture.Place.{Place}
+use Rattle.desk_cli.specs.declared.picture.GridSquare.{GridSquare}
 
 -- a sum of numbers of 64 bits, up to the last of them
 abbrev pub sum64 : ℕ → ℕ → ℕ
@@ -14,7 +14,7 @@ abbrev pub floor_of : ℕ → ℕ → ℕ
 floor_of number step = number / step * step
 
 -- the place of a cell: `y` runs downwards
-abbrev pub place_of : Frame → ℕ → Place
+abbrev pub place_of : Frame → ℕ → GridSquare
 place_of frame cell =
     let side = 2 ^ (30 - level_of cell) in
     let leaf = grid_leaf_at (first_leaf cell) in

@@ -13,25 +13,25 @@ use Rattle.s2_cover.specs.declared.spans.Span.{Span}
 use Rattle.volume4d.specs.VolumeLimits.{max_cover}
 use Rattle.desk_cli.specs.declared.failure.ErrorCode.{ErrorCode}
 use Rattle.desk_cli.specs.declared.failure.ErrorCode.TheVariants as failure
-use Rattle.desk_cli.specs.declared.line.Cover.{Cover as CoverWords}
+use Rattle.desk_cli.specs.declared.line.CoverArgs.{CoverArgs}
 use Rattle.desk_cli.specs.declared.line.Line.{Line}
 use Rattle.desk_cli.specs.declared.line.Line.TheVariants as line
 use Rattle.desk_cli.specs.Exits.{EndsWith, Ending}
 use Rattle.desk_cli.specs.Written.{HasBegun}
 
--- the line that tells a cell: a leaf's token is its id in 16 hex digits
+-- the line that reports a cell: a leaf's token is its id in 16 hex digits
 unfoldable pub cell_line : ℕ → List ℕ
 cell_line id =
     token_text id ++ (codes " face " ++ (decimal (face_of id) ++ (codes " level " ++ (decimal (level_of id)
     ++ (codes " leaves " ++ (token_text (first_leaf_id id) ++ (codes " " ++ (token_text (last_leaf_id id)
     ++ codes "\n"))))))))
 
--- what is told of a text: the line of its cell, or that it is no token
-abbrev pub told_of_token : Result ℕ TokenFault → Result (List ℕ) ErrorCode
-told_of_token (Ok id) = Ok (cell_line id)
-told_of_token (Err fault) = Err (failure.Token fault)
+-- what is reported of a text: the line of its cell, or that it is no token
+abbrev pub reported_of_token : Result ℕ TokenFault → Result (List ℕ) ErrorCode
+reported_of_token (Ok id) = Ok (cell_line id)
+reported_of_token (Err fault) = Err (failure.Token fault)
 
-abbrev pub rect_parts : CoverWords → RectParts
+abbrev pub rect_parts : CoverArgs → RectParts
 rect_parts words = record {
   face = words.face;
   i_min = words.i_min;
@@ -65,12 +65,12 @@ pub record IsCoverText (set : ℕ → Bool) (text : List ℕ) : Type 0 where
 abbrev pub IsLong : (ℕ → Bool) → Type 0
 IsLong set = (ids : List ℕ) × (IsCanonical set ids × (max_cover < length ids))
 
--- what is told of a rectangle: the lines of its cover, a picture, or why there is none
-abbrev pub IsRectTold : Bool → Result RectParts RectFault → Result (List ℕ) ErrorCode → Type 0
-IsRectTold picture (Err fault) told = told ≡ Err (failure.Rect fault)
-IsRectTold picture (Ok rect) (Err f) = (f ≡ failure.TooManyCells) × IsLong (rect_leaves rect)
-IsRectTold true (Ok rect) (Ok text) = ⊤
-IsRectTold false (Ok rect) (Ok text) = IsCoverText (rect_leaves rect) text
+-- what is reported of a rectangle: the lines of its cover, a picture, or why there is none
+abbrev pub IsRectReported : Bool → Result RectParts RectFault → Result (List ℕ) ErrorCode → Type 0
+IsRectReported picture (Err fault) reported = reported ≡ Err (failure.Rect fault)
+IsRectReported picture (Ok rect) (Err f) = (f ≡ failure.TooManyCells) × IsLong (rect_leaves rect)
+IsRectReported true (Ok rect) (Ok text) = ⊤
+IsRectReported false (Ok rect) (Ok text) = IsCoverText (rect_leaves rect) text
 
 -- a line that is printed
 abbrev pub IsPrinting : Line → Type 0
@@ -78,22 +78,23 @@ IsPrinting (line.Token token) = ⊤
 IsPrinting (line.Cover words) = ⊤
 IsPrinting _ = ⊥
 
--- what is told of a line
-abbrev pub IsTold : Line → Result (List ℕ) ErrorCode → Type 0
-IsTold (line.Token token) told = told ≡ told_of_token (read_token (string_bytes token))
-IsTold (line.Cover words) told = IsRectTold words.is_picture (rect_or_fault (rect_parts words)) told
-IsTold _ told = ⊥
+-- what is reported of a line
+abbrev pub IsTextOf : Line → Result (List ℕ) ErrorCode → Type 0
+IsTextOf (line.Token token) reported = reported ≡ reported_of_token (read_token (string_bytes token))
+IsTextOf (line.Cover words) reported
+    = IsRectReported words.is_picture (rect_or_fault (rect_parts words)) reported
+IsTextOf _ reported = ⊥
 
--- memory ran out and nothing is printed, or a write failed after a beginning of what is told
+-- memory ran out and nothing is printed, or a write failed after a beginning of what is reported
 abbrev pub IsPrintingGivenUp : Line → ErrorCode → Option (List ℕ) → Option (List ℕ) → Type 0
 IsPrintingGivenUp line f out now = ((f ≡ failure.Memory) × (now ≡ out))
-    ⊎ ((f ≡ failure.Write) × ((text : List ℕ) × IsTold line (Ok text) × HasBegun text out now))
+    ⊎ ((f ≡ failure.Write) × ((text : List ℕ) × IsTextOf line (Ok text) × HasBegun text out now))
 
--- what came of a line: what is told of it is printed, or it has a failure and nothing is printed, or it is
--- given up
+-- what came of a line: what is reported of it is printed, or it has a failure and nothing is printed, or it
+-- is given up
 abbrev pub IsShown : Line → Result ⊤ ErrorCode → Option (List ℕ) → Option (List ℕ) → Type 0
-IsShown line (Ok done) out now = (text : List ℕ) × IsTold line (Ok text) × Appends out now text
-IsShown line (Err f) out now = IsPrintingGivenUp line f out now ⊎ (IsTold line (Err f) × (now ≡ out))
+IsShown line (Ok done) out now = (text : List ℕ) × IsTextOf line (Ok text) × Appends out now text
+IsShown line (Err f) out now = IsPrintingGivenUp line f out now ⊎ (IsTextOf line (Err f) × (now ≡ out))
 
 -- what a line prints, and how it ends
 pub record IsPrinted (line : Line) (end : Ending) (out now : Option (List ℕ)) : Type 0 where

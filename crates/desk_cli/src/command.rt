@@ -36,18 +36,18 @@ struct ArgRow {
     value: Option<&'static str>,
     help: &'static str,
     is_required: bool,
-    kind: Kind,
+    kind: ArgKind,
 }
 
 // What the value of an argument is.
 #[derive(Clone, Copy)]
-enum Kind {
+enum ArgKind {
     Text,
     // One text for each use, of any number of them.
     Texts,
     // A number from the first to the second.
     Number(i64, i64),
-    // There is none: it tells whether it was used.
+    // There is none: it reports whether it was used.
     Flag,
 }
 
@@ -58,7 +58,7 @@ const DATABASE: ArgRow = ArgRow {
     value: Some("FILE"),
     help: "The SQLite database of operators and plans, or :memory: for one in memory",
     is_required: false,
-    kind: Kind::Text,
+    kind: ArgKind::Text,
 };
 
 // The file, which may not.
@@ -73,7 +73,7 @@ const NEW_FILE: ArgRow = ArgRow {
     value: Some("NEW"),
     help: "The new file, where there is none yet",
     is_required: true,
-    kind: Kind::Text,
+    kind: ArgKind::Text,
 };
 
 const MOMENT: ArgRow = ArgRow {
@@ -82,7 +82,7 @@ const MOMENT: ArgRow = ArgRow {
     value: Some("SECOND"),
     help: "The moment of all requests, a Unix second",
     is_required: true,
-    kind: Kind::Number(0, MAX_SECOND),
+    kind: ArgKind::Number(0, MAX_SECOND),
 };
 
 const PORT: ArgRow = ArgRow {
@@ -91,7 +91,7 @@ const PORT: ArgRow = ArgRow {
     value: Some("N"),
     help: "The port of 127.0.0.1 that is listened at",
     is_required: true,
-    kind: Kind::Number(1, u16::MAX as i64),
+    kind: ArgKind::Number(1, u16::MAX as i64),
 };
 
 const CONNECTIONS: ArgRow = ArgRow {
@@ -100,7 +100,7 @@ const CONNECTIONS: ArgRow = ArgRow {
     value: Some("N"),
     help: "How many connections are served, one request each",
     is_required: true,
-    kind: Kind::Number(1, MAX_CONNECTIONS as i64),
+    kind: ArgKind::Number(1, MAX_CONNECTIONS as i64),
 };
 
 const EQUAL: ArgRow = ArgRow {
@@ -109,7 +109,7 @@ const EQUAL: ArgRow = ArgRow {
     value: Some("LIST"),
     help: "Priorities at which plans of equal priority may overlap, ascending, with commas between",
     is_required: false,
-    kind: Kind::Text,
+    kind: ArgKind::Text,
 };
 
 const SPANS: ArgRow = ArgRow {
@@ -118,7 +118,7 @@ const SPANS: ArgRow = ArgRow {
     value: Some("N"),
     help: "The most spans that the live plans of an operator may have",
     is_required: false,
-    kind: Kind::Number(1, MAX_SPANS as i64),
+    kind: ArgKind::Number(1, MAX_SPANS as i64),
 };
 
 const CELLS: ArgRow = ArgRow {
@@ -127,7 +127,7 @@ const CELLS: ArgRow = ArgRow {
     value: Some("N"),
     help: "The most cells that the plans of an operator may have, closed ones too",
     is_required: false,
-    kind: Kind::Number(1, MAX_TOTAL_CELLS as i64),
+    kind: ArgKind::Number(1, MAX_TOTAL_CELLS as i64),
 };
 
 const OPERATORS: ArgRow = ArgRow {
@@ -136,7 +136,7 @@ const OPERATORS: ArgRow = ArgRow {
     value: Some("FILE"),
     help: "A file of lines NAME CEILING, read again when it has changed",
     is_required: false,
-    kind: Kind::Text,
+    kind: ArgKind::Text,
 };
 
 const RECORD: ArgRow = ArgRow {
@@ -145,7 +145,7 @@ const RECORD: ArgRow = ArgRow {
     value: Some("FOLDER"),
     help: "A folder in which each request and its answer are recorded",
     is_required: false,
-    kind: Kind::Text,
+    kind: ArgKind::Text,
 };
 
 const UNTIL: ArgRow = ArgRow {
@@ -154,7 +154,7 @@ const UNTIL: ArgRow = ArgRow {
     value: Some("SECOND"),
     help: "The last Unix second whose requests are played",
     is_required: false,
-    kind: Kind::Number(0, MAX_SECOND),
+    kind: ArgKind::Number(0, MAX_SECOND),
 };
 
 const ENROLMENTS: ArgRow = ArgRow {
@@ -163,7 +163,7 @@ const ENROLMENTS: ArgRow = ArgRow {
     value: Some("NAME=CEILING"),
     help: "An operator, and the greatest priority that it may use",
     is_required: false,
-    kind: Kind::Texts,
+    kind: ArgKind::Texts,
 };
 
 const TOKEN: ArgRow = ArgRow {
@@ -172,7 +172,7 @@ const TOKEN: ArgRow = ArgRow {
     value: Some("TOKEN"),
     help: "A cell of the S2 geometry library, 1 to 16 hex digits",
     is_required: true,
-    kind: Kind::Text,
+    kind: ArgKind::Text,
 };
 
 const FACE: ArgRow = ArgRow {
@@ -235,7 +235,7 @@ const PICTURE: ArgRow = ArgRow {
     value: None,
     help: "Prints a picture (SVG) in place of the tokens",
     is_required: false,
-    kind: Kind::Flag,
+    kind: ArgKind::Flag,
 };
 
 const NAME: ArgRow = ArgRow {
@@ -244,7 +244,7 @@ const NAME: ArgRow = ArgRow {
     value: Some("NAME"),
     help: "The operator's name",
     is_required: true,
-    kind: Kind::Text,
+    kind: ArgKind::Text,
 };
 
 const CEILING: ArgRow = ArgRow {
@@ -253,13 +253,13 @@ const CEILING: ArgRow = ArgRow {
     value: Some("CEILING"),
     help: "The greatest priority that it may use",
     is_required: true,
-    kind: Kind::Text,
+    kind: ArgKind::Text,
 };
 
 // Numbers of 8 bits, and of 32.
-const SMALL: Kind = Kind::Number(0, 255);
+const SMALL: ArgKind = ArgKind::Number(0, 255);
 
-const COORDINATE: Kind = Kind::Number(0, 4_294_967_295);
+const COORDINATE: ArgKind = ArgKind::Number(0, 4_294_967_295);
 
 static FORMS: [Form; 9] = [
     Form {
@@ -377,10 +377,10 @@ fn arg_of<'a>(alloc: Global, row: &ArgRow) -> Arg<'a>
 {
     let arg = bare_arg(alloc, row);
     match row.kind {
-        Kind::Text => arg,
-        Kind::Texts => arg.action(ArgAction::Append),
-        Kind::Number(least, most) => arg.value_parser(ValueParser::signed(least, most)),
-        Kind::Flag => arg.action(ArgAction::SetTrue),
+        ArgKind::Text => arg,
+        ArgKind::Texts => arg.action(ArgAction::Append),
+        ArgKind::Number(least, most) => arg.value_parser(ValueParser::signed(least, most)),
+        ArgKind::Flag => arg.action(ArgAction::SetTrue),
     }
 }
 

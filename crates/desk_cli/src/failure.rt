@@ -202,17 +202,17 @@ impl<T: Drop> From<AllocFailed<T>> for ErrorCode {
     }
 }
 
-/// How a line ended that tells its failure to a writer of this type.
+/// How a line ended that reports its failure to a writer of this type.
 #[derive_where(Clone, Copy, Debug, PartialEq, Eq)]
 pub struct ExitReport<E> {
     /// The exit status.
     pub status: u8,
-    /// Where the line that tells a failure was broken off, if it was.
+    /// Where the line that reports a failure was broken off, if it was.
     pub cut: Option<WriteError<E>>,
 }
 
 impl<E> ExitReport<E> {
-    /// An exit with this status, at which nothing is told.
+    /// An exit with this status, at which nothing is reported.
     pub fn silent(status: u8) -> ExitReport<E>
         ensures status { result.status ≡ status }
         ensures cut { result.cut ≡ None }
@@ -225,7 +225,7 @@ impl<E> ExitReport<E> {
 /// writer is passed over.
 pub fn report_exit<E: Write>(errors: &mut E, done: Result<(), ErrorCode>) -> ExitReport<E>
     ensures status { result.status ≡ spec.exit_status done }
-    ensures told { spec.IsConcluded done (is_some result.cut) (E.contents errors.old)
+    ensures reported { spec.IsConcluded done (is_some result.cut) (E.contents errors.old)
         (E.contents errors.new) }
 {
     match done {

@@ -14,8 +14,8 @@ mod reporting;
 
 pub use failure::{ErrorCode, ExitReport, report_exit};
 pub use line::{
-    Action, CopyArgs, Cover, Database, DeskArgs, Enrol, Enrolment, Line, Play, ReplayArgs, Serve,
-    WordsFault, read_words,
+    CopyArgs, CoverArgs, Database, DeskArgs, DeskCommand, EnrolArgs, Enrolment, Line, PlayArgs,
+    ReplayArgs, ServeArgs, WordsFault, read_words,
 };
 pub use malformed::bad_argument;
 pub use printed::print_line;

@@ -23,7 +23,7 @@ ghost use Rattle.desk_cli.specs.Grammar.{Lacks, enrolment_given, enrolment_in, f
 ghost use Rattle.desk_cli.specs.Lines.{AreEnrolments, IsCover, IsEnrol, IsLastSecond, IsLine, IsPlay};
 ghost use Rattle.desk_cli.specs.Lines.{IsReplay, IsServe, desk_of, file_of, max_connections, max_port};
 ghost use Rattle.desk_cli.specs.Lines.{min_connections, min_most, min_port, named_file};
-ghost use Rattle.desk_cli.specs.declared.line.Cover.{Cover as CoverWords};
+ghost use Rattle.desk_cli.specs.declared.line.CoverArgs.{CoverArgs};
 ghost use Rattle.desk_cli.specs.declared.line.WordsFault.TheVariants as fault;
 
 use crate::command::make_command;
@@ -46,17 +46,17 @@ pub(crate) const MAX_CONNECTIONS: u32 = 1_000_000;
 /// What the program is asked for: one command, with its arguments.
 #[derive(Debug, Drop)]
 pub enum Line {
-    /// `token`: tells the cell of this text.
+    /// `token`: reports the cell of this text.
     Token(String),
-    /// `cover`: tells the cells of a rectangle.
-    Cover(Cover),
+    /// `cover`: reports the cells of a rectangle.
+    Cover(CoverArgs),
     /// `play`: enrols the names, and answers the requests of the standard input.
-    Play(Play),
+    Play(PlayArgs),
     /// `serve`: enrols the names, and answers one request a connection.
-    Serve(Serve),
+    Serve(ServeArgs),
     /// `enrol`: enrols one operator.
-    Enrol(Enrol),
-    /// `check`: tells what a database holds.
+    Enrol(EnrolArgs),
+    /// `check`: reports what a database holds.
     Check(Database),
     /// `copy`: makes a new file of what a database holds.
     Copy(CopyArgs),
@@ -68,24 +68,24 @@ pub enum Line {
 
 /// What a command does at its desk once that is open.
 #[derive(Clone, Copy)]
-pub enum Action<'a> {
+pub enum DeskCommand<'a> {
     /// Answers the requests of the standard input.
-    Play(&'a Play),
+    Play(&'a PlayArgs),
     /// Answers one request a connection.
-    Serve(&'a Serve),
+    Serve(&'a ServeArgs),
     /// Enrols one operator.
-    Enrol(&'a Enrol),
+    Enrol(&'a EnrolArgs),
 }
 
-impl<'a> Action<'a> {
+impl<'a> DeskCommand<'a> {
     /// The desk that the command opens.
     pub fn desk(self) -> &'a DeskArgs
         ensures { result.now ≡ desk_of self.entry }
     {
         match self {
-            Action::Play(play) => &play.desk,
-            Action::Serve(serve) => &serve.desk,
-            Action::Enrol(enrol) => &enrol.desk,
+            DeskCommand::Play(play) => &play.desk,
+            DeskCommand::Serve(serve) => &serve.desk,
+            DeskCommand::Enrol(enrol) => &enrol.desk,
         }
     }
 }
@@ -143,7 +143,7 @@ impl DeskArgs {
 
 /// The arguments of `play`.
 #[derive(Debug, Drop)]
-pub struct Play {
+pub struct PlayArgs {
     /// The desk that is opened.
     pub desk: DeskArgs,
     /// The moment of all requests.
@@ -152,7 +152,7 @@ pub struct Play {
 
 /// The arguments of `serve`.
 #[derive(Debug, Drop)]
-pub struct Serve {
+pub struct ServeArgs {
     /// The desk that is opened.
     pub desk: DeskArgs,
     /// The port of 127.0.0.1 that is listened at, 1 to 65,535.
@@ -163,7 +163,7 @@ pub struct Serve {
 
 /// The arguments of `enrol`.
 #[derive(Debug, Drop)]
-pub struct Enrol {
+pub struct EnrolArgs {
     /// The desk at which the operator is enrolled.
     pub desk: DeskArgs,
     /// The operator and its ceiling.
@@ -172,7 +172,7 @@ pub struct Enrol {
 
 /// The arguments of `cover`: the parts of a rectangle of leaves, of which nothing is known yet.
 #[derive(Clone, Copy, Debug)]
-pub struct Cover {
+pub struct CoverArgs {
     /// The face, 0 to 5.
     pub face: u8,
     /// The least coordinate `i` of a leaf.
@@ -327,7 +327,7 @@ fn read_line(alloc: Global, name: &str, given: &ArgMatches<'_>) -> Result<Line, 
 }
 
 // The arguments of `play`.
-fn read_play(alloc: Global, given: &ArgMatches<'_>) -> Result<Play, WordsFault>
+fn read_play(alloc: Global, given: &ArgMatches<'_>) -> Result<PlayArgs, WordsFault>
     ensures valid { IfOk result IsPlay }
     ensures given { IfOk result (IsPlayGiven (rows_of (found_of given.now))) }
     ensures lacks { Lacks (IsPlayGiven (rows_of (found_of given.now))) result }
@@ -335,7 +335,7 @@ fn read_play(alloc: Global, given: &ArgMatches<'_>) -> Result<Play, WordsFault>
     let Some(moment) = read_moment(given) else {
         return Err(WordsFault::Value);
     };
-    Ok(Play {
+    Ok(PlayArgs {
         desk: read_desk(alloc, given, None)?,
         moment,
     })
@@ -393,7 +393,7 @@ fn read_token(alloc: Global, given: &ArgMatches<'_>) -> Result<String, WordsFaul
 }
 
 // The arguments of `serve`.
-fn read_serve(alloc: Global, given: &ArgMatches<'_>) -> Result<Serve, WordsFault>
+fn read_serve(alloc: Global, given: &ArgMatches<'_>) -> Result<ServeArgs, WordsFault>
     ensures valid { IfOk result IsServe }
     ensures given { IfOk result (IsServeGiven (rows_of (found_of given.now))) }
     ensures lacks { Lacks (λ serve. IsServe serve
@@ -405,7 +405,7 @@ fn read_serve(alloc: Global, given: &ArgMatches<'_>) -> Result<Serve, WordsFault
     let Some(connections) = read_connections(given) else {
         return Err(WordsFault::Value);
     };
-    Ok(Serve {
+    Ok(ServeArgs {
         desk: read_desk(alloc, given, text_of(given, "operators"))?,
         port,
         connections,
@@ -463,13 +463,13 @@ fn owned_text(alloc: Global, text: Option<&str>) -> Result<Option<String>, Alloc
 }
 
 // The arguments of `cover`.
-fn read_cover(given: &ArgMatches<'_>) -> Option<Cover>
+fn read_cover(given: &ArgMatches<'_>) -> Option<CoverArgs>
     ensures valid { IfSome result IsCover }
     ensures given { IfSome result (IsCoverGiven (rows_of (found_of given.now))) }
-    ensures none { result ≡ None → (cover : CoverWords) → IsCover cover
+    ensures none { result ≡ None → (cover : CoverArgs) → IsCover cover
         → IsCoverGiven (rows_of (found_of given.now)) cover → ⊥ }
 {
-    Some(Cover {
+    Some(CoverArgs {
         face: read_small(given, "FACE")?,
         i_min: read_number(given, "I_MIN")?,
         i_max: read_number(given, "I_MAX")?,
@@ -515,7 +515,7 @@ fn is_given(given: &ArgMatches<'_>, id: &str) -> bool
 }
 
 // The arguments of `enrol`.
-fn read_enrol(alloc: Global, given: &ArgMatches<'_>) -> Result<Enrol, WordsFault>
+fn read_enrol(alloc: Global, given: &ArgMatches<'_>) -> Result<EnrolArgs, WordsFault>
     ensures valid { IfOk result IsEnrol }
     ensures given { IfOk result (IsEnrolGiven (rows_of (found_of given.now))) }
     ensures lacks { Lacks (IsEnrolGiven (rows_of (found_of given.now))) result }
@@ -523,7 +523,7 @@ fn read_enrol(alloc: Global, given: &ArgMatches<'_>) -> Result<Enrol, WordsFault
     let Some(enrolment) = read_operator(given) else {
         return Err(WordsFault::Value);
     };
-    Ok(Enrol {
+    Ok(EnrolArgs {
         desk: read_bare_desk(alloc, given)?,
         enrolment,
     })

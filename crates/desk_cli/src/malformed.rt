@@ -1,4 +1,4 @@
-//! Which word of a line is malformed, told once the line was refused for one.
+//! Which word of a line is malformed, reported once the line was refused for one.
 
 ghost use Rattle.std.specs.Prelude.{◌≡◌, [], codes, IfSome, Some, is_none, is_some, map, not, option_map, string_bytes, unwrap_or};
 ghost use Rattle.clap.specs.Matches.{found_of};

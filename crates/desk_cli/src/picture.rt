@@ -29,7 +29,7 @@ const STYLE: &str = "<style>\
 /// What the lines mean, below the squares.
 const LEGEND: &str = "\
     <path class=\"cell\" d=\"M12 18H48\"/>\
-    <text x=\"60\" y=\"23\">a cell of the cover, which tells its token when it is pointed at</text>\n\
+    <text x=\"60\" y=\"23\">a cell of the cover, which reports its token when it is pointed at</text>\n\
     <path class=\"asked\" d=\"M12 38H48\"/>\
     <text x=\"60\" y=\"43\">the rectangle that was asked for</text>\n\
     <path class=\"way\" d=\"M12 58H48\"/>\
@@ -55,7 +55,7 @@ struct Frame {
 
 // A square of leaves, by its place in a picture: `y` runs downwards.
 #[derive(Clone, Copy)]
-struct Place {
+struct GridSquare {
     x: u64,
     y: u64,
     side: u64,
@@ -101,14 +101,14 @@ impl Frame {
     }
 
     // The place of a cell.
-    fn place_of(&self, cell: &CellId) -> Place
+    fn place_of(&self, cell: &CellId) -> GridSquare
         ensures { result ≡ spec.place_of self.now cell.now }
     {
         let side = side_of(cell.level());
         let leaf = leaf_at(cell.first());
         let i = floor(u64::from(leaf.i), side);
         let j = floor(u64::from(leaf.j), side);
-        Place {
+        GridSquare {
             x: i.saturating_sub(self.i),
             y: self.down(j.saturating_add(side)),
             side,
@@ -261,7 +261,7 @@ fn level_lines(alloc: Global, width: u64, height: u64, step: u64) -> Result<Stri
 
 // A cell, with its token.
 fn cell_of(alloc: Global, frame: &Frame, cell: &CellId) -> Result<String, AllocError> {
-    let Place { x, y, side } = frame.place_of(cell);
+    let GridSquare { x, y, side } = frame.place_of(cell);
     format!(in alloc;
         "<rect class=\"cell\" x=\"{x}\" y=\"{y}\" width=\"{side}\" height=\"{side}\">\
         <title>{cell}</title></rect>\n"
@@ -301,13 +301,13 @@ fn curve_of(alloc: Global, frame: &Frame, cells: &[CellId]) -> Result<String, Al
 }
 
 // A line from the middle of one square to that of another.
-fn line_between(alloc: Global, from: Place, to: Place) -> Result<String, AllocError> {
+fn line_between(alloc: Global, from: GridSquare, to: GridSquare) -> Result<String, AllocError> {
     let (x, y) = from.middle();
     let (x_to, y_to) = to.middle();
     format!(in alloc; "M{x} {y}L{x_to} {y_to}")
 }
 
-impl Place {
+impl GridSquare {
     // Its middle.
     fn middle(self) -> (u64, u64)
         ensures x { result.0 ≡ sum64 self.x (self.side / 2) }

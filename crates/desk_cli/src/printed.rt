@@ -9,13 +9,13 @@ ghost use Rattle.s2_cover.specs.Rectangles.{rect_or_fault};
 ghost use Rattle.s2_cover.specs.declared.spans.Span.{Span};
 ghost use Rattle.desk_cli.specs.Exits.{ending};
 ghost use Rattle.desk_cli.specs.Printing as spec;
-ghost use Rattle.desk_cli.specs.Printing.{IsCoverText, IsPrinted, IsPrinting, IsRectTold, IsShown, IsTold};
-ghost use Rattle.desk_cli.specs.Printing.{rect_parts, told_of_token};
+ghost use Rattle.desk_cli.specs.Printing.{IsCoverText, IsPrinted, IsPrinting, IsRectReported, IsShown, IsTextOf};
+ghost use Rattle.desk_cli.specs.Printing.{rect_parts, reported_of_token};
 ghost use Rattle.desk_cli.specs.Written.{HasBegun};
 ghost use Rattle.desk_cli.specs.declared.failure.ErrorCode.TheVariants.{Memory, Write};
 
 use crate::failure::{ErrorCode, ExitReport, report_exit};
-use crate::line::{Cover as CoverWords, Line};
+use crate::line::{CoverArgs, Line};
 use crate::picture::picture_of;
 use io_ends::write_whole;
 use s2_cellid::CellId;
@@ -63,8 +63,8 @@ fn write_text<W: Write>(output: &mut W, text: &str) -> Result<(), ErrorCode>
 // The text that a line prints.
 fn text_of(alloc: Global, line: &Line) -> Result<String, ErrorCode>
     requires { IsPrinting line.now }
-    ensures ok { IfOk result (λ text. IsTold line.now (Ok (string_bytes text))) }
-    ensures err { IfErr result (λ f. (f ≡ Memory) ⊎ IsTold line.now (Err f)) }
+    ensures ok { IfOk result (λ text. IsTextOf line.now (Ok (string_bytes text))) }
+    ensures err { IfErr result (λ f. (f ≡ Memory) ⊎ IsTextOf line.now (Err f)) }
 {
     match line {
         Line::Token(token) => token_text(alloc, token),
@@ -73,16 +73,16 @@ fn text_of(alloc: Global, line: &Line) -> Result<String, ErrorCode>
     }
 }
 
-// The line that tells the cell of a token.
+// The line that reports the cell of a token.
 fn token_text(alloc: Global, token: &str) -> Result<String, ErrorCode>
-    ensures ok { IfOk result (λ text. Ok (string_bytes text) ≡ told_of_token (read_token token.now)) }
-    ensures err { IfErr result (λ f. (f ≡ Memory) ⊎ (Err f ≡ told_of_token (read_token token.now))) }
+    ensures ok { IfOk result (λ text. Ok (string_bytes text) ≡ reported_of_token (read_token token.now)) }
+    ensures err { IfErr result (λ f. (f ≡ Memory) ⊎ (Err f ≡ reported_of_token (read_token token.now))) }
 {
     let cell = CellId::from_token(token.as_bytes())?;
     Ok(cell_line(alloc, &cell)?)
 }
 
-// The line that tells a cell.
+// The line that reports a cell.
 #[tactic(auto, unfolding(crate::specs::Printing::cell_line))]
 fn cell_line(alloc: Global, cell: &CellId) -> Result<String, AllocError>
     ensures { IfOk result (λ text. string_bytes text ≡ spec.cell_line cell.now) }
@@ -95,11 +95,11 @@ fn cell_line(alloc: Global, cell: &CellId) -> Result<String, AllocError>
 }
 
 // The tokens of a rectangle's cover and how many they are, or a picture of them.
-fn cover_text(alloc: Global, words: &CoverWords) -> Result<String, ErrorCode>
-    ensures ok { IfOk result (λ text. IsRectTold words.now.is_picture
+fn cover_text(alloc: Global, words: &CoverArgs) -> Result<String, ErrorCode>
+    ensures ok { IfOk result (λ text. IsRectReported words.now.is_picture
         (rect_or_fault (rect_parts words.now)) (Ok (string_bytes text))) }
     ensures err { IfErr result (λ f. (f ≡ Memory)
-        ⊎ IsRectTold words.now.is_picture (rect_or_fault (rect_parts words.now)) (Err f)) }
+        ⊎ IsRectReported words.now.is_picture (rect_or_fault (rect_parts words.now)) (Err f)) }
 {
     let rect = Rect::try_new(
         words.face,

@@ -1,4 +1,4 @@
--- Plans of others that can't block a plan: what an operator is told doesn't depend on them.
+-- Plans of others that can't block a plan: what an operator is reported doesn't depend on them.
 use Rattle.std.proofs.Common.{◌≡◌, ℕ, ◌+◌, ℤ, Bool, true, false, ◌&&◌, ◌||◌, not, List, Option, Some, None}
 use Rattle.std.proofs.Common.{refl, sym, ap, ◌∙◌, arith}
 use Rattle.std.specs.Prelude.{cond, is_some, nat_le, nat_lt, ◌==◌}
@@ -21,8 +21,8 @@ use Rattle.desk_store.specs.World.{has_id, held_at, own, stored_of}
 use Rattle.desk_store.proofs.lemmas.Rival.{at_least_greater}
 use Rattle.desk_run.specs.DeskWorld.{DeskWorld, Side, held_in, side}
 use Rattle.desk_run.specs.Sides.{OwnAlike}
-use Rattle.desk_run.specs.Verdicts.{Told, enrolled_ruling, put_outcome, put_ruling, replied, ruling_under}
-use Rattle.desk_run.specs.Verdicts.{standing_of, told_to, verdict}
+use Rattle.desk_run.specs.Verdicts.{Reported, enrolled_ruling, put_outcome, put_ruling, replied, ruling_under}
+use Rattle.desk_run.specs.Verdicts.{standing_of, reported_to, verdict}
 use Rattle.desk_examples.specs.Desks.{BlockAlike}
 use Rattle.desk_examples.proofs.DeskLemmas.{said_of}
 
@@ -106,27 +106,27 @@ module _ (permitted : List ℕ) (area : List Block) (f g : Point → Option ℕ)
       first = λ x before. sym (same_test x) ∙ is.first x before;
     }
 
--- what is told of a request to plan, by its conflict
-abbrev told_by : Side → Option Spot → ℤ → PutCall → Option ℕ → Told
-told_by mine spot moment asked None = Told.unknown_operator
-told_by mine spot moment asked (Some ceiling) =
+-- what is reported of a request to plan, by its conflict
+abbrev reported_by : Side → Option Spot → ℤ → PutCall → Option ℕ → Reported
+reported_by mine spot moment asked None = Reported.unknown_operator
+reported_by mine spot moment asked (Some ceiling) =
     (put_ruling (outcome_under asked moment (states_of (stored_of asked.id mine.own.plans))
-    (standing_of mine.terms mine.own.plans ceiling asked) spot) asked mine.own.plans).told
+    (standing_of mine.terms mine.own.plans ceiling asked) spot) asked mine.own.plans).reported
 
 -- the conflict of what is asked, by an operator's side and what others hold
 abbrev conflict_by : Side → (Point → Option ℕ) → PutCall → Option Spot
 conflict_by mine others asked =
     conflict mine.terms.permitted asked.area (held_at mine.own.plans others asked.id) asked.priority
 
-told_is :
+reported_is :
     (w : DeskWorld) (o : List ℕ) (moment : ℤ) (asked : PutCall)
-    → told_to w o moment (call.Put asked)
-    ≡ told_by (side w o) (conflict_by (side w o) (held_in w o) asked) moment asked (side w o).own.ceiling
-unfolding told_to verdict enrolled_ruling put_outcome
-told_is w o moment asked = by_ceiling (own w.content o).ceiling where
+    → reported_to w o moment (call.Put asked)
+    ≡ reported_by (side w o) (conflict_by (side w o) (held_in w o) asked) moment asked (side w o).own.ceiling
+unfolding reported_to verdict enrolled_ruling put_outcome
+reported_is w o moment asked = by_ceiling (own w.content o).ceiling where
   by_ceiling : (c : Option ℕ)
-      → (ruling_under c w.terms (own w.content o) (held_in w o) moment (call.Put asked)).told
-      ≡ told_by (side w o) (conflict_by (side w o) (held_in w o) asked) moment asked c
+      → (ruling_under c w.terms (own w.content o) (held_in w o) moment (call.Put asked)).reported
+      ≡ reported_by (side w o) (conflict_by (side w o) (held_in w o) asked) moment asked c
   by_ceiling None = refl
   by_ceiling (Some c) = refl
 
@@ -140,16 +140,16 @@ abbrev pub FindsConflict : Type 0
 FindsConflict = (permitted : List ℕ) (area : List Block) (levels : Point → Option ℕ) (priority : ℕ)
     → IsConflict permitted area levels priority (conflict permitted area levels priority)
 
--- what an operator is told at two desks at which the same may block its plan
+-- what an operator is reported at two desks at which the same may block its plan
 pub same_plan_reply :
     HasOneConflict → FindsConflict → (v w : DeskWorld) (o : List ℕ) (moment : ℤ) (asked : PutCall)
     {one other : ReplyParts} → OwnAlike o v w → BlockAlike o asked v w
-    → told_to v o moment (call.Put asked) ≡ replied one
-    → told_to w o moment (call.Put asked) ≡ replied other → one ≡ other
+    → reported_to v o moment (call.Put asked) ≡ replied one
+    → reported_to w o moment (call.Put asked) ≡ replied other → one ≡ other
 unfolding held_at
-same_plan_reply one_is found v w o moment asked own_same block_same told too =
+same_plan_reply one_is found v w o moment asked own_same block_same reported too =
     ap said_of
-    (sym told ∙ told_is v o moment asked ∙ sides ∙ spots ∙ sym (told_is w o moment asked) ∙ too) where
+    (sym reported ∙ reported_is v o moment asked ∙ sides ∙ spots ∙ sym (reported_is w o moment asked) ∙ too) where
       mine : Side
       mine = side w o
 
@@ -157,9 +157,9 @@ same_plan_reply one_is found v w o moment asked own_same block_same told too =
       spot others = conflict_by mine others asked
 
       sides :
-          told_by (side v o) (conflict_by (side v o) (held_in v o) asked) moment asked (side v o).own.ceiling
-          ≡ told_by mine (spot (held_in v o)) moment asked mine.own.ceiling
-      sides = λ i. told_by (own_same i) (conflict_by (own_same i) (held_in v o) asked) moment asked
+          reported_by (side v o) (conflict_by (side v o) (held_in v o) asked) moment asked (side v o).own.ceiling
+          ≡ reported_by mine (spot (held_in v o)) moment asked mine.own.ceiling
+      sides = λ i. reported_by (own_same i) (conflict_by (own_same i) (held_in v o) asked) moment asked
           (own_same i).own.ceiling
 
       least : ℕ
@@ -181,6 +181,6 @@ same_plan_reply one_is found v w o moment asked own_same block_same told too =
           (found w.terms.permitted asked.area (held_at mine.own.plans (held_in v o) asked.id) asked.priority))
           (found w.terms.permitted asked.area (held_at mine.own.plans (held_in w o) asked.id) asked.priority)
 
-      spots : told_by mine (spot (held_in v o)) moment asked mine.own.ceiling
-          ≡ told_by mine (spot (held_in w o)) moment asked mine.own.ceiling
-      spots = ap (λ s. told_by mine s moment asked mine.own.ceiling) same
+      spots : reported_by mine (spot (held_in v o)) moment asked mine.own.ceiling
+          ≡ reported_by mine (spot (held_in w o)) moment asked mine.own.ceiling
+      spots = ap (λ s. reported_by mine s moment asked mine.own.ceiling) same

@@ -1,4 +1,4 @@
--- What a desk tells one operator, by its side of the desk's world.
+-- What a desk reports one operator, by its side of the desk's world.
 use Rattle.std.proofs.Common.{◌≡◌, ◌≢◌, ℕ, ℤ, List, [], ◌∷◌, map, Option, Some, None, Result, Ok, Err, refl, sym, ap, subst, ◌∙◌}
 use Rattle.std.proofs.Common.{Less, Equal, Greater}
 use Rattle.std.specs.Prelude.{IfSome, IsSome, OnOk, cond, is_some}
@@ -35,32 +35,32 @@ use Rattle.desk_run.specs.declared.fault.DeskFault.{DeskFault}
 use Rattle.desk_run.specs.DeskFrames.{fault_in}
 use Rattle.desk_run.specs.DeskWorld.{DeskWorld, held_in, side}
 use Rattle.desk_run.specs.Sides.{HoldAlike, OwnAlike}
-use Rattle.desk_run.specs.Verdicts.{Told, enrolled_ruling, plans_left, put_outcome, replied, row_asked, ruling_under}
-use Rattle.desk_run.specs.Verdicts.{shown_plan, side_left, step, told_to, verdict, world_with_plans}
+use Rattle.desk_run.specs.Verdicts.{Reported, enrolled_ruling, plans_left, put_outcome, replied, row_asked, ruling_under}
+use Rattle.desk_run.specs.Verdicts.{shown_plan, side_left, step, reported_to, verdict, world_with_plans}
 use Rattle.desk_run.proofs.lemmas.Side.{everywhere}
 use Rattle.desk_run.proofs.lemmas.Step.{own_stays}
 use Rattle.desk_examples.specs.Desks.{IsPlanListed, IsPlanned, rows_in}
 
--- what is said in what is told, if something is
-abbrev pub said_of : Told → ReplyParts
+-- what is said in what is reported, if something is
+abbrev pub said_of : Reported → ReplyParts
 said_of (replied reply) = reply
-said_of Told.unknown_operator = said.ready
-said_of Told.no_such_plan = said.ready
+said_of Reported.unknown_operator = said.ready
+said_of Reported.no_such_plan = said.ready
 
-same_told :
+same_reported :
     (v w : DeskWorld) (o : List ℕ) (moment : ℤ) (asked : Call) → OwnAlike o v w → HoldAlike o v w
-    → told_to v o moment asked ≡ told_to w o moment asked
-unfolding told_to
-same_told v w o moment asked own_same held_same =
-    λ i. (verdict (own_same i).terms (own_same i).own (everywhere o v w held_same i) moment asked).told
+    → reported_to v o moment asked ≡ reported_to w o moment asked
+unfolding reported_to
+same_reported v w o moment asked own_same held_same =
+    λ i. (verdict (own_same i).terms (own_same i).own (everywhere o v w held_same i) moment asked).reported
 
--- what an operator is told at two desks that look alike to it
+-- what an operator is reported at two desks that look alike to it
 pub same_reply :
     (v w : DeskWorld) (o : List ℕ) (moment : ℤ) (asked : Call) {one other : ReplyParts} → OwnAlike o v w
-    → HoldAlike o v w → told_to v o moment asked ≡ replied one → told_to w o moment asked ≡ replied other
+    → HoldAlike o v w → reported_to v o moment asked ≡ replied one → reported_to w o moment asked ≡ replied other
     → one ≡ other
-same_reply v w o moment asked own_same held_same told too =
-    ap said_of (sym told ∙ same_told v w o moment asked own_same held_same ∙ too)
+same_reply v w o moment asked own_same held_same reported too =
+    ap said_of (sym reported ∙ same_reported v w o moment asked own_same held_same ∙ too)
 
 -- ---- a question
 
@@ -159,16 +159,16 @@ rows_shown permitted all others (row ∷ rows) = ap (λ rs. row ∷ rs) (rows_sh
 -- an operator's plans are those that are listed to it
 listed_rows :
     (terms : Terms) (mine : Own) (others : Point → Option ℕ) (moment : ℤ) (listed : ReplyParts)
-    → IsSome mine.ceiling → (verdict terms mine others moment call.List).told ≡ replied listed
+    → IsSome mine.ceiling → (verdict terms mine others moment call.List).reported ≡ replied listed
     → rows_in listed ≡ mine.plans
 unfolding verdict enrolled_ruling
-listed_rows terms mine others moment listed enrolled told = by_ceiling mine.ceiling enrolled told where
+listed_rows terms mine others moment listed enrolled reported = by_ceiling mine.ceiling enrolled reported where
   by_ceiling : (c : Option ℕ) → IsSome c
-      → (ruling_under c terms mine others moment call.List).told ≡ replied listed
+      → (ruling_under c terms mine others moment call.List).reported ≡ replied listed
       → rows_in listed ≡ mine.plans
-  by_ceiling None some told = cc
-  by_ceiling (Some c) some told =
-      ap (λ t. rows_in (said_of t)) (sym told) ∙ rows_shown terms.permitted mine.plans others mine.plans
+  by_ceiling None some reported = cc
+  by_ceiling (Some c) some reported =
+      ap (λ t. rows_in (said_of t)) (sym reported) ∙ rows_shown terms.permitted mine.plans others mine.plans
 
 -- what an operator has after a request to plan that leaves a plan
 record HasSaved (mine : Own) (plans : Option (List PlanRow)) (asked : PutCall) : Type 0 where
@@ -178,17 +178,17 @@ record HasSaved (mine : Own) (plans : Option (List PlanRow)) (asked : PutCall) :
 has_saved :
     (terms : Terms) (mine : Own) (others : Point → Option ℕ) (moment : ℤ) (asked : PutCall)
     (planned : ReplyParts) → asked.style ≢ style.Hypothetical → IsPlanned planned
-    → (verdict terms mine others moment (call.Put asked)).told ≡ replied planned
+    → (verdict terms mine others moment (call.Put asked)).reported ≡ replied planned
     → HasSaved mine (verdict terms mine others moment (call.Put asked)).plans asked
 unfolding verdict enrolled_ruling put_outcome outcome_under
-has_saved terms mine others moment asked planned other is told = by_ceiling mine.ceiling refl told where
+has_saved terms mine others moment asked planned other is reported = by_ceiling mine.ceiling refl reported where
   by_ceiling : (c : Option ℕ) → mine.ceiling ≡ c
-      → (ruling_under c terms mine others moment (call.Put asked)).told ≡ replied planned
+      → (ruling_under c terms mine others moment (call.Put asked)).reported ≡ replied planned
       → HasSaved mine (ruling_under c terms mine others moment (call.Put asked)).plans asked
-  by_ceiling None e told = cc
-  by_ceiling (Some c) e told =
-      let left : IsPlanned (said_of (ruling_under (Some c) terms mine others moment (call.Put asked)).told)
-      = subst (λ t. IsPlanned (said_of t)) (sym told) is in
+  by_ceiling None e reported = cc
+  by_ceiling (Some c) e reported =
+      let left : IsPlanned (said_of (ruling_under (Some c) terms mine others moment (call.Put asked)).reported)
+      = subst (λ t. IsPlanned (said_of t)) (sym reported) is in
       record {
         enrolled = ap is_some e;
         put = ap (λ effect. plans_left effect asked mine.plans)
@@ -198,18 +198,18 @@ has_saved terms mine others moment asked planned other is told = by_ceiling mine
 -- what was planned is listed
 pub listed_after :
     (w : DeskWorld) (o : List ℕ) (moment later : ℤ) (asked : PutCall) (planned listed : ReplyParts)
-    → asked.style ≢ style.Hypothetical → told_to w o moment (call.Put asked) ≡ replied planned
-    → told_to (step w o moment (call.Put asked)) o later call.List ≡ replied listed → IsPlanned planned
+    → asked.style ≢ style.Hypothetical → reported_to w o moment (call.Put asked) ≡ replied planned
+    → reported_to (step w o moment (call.Put asked)) o later call.List ≡ replied listed → IsPlanned planned
     → IsPlanListed asked listed
-unfolding told_to side_left
-listed_after w o moment later asked planned listed other told list is =
+unfolding reported_to side_left
+listed_after w o moment later asked planned listed other reported list is =
     ap (stored_of asked.id) (rows ∙ plans) ∙ put_found (row_asked asked) (own w.content o).plans where
       after : DeskWorld
       after = step w o moment (call.Put asked)
 
       has : HasSaved (own w.content o)
           (verdict w.terms (own w.content o) (held_in w o) moment (call.Put asked)).plans asked
-      has = has_saved w.terms (own w.content o) (held_in w o) moment asked planned other is told
+      has = has_saved w.terms (own w.content o) (held_in w o) moment asked planned other is reported
 
       stays : side after o ≡ side_left (side w o) (held_in w o) moment (call.Put asked)
       stays = own_stays w o moment (call.Put asked)

@@ -4,7 +4,7 @@ use Rattle.desk_store.specs.declared.store.PlanStore.{Ghosts}
 use Rattle.desk_store.specs.StoreFaults.{IsHonest}
 use Rattle.desk_run.specs.DeskWorld.{DeskWorld, Parts, enrolled, world_of}
 use Rattle.desk_wire.specs.Passage.{Course, Passage}
-use Rattle.desk_cli.specs.declared.line.Enrol.{Enrol}
+use Rattle.desk_cli.specs.declared.line.EnrolArgs.{EnrolArgs}
 use Rattle.desk_cli.specs.declared.line.Enrolment.{Enrolment}
 use Rattle.desk_cli.specs.declared.line.Line.TheVariants as line
 use Rattle.desk_cli.specs.Exits.{Ending, IsBrokenDown}
@@ -22,7 +22,7 @@ listed_at H e end writes w after is (inr (inr down)) h = by_cause down.0 where
   by_cause (inl memory) = let other : ◌≡◌ {A = ℕ} 0 4 = sym is ∙ memory.0 in cc
   by_cause (inr store) = let other : ◌≡◌ {A = ℕ} 0 4 = sym is ∙ store.0 in cc
 
-pub listed_if_0 : {S : Type 0} (g : Ghosts S) (enrol : Enrol) (status : ℕ) (bytes : Passage)
+pub listed_if_0 : {S : Type 0} (g : Ghosts S) (enrol : EnrolArgs) (status : ℕ) (bytes : Passage)
     (errors : Course (Option (List ℕ))) (old new : Parts S)
     → EndsWithStatus g (line.Enrol enrol) status bytes errors old new → status ≡ 0
     → IsHonest (g.doubt new.store)

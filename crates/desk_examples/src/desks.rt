@@ -83,7 +83,7 @@ pub fn ask_first<S: PlanStore>(
 }
 
 /// Asks the same at two desks. If the operator owns the same at both, and others hold the same priorities at
-/// each point, whatever their plans are, it is told the same.
+/// each point, whatever their plans are, it is reported the same.
 ///
 /// # Errors
 ///
@@ -100,12 +100,12 @@ pub fn ask_both<S: PlanStore, T: PlanStore>(
         HoldAlike asked.now.operator (world_of S.content one.old) (world_of T.content other.old) →
         IfOk result (λ replies. said_in replies.0 ≡ said_in replies.1) }
 {
-    let told = one.call(alloc, moment, asked)?;
-    Ok((told, other.call(alloc, moment, asked)?))
+    let reported = one.call(alloc, moment, asked)?;
+    Ok((reported, other.call(alloc, moment, asked)?))
 }
 
 /// Asks for one plan at two desks. If the operator owns the same at both, and others hold the same where the
-/// plan lies so far as it could block the plan, it is told the same: plans of lower priority don't count.
+/// plan lies so far as it could block the plan, it is reported the same: plans of lower priority don't count.
 ///
 /// # Errors
 ///
@@ -129,6 +129,6 @@ pub fn plan_at_both<S: PlanStore, T: PlanStore>(
         operator,
         call: Call::Put(asked),
     };
-    let told = one.call(alloc, moment, &put)?;
-    Ok((told, other.call(alloc, moment, &put)?))
+    let reported = one.call(alloc, moment, &put)?;
+    Ok((reported, other.call(alloc, moment, &put)?))
 }

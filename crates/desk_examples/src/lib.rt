@@ -3,7 +3,7 @@
 //! weaker breaks it here.
 //!
 //! A caller names the crates that it calls, as [crates.txt](../crates.txt) does for this one. What takes
-//! memory takes the allocator first, and tells want of memory as a fault. A desk is a `Desk<S>` over any
+//! memory takes the allocator first, and reports want of memory as a fault. A desk is a `Desk<S>` over any
 //! store `S: PlanStore`: a function with clauses is best written over `S`, and called with a store in memory
 //! (`ListStore`) or over tables (`SqliteStore`). What a call answers is claimed while the store is honest
 //! (`IsHonest`), which a list always is. A clause reads a desk's content as `world_of S.content desk.old`,

@@ -6,7 +6,7 @@ ghost use Rattle.desk_store.specs.StoreFaults.{IsHonest};
 ghost use Rattle.desk_run.specs.DeskWorld.{enrolled, world_of};
 ghost use Rattle.desk_tables.specs.OpenWords as spec;
 
-use desk_cli::{Database, DeskArgs, Enrol, Enrolment, Line};
+use desk_cli::{Database, DeskArgs, EnrolArgs, Enrolment, Line};
 use desk_program::with_desk;
 use desk_rules::operator::Operator;
 use desk_rules::terms::Terms;
@@ -17,9 +17,9 @@ use sqlite_disk::Disk;
 use std::alloc::Global;
 use std::io::Write;
 
-/// Enrols an operator as the program's `enrol` does, and tells whether that ended with status 0: then the
+/// Enrols an operator as the program's `enrol` does, and reports whether that ended with status 0: then the
 /// operator is listed.
-pub fn enrol_as_told<S: PlanStore, W: Write, E: Write>(
+pub fn enrol_as_reported<S: PlanStore, W: Write, E: Write>(
     alloc: Global,
     desk: &mut Desk<S>,
     operator: Operator,
@@ -31,7 +31,7 @@ pub fn enrol_as_told<S: PlanStore, W: Write, E: Write>(
     ensures { IsHonest (S.doubt desk.new.store) → IsTrue result →
         world_of S.content desk.new ≡ enrolled (world_of S.content desk.old) operator ceiling }
 {
-    let line = Line::Enrol(Enrol {
+    let line = Line::Enrol(EnrolArgs {
         desk: DeskArgs {
             database: Database::InMemory,
             terms: Terms::none(),

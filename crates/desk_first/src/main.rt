@@ -7,7 +7,7 @@ ghost use Rattle.std.specs.Option.{is_some};
 ghost use Rattle.desk_cli.specs.Lines.{IsPlay, file_of};
 
 use desk_cli::{
-    ErrorCode, Line, Play, WordsFault, print_line, read_words, report, report_exit,
+    ErrorCode, Line, PlayArgs, WordsFault, print_line, read_words, report, report_exit,
     report_malformed,
 };
 use desk_program::play;
@@ -49,7 +49,7 @@ fn run_words(rt: &HostRuntime, alloc: Global, words: Vec<String>) -> u8 {
 }
 
 // Plays the requests of the standard input at an empty desk.
-fn play_here(rt: &HostRuntime, alloc: Global, line: &Play) -> u8
+fn play_here(rt: &HostRuntime, alloc: Global, line: &PlayArgs) -> u8
     requires { IsPlay line.now }
 {
     if keeps(line) {
@@ -80,7 +80,7 @@ fn play_here(rt: &HostRuntime, alloc: Global, line: &Play) -> u8
 }
 
 // Whether a line keeps plans in a file, or its requests in a folder.
-fn keeps(line: &Play) -> bool
+fn keeps(line: &PlayArgs) -> bool
     ensures { result ≡ (is_some (file_of line.now.desk.database) || is_some line.now.desk.folder) }
 {
     line.desk.database.path().is_some() || line.desk.folder.is_some()

@@ -1,17 +1,17 @@
--- What is told where memory ran out.
+-- What is reported where memory ran out.
 use Rattle.std.proofs.Common.{◌≡◌, ap}
 use Rattle.std.specs.declared.io.ErrorKind.TheVariants as kind
 use Rattle.desk_host.specs.Causes.{IsUnkept, unkept_text, unread_text}
 use Rattle.desk_host.specs.Operators.{IsUnreadBySystem}
-use Rattle.desk_host.specs.declared.folders.Unkept.{Unkept}
-use Rattle.desk_host.specs.declared.folders.Unkept.TheVariants as unkept
-use Rattle.desk_host.specs.declared.operators.Unread.{Unread}
-use Rattle.desk_host.specs.declared.operators.Unread.TheVariants as unread
+use Rattle.desk_host.specs.declared.folders.JournalError.{JournalError}
+use Rattle.desk_host.specs.declared.folders.JournalError.TheVariants as unkept
+use Rattle.desk_host.specs.declared.operators.FileReadError.{FileReadError}
+use Rattle.desk_host.specs.declared.operators.FileReadError.TheVariants as unread
 
 -- that a journal can't be kept
-pub memory_unkept : (fault : Unkept) → fault ≡ unkept.Memory → IsUnkept fault
+pub memory_unkept : (fault : JournalError) → fault ≡ unkept.Memory → IsUnkept fault
 memory_unkept fault is = record { kind = kind.OutOfMemory; text = ap unkept_text is }
 
 -- that a file of enrolments can't be read
-pub memory_unread : (fault : Unread) → fault ≡ unread.Memory → IsUnreadBySystem fault
+pub memory_unread : (fault : FileReadError) → fault ≡ unread.Memory → IsUnreadBySystem fault
 memory_unread fault is = record { kind = kind.OutOfMemory; text = ap unread_text is }

@@ -1,7 +1,7 @@
-pub mod TellLemmas
+pub mod ReportLemmas
 pub mod NameLemmas
 mod FaultLemmas
 mod JournalLemmas
 mod OperatorLemmas
 mod ScratchLemmas
-mod ToldLemmas
+mod ReportedLemmas

@@ -128,7 +128,7 @@ module _ {to : List ℕ} {old new : Option (List Step)} (it : IsNotFree to (cour
     names_none (Free path) is = tt
     names_none (Cleared part log) is = tt
     names_none (Tried path) is = tt
-    names_none (Twinned source twin summed) is = is
+    names_none (Twinned source scratch summed) is = is
     names_none (Removed path) is = tt
     names_none (Renamed from into) is = is
     names_none (Synced path) is = tt

@@ -1,4 +1,4 @@
--- What is told of a file of enrolments that can't be read.
+-- What is reported of a file of enrolments that can't be read.
 use Rattle.std.proofs.Common.{◌≡◌, inr, List, [], ◌∷◌, ℕ, Option, None, sym, subst}
 use Rattle.desk_wire.specs.Passage.{course}
 use Rattle.desk_program.specs.Serving.{Grows}
@@ -16,5 +16,5 @@ no_news path seen after stamp old between new now news stamped unread same unsee
       stamp = stamp;
       between = between;
       stamped = stamped;
-      told = inr (inr (subst (λ s. IsFileUnread path (course between s)) (sym same) unread, unseen, empty));
+      reported = inr (inr (subst (λ s. IsFileUnread path (course between s)) (sym same) unread, unseen, empty));
     }

@@ -1,4 +1,4 @@
--- Access: what a look at the path of a file that can't be had finds, and what is told of it.
+-- Access: what a look at the path of a file that can't be had finds, and what is reported of it.
 use Rattle.std.specs.Prelude.{◌≡◌, ◌≢◌, ⊤, ℕ, ◌==◌, Bool, true, false, if◌then◌else◌}
 use Rattle.std.specs.Prelude.{List, [], ◌∷◌, ◌++◌, codes}
 use Rattle.std.specs.Prelude.{bytes_eq, nat_eq, Option, None, Some, option_map, Result, Ok, Err, is_ok}
@@ -146,7 +146,7 @@ MayAsk no_path made next.Link = (no_path ≡ false) × (made ≡ true)
 MayAsk no_path made next.Access = made ≡ true
 MayAsk no_path made next.Start = no_path ≡ false
 
--- ---- what is told
+-- ---- what is reported
 
 -- of a path at which nothing is reached
 abbrev pub missing_text : Missing → List ℕ
@@ -168,7 +168,7 @@ denial_text denial.Unopened = codes "no right to its log or folder, a second nam
 abbrev pub access_cause : Answers → List ℕ → Option (List ℕ)
 access_cause it path = option_map denial_text (access_denial it path)
 
--- a text is told of a file that can't be had, whatever it holds
+-- a text is reported of a file that can't be had, whatever it holds
 abbrev pub IsDenialText : List ℕ → Type 0
 IsDenialText text = (denial : Denial) × (text ≡ denial_text denial)
 

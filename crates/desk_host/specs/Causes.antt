@@ -1,5 +1,5 @@
--- Causes: what is told of an error of the operating system at a file of operators, at a folder of records,
--- or at a file that can't be had.
+-- Causes: what is reported of an error of the operating system at a file of operators, at a folder of
+-- records, or at a file that can't be had.
 use Rattle.std.specs.Prelude.{◌≡◌, ◌⊎◌, ℕ, Bool, true, false, List, [], ◌∷◌, codes, Option, None, Some}
 use Rattle.std.specs.declared.io.ErrorKind.{ErrorKind}
 use Rattle.std.specs.declared.io.ErrorKind.TheVariants as kind
@@ -7,13 +7,13 @@ use Rattle.desk_recording.specs.Tail.{HasNoTail}
 use Rattle.desk_recording.specs.declared.tail.TailFault.{TailFault}
 use Rattle.desk_recording.specs.declared.tail.TailFault.TheVariants as tail
 use Rattle.desk_host.specs.Naming.{Failed, Follows, Steps, Tried}
-use Rattle.desk_host.specs.declared.folders.Unkept.{Unkept}
-use Rattle.desk_host.specs.declared.folders.Unkept.TheVariants as unkept
-use Rattle.desk_host.specs.declared.operators.Unread.{Unread}
-use Rattle.desk_host.specs.declared.operators.Unread.TheVariants as unread
+use Rattle.desk_host.specs.declared.folders.JournalError.{JournalError}
+use Rattle.desk_host.specs.declared.folders.JournalError.TheVariants as unkept
+use Rattle.desk_host.specs.declared.operators.FileReadError.{FileReadError}
+use Rattle.desk_host.specs.declared.operators.FileReadError.TheVariants as unread
 
--- the text that is told of a file that can't be read; none where memory ran out
-abbrev pub unread_text : Unread → Option (List ℕ)
+-- the text that is reported of a file that can't be read; none where memory ran out
+abbrev pub unread_text : FileReadError → Option (List ℕ)
 unread_text unread.Memory = None
 unread_text (unread.Cause cause) = Some cause.now
 
@@ -24,8 +24,8 @@ unread_by kind.NotFound = Some (codes "no such file")
 unread_by kind.PermissionDenied = Some (codes "no right to read it")
 unread_by _ = Some (codes "it can't be read")
 
--- the text that is told of a record that can't be read or kept; none where memory ran out
-abbrev pub unkept_text : Unkept → Option (List ℕ)
+-- the text that is reported of a record that can't be read or kept; none where memory ran out
+abbrev pub unkept_text : JournalError → Option (List ℕ)
 unkept_text unkept.Memory = None
 unkept_text (unkept.Cause cause) = Some cause.now
 
@@ -47,22 +47,22 @@ unkept_tail tail.Read = Some (codes "its last record can't be read")
 unkept_tail tail.NoRecord = Some (codes "its last record is none of a desk")
 
 -- why a record can't be read or kept: by an error of the operating system
-pub record IsUnkept (fault : Unkept) : Type 0 where
+pub record IsUnkept (fault : JournalError) : Type 0 where
   pub kind : ErrorKind
   pub text : unkept_text fault ≡ unkept_by kind
 
 -- why the end of a record is not read that holds these bytes, if they are known
-pub record IsTailFault (bytes : Option (List ℕ)) (fault : Unkept) : Type 0 where
+pub record IsTailFault (bytes : Option (List ℕ)) (fault : JournalError) : Type 0 where
   pub tail : TailFault
   pub has : HasNoTail bytes tail
   pub text : unkept_text fault ≡ unkept_tail tail
 
 -- so, of one whose bytes are not known; or an error of the operating system
-abbrev pub IsTailUnread : Unkept → Type 0
+abbrev pub IsTailUnread : JournalError → Type 0
 IsTailUnread fault = IsUnkept fault ⊎ ((bytes : Option (List ℕ)) × IsTailFault bytes fault)
 
--- why SQLite refuses a file, by whether there is none, and what is told of what was found: where there is
--- none, one is made for a trial, and if it can't be, that is told; else no folder is asked
+-- why SQLite refuses a file, by whether there is none, and what is reported of what was found: where there is
+-- none, one is made for a trial, and if it can't be, that is reported; else no folder is asked
 abbrev pub IsCauseBy : Bool → List ℕ → List ℕ → Steps → List ℕ → Type 0
 IsCauseBy true found path steps text =
     (Follows steps (Tried path ∷ []) × (text ≡ found)) ⊎ Follows steps (Failed ∷ [])

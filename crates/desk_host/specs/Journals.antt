@@ -7,7 +7,7 @@ use Rattle.std.specs.Char.{is_ascii_digit}
 use Rattle.std.specs.Fmt.{format_spec, styled_decimal}
 use Rattle.std.specs.List.{list_all}
 use Rattle.std.specs.Str.Parse.{digits_value}
-use Rattle.desk_host.specs.declared.folders.FoundRecord.{FoundRecord}
+use Rattle.desk_host.specs.declared.folders.JournalFile.{JournalFile}
 use Rattle.desk_host.specs.declared.folders.Greatest.{Greatest}
 
 -- a text is digits alone, and has one
@@ -70,7 +70,7 @@ pub record IsJournalAt (folder : List ℕ) (number : ℕ) (path : List ℕ) : Ty
 abbrev pub IsGreatestIn : List ℕ → Greatest → Type 0
 IsGreatestIn folder it = IsJournalAt folder it.number (string_bytes it.path)
 
-abbrev pub IsFoundIn : List ℕ → FoundRecord → Type 0
+abbrev pub IsFoundIn : List ℕ → JournalFile → Type 0
 IsFoundIn folder it = IsJournalAt folder it.number (string_bytes it.path)
 
 -- a number is above that which is the greatest so far

@@ -1,5 +1,5 @@
--- Read first: Telling, Naming, FolderSteps, Scratch; the others stand each alone.
-pub mod Telling
+-- Read first: Reporting, Naming, FolderSteps, Scratch; the others stand each alone.
+pub mod Reporting
 pub mod Causes
 pub mod Naming
 pub mod FolderSteps
@@ -8,11 +8,11 @@ pub mod Scratch
 pub mod Paths
 pub mod Access
 pub mod Operators
-pub mod ToldLines
+pub mod ReportedLines
 pub mod Answers
 pub mod Openings
 pub mod LeftFiles
 pub mod Unmade
 pub mod FoundLogs
-pub mod DamageTold
+pub mod DamageReported
 pub mod Ways

@@ -5,10 +5,10 @@ use Rattle.desk_program.specs.Serving.{Grows}
 use Rattle.desk_host.specs.declared.naming.NewFile.{NewFile}
 
 -- a step: a path is looked at, and there is nothing; what a copy that was cut off left at two paths, a file
--- and its log, is gone; a file is made there for a trial, and is gone again; a file is read, and its twin
--- made at another path, either mended or, with its log, byte for byte; a file is removed; one
--- gets another name; the folder of a path is synced; the first page of a file is put in a desk's own order,
--- in one commit; or what was asked is not so, or can't be done
+-- and its log, is gone; a file is made there for a trial, and is gone again; a file is read, and its scratch
+-- copy made at another path, either mended or, with its log, byte for byte; a file is removed; one gets
+-- another name; the folder of a path is synced; the first page of a file is put in a desk's own order, in one
+-- commit; or what was asked is not so, or can't be done
 pub data Step : Type 0 where
   Free : List ℕ → Step
   Cleared : List ℕ → List ℕ → Step
@@ -69,7 +69,7 @@ named_steps to last = Removed (log_of (part_of to)) ∷ Renamed (part_of to) to 
 
 -- a step by which no file gets a name
 abbrev pub GivesNoName : Step → Type 0
-GivesNoName (Twinned source twin mended) = ⊥
+GivesNoName (Twinned source scratch mended) = ⊥
 GivesNoName (Renamed from to) = ⊥
 GivesNoName _ = ⊤
 

@@ -14,11 +14,11 @@ use Rattle.desk_cli.specs.declared.line.Enrolment.{Enrolment}
 use Rattle.desk_wire.specs.Passage.{Course, course}
 use Rattle.desk_program.specs.Serving.{Grows}
 use Rattle.desk_host.specs.declared.operators.Stamp.{Stamp}
-use Rattle.desk_host.specs.declared.operators.Unread.{Unread}
-use Rattle.desk_host.specs.declared.operators.Unread.TheVariants.{Cause, Memory}
+use Rattle.desk_host.specs.declared.operators.FileReadError.{FileReadError}
+use Rattle.desk_host.specs.declared.operators.FileReadError.TheVariants.{Cause, Memory}
 
 -- what is asked of the file at a path: when it was changed last, and how long it is, or its text; none if
--- that can't be told
+-- that can't be reported
 pub data Asking : Type 0 where
   Stamped : List ℕ → Option Stamp → Asking
   Read : List ℕ → Option (List ℕ) → Asking
@@ -28,40 +28,40 @@ ok_of (Ok it) = Some it
 ok_of (Err e) = None
 
 -- what is said of a file gives its length, if it is one; else why it is not read
-abbrev pub IsStampOf : Metadata → Result Stamp Unread → Type 0
+abbrev pub IsStampOf : Metadata → Result Stamp FileReadError → Type 0
 IsStampOf said (Ok stamp) = IsFile (file_type said) × (stamp.len ≡ metadata_len said)
 IsStampOf said (Err fault) = ¬ IsFile (file_type said) × (unread_text fault ≡ Some (codes "no file"))
 
 -- ---- the text of a file
 
 -- why a file can't be read, by an error of the operating system
-pub record IsUnreadBySystem (fault : Unread) : Type 0 where
+pub record IsUnreadBySystem (fault : FileReadError) : Type 0 where
   pub kind : ErrorKind
   pub text : unread_text fault ≡ unread_by kind
 
 -- so; or it is no file
-abbrev pub IsUnstamped : Unread → Type 0
+abbrev pub IsUnstamped : FileReadError → Type 0
 IsUnstamped fault = IsUnreadBySystem fault ⊎ (unread_text fault ≡ Some (codes "no file"))
 
--- the most bytes of a file that is read, and what is told of a longer one
+-- the most bytes of a file that is read, and what is reported of a longer one
 abbrev pub max_bytes : ℕ
 max_bytes = 1048576
 
 abbrev pub too_long : List ℕ
 too_long = codes "longer than 1,048,576 bytes"
 
-abbrev pub IsTextFault : Unread → Type 0
+abbrev pub IsTextFault : FileReadError → Type 0
 IsTextFault fault = IsUnreadBySystem fault ⊎ (unread_text fault ≡ Some too_long)
 
 -- the text of these first bytes of a file, where bytes that are no text stand for other ones; or why it
 -- is not read
-abbrev pub IsTextOf : List ℕ → Result (List ℕ) Unread → Type 0
+abbrev pub IsTextOf : List ℕ → Result (List ℕ) FileReadError → Type 0
 IsTextOf bytes (Ok text) = (length bytes ≤ max_bytes) × (text ≡ utf8_lossy bytes)
 IsTextOf bytes (Err fault) =
     IsUnreadBySystem fault ⊎ ((max_bytes < length bytes) × (unread_text fault ≡ Some too_long))
 
 -- no text is read of a file that can't be opened
-abbrev pub IsUnreadIf : {A : Type 0} → Option ErrorKind → Result A Unread → Type 0
+abbrev pub IsUnreadIf : {A : Type 0} → Option ErrorKind → Result A FileReadError → Type 0
 IsUnreadIf (Some kind) result = IsErrAnd result (λ fault. unread_text fault ≡ unread_by kind)
 IsUnreadIf None result = ⊤
 
@@ -69,7 +69,7 @@ IsUnreadIf None result = ⊤
 abbrev pub is_unread : List ℕ → Bool
 is_unread line = if length line == 0 then false else is_none (enrolment_on line)
 
--- what is told of a line that can't be read, and of those past the first ones
+-- what is reported of a line that can't be read, and of those past the first ones
 unfoldable pub unread_line : ℕ → List ℕ
 unread_line number = codes "line " ++ (decimal number ++ codes " is not NAME CEILING, and passed over")
 
@@ -91,7 +91,7 @@ IsFileUnread path files = Grows files.before files.after (Stamped path None ∷ 
     ⊎ ((stamp : Stamp) × Grows files.before files.after (Stamped path (Some stamp) ∷ Read path None ∷ []))
 
 -- why nothing is read: memory ran out, or the file can't be read
-abbrev pub HasUnreadCause : List ℕ → Course (Option (List Asking)) → Unread → Type 0
+abbrev pub HasUnreadCause : List ℕ → Course (Option (List Asking)) → FileReadError → Type 0
 HasUnreadCause path files Memory = ⊤
 HasUnreadCause path files (Cause text) = IsFileUnread path files
 
@@ -103,7 +103,7 @@ pub record AreNewsAt (path : List ℕ) (seen : Course (Option Stamp)) (files : C
     pub stamp : Option Stamp
     pub between : Option (List Asking)
     pub stamped : Grows files.before between (Stamped path stamp ∷ [])
-    pub told : (IsSome stamp × (stamp ≡ seen.before) × (seen.after ≡ seen.before) × (files.after ≡ between)
+    pub reported : (IsSome stamp × (stamp ≡ seen.before) × (seen.after ≡ seen.before) × (files.after ≡ between)
         × (news ≡ []))
         ⊎ ((AreEnrolmentsRead path (course between files.after) news × (seen.after ≡ stamp))
         ⊎ (IsFileUnread path (course between files.after) × (seen.after ≡ None) × (news ≡ [])))

@@ -41,4 +41,4 @@ pub record IsUnheldAt (file : List ℕ) (paths : LocalOpenPaths) : Type 0 where
   pub path : paths.file.now ≡ file
   pub no_file : paths.held_file ≡ None
   pub no_log : paths.held_log ≡ None
-  pub untold : paths.is_told ≡ false
+  pub unreported : paths.is_reported ≡ false

@@ -39,11 +39,11 @@ copy_text kind.QuotaExceeded = Some (false, codes "a full disk")
 copy_text _ = Some (false, codes "it can't be written, or what it is made of can't be read")
 
 -- why there is no scratch copy: by the kind of an error, of which this is reported
-pub record IsTwinFaultBy (text : ErrorKind → Option (Bool × List ℕ)) (fault : ScratchFault) : Type 0 where
+pub record IsScratchFaultBy (text : ErrorKind → Option (Bool × List ℕ)) (fault : ScratchFault) : Type 0 where
   pub kind : ErrorKind
   pub is : fault_text fault ≡ text kind
 
 -- so, of a file that can't be read, of one that can't be made, or of one that can't be copied
 abbrev pub IsCopyFault : ScratchFault → Type 0
-IsCopyFault fault = IsTwinFaultBy source_text fault
-    ⊎ (IsTwinFaultBy made_text fault ⊎ IsTwinFaultBy copy_text fault)
+IsCopyFault fault = IsScratchFaultBy source_text fault
+    ⊎ (IsScratchFaultBy made_text fault ⊎ IsScratchFaultBy copy_text fault)

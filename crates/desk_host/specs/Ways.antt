@@ -19,15 +19,15 @@ way_for true unsummed disordered = way.Damaged
 way_for false None disordered = way_by_order disordered
 way_for false (Some count) disordered = if count == 0 then way_by_order disordered else way.BadChecksums count
 
--- its twin is mended: its tables are put in a desk's own order, if they are a desk's in another, and its
--- pages get their sums, if they have sums
+-- its scratch copy is mended: its tables are put in a desk's own order, if they are a desk's in another, and
+-- its pages get their sums, if they have sums
 abbrev pub is_mended : ReadMode → Bool
 is_mended way.Itself = false
 is_mended way.Damaged = false
 is_mended (way.BadChecksums count) = true
 is_mended way.OtherOrder = true
 
--- how many pages are told of, if it was copied well: their sums were not tested
+-- how many pages are reported of, if it was copied well: their sums were not tested
 abbrev pub untested : ReadMode → ℕ → Option ℕ
 untested way.Itself status = None
 untested way.Damaged status = None
@@ -42,7 +42,7 @@ has_changes_by it path (Err error) = true
 abbrev pub has_changes : Answers → List ℕ → Bool
 has_changes it path = has_changes_by it path (it.real path)
 
--- so; or memory ran out for the name of the log, and recovery tells that alone
+-- so; or memory ran out for the name of the log, and recovery reports that alone
 abbrev pub HasChanges : Answers → List ℕ → Bool → Type 0
 HasChanges it path now = (now ≡ has_changes it path) ⊎ (now ≡ it.recovered path)
 

@@ -1,5 +1,5 @@
-//! Why a file can't be had, as it is told: by what a look at its path found, and nothing of what its tables
-//! hold.
+//! Why a file can't be had, as it is reported: by what a look at its path found, and nothing of what its
+//! tables hold.
 
 ghost use Rattle.std.specs.Prelude.{◌≡◌, IfSome, option_map};
 ghost use Rattle.desk_program.specs.Outside.{bytes_written};
@@ -7,15 +7,15 @@ ghost use Rattle.desk_host.specs.Access as spec;
 ghost use Rattle.desk_host.specs.Access.{IsDenialText};
 ghost use Rattle.desk_host.specs.Causes.{IsCauseBy};
 ghost use Rattle.desk_host.specs.Openings.{OpensAtMost};
-ghost use Rattle.desk_host.specs.Telling.{Tells};
+ghost use Rattle.desk_host.specs.Reporting.{Reports};
 ghost use Rattle.desk_host.specs.Naming.{Free, TakesIfNone};
 ghost use Rattle.desk_host.specs.FolderSteps.{steps_of};
 
 use crate::files::{HostFiles, LocalHost};
 use crate::naming::{Folder, IN_USE, READ_ONLY, TAKEN, is_no_path};
 use crate::probing::probe_access;
+use crate::reporting::report_of;
 use crate::state::{Denial, FileState, Missing, Start};
-use crate::telling::tell_of;
 use std::alloc::Global;
 use std::io::Write;
 
@@ -41,23 +41,23 @@ fn taken_text(is_no_path: bool) -> &'static str
     if is_no_path { NO_PATH } else { TAKEN }
 }
 
-/// Tells why SQLite refuses the file at a path, by what a look at it found: of one that may be damaged, how
-/// many pages, if their sums tell.
-#[tactic(auto, using(crate::proofs::TellLemmas::tells_nothing))]
-pub fn tell_store<E: Write>(
+/// Reports why SQLite refuses the file at a path, by what a look at it found: of one that may be damaged, how
+/// many pages, if their sums report.
+#[tactic(auto, using(crate::proofs::ReportLemmas::reports_nothing))]
+pub fn report_store<E: Write>(
     rt: &HostRuntime,
     path: &str,
     name: &str,
     state: FileState,
     errors: &mut E,
 )
-    ensures { Tells (bytes_written E.Write errors.old errors.new) }
+    ensures { Reports (bytes_written E.Write errors.old errors.new) }
 {
     match pages_of(&LocalHost::new(rt), path, state) {
-        Some(count) => tell_pages(rt.alloc(), name, count, errors),
+        Some(count) => report_pages(rt.alloc(), name, count, errors),
         None => {
             let cause = cause_of(&mut LocalHost::new(rt), path, state);
-            tell_of(rt.alloc(), name, cause, errors);
+            report_of(rt.alloc(), name, cause, errors);
         }
     }
 }
@@ -82,20 +82,20 @@ fn may_be_damaged(state: FileState) -> bool
     matches!(state, FileState::Filled(Ok(Start::Database)))
 }
 
-// Tells that so many pages have another sum than theirs.
-#[tactic(auto, using(crate::proofs::TellLemmas::tells_nothing))]
-fn tell_pages<E: Write>(alloc: Global, path: &str, count: u64, errors: &mut E)
-    ensures { Tells (bytes_written E.Write errors.old errors.new) }
+// Reports that so many pages have another sum than theirs.
+#[tactic(auto, using(crate::proofs::ReportLemmas::reports_nothing))]
+fn report_pages<E: Write>(alloc: Global, path: &str, count: u64, errors: &mut E)
+    ensures { Reports (bytes_written E.Write errors.old errors.new) }
 {
-    let told = format!(in alloc;
+    let reported = format!(in alloc;
         "{count} pages without their sums, as sqlite3 leaves them, or damaged"
     );
-    if let Ok(text) = told {
-        tell_of(alloc, path, &text, errors);
+    if let Ok(text) = reported {
+        report_of(alloc, path, &text, errors);
     }
 }
 
-// Why SQLite refuses a file. Where there is none, one is made for a trial, which tells why it can't be.
+// Why SQLite refuses a file. Where there is none, one is made for a trial, which reports why it can't be.
 fn cause_of<P: Folder>(folder: &mut P, path: &str, state: FileState) -> &'static str
     ensures { IsCauseBy (spec.is_free state) (spec.refusal_text state) path.now
         (steps_of P.Folder folder.old folder.new) result.now }

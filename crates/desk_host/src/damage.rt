@@ -6,16 +6,16 @@ ghost use Rattle.desk_cli.specs.Lines.{file_of};
 ghost use Rattle.desk_program.specs.Outside.{bytes_written};
 ghost use Rattle.db_file.specs.Commits.{HasCommit};
 ghost use Rattle.db_file.specs.Damage.{IsDamaged};
-ghost use Rattle.desk_host.specs.DamageTold as spec;
+ghost use Rattle.desk_host.specs.DamageReported as spec;
 ghost use Rattle.desk_host.specs.FoundLogs as logs;
-ghost use Rattle.desk_host.specs.DamageTold.{HasUnlookedCause, IsBegun, IsJudged, IsLookTold, IsLookedAt};
+ghost use Rattle.desk_host.specs.DamageReported.{HasLogCheckCause, IsBegun, IsJudged, IsLogCheckReported, IsLookedAt};
 ghost use Rattle.desk_host.specs.Openings.{OpensAtMost};
-ghost use Rattle.desk_host.specs.Telling.{IsWrittenUpTo};
+ghost use Rattle.desk_host.specs.Reporting.{IsWrittenUpTo};
 
 use crate::files::{HostFiles, LocalHost};
 use crate::logs::{FoundLog, find_log};
-use crate::telling::{tell_line, tell_of};
-use db_file::{LogFault, Verdict, commits_are_long, damaged_is_long, judge_log};
+use crate::reporting::{report_line, report_of};
+use db_file::{WalError, WalState, check_wal, commits_are_long, damaged_is_long};
 use desk_cli::{Database, ErrorCode};
 use io_ends::WriteError;
 use std::alloc::{AllocError, Global};
@@ -27,48 +27,48 @@ const LEAST_DAMAGED: u64 = 1_104;
 // How many a log with a commit has at least.
 const LEAST_WITH_A_COMMIT: u64 = 568;
 
-// What is told of a file that isn't there, and its log is.
+// What is reported of a file that isn't there, and its log is.
 const LOG_ALONE: &str = "its log is there without it: was it moved or removed while a desk ran?";
 
-/// What came of a look at a log that tells its damage to a writer of this type.
+/// What came of a look at a log that reports its damage to a writer of this type.
 #[derive_where(Clone, Copy, Debug, PartialEq, Eq)]
-pub struct Look<E> {
+pub struct LogCheck<E> {
     /// Whether its file may be opened, or copied.
     pub is_admitted: bool,
     /// Whether it is damaged.
     pub is_damaged: bool,
-    /// Where the line that tells its damage was broken off, if it was.
+    /// Where the line that reports its damage was broken off, if it was.
     pub cut: Option<WriteError<E>>,
 }
 
 /// Why nothing is known of a log.
 #[derive(Clone, Copy, Debug, PartialEq, Eq)]
-pub enum Unlooked {
-    /// Memory ran out for the line that tells its damage.
+pub enum LogCheckError {
+    /// Memory ran out for the line that reports its damage.
     OutOfMemory,
     /// It can't be read.
-    Unread(LogFault),
+    Unread(WalError),
 }
 
-impl From<AllocError> for Unlooked {
+impl From<AllocError> for LogCheckError {
     ghost use Rattle.std.specs.Prelude.{◌≡◌};
-    ghost use Rattle.desk_host.specs.declared.damage.Unlooked.TheVariants.{OutOfMemory};
+    ghost use Rattle.desk_host.specs.declared.damage.LogCheckError.TheVariants.{OutOfMemory};
 
     ghost from_gives = { λ _ it. it ≡ OutOfMemory };
 
-    fn from(_error: AllocError) -> Unlooked {
-        Unlooked::OutOfMemory
+    fn from(_error: AllocError) -> LogCheckError {
+        LogCheckError::OutOfMemory
     }
 }
 
-/// Refuses a file whose log is damaged, or is there without it, and tells why. If it is to be copied, a copy
-/// is made of what can be read, and the loss is told: then the log is damaged, which is the answer. A file
-/// that another program has open is not looked at: to open it tells that.
+/// Refuses a file whose log is damaged, or is there without it, and reports why. If it is to be copied, a
+/// copy is made of what can be read, and the loss is reported: then the log is damaged, which is the answer.
+/// A file that another program has open is not looked at: to open it reports that.
 ///
 /// # Errors
 ///
 /// `DamagedLog`; `Memory` if memory runs out; `Store` if the log can't be read, or is there without its file.
-pub fn look_before<E: Write>(
+pub fn check_before<E: Write>(
     rt: &HostRuntime,
     database: &Database,
     is_copied: bool,
@@ -80,13 +80,13 @@ pub fn look_before<E: Write>(
         ((result ≡ Ok false) × (E.contents errors.new ≡ E.contents errors.old)) }
 {
     match database.path() {
-        Some(path) => look_beside(rt.alloc(), &mut LocalHost::new(rt), path, is_copied, errors),
+        Some(path) => check_beside(rt.alloc(), &mut LocalHost::new(rt), path, is_copied, errors),
         None => Ok(false),
     }
 }
 
 // The same of the file at a path, among those of any machine.
-fn look_beside<F: HostFiles, E: Write>(
+fn check_beside<F: HostFiles, E: Write>(
     alloc: Global,
     files: &mut F,
     path: &str,
@@ -100,9 +100,9 @@ fn look_beside<F: HostFiles, E: Write>(
     judge_found(alloc, path, is_copied, found, errors)
 }
 
-// Refuses a file whose log was found without it, or damaged, and tells why; or answers whether the log is
+// Refuses a file whose log was found without it, or damaged, and reports why; or answers whether the log is
 // damaged of a file that is copied.
-#[tactic(auto, using(crate::proofs::TellLemmas::begins))]
+#[tactic(auto, using(crate::proofs::ReportLemmas::begins))]
 fn judge_found<R: Read + Drop, E: Write>(
     alloc: Global,
     path: &str,
@@ -115,83 +115,84 @@ fn judge_found<R: Read + Drop, E: Write>(
 {
     match found {
         FoundLog::Alone => {
-            tell_of(alloc, path, LOG_ALONE, errors);
+            report_of(alloc, path, LOG_ALONE, errors);
             Err(ErrorCode::Store)
         }
         FoundLog::Nothing => Ok(false),
         FoundLog::Log(mut log) => {
-            admission_of(look_at_log(alloc, path, is_copied, &mut log, errors))
+            admission_of(check_log(alloc, path, is_copied, &mut log, errors))
         }
     }
 }
 
 // Whether a command is begun at a file, by what came of the look at its log, and whether that is damaged.
-fn admission_of<E>(look: Result<Look<E>, Unlooked>) -> Result<bool, ErrorCode>
+fn admission_of<E>(look: Result<LogCheck<E>, LogCheckError>) -> Result<bool, ErrorCode>
     ensures { result ≡ spec.admission_of look }
 {
     match look {
         Ok(look) if look.is_admitted => Ok(look.is_damaged),
         Ok(_) => Err(ErrorCode::DamagedLog),
-        Err(Unlooked::OutOfMemory) => Err(ErrorCode::Memory),
-        Err(Unlooked::Unread(_)) => Err(ErrorCode::Store),
+        Err(LogCheckError::OutOfMemory) => Err(ErrorCode::Memory),
+        Err(LogCheckError::Unread(_)) => Err(ErrorCode::Store),
     }
 }
 
-/// Looks at the log of the file at a path, and tells its damage, if there is some. If the file is to be
+/// Looks at the log of the file at a path, and reports its damage, if there is some. If the file is to be
 /// copied it is admitted all the same.
 ///
 /// # Errors
 ///
-/// As `Unlooked` says.
-#[tactic(auto, using(crate::proofs::TellLemmas::loss_told))]
-pub fn look_at_log<R: Read, E: Write>(
+/// As `LogCheckError` says.
+#[tactic(auto, using(crate::proofs::ReportLemmas::loss_reported))]
+pub fn check_log<R: Read, E: Write>(
     alloc: Global,
     path: &str,
     is_copied: bool,
     log: &mut R,
     errors: &mut E,
-) -> Result<Look<E>, Unlooked>
+) -> Result<LogCheck<E>, LogCheckError>
     ensures looked { IfSome (R.remaining log.old) (λ bytes. IsLookedAt is_copied path.now bytes result
         (bytes_written E.Write errors.old errors.new)) }
-    ensures cause { IfErr result (HasUnlookedCause (R.remaining log.old)) }
-    ensures told { IsLookTold is_copied path.now result (bytes_written E.Write errors.old errors.new) }
+    ensures cause { IfErr result (HasLogCheckCause (R.remaining log.old)) }
+    ensures reported { IsLogCheckReported is_copied path.now result
+        (bytes_written E.Write errors.old errors.new) }
 {
-    match judge_log(log) {
-        Ok(Verdict::Sound) => Ok(Look {
+    match check_wal(log) {
+        Ok(WalState::Sound) => Ok(LogCheck {
             is_admitted: true,
             is_damaged: false,
             cut: None,
         }),
-        Ok(Verdict::Damaged { frame, commits }) => {
-            let cut = tell_damage(alloc, path, frame, commits, errors)?;
-            Ok(Look {
+        Ok(WalState::Damaged { frame, commits }) => {
+            let cut = report_damage(alloc, path, frame, commits, errors)?;
+            Ok(LogCheck {
                 is_admitted: is_copied,
                 is_damaged: true,
                 cut,
             })
         }
-        Err(fault) => Err(Unlooked::Unread(fault)),
+        Err(fault) => Err(LogCheckError::Unread(fault)),
     }
 }
 
-// Tells that a log is damaged, and answers where that was broken off, if it was.
-fn tell_damage<E: Write>(
+// Reports that a log is damaged, and answers where that was broken off, if it was.
+fn report_damage<E: Write>(
     alloc: Global,
     path: &str,
     frame: u64,
     commits: u64,
     errors: &mut E,
 ) -> Result<Option<WriteError<E>>, AllocError>
-    ensures told { IfOk result (λ cut. IsWrittenUpTo (spec.damage_line path.now frame commits) cut
+    ensures reported { IfOk result (λ cut. IsWrittenUpTo (spec.damage_line path.now frame commits) cut
         (bytes_written E.Write errors.old errors.new)) }
-    ensures untold { IfErr result (λ _. E.contents errors.new ≡ E.contents errors.old) }
+    ensures unreported { IfErr result (λ _. E.contents errors.new ≡ E.contents errors.old) }
 {
     let line = damage_line(alloc, path, frame, commits)?;
-    Ok(tell_line(&line, errors))
+    Ok(report_line(&line, errors))
 }
 
-// The line that tells damage.
-#[tactic(auto, unfolding(crate::specs::DamageTold::damage_line))]
+// The line that reports damage.
+#[tactic(auto, unfolding(crate::specs::DamageReported::damage_line))]
 fn damage_line(alloc: Global, path: &str, frame: u64, commits: u64) -> Result<String, AllocError>
     ensures { IfOk result (λ line. string_bytes line ≡ spec.damage_line path.now frame commits) }
 {

@@ -1,5 +1,5 @@
-//! What the program asks about the files of a machine before it opens one. No clause tells what the operating
-//! system answers: the clauses above say what follows from its answers.
+//! What the program asks about the files of a machine before it opens one. No clause reports what the
+//! operating system answers: the clauses above say what follows from its answers.
 
 ghost use Rattle.std.specs.Prelude.{◌≡◌, ◌∷◌, [], ℕ, Err, IfOk, IfSome, List, MatchResult, None, Option};
 ghost use Rattle.std.specs.Prelude.{string_bytes};
@@ -9,7 +9,7 @@ ghost use Rattle.desk_host.specs.Access as spec;
 ghost use Rattle.desk_host.specs.Answers.{Answers, IsFoundAs, by_ok, error_of};
 
 use crate::state::Denial;
-use db_file::{has_other_order, pages_without_sums, takes_commit};
+use db_file::{count_bad_checksums, has_other_order, takes_commit};
 use sqlite::Unknown;
 use sqlite_std_file::OpenError;
 use std::fs::{self, File, Metadata, OpenOptions};
@@ -159,7 +159,7 @@ impl HostFiles for LocalHost<'_> {
     }
 
     fn unsummed(&self, path: &str) -> Option<u64> {
-        pages_without_sums(self.rt, path)
+        count_bad_checksums(self.rt, path)
     }
 
     fn is_disordered(&self, path: &str) -> bool {

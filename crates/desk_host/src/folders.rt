@@ -1,5 +1,5 @@
-//! The folder of a desk's records: the files in it, and how a new one gets its name. No clause tells what the
-//! operating system did.
+//! The folder of a desk's records: the files in it, and how a new one gets its name. No clause reports what
+//! the operating system did.
 
 ghost use Rattle.std.specs.Prelude.{◌≡◌, ◌≢◌, ◌++◌, IfErr, IfOk, IfSome, List, MatchOption};
 ghost use Rattle.std.specs.Prelude.{ℕ, string_bytes, true};
@@ -25,63 +25,63 @@ const DIGITS: usize = 10;
 
 /// Why a record can't be read or kept.
 #[derive(Drop)]
-pub enum Unkept {
+pub enum JournalError {
     /// Memory ran out.
     Memory,
-    /// Another cause, as it is told.
+    /// Another cause, as it is reported.
     Cause(&'static str),
 }
 
-impl From<AllocError> for Unkept {
+impl From<AllocError> for JournalError {
     ghost use Rattle.std.specs.Prelude.{◌≡◌};
-    ghost use Rattle.desk_host.specs.declared.folders.Unkept.TheVariants.{Memory};
+    ghost use Rattle.desk_host.specs.declared.folders.JournalError.TheVariants.{Memory};
 
     ghost from_gives = { λ _ it. it ≡ Memory };
 
-    fn from(_error: AllocError) -> Unkept {
-        Unkept::Memory
+    fn from(_error: AllocError) -> JournalError {
+        JournalError::Memory
     }
 }
 
-impl From<TailFault> for Unkept {
+impl From<TailFault> for JournalError {
     ghost use Rattle.std.specs.Prelude.{◌≡◌};
     ghost use Rattle.desk_host.specs.Causes.{unkept_tail, unkept_text};
 
     ghost from_gives = { λ fault it. unkept_text it ≡ unkept_tail fault };
 
-    fn from(fault: TailFault) -> Unkept {
+    fn from(fault: TailFault) -> JournalError {
         match fault {
-            TailFault::OutOfMemory => Unkept::Memory,
-            TailFault::Read => Unkept::Cause("its last record can't be read"),
-            TailFault::NoRecord => Unkept::Cause("its last record is none of a desk"),
+            TailFault::OutOfMemory => JournalError::Memory,
+            TailFault::Read => JournalError::Cause("its last record can't be read"),
+            TailFault::NoRecord => JournalError::Cause("its last record is none of a desk"),
         }
     }
 }
 
-impl From<io::Error> for Unkept {
+impl From<io::Error> for JournalError {
     ghost use Rattle.std.specs.Prelude.{◌≡◌};
     ghost use Rattle.std.specs.IoError.{error_kind};
     ghost use Rattle.desk_host.specs.Causes.{unkept_by, unkept_text};
 
     ghost from_gives = { λ error it. unkept_text it ≡ unkept_by (error_kind error) };
 
-    fn from(error: io::Error) -> Unkept {
+    fn from(error: io::Error) -> JournalError {
         match error.kind() {
-            ErrorKind::OutOfMemory => Unkept::Memory,
-            ErrorKind::NotFound => Unkept::Cause("no such folder"),
-            ErrorKind::NotADirectory => Unkept::Cause("no folder"),
-            ErrorKind::PermissionDenied => Unkept::Cause("no right to it"),
-            ErrorKind::ReadOnlyFilesystem => Unkept::Cause(READ_ONLY),
-            ErrorKind::StorageFull | ErrorKind::QuotaExceeded => Unkept::Cause("a full disk"),
-            ErrorKind::AlreadyExists => Unkept::Cause(TAKEN),
-            _ => Unkept::Cause("it can't be read or written"),
+            ErrorKind::OutOfMemory => JournalError::Memory,
+            ErrorKind::NotFound => JournalError::Cause("no such folder"),
+            ErrorKind::NotADirectory => JournalError::Cause("no folder"),
+            ErrorKind::PermissionDenied => JournalError::Cause("no right to it"),
+            ErrorKind::ReadOnlyFilesystem => JournalError::Cause(READ_ONLY),
+            ErrorKind::StorageFull | ErrorKind::QuotaExceeded => JournalError::Cause("a full disk"),
+            ErrorKind::AlreadyExists => JournalError::Cause(TAKEN),
+            _ => JournalError::Cause("it can't be read or written"),
         }
     }
 }
 
 /// A record of a folder.
 #[derive(Drop)]
-pub struct FoundRecord {
+pub struct JournalFile {
     /// The number in its name.
     pub number: u64,
     /// Its path.
@@ -101,9 +101,9 @@ struct Greatest {
 ///
 /// # Errors
 ///
-/// As `Unkept` says.
+/// As `JournalError` says.
 #[tactic(auto, using(crate::proofs::FaultLemmas::memory_unkept))]
-pub fn last_record(rt: &HostRuntime, folder: &str) -> Result<Option<FoundRecord>, Unkept>
+pub fn last_record(rt: &HostRuntime, folder: &str) -> Result<Option<JournalFile>, JournalError>
     ensures found { IfOk result (λ found. IfSome found (IsFoundIn folder.now)) }
     ensures cause { IfErr result IsUnkept }
 {
@@ -116,7 +116,7 @@ pub fn last_record(rt: &HostRuntime, folder: &str) -> Result<Option<FoundRecord>
         return Ok(None);
     };
     let len = fs::metadata(rt, &path)?.len();
-    Ok(Some(FoundRecord { number, path, len }))
+    Ok(Some(JournalFile { number, path, len }))
 }
 
 // The record with the greatest number, after one more name.
@@ -233,15 +233,15 @@ fn path_in(alloc: Global, folder: &str, name: &str) -> Result<String, AllocError
 ///
 /// # Errors
 ///
-/// As `Unkept` says.
-pub fn tail_of(rt: &HostRuntime, record: &FoundRecord) -> Result<(Tail, TailEnd), Unkept>
+/// As `JournalError` says.
+pub fn tail_of(rt: &HostRuntime, record: &JournalFile) -> Result<(Tail, TailEnd), JournalError>
     ensures { IfErr result IsTailUnread }
 {
     tail_in(rt.alloc(), File::open(rt, &record.path)?)
 }
 
 // The same of a record that is open.
-fn tail_in<R: Read + Drop>(alloc: Global, file: R) -> Result<(Tail, TailEnd), Unkept>
+fn tail_in<R: Read + Drop>(alloc: Global, file: R) -> Result<(Tail, TailEnd), JournalError>
     ensures ok { IfOk result (λ read. IsTail (R.remaining file) read.1 (tail_shown read.0)) }
     ensures cause { IfErr result (IsTailFault (R.remaining file)) }
 {
@@ -254,8 +254,8 @@ fn tail_in<R: Read + Drop>(alloc: Global, file: R) -> Result<(Tail, TailEnd), Un
 ///
 /// # Errors
 ///
-/// As `Unkept` says. The record is cut only once the file beside it is on the disk.
-pub fn move_rest(rt: &HostRuntime, record: &FoundRecord, size: u64) -> Result<(), Unkept>
+/// As `JournalError` says. The record is cut only once the file beside it is on the disk.
+pub fn move_rest(rt: &HostRuntime, record: &JournalFile, size: u64) -> Result<(), JournalError>
     ensures { IfErr result IsUnkept }
 {
     let mut file = OpenOptions::new()
@@ -274,7 +274,7 @@ pub fn move_rest(rt: &HostRuntime, record: &FoundRecord, size: u64) -> Result<()
 
 // Writes the file beside a record.
 #[tactic(auto, using(crate::proofs::FaultLemmas::memory_unkept))]
-fn write_rest(rt: &HostRuntime, path: &str, rest: &[u8]) -> Result<(), Unkept>
+fn write_rest(rt: &HostRuntime, path: &str, rest: &[u8]) -> Result<(), JournalError>
     ensures { IfErr result IsUnkept }
 {
     let path = format!(in rt.alloc(); "{path}.rest")?;
@@ -293,9 +293,9 @@ fn write_rest(rt: &HostRuntime, path: &str, rest: &[u8]) -> Result<(), Unkept>
 ///
 /// # Errors
 ///
-/// As `Unkept` says.
+/// As `JournalError` says.
 #[tactic(auto, using(crate::proofs::FaultLemmas::memory_unkept))]
-pub fn make_part(rt: &HostRuntime, folder: &str, number: u64) -> Result<File, Unkept>
+pub fn make_part(rt: &HostRuntime, folder: &str, number: u64) -> Result<File, JournalError>
     ensures { IfErr result IsUnkept }
 {
     let part = part_of(rt.alloc(), folder, number)?;
@@ -314,9 +314,14 @@ pub fn make_part(rt: &HostRuntime, folder: &str, number: u64) -> Result<File, Un
 ///
 /// # Errors
 ///
-/// As `Unkept` says.
+/// As `JournalError` says.
 #[tactic(auto, using(crate::proofs::FaultLemmas::memory_unkept))]
-pub fn name_part(rt: &HostRuntime, folder: &str, number: u64, second: u64) -> Result<(), Unkept>
+pub fn name_part(
+    rt: &HostRuntime,
+    folder: &str,
+    number: u64,
+    second: u64,
+) -> Result<(), JournalError>
     ensures { IfErr result IsUnkept }
 {
     let part = part_of(rt.alloc(), folder, number)?;

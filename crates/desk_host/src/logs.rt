@@ -21,7 +21,7 @@ pub enum FoundLog<R> {
     /// A log that may have a commit, and nothing at the path of its file.
     Alone,
     /// No log that has to be judged: none, a short one, or one that can't be reached or that another program
-    /// has, which to open the file tells.
+    /// has, which to open the file reports.
     Nothing,
     /// A log that may be damaged.
     Log(R),
@@ -136,7 +136,7 @@ fn size_of(found: Result<Found, ErrorKind>) -> u64
     }
 }
 
-// What was found; nothing if it isn't there or can't be reached, which to open it tells.
+// What was found; nothing if it isn't there or can't be reached, which to open it reports.
 fn if_there<T: Drop>(found: Result<T, ErrorKind>) -> Result<Option<T>, ErrorCode>
     ensures { result ≡ spec.if_there found }
 {

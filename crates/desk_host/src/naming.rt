@@ -11,7 +11,7 @@ ghost use Rattle.desk_host.specs.Naming.{Removed, Renamed, Step, Synced, Takes, 
 ghost use Rattle.desk_host.specs.Naming.{named_steps};
 
 use crate::files::{HostFiles, LocalHost};
-use crate::pairs::{ScratchFault, write_twin};
+use crate::pairs::{ScratchFault, write_scratch};
 use crate::paths::is_at;
 use db_file::{is_in_order, put_in_order};
 use sqlite::Unknown;
@@ -21,13 +21,13 @@ use std::fs::{self, File, OpenOptions, Permissions};
 use std::io::{self, ErrorKind};
 use std::os::unix::fs::{OpenOptionsExt, PermissionsExt};
 
-/// What is told of a path at which there is something.
+/// What is reported of a path at which there is something.
 pub const TAKEN: &str = "it is there already";
 
-/// What is told of a file that another program has locked.
+/// What is reported of a file that another program has locked.
 pub const IN_USE: &str = "in use by another program";
 
-/// What is told of a path whose file system takes no writing.
+/// What is reported of a path whose file system takes no writing.
 pub const READ_ONLY: &str = "a read-only file system";
 
 /// The mode of a file that its owner alone reads and writes.
@@ -51,11 +51,11 @@ pub trait Folder {
     fn try_file(&mut self, path: &str) -> Option<&'static str>
         ensures { TakesIfNone (course (steps self.old) (steps self.new)) result (Tried path.now) };
 
-    /// Makes the twin of a file at a path where there is nothing, mended (`is_mended`) or, beside that of its
-    /// log, as it is; and answers why that could not be done, if so.
-    fn twin(&mut self, source: &str, twin: &str, is_mended: bool) -> Option<ScratchFault>
+    /// Makes the scratch copy of a file at a path where there is nothing, mended (`is_mended`) or, beside
+    /// that of its log, as it is; and answers why that could not be done, if so.
+    fn scratch(&mut self, source: &str, scratch: &str, is_mended: bool) -> Option<ScratchFault>
         ensures { TakesIfNone (course (steps self.old) (steps self.new)) result
-            (Twinned source.now twin.now is_mended) };
+            (Twinned source.now scratch.now is_mended) };
 
     /// Removes a file, and answers whether that was done.
     fn remove(&mut self, path: &str) -> bool
@@ -103,8 +103,8 @@ impl Folder for LocalHost<'_> {
         }
     }
 
-    fn twin(&mut self, source: &str, twin: &str, is_mended: bool) -> Option<ScratchFault> {
-        write_twin(self.rt, source, twin, is_mended).err()
+    fn scratch(&mut self, source: &str, scratch: &str, is_mended: bool) -> Option<ScratchFault> {
+        write_scratch(self.rt, source, scratch, is_mended).err()
     }
 
     fn remove(&mut self, path: &str) -> bool {
@@ -250,7 +250,7 @@ pub fn name_with(alloc: Global, path: &str, end: &str) -> Result<String, AllocEr
 /// Gives a file that is whole its name, and syncs its folder. Its log, which is empty, goes. Whether all of
 /// that was done.
 #[tactic(auto, using(crate::proofs::NameLemmas::fails_after))]
-pub fn put_in_place<N: Folder>(folder: &mut N, names: &NewFile) -> bool
+pub fn publish<N: Folder>(folder: &mut N, names: &NewFile) -> bool
     ensures named { (to : List ℕ) → AreNames to names.now → result ≡ true
         → Follows (course (N.steps folder.old) (N.steps folder.new)) (named_steps to (Synced to)) }
     ensures unnamed { (to : List ℕ) → AreNames to names.now → result ≡ false

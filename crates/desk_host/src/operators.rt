@@ -14,12 +14,12 @@ ghost use Rattle.desk_host.specs.Causes.{unread_by, unread_text};
 ghost use Rattle.desk_host.specs.Operators as spec;
 ghost use Rattle.desk_host.specs.Operators.{AreEnrolmentsRead, AreNews, Asking, HasUnreadCause, IsStampOf, Read, Stamped, ok_of};
 ghost use Rattle.desk_host.specs.Operators.{IsUnreadIf, IsTextFault, IsTextOf, IsUnstamped};
-ghost use Rattle.desk_host.specs.ToldLines as told;
-ghost use Rattle.desk_host.specs.ToldLines.{AreTold};
-ghost use Rattle.desk_host.specs.Telling.{IsWrittenIfRoom, Tells, line_of};
+ghost use Rattle.desk_host.specs.ReportedLines as reported;
+ghost use Rattle.desk_host.specs.ReportedLines.{AreReported};
+ghost use Rattle.desk_host.specs.Reporting.{IsWrittenIfRoom, Reports, line_of};
 
 use crate::files::{HostFiles, LocalHost};
-use crate::telling::tell_of;
+use crate::reporting::report_of;
 use desk_cli::{Enrolment, ErrorCode, enrolment_on, enrolments_on, lines_of};
 use desk_program::EnrolmentSource;
 use std::alloc::{AllocError, Global};
@@ -30,10 +30,10 @@ use std::time::SystemTime;
 /// The most bytes of the file: 1 MiB.
 const MAX_BYTES: u64 = 1_048_576;
 
-// What is told of a file that is longer.
+// What is reported of a file that is longer.
 const TOO_LONG: &str = "longer than 1,048,576 bytes";
 
-/// How many lines are told of each time that the file is read.
+/// How many lines are reported of each time that the file is read.
 const TOLD_LINES: u32 = 20;
 
 /// When a file was changed last, and how long it is.
@@ -45,45 +45,45 @@ pub struct Stamp {
 
 /// Why a file can't be read.
 #[derive(Drop)]
-pub enum Unread {
+pub enum FileReadError {
     /// Memory ran out.
     Memory,
-    /// Another cause, as it is told.
+    /// Another cause, as it is reported.
     Cause(&'static str),
 }
 
-impl From<AllocError> for Unread {
+impl From<AllocError> for FileReadError {
     ghost use Rattle.std.specs.Prelude.{◌≡◌};
-    ghost use Rattle.desk_host.specs.declared.operators.Unread.TheVariants.{Memory};
+    ghost use Rattle.desk_host.specs.declared.operators.FileReadError.TheVariants.{Memory};
 
     ghost from_gives = { λ _ it. it ≡ Memory };
 
-    fn from(_error: AllocError) -> Unread {
-        Unread::Memory
+    fn from(_error: AllocError) -> FileReadError {
+        FileReadError::Memory
     }
 }
 
-impl From<io::Error> for Unread {
+impl From<io::Error> for FileReadError {
     ghost use Rattle.std.specs.Prelude.{◌≡◌};
     ghost use Rattle.std.specs.IoError.{error_kind};
     ghost use Rattle.desk_host.specs.Causes.{unread_by, unread_text};
 
     ghost from_gives = { λ error it. unread_text it ≡ unread_by (error_kind error) };
 
-    fn from(error: io::Error) -> Unread {
+    fn from(error: io::Error) -> FileReadError {
         unread_by(error.kind())
     }
 }
 
 // Why a file can't be read, by the kind of the error.
-fn unread_by(kind: ErrorKind) -> Unread
+fn unread_by(kind: ErrorKind) -> FileReadError
     ensures { unread_text result ≡ cause.unread_by kind }
 {
     match kind {
-        ErrorKind::OutOfMemory => Unread::Memory,
-        ErrorKind::NotFound => Unread::Cause("no such file"),
-        ErrorKind::PermissionDenied => Unread::Cause("no right to read it"),
-        _ => Unread::Cause("it can't be read"),
+        ErrorKind::OutOfMemory => FileReadError::Memory,
+        ErrorKind::NotFound => FileReadError::Cause("no such file"),
+        ErrorKind::PermissionDenied => FileReadError::Cause("no right to read it"),
+        _ => FileReadError::Cause("it can't be read"),
     }
 }
 
@@ -96,8 +96,8 @@ pub trait TextFiles {
     ///
     /// # Errors
     ///
-    /// As `Unread` says.
-    fn stamp(&mut self, path: &str) -> Result<Stamp, Unread>
+    /// As `FileReadError` says.
+    fn stamp(&mut self, path: &str) -> Result<Stamp, FileReadError>
         ensures { Grows (asked self.old) (asked self.new) (Stamped path.now (ok_of result) ∷ []) };
 
     /// The text of the file at a path. Bytes that are no text stand for themselves in no line that can be
@@ -105,42 +105,42 @@ pub trait TextFiles {
     ///
     /// # Errors
     ///
-    /// As `Unread` says.
-    fn text(&mut self, alloc: Global, path: &str) -> Result<String, Unread>
+    /// As `FileReadError` says.
+    fn text(&mut self, alloc: Global, path: &str) -> Result<String, FileReadError>
         ensures { Grows (asked self.old) (asked self.new)
             (Read path.now (option_map string_bytes (ok_of result)) ∷ []) };
 }
 
 impl TextFiles for LocalHost<'_> {
-    fn stamp(&mut self, path: &str) -> Result<Stamp, Unread> {
+    fn stamp(&mut self, path: &str) -> Result<Stamp, FileReadError> {
         stamp_of(self.rt, path)
     }
 
-    fn text(&mut self, alloc: Global, path: &str) -> Result<String, Unread> {
+    fn text(&mut self, alloc: Global, path: &str) -> Result<String, FileReadError> {
         read_text(self, alloc, path)
     }
 }
 
-/// A file of enrolments, or none. What can't be read of it is told on the standard error.
+/// A file of enrolments, or none. What can't be read of it is reported on the standard error.
 #[derive(Drop)]
 pub struct EnrolmentFile<'r, F: Drop> {
     rt: &'r HostRuntime,
     files: F,
     path: Option<&'r str>,
-    // The file whose operators were told.
+    // The file whose operators were reported.
     seen: Option<Stamp>,
-    // The file of whose lines it was told which can't be read.
+    // The file of whose lines it was reported which can't be read.
     checked: Option<Stamp>,
-    // Why the file could not be read, as it was told last.
-    told: Option<&'static str>,
+    // Why the file could not be read, as it was reported last.
+    reported: Option<&'static str>,
 }
 
-/// The file of enrolments at a path, if there is one, read once, so that the administrator is told which
+/// The file of enrolments at a path, if there is one, read once, so that the administrator is reported which
 /// lines can't be read.
 ///
 /// # Errors
 ///
-/// `Read` if the file can't be read, after a line that tells why; `Memory`.
+/// `Read` if the file can't be read, after a line that reports why; `Memory`.
 pub fn operators_of<'r, F: TextFiles + Drop>(
     rt: &'r HostRuntime,
     files: F,
@@ -155,24 +155,24 @@ pub fn operators_of<'r, F: TextFiles + Drop>(
         path,
         seen: None,
         checked: None,
-        told: None,
+        reported: None,
     };
     let Some(path) = path else {
         return Ok(file);
     };
     match file.read_file(rt.alloc(), path) {
         Ok(_) => Ok(file),
-        Err(Unread::Memory) => Err(ErrorCode::Memory),
-        Err(Unread::Cause(cause)) => {
-            tell_of(rt.alloc(), path, cause, &mut rt.stderr());
+        Err(FileReadError::Memory) => Err(ErrorCode::Memory),
+        Err(FileReadError::Cause(cause)) => {
+            report_of(rt.alloc(), path, cause, &mut rt.stderr());
             Err(ErrorCode::Read)
         }
     }
 }
 
 impl<F: TextFiles + Drop> EnrolmentFile<'_, F> {
-    // The operators of the file. Lines that can't be read are told once.
-    fn read_file(&mut self, alloc: Global, path: &str) -> Result<Vec<Enrolment>, Unread>
+    // The operators of the file. Lines that can't be read are reported once.
+    fn read_file(&mut self, alloc: Global, path: &str) -> Result<Vec<Enrolment>, FileReadError>
         ensures small { IfOk result (λ enrolments. AreEnrolments enrolments.items) }
         ensures read { IfOk result (λ enrolments. AreEnrolmentsRead path.now
             (course (F.asked self.old.files) (F.asked self.new.files)) enrolments.items) }
@@ -186,19 +186,19 @@ impl<F: TextFiles + Drop> EnrolmentFile<'_, F> {
         let lines = lines_of(alloc, &text)?;
         if self.checked != Some(stamp) {
             self.checked = Some(stamp);
-            tell_lines(alloc, path, &lines, &mut self.rt.stderr())?;
+            report_lines(alloc, path, &lines, &mut self.rt.stderr())?;
         }
         Ok(enrolments_on(alloc, &lines)?)
     }
 
-    // Tells why the file can't be read, if that wasn't told.
-    fn tell_once(&mut self, path: &str, cause: &'static str)
+    // Reports why the file can't be read, if that wasn't reported.
+    fn report_once(&mut self, path: &str, cause: &'static str)
         ensures asked { F.asked self.new.files ≡ F.asked self.old.files }
         ensures seen { self.new.seen ≡ self.old.seen }
     {
-        if self.told != Some(cause) {
-            self.told = Some(cause);
-            tell_of(self.rt.alloc(), path, cause, &mut self.rt.stderr());
+        if self.reported != Some(cause) {
+            self.reported = Some(cause);
+            report_of(self.rt.alloc(), path, cause, &mut self.rt.stderr());
         }
     }
 }
@@ -222,13 +222,13 @@ impl<F: TextFiles + Drop> EnrolmentSource for EnrolmentFile<'_, F> {
         self.seen = stamp;
         match self.read_file(alloc, path) {
             Ok(enrolments) => {
-                self.told = None;
+                self.reported = None;
                 Ok(enrolments)
             }
-            Err(Unread::Memory) => Err(ErrorCode::Memory),
-            Err(Unread::Cause(cause)) => {
+            Err(FileReadError::Memory) => Err(ErrorCode::Memory),
+            Err(FileReadError::Cause(cause)) => {
                 self.seen = None;
-                self.tell_once(path, cause);
+                self.report_once(path, cause);
                 Ok(Vec::new(alloc))
             }
         }
@@ -236,21 +236,21 @@ impl<F: TextFiles + Drop> EnrolmentSource for EnrolmentFile<'_, F> {
 }
 
 // When the file at a path was changed last, and its length.
-fn stamp_of(rt: &HostRuntime, path: &str) -> Result<Stamp, Unread>
+fn stamp_of(rt: &HostRuntime, path: &str) -> Result<Stamp, FileReadError>
     ensures { IfErr result IsUnstamped }
 {
     stamp_by(fs::metadata(rt, path))
 }
 
 // The same, by what the operating system says of the file.
-fn stamp_by(found: io::Result<Metadata>) -> Result<Stamp, Unread>
+fn stamp_by(found: io::Result<Metadata>) -> Result<Stamp, FileReadError>
     ensures stamp { MatchResult found (λ said. IsStampOf said result)
         (λ error. IfErr result (λ fault. unread_text fault ≡ cause.unread_by (error_kind error))) }
     ensures cause { IfErr result IsUnstamped }
 {
     let found = found?;
     if !found.is_file() {
-        return Err(Unread::Cause("no file"));
+        return Err(FileReadError::Cause("no file"));
     }
     Ok(Stamp {
         modified: found.modified().ok(),
@@ -259,7 +259,7 @@ fn stamp_by(found: io::Result<Metadata>) -> Result<Stamp, Unread>
 }
 
 // The text of the file at a path. Bytes that are no text stand for themselves in no line that can be read.
-fn read_text<F: HostFiles>(files: &F, alloc: Global, path: &str) -> Result<String, Unread>
+fn read_text<F: HostFiles>(files: &F, alloc: Global, path: &str) -> Result<String, FileReadError>
     ensures unread { IfSome (F.answers files.now) (λ it. IsUnreadIf (it.unread path.now) result) }
     ensures cause { IfErr result IsTextFault }
 {
@@ -270,7 +270,7 @@ fn read_text<F: HostFiles>(files: &F, alloc: Global, path: &str) -> Result<Strin
 }
 
 // The same of a file that is open.
-fn text_in<R: Read + Drop>(alloc: Global, file: R) -> Result<String, Unread>
+fn text_in<R: Read + Drop>(alloc: Global, file: R) -> Result<String, FileReadError>
     ensures { IfErr result IsTextFault }
 {
     let mut bytes = Vec::new(alloc);
@@ -281,29 +281,29 @@ fn text_in<R: Read + Drop>(alloc: Global, file: R) -> Result<String, Unread>
 
 // The text of the first bytes of a file, if they are all.
 #[tactic(auto, using(crate::proofs::FaultLemmas::memory_unread))]
-fn text_of(alloc: Global, bytes: &[u8]) -> Result<String, Unread>
+fn text_of(alloc: Global, bytes: &[u8]) -> Result<String, FileReadError>
     ensures text { IsTextOf bytes.now (by_ok string_bytes result) }
     ensures cause { IfErr result IsTextFault }
 {
     if bytes.len() as u64 > MAX_BYTES {
-        return Err(Unread::Cause(TOO_LONG));
+        return Err(FileReadError::Cause(TOO_LONG));
     }
     Ok(String::from_utf8_lossy(alloc, bytes)?)
 }
 
 // How many lines of a file were looked at, and how many of them can't be read.
 #[derive(Clone, Copy)]
-struct Counted {
+struct LineCounts {
     lines: u32,
     unread: u32,
 }
 
-impl Counted {
+impl LineCounts {
     // So many, with one line more.
-    fn with(self, line: &str) -> Counted
-        ensures { result ≡ told.counted_with line.now self }
+    fn with(self, line: &str) -> LineCounts
+        ensures { result ≡ reported.counted_with line.now self }
     {
-        Counted {
+        LineCounts {
             lines: self.lines.saturating_add(1),
             unread: if is_unread(line) {
                 self.unread.saturating_add(1)
@@ -314,64 +314,65 @@ impl Counted {
     }
 }
 
-// Tells which lines of a file can't be read, the first of them one by one.
-#[tactic(auto, using(crate::proofs::TellLemmas::tells_both))]
-fn tell_lines<E: Write>(
+// Reports which lines of a file can't be read, the first of them one by one.
+#[tactic(auto, using(crate::proofs::ReportLemmas::reports_both))]
+fn report_lines<E: Write>(
     alloc: Global,
     path: &str,
     lines: &[&str],
     errors: &mut E,
 ) -> Result<(), AllocError>
-    ensures told { IfOk result (λ _. AreTold (told.lines_told path.now (map (λ line. line.now) lines.now))
+    ensures reported { IfOk result (λ _. AreReported
+        (reported.lines_reported path.now (map (λ line. line.now) lines.now))
         (E.contents errors.old) (E.contents errors.new)) }
-    ensures some { Tells (bytes_written E.Write errors.old errors.new) }
+    ensures some { Reports (bytes_written E.Write errors.old errors.new) }
 {
-    let mut counted = Counted {
+    let mut counted = LineCounts {
         lines: 0,
         unread: 0,
     };
     for line in lines {
         counted = counted.with(line);
-        tell_next(alloc, path, line, counted, errors)?;
+        report_next(alloc, path, line, counted, errors)?;
     }
-    tell_rest(alloc, path, counted.unread, errors)
+    report_rest(alloc, path, counted.unread, errors)
 }
 
-// Tells that the last of so many lines can't be read, if that is so, and it is one of the first of these.
-#[tactic(auto, using(crate::proofs::TellLemmas::tells_nothing, crate::proofs::ToldLemmas::told_one))]
-fn tell_next<E: Write>(
+// Reports that the last of so many lines can't be read, if that is so, and it is one of the first of these.
+#[tactic(auto, using(crate::proofs::ReportLemmas::reports_nothing, crate::proofs::ReportedLemmas::reported_one))]
+fn report_next<E: Write>(
     alloc: Global,
     path: &str,
     line: &str,
-    counted: Counted,
+    counted: LineCounts,
     errors: &mut E,
 ) -> Result<(), AllocError>
-    ensures told { IfOk result (λ _. AreTold (told.line_told path.now line.now counted)
+    ensures reported { IfOk result (λ _. AreReported (reported.line_reported path.now line.now counted)
         (E.contents errors.old) (E.contents errors.new)) }
-    ensures some { Tells (bytes_written E.Write errors.old errors.new) }
+    ensures some { Reports (bytes_written E.Write errors.old errors.new) }
 {
     if is_unread(line) {
         if counted.unread <= TOLD_LINES {
-            tell_line(alloc, path, counted.lines, errors)?;
+            report_line(alloc, path, counted.lines, errors)?;
         }
     }
     Ok(())
 }
 
-// Tells how many lines more can't be read than those that were told one by one, if some can't.
-#[tactic(auto, using(crate::proofs::TellLemmas::tells_nothing, crate::proofs::ToldLemmas::told_one))]
-fn tell_rest<E: Write>(
+// Reports how many lines more can't be read than those that were reported one by one, if some can't.
+#[tactic(auto, using(crate::proofs::ReportLemmas::reports_nothing, crate::proofs::ReportedLemmas::reported_one))]
+fn report_rest<E: Write>(
     alloc: Global,
     path: &str,
     unread: u32,
     errors: &mut E,
 ) -> Result<(), AllocError>
-    ensures told { IfOk result (λ _. AreTold (told.rest_told path.now unread)
+    ensures reported { IfOk result (λ _. AreReported (reported.rest_reported path.now unread)
         (E.contents errors.old) (E.contents errors.new)) }
-    ensures some { Tells (bytes_written E.Write errors.old errors.new) }
+    ensures some { Reports (bytes_written E.Write errors.old errors.new) }
 {
     if unread > TOLD_LINES {
-        tell_more(alloc, path, unread - TOLD_LINES, errors)?;
+        report_more(alloc, path, unread - TOLD_LINES, errors)?;
     }
     Ok(())
 }
@@ -386,21 +387,21 @@ fn is_unread(line: &str) -> bool
     enrolment_on(line).is_none()
 }
 
-// Tells that a line can't be read.
-#[tactic(auto, using(crate::proofs::TellLemmas::tells_nothing))]
-fn tell_line<E: Write>(
+// Reports that a line can't be read.
+#[tactic(auto, using(crate::proofs::ReportLemmas::reports_nothing))]
+fn report_line<E: Write>(
     alloc: Global,
     path: &str,
     number: u32,
     errors: &mut E,
 ) -> Result<(), AllocError>
-    ensures told { IfOk result (λ _. IsWrittenIfRoom (line_of path.now (spec.unread_line number))
+    ensures reported { IfOk result (λ _. IsWrittenIfRoom (line_of path.now (spec.unread_line number))
         (bytes_written E.Write errors.old errors.new)) }
-    ensures untold { IfErr result (λ _. E.contents errors.new ≡ E.contents errors.old) }
-    ensures some { Tells (bytes_written E.Write errors.old errors.new) }
+    ensures unreported { IfErr result (λ _. E.contents errors.new ≡ E.contents errors.old) }
+    ensures some { Reports (bytes_written E.Write errors.old errors.new) }
 {
     let text = line_text(alloc, number)?;
-    tell_of(alloc, path, &text, errors);
+    report_of(alloc, path, &text, errors);
     Ok(())
 }
 
@@ -411,21 +412,21 @@ fn line_text(alloc: Global, number: u32) -> Result<String, AllocError>
     format!(in alloc; "line {number} is not NAME CEILING, and passed over")
 }
 
-// Tells that there are more lines that can't be read.
-#[tactic(auto, using(crate::proofs::TellLemmas::tells_nothing))]
-fn tell_more<E: Write>(
+// Reports that there are more lines that can't be read.
+#[tactic(auto, using(crate::proofs::ReportLemmas::reports_nothing))]
+fn report_more<E: Write>(
     alloc: Global,
     path: &str,
     count: u32,
     errors: &mut E,
 ) -> Result<(), AllocError>
-    ensures told { IfOk result (λ _. IsWrittenIfRoom (line_of path.now (spec.more_lines count))
+    ensures reported { IfOk result (λ _. IsWrittenIfRoom (line_of path.now (spec.more_lines count))
         (bytes_written E.Write errors.old errors.new)) }
-    ensures untold { IfErr result (λ _. E.contents errors.new ≡ E.contents errors.old) }
-    ensures some { Tells (bytes_written E.Write errors.old errors.new) }
+    ensures unreported { IfErr result (λ _. E.contents errors.new ≡ E.contents errors.old) }
+    ensures some { Reports (bytes_written E.Write errors.old errors.new) }
 {
     let text = more_text(alloc, count)?;
-    tell_of(alloc, path, &text, errors);
+    report_of(alloc, path, &text, errors);
     Ok(())
 }
 

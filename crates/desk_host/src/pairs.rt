@@ -1,9 +1,9 @@
-//! The twins of files of the operating system.
+//! The scratch copies of files of the operating system.
 
 ghost use Rattle.std.specs.Prelude.{◌≡◌, IfErr, IfSome};
 ghost use Rattle.desk_host.specs.LeftFiles as left;
 ghost use Rattle.desk_host.specs.Unmade as spec;
-ghost use Rattle.desk_host.specs.Unmade.{IsCopyFault, IsTwinFaultBy};
+ghost use Rattle.desk_host.specs.Unmade.{IsCopyFault, IsScratchFaultBy};
 
 use crate::access::access_cause;
 use crate::files::{HostFiles, LocalHost};
@@ -16,14 +16,14 @@ use std::fs::{self, File, OpenOptions};
 use std::io::ErrorKind;
 use std::os::unix::fs::OpenOptionsExt;
 
-/// Why a file has no twin.
+/// Why a file has no scratch copy.
 #[derive(Clone, Copy, Debug, PartialEq, Eq)]
 pub enum ScratchFault {
     /// Memory ran out.
     OutOfMemory,
     /// The file can't be had, for this cause.
     Source(&'static str),
-    /// The twin can't be made, for this cause.
+    /// The scratch copy can't be made, for this cause.
     ScratchCopy(&'static str),
 }
 
@@ -38,20 +38,20 @@ impl From<AllocError> for ScratchFault {
     }
 }
 
-// What is told of a file that can't be read.
+// What is reported of a file that can't be read.
 const UNREAD: &str = "it can't be read";
 
-/// Makes the twin of a file, which no other program has meanwhile, where there is nothing: mended, or, with
-/// its log, as it is. The twin is its owner's alone. No log is left beside the file where
+/// Makes the scratch copy of a file, which no other program has meanwhile, where there is nothing: mended,
+/// or, with its log, as it is. The scratch copy is its owner's alone. No log is left beside the file where
 /// there was none.
 ///
 /// # Errors
 ///
 /// As `ScratchFault` says. What was made by then is left.
-pub fn write_twin(
+pub fn write_scratch(
     rt: &HostRuntime,
     source: &str,
-    twin: &str,
+    scratch: &str,
     is_mended: bool,
 ) -> Result<(), ScratchFault> {
     let host = LocalHost::new(rt);
@@ -67,9 +67,9 @@ pub fn write_twin(
                 let _ = fs::remove_file(rt, &log);
             }
             if is_mended {
-                write_mended(rt, source, twin)
+                write_mended(rt, source, scratch)
             } else {
-                write_pair(rt, source, &log, twin)
+                write_pair(rt, source, &log, scratch)
             }
         }
         Err(OpenError::OutOfMemory) => Err(ScratchFault::OutOfMemory),
@@ -89,14 +89,14 @@ fn is_empty<F: HostFiles>(files: &F, path: &str) -> bool
 
 // Copies a file, mended. It is opened once, and closed after all else: its closing lets go
 // of it.
-fn write_mended(rt: &HostRuntime, source: &str, twin: &str) -> Result<(), ScratchFault>
+fn write_mended(rt: &HostRuntime, source: &str, scratch: &str) -> Result<(), ScratchFault>
     ensures { IfErr result IsCopyFault }
 {
     let mut file = match File::open(rt, source) {
         Ok(file) => file,
         Err(error) => return Err(source_fault(error.kind())),
     };
-    let mut made = new_file(rt, twin)?;
+    let mut made = new_file(rt, scratch)?;
     match copy_mended(&mut file, &mut made) {
         Ok(()) => Ok(()),
         Err(error) => Err(copy_fault(error.kind())),
@@ -104,19 +104,24 @@ fn write_mended(rt: &HostRuntime, source: &str, twin: &str) -> Result<(), Scratc
 }
 
 // Copies a file and its log. Both are closed after all else.
-fn write_pair(rt: &HostRuntime, source: &str, log: &str, twin: &str) -> Result<(), ScratchFault> {
-    let twin_log = format!(in rt.alloc(); "{twin}-wal")?;
+fn write_pair(
+    rt: &HostRuntime,
+    source: &str,
+    log: &str,
+    scratch: &str,
+) -> Result<(), ScratchFault> {
+    let scratch_log = format!(in rt.alloc(); "{scratch}-wal")?;
     let mut file = File::open(rt, source).map_err(|error| source_fault(error.kind()))?;
     let mut changes = File::open(rt, log).map_err(|error| source_fault(error.kind()))?;
-    let mut made = new_file(rt, twin)?;
+    let mut made = new_file(rt, scratch)?;
     copy_bytes(&mut file, &mut made).map_err(|error| copy_fault(error.kind()))?;
-    let mut made_log = new_file(rt, &twin_log)?;
+    let mut made_log = new_file(rt, &scratch_log)?;
     copy_bytes(&mut changes, &mut made_log).map_err(|error| copy_fault(error.kind()))
 }
 
 // Makes a file where there is nothing, its owner's alone.
 fn new_file(rt: &HostRuntime, path: &str) -> Result<File, ScratchFault>
-    ensures { IfErr result (IsTwinFaultBy spec.made_text) }
+    ensures { IfErr result (IsScratchFaultBy spec.made_text) }
 {
     let made = OpenOptions::new()
         .write(true)

@@ -11,7 +11,7 @@ ghost use Rattle.desk_host.specs.Paths.{File, IsUnheldAt, Log, Look};
 
 use crate::files::{HostFiles, Identity, LocalHost};
 use crate::naming::name_with;
-use crate::telling::tell_of;
+use crate::reporting::report_of;
 use desk_cli::{Database, ErrorCode};
 use std::alloc::Global;
 use std::io::ErrorKind;
@@ -51,7 +51,7 @@ impl OpenPaths for NoPaths {
     }
 }
 
-/// The paths of a file and of its log. That one doesn't lead to the file that is open is told on the
+/// The paths of a file and of its log. That one doesn't lead to the file that is open is reported on the
 /// standard error, once.
 #[derive(Drop)]
 pub struct LocalOpenPaths<'r> {
@@ -61,7 +61,7 @@ pub struct LocalOpenPaths<'r> {
     // the files that are open
     held_file: Option<Identity>,
     held_log: Option<Identity>,
-    is_told: bool,
+    is_reported: bool,
 }
 
 /// The paths of the file of a database; of no file if it is in memory.
@@ -88,7 +88,7 @@ fn paths_beside<'r>(rt: &'r HostRuntime, file: &'r str) -> Result<LocalOpenPaths
         log: log_beside(rt.alloc(), &LocalHost::new(rt), file)?,
         held_file: None,
         held_log: None,
-        is_told: false,
+        is_reported: false,
     })
 }
 
@@ -106,15 +106,15 @@ fn log_beside<F: HostFiles>(alloc: Global, files: &F, file: &str) -> Result<Stri
 }
 
 impl LocalOpenPaths<'_> {
-    // Tells that a file isn't at its path any more, if nothing was told.
-    fn tell_once(&mut self, text: &str)
-        ensures told { self.new.is_told ≡ true }
+    // Reports that a file isn't at its path any more, if nothing was reported.
+    fn report_once(&mut self, text: &str)
+        ensures reported { self.new.is_reported ≡ true }
         ensures same { (self.new.held_file ≡ self.old.held_file)
             × (self.new.held_log ≡ self.old.held_log) × (self.new.log ≡ self.old.log) }
     {
-        if !self.is_told {
-            self.is_told = true;
-            tell_of(self.rt.alloc(), self.file, text, &mut self.rt.stderr());
+        if !self.is_reported {
+            self.is_reported = true;
+            report_of(self.rt.alloc(), self.file, text, &mut self.rt.stderr());
         }
     }
 }
@@ -132,7 +132,7 @@ impl OpenPaths for LocalOpenPaths<'_> {
     fn has_file(&mut self) -> bool {
         let is_there = is_at(&LocalHost::new(self.rt), self.file, self.held_file);
         if !is_there {
-            self.tell_once("it was moved or removed while the desk ran");
+            self.report_once("it was moved or removed while the desk ran");
         }
         is_there
     }
@@ -140,7 +140,7 @@ impl OpenPaths for LocalOpenPaths<'_> {
     fn has_log(&mut self) -> bool {
         let is_there = is_at(&LocalHost::new(self.rt), &self.log, self.held_log);
         if !is_there {
-            self.tell_once("its log was moved or removed while the desk ran");
+            self.report_once("its log was moved or removed while the desk ran");
         }
         is_there
     }

@@ -1,5 +1,5 @@
-//! The way in which the file of a look or of a copy is read: itself, or by a twin, if another program spoilt
-//! it or put its tables in another order. It is decided before the file is opened as a desk's.
+//! The way in which the file of a look or of a copy is read: itself, or by a scratch copy, if another program
+//! spoilt it or put its tables in another order. It is decided before the file is opened as a desk's.
 
 ghost use Rattle.std.specs.Prelude.{◌≡◌, false, IfSome};
 ghost use Rattle.desk_host.specs.Access as access;
@@ -16,17 +16,17 @@ use std::alloc::Global;
 pub enum ReadMode {
     /// As it is.
     Itself,
-    /// By a twin of it and of its log, which is damaged.
+    /// By a scratch copy of it and of its log, which is damaged.
     Damaged,
-    /// By a twin whose pages have their sums: so many of its own have others.
+    /// By a scratch copy whose pages have their sums: so many of its own have others.
     BadChecksums(u64),
-    /// By a twin that lists its tables in a desk's own order: it lists them in another.
+    /// By a scratch copy that lists its tables in a desk's own order: it lists them in another.
     OtherOrder,
 }
 
 impl ReadMode {
-    /// Whether the twin is mended: its tables are put in a desk's own order, if they are a desk's in another,
-    /// and its pages get their sums, if they have sums.
+    /// Whether the scratch copy is mended: its tables are put in a desk's own order, if they are a desk's in
+    /// another, and its pages get their sums, if they have sums.
     pub fn is_mended(self) -> bool
         ensures { result ≡ spec.is_mended self }
     {
@@ -36,7 +36,7 @@ impl ReadMode {
         }
     }
 
-    /// How many pages are told of after a copy that ended with this status: their sums were not tested.
+    /// How many pages are reported of after a copy that ended with this status: their sums were not tested.
     pub fn untested(self, status: u8) -> Option<u64>
         ensures { result ≡ spec.untested self status }
     {

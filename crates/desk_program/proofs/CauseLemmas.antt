@@ -18,19 +18,19 @@ use Rattle.desk_run.specs.DeskWorld.{Parts}
 use Rattle.std.specs.Result.{IsErrAnd}
 use Rattle.desk_program.specs.Serving.{IsDenied, Traffic, failing, first_failure}
 
--- an enrolment that is told as a store that failed had that fault
-store_told : (fault : DeskFault) → enrolment_failure fault ≡ Store → fault ≡ desk.Store
-store_told desk.OutOfMemory is = cc
-store_told desk.Store is = refl
-store_told desk.UnknownOperator is = cc
-store_told desk.NoSuchPlan is = cc
-store_told desk.Ceiling is = cc
+-- an enrolment that is reported as a store that failed had that fault
+store_reported : (fault : DeskFault) → enrolment_failure fault ≡ Store → fault ≡ desk.Store
+store_reported desk.OutOfMemory is = cc
+store_reported desk.Store is = refl
+store_reported desk.UnknownOperator is = cc
+store_reported desk.NoSuchPlan is = cc
+store_reported desk.Ceiling is = cc
 
 pub enrolment_counted : {A : Type 0} (fault : DeskFault) (f : ErrorCode) (old new : ℕ)
     → f ≡ enrolment_failure fault → (fault ≡ desk.Store → HasRisen old new)
     → IsEndCounted {A = A} (Err f) old new
 enrolment_counted {A} fault f old new is cause store =
-    cause (store_told fault (sym is ∙ same_failure store)) where
+    cause (store_reported fault (sym is ∙ same_failure store)) where
       same_failure : ◌≡◌ {A = Result A ErrorCode} (Err f) (Err Store) → f ≡ Store
       same_failure e = cc
 

@@ -8,17 +8,17 @@ use Rattle.desk_run.specs.CallFaults.{IsBreakdown as IsDeskBreakdown}
 use Rattle.desk_wire.specs.Passage.{course, passed}
 use Rattle.desk_cli.specs.declared.failure.ErrorCode.{ErrorCode}
 use Rattle.desk_cli.specs.declared.line.Enrolment.{Enrolment}
-use Rattle.desk_cli.specs.declared.line.Play.{Play as PlayWords}
+use Rattle.desk_cli.specs.declared.line.PlayArgs.{PlayArgs}
 use Rattle.desk_cli.specs.Exits.{Ending, EndsWith, FailsWith, IsBrokenDown, IsLineBreakdown, enrolment_failure}
 use Rattle.desk_program.specs.Enrolling.{AreListedSoFar, on_terms}
 use Rattle.desk_program.specs.Keeping.{FindsEnrolled}
 use Rattle.desk_program.specs.PlayLines.{IsNotPlayed}
 
--- what it is told as
-pub told_breakdown : (fault : DeskFault) (f : ErrorCode) → f ≡ enrolment_failure fault → IsDeskBreakdown fault
+-- what it is reported as
+pub reported_breakdown : (fault : DeskFault) (f : ErrorCode) → f ≡ enrolment_failure fault → IsDeskBreakdown fault
     → IsLineBreakdown f
-told_breakdown fault f is (inl memory) = inl (is ∙ ap enrolment_failure memory)
-told_breakdown fault f is (inr store) = inr (is ∙ ap enrolment_failure store)
+reported_breakdown fault f is (inl memory) = inl (is ∙ ap enrolment_failure memory)
+reported_breakdown fault f is (inr store) = inr (is ∙ ap enrolment_failure store)
 
 ends_broken : (f : ErrorCode) (end : Ending) → IsLineBreakdown f → EndsWith {A = ⊤} (Err f) end
     → IsBrokenDown end
@@ -27,7 +27,7 @@ ends_broken f end (inr store) ends = inr (subst (λ v. FailsWith v end) store en
 
 pub broken_down : (fault : DeskFault) (f : ErrorCode) (end : Ending) → f ≡ enrolment_failure fault
     → IsDeskBreakdown fault → EndsWith {A = ⊤} (Err f) end → IsBrokenDown end
-broken_down fault f end is down ends = ends_broken f end (told_breakdown fault f is down) ends
+broken_down fault f end is down ends = ends_broken f end (reported_breakdown fault f is down) ends
 
 -- what is found then of an enrolment
 pub found_enrolled : (before : Type 0) (e : Enrolment) (end : Ending) (out : Option (List ℕ)) (w : DeskWorld)
@@ -38,7 +38,7 @@ found_enrolled before e end out w found down only (inl was) = inr (down, refl, o
 found_enrolled before e end out w found down only (inr is) = inl is
 
 -- nothing is played then
-pub not_played : (H : Type 0) (play : PlayWords) (end : Ending) (old out : Option (List ℕ))
+pub not_played : (H : Type 0) (play : PlayArgs) (end : Ending) (old out : Option (List ℕ))
     (w after : DeskWorld) (fault : DeskFault) (f : ErrorCode) → f ≡ enrolment_failure fault
     → IsDeskBreakdown fault → EndsWith {A = ⊤} (Err f) end
     → AreListedSoFar H play.desk.enrolments.items (on_terms w play.desk.terms) after

@@ -10,15 +10,15 @@ use Rattle.desk_store.specs.World.{World}
 use Rattle.desk_store.specs.Crashes.{LeavesNoMore, LeavesOldOr, LeavesOnly}
 use Rattle.desk_run.specs.DeskWorld.{DeskWorld, Parts, enrolled, world_of}
 use Rattle.io_ends.specs.declared.playing.PlayEnd.{PlayEnd}
-use Rattle.desk_wire.specs.Given.{told_in_play}
+use Rattle.desk_wire.specs.Given.{reported_in_play}
 use Rattle.desk_wire.specs.RequestsKept.{IsCertain, IsFoundNow, IsKept, IsLeftBy}
 use Rattle.desk_wire.specs.Passage.{Passage, course}
 use Rattle.desk_wire.specs.Playing.{HasPlayed}
 use Rattle.desk_wire.specs.OneRequest.{HasServed, IsTaken}
 use Rattle.desk_cli.specs.declared.failure.ErrorCode.{ErrorCode}
 use Rattle.desk_cli.specs.declared.line.Enrolment.{Enrolment}
-use Rattle.desk_cli.specs.declared.line.Play.{Play as PlayWords}
-use Rattle.desk_cli.specs.declared.line.Serve.{Serve as ServeWords}
+use Rattle.desk_cli.specs.declared.line.PlayArgs.{PlayArgs}
+use Rattle.desk_cli.specs.declared.line.ServeArgs.{ServeArgs}
 use Rattle.desk_cli.specs.Exits.{Ending, EndsWith, failure_after, failure_at}
 use Rattle.desk_program.specs.Enrolling.{AreEnrolled, HasListed, on_terms, with_operators}
 use Rattle.desk_program.specs.Keeping.{AreKept, AreKeptSoFar, FindsListed, FindsNews, IsFoundServed, IsLeftByOne, IsPlayKept, IsPortKept}
@@ -177,7 +177,7 @@ module _ {A B C : Type 0} where
               h.taken.closed t.taken.closed);
           fresh = All-append (λ x. IsUnsent a x.out) xs ys h.taken.fresh
               (all_unsent a b (map (λ x. x.parting) xs) h.taken.closed ys t.taken.fresh);
-          told = All-append (λ x. x.parting.outcome ≡ outcome_of x.served) xs ys h.taken.told t.taken.told;
+          reported = All-append (λ x. x.parting.outcome ≡ outcome_of x.served) xs ys h.taken.reported t.taken.reported;
           news = subst (λ z. Grows a.news c.news z) (both_news xs ys t.taken.last)
               (both_more a.news b.news c.news (news_of xs None) (news_of ys t.taken.last)
               (subst (λ l. Grows a.news b.news (news_of xs l)) goes.0 h.taken.news) t.taken.news);
@@ -236,7 +236,7 @@ news_kept g done f news old mid new begun left is brings denies ends finds = rec
     taken = none_more old.taken new.taken (denies.1 ∙ brings.1);
     closed = none_more old.closed new.closed (denies.2 ∙ brings.2);
     fresh = All-nil (λ x. IsUnsent old x.out);
-    told = All-nil (λ x. x.parting.outcome ≡ outcome_of x.served);
+    reported = All-nil (λ x. x.parting.outcome ≡ outcome_of x.served);
     news = subst (λ v. Grows old.news v (news ∷ [])) (sym denies.3) brings.0;
     recorded = (mid.recorded, brings.4, denies.4);
     stays_open = λ was. not_ok done f (IsOpen new.recorded) is;
@@ -328,7 +328,7 @@ pub one_kept : {A S : Type 0} (g : Ghosts S) (done : Result A ErrorCode) (x : Ex
     → IsFoundNow x.served (g.may_leave listed.store) (IsTaken x.arrival.bytes x.parting.unread)
     (world_of g.content listed) x.arrival.moment (world_of g.content left) found)
     → AreKept g done 1 (course old new) begun left
-one_kept g done x closed old new begun listed left listened takes closes fresh told news noted lists served
+one_kept g done x closed old new begun listed left listened takes closes fresh reported news noted lists served
     is still denied first finds =
     let H = IsHonest (g.doubt left.store) in
     let w = world_of g.content begun in
@@ -344,7 +344,7 @@ one_kept g done x closed old new begun listed left listened takes closes fresh t
         taken = takes;
         closed = closes;
         fresh = All-cons (λ z. IsUnsent old z.out) x [] fresh (All-nil (λ z. IsUnsent old z.out));
-        told = All-cons (λ z. z.parting.outcome ≡ outcome_of z.served) x [] told
+        reported = All-cons (λ z. z.parting.outcome ≡ outcome_of z.served) x [] reported
             (All-nil (λ z. z.parting.outcome ≡ outcome_of z.served));
         news = news;
         recorded = noted;
@@ -368,7 +368,7 @@ found_served xs last w after before found only (inl is) = is
 found_served xs last w after before found only (inr p) =
     inl (only p.1 ∙ ap (λ x. Some x.content) (sym p.0))
 
-module _ {A S : Type 0} (g : Ghosts S) (done : Result A ErrorCode) (serve : ServeWords) (w : DeskWorld) where
+module _ {A S : Type 0} (g : Ghosts S) (done : Result A ErrorCode) (serve : ServeArgs) (w : DeskWorld) where
   pub port_kept : (begun left : Parts S) → IsHonest (g.doubt left.store)
       → (IsHonest (g.doubt left.store)
       → world_of g.content begun ≡ with_operators (on_terms w serve.desk.terms) serve.desk.enrolments.items)
@@ -409,12 +409,12 @@ module _ {A S : Type 0} (g : Ghosts S) (done : Result A ErrorCode) (serve : Serv
 
 -- ---- a run over the input
 
-module _ (H : Type 0) (play : PlayWords) (end : Ending) (ended : PlayEnd) (answered : ℕ)
+module _ (H : Type 0) (play : PlayArgs) (end : Ending) (ended : PlayEnd) (answered : ℕ)
     (q : Passage) (w begun after : DeskWorld) (ends : EndsWith (done_unless (failure_after ended)) end)
     (listed : H → begun ≡ with_operators (on_terms w play.desk.terms) play.desk.enrolments.items)
     (played : HasPlayed H ended answered q begun play.moment.second after) where
   pub run_kept : H → (found : Option World)
-      → IsKept ended (told_in_play ended answered) q begun play.moment.second after found
+      → IsKept ended (reported_in_play ended answered) q begun play.moment.second after found
       → IsPlayKept H play end q w after found
   run_kept p found kept =
       inl (
@@ -425,6 +425,6 @@ module _ (H : Type 0) (play : PlayWords) (end : Ending) (ended : PlayEnd) (answe
           played = λ h.
               subst (λ v. HasPlayed H ended answered q v play.moment.second after) (listed h) played;
         },
-        subst (λ v. IsKept ended (told_in_play ended answered) q v play.moment.second after found) (listed p)
+        subst (λ v. IsKept ended (reported_in_play ended answered) q v play.moment.second after found) (listed p)
             kept,
       )

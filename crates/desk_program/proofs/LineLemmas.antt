@@ -1,4 +1,4 @@
--- A line that is told.
+-- A line that is reported.
 use Rattle.std.proofs.Common.{ℕ, List, Option, Result, Ok, Err, OnOk, IfErr, inl, inr}
 use Rattle.std.specs.Io.KnownBytes.{Appends}
 use Rattle.io_ends.specs.Writing.{BreaksOff}

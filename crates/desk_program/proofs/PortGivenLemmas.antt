@@ -62,12 +62,12 @@ module _ (w : DeskWorld) (x : Exchange) (between : DeskWorld) where
       → IsTurn w x between
   by_why None request answer taken done sends = record {
     request = Some request;
-    given = (taken, subst (Sends x.parting) done.told sends);
+    given = (taken, subst (Sends x.parting) done.reported sends);
     left = done.left;
   }
   by_why (Some why) request answer taken failed sends = record {
     request = None;
-    given = inr (why, subst (Sends x.parting) failed.told sends);
+    given = inr (why, subst (Sends x.parting) failed.reported sends);
     left = failed.left;
   }
 
@@ -81,18 +81,18 @@ module _ (w : DeskWorld) (x : Exchange) (between : DeskWorld) where
   by_served : (H : Type 0) → H → (served : Result Served ServeFault)
       → x.parting.outcome.is_answered ≡ is_answered served → x.out ≡ Some []
       → HasServed H served (passage_of x) w x.arrival.moment between → IsTurn w x between
-  by_served H p (Ok (Answered status framed)) told fresh h =
-      by_why h.why h.request h.answer h.taken (h.replied.told p)
-      (subst (λ whole. IsSent whole x.parting.sent h.answer) (sym told)
+  by_served H p (Ok (Answered status framed)) reported fresh h =
+      by_why h.why h.request h.answer h.taken (h.replied.reported p)
+      (subst (λ whole. IsSent whole x.parting.sent h.answer) (sym reported)
       (sent_is x.out x.parting.sent h.answer fresh h.written))
-  by_served H p (Ok End) told fresh h = by_none fresh h.1
-  by_served H p (Err (Write fault)) told fresh h =
-      by_why h.why h.request h.answer h.taken (h.replied.told p)
-      (subst (λ whole. IsSent whole x.parting.sent h.answer) (sym told)
+  by_served H p (Ok End) reported fresh h = by_none fresh h.1
+  by_served H p (Err (Write fault)) reported fresh h =
+      by_why h.why h.request h.answer h.taken (h.replied.reported p)
+      (subst (λ whole. IsSent whole x.parting.sent h.answer) (sym reported)
       (fault.sent, h.off.short, sent_is x.out x.parting.sent (take fault.sent h.answer) fresh h.off.written))
-  by_served H p (Err CutShort) told fresh h = by_none fresh h.1
-  by_served H p (Err Read) told fresh h = by_none fresh h
-  by_served H p (Err OutOfMemory) told fresh h = by_none fresh h
+  by_served H p (Err CutShort) reported fresh h = by_none fresh h.1
+  by_served H p (Err Read) reported fresh h = by_none fresh h
+  by_served H p (Err OutOfMemory) reported fresh h = by_none fresh h
 
 -- ---- what all of them were sent
 
@@ -140,7 +140,7 @@ one_more w listed mid between x xs is one rest = record {
 in_turns : (H : Type 0) → H → (xs : List Exchange) (w between : DeskWorld)
     → All (λ x. x.parting.outcome ≡ outcome_of x.served) xs → All (λ x. x.out ≡ Some []) xs
     → AreServed H xs w between → InTurns w xs between
-in_turns H p [] w between told fresh h = record {
+in_turns H p [] w between reported fresh h = record {
   turns = [];
   arrivals = refl;
   partings = refl;
@@ -148,15 +148,15 @@ in_turns H p [] w between told fresh h = record {
   given = λ i t e. cc;
   left = h;
 }
-in_turns H p (x ∷ xs) w between told fresh h =
+in_turns H p (x ∷ xs) w between reported fresh h =
     one_more w h.0 h.1 between x xs (all_listed H p x.news w h.0 h.2)
     (by_served h.0 x h.1 H p x.served
-    (ap (λ o. o.is_answered) (All-head (λ z. z.parting.outcome ≡ outcome_of z.served) x xs told))
+    (ap (λ o. o.is_answered) (All-head (λ z. z.parting.outcome ≡ outcome_of z.served) x xs reported))
     (All-head (λ z. z.out ≡ Some []) x xs fresh) h.3)
-    (in_turns H p xs h.1 between (All-tail (λ z. z.parting.outcome ≡ outcome_of z.served) x xs told)
+    (in_turns H p xs h.1 between (All-tail (λ z. z.parting.outcome ≡ outcome_of z.served) x xs reported)
     (All-tail (λ z. z.out ≡ Some []) x xs fresh) h.4)
 
--- at a port that tells what it closes nothing was sent before
+-- at a port that reports what it closes nothing was sent before
 all_fresh : (closed : Option (List Parting)) → IsSome closed → (xs : List Exchange)
     → All (λ x. IfSome closed (λ partings. x.out ≡ Some [])) xs → All (λ x. x.out ≡ Some []) xs
 all_fresh None some xs h = let shut : IsSome {T = List Parting} None = some in cc
@@ -174,9 +174,9 @@ last_listed H p (Some news) (Err f) w after (inr denied) =
 pub port_turns : {A : Type 0} (H : Type 0) (done : Result A ErrorCode) (count : ℕ) (port : Course Traffic)
     (w after : DeskWorld) → AreTaken H done count port w after → H → IsSome port.before.closed
     → HasTurns port w after
-port_turns H done count port w after h p tells =
-    let run = in_turns H p h.exchanges w h.between h.told
-    (all_fresh port.before.closed tells h.exchanges h.fresh) h.served in (
+port_turns H done count port w after h p reports =
+    let run = in_turns H p h.exchanges w h.between h.reported
+    (all_fresh port.before.closed reports h.exchanges h.fresh) h.served in (
       run.turns,
       h.last,
       record {

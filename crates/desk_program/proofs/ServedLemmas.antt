@@ -14,7 +14,7 @@ use Rattle.desk_wire.specs.OneRequest.{HasServed, IsReplied}
 use Rattle.desk_wire.specs.declared.response.ServerError.{ServerError}
 use Rattle.desk_cli.specs.declared.failure.ErrorCode.{ErrorCode}
 use Rattle.desk_cli.specs.Exits.{failure_at}
-use Rattle.desk_cli.specs.declared.line.Serve.{Serve as ServeWords}
+use Rattle.desk_cli.specs.declared.line.ServeArgs.{ServeArgs}
 use Rattle.desk_cli.specs.declared.line.Enrolment.{Enrolment}
 use Rattle.desk_program.specs.Enrolling.{AreEnrolled, on_terms, with_operators}
 use Rattle.desk_program.specs.Recorded.{IsCutOff, IsOpen, Noted, Recorded, Ended, Open, RecordsNone, with_news, with_request}
@@ -34,7 +34,7 @@ both_more (Some a) (Some b) None xs ys first then = absurd then
 both_more (Some a) (Some b) (Some c) xs ys first then =
     then ∙ ap (λ v. v ++ ys) first ∙ append_assoc a xs ys
 
--- what a port tells now, it told before
+-- what a port reports now, it reported before
 unsent_before : (old mid : Option (List Parting)) (more : List Parting) → Grows old mid more
     → (P : Type 0) → IfSome mid (λ partings. P) → IfSome old (λ partings. P)
 unsent_before None mid more grown P h = tt
@@ -64,7 +64,7 @@ same_noted (Some recorded) Fails = λ fails. refl
 pub stays : (port : Traffic) → Denies port port
 stays port = (refl, refl, refl, refl, stays_noted port.recorded)
 
--- where it isn't known what was recorded, nothing is told
+-- where it isn't known what was recorded, nothing is reported
 none_noted : (xs : List Exchange) (last : Option (List Enrolment)) (new : Option Recorded)
     → AreNoted None xs last new
 none_noted [] None new = tt
@@ -123,7 +123,7 @@ replied_then : (H K : Type 0) → (K → H) → (w : DeskWorld) (moment : ℤ) (
     (why : Option ServerError) (after : DeskWorld) → IsReplied H w moment request answer why after
     → IsReplied K w moment request answer why after
 replied_then H K by w moment request answer why after replied =
-    record { told = λ k. replied.told (by k); failed = replied.failed }
+    record { reported = λ k. replied.reported (by k); failed = replied.failed }
 
 pub served_then : (H K : Type 0) → (K → H) → (r : Result Served ServeFault) (p : Passage) (w : DeskWorld)
     (moment : ℤ) (after : DeskWorld)
@@ -203,7 +203,7 @@ none H done count old new w after denies still left ends = record {
   taken = none_more old.taken new.taken denies.1;
   closed = none_more old.closed new.closed denies.2;
   fresh = All-nil (λ x. IsUnsent old x.out);
-  told = All-nil (λ x. x.parting.outcome ≡ outcome_of x.served);
+  reported = All-nil (λ x. x.parting.outcome ≡ outcome_of x.served);
   news = none_more old.news new.news denies.3;
   recorded = denies.4;
   stays_open = still;
@@ -313,7 +313,7 @@ still_heard old mid new number writes same (inl listens) =
 still_heard old mid new number writes same (inr none) = inr none
 
 -- the operators are listed, and no connection is taken
-pub unserved : {A : Type 0} (H : Type 0) (done : Result A ErrorCode) (f : ErrorCode) (serve : ServeWords)
+pub unserved : {A : Type 0} (H : Type 0) (done : Result A ErrorCode) (f : ErrorCode) (serve : ServeArgs)
     (old new : Traffic) (w after : DeskWorld) → IsErrAnd done (λ e. e ≡ f)
     → IsDenied f → IsAskedToListen old new serve.port → (H → after ≡ with_operators (on_terms w serve.desk.terms)
     serve.desk.enrolments.items)

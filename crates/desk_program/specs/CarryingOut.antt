@@ -46,7 +46,7 @@ IsPortless (line.Enrol enrol) = IsEnrol enrol
 IsPortless _ = ⊥
 
 -- a line that takes no connection is carried out at a desk, and ends with this status: whether the line of
--- its failure was broken off isn't told
+-- its failure was broken off isn't reported
 pub record EndsWithStatus {S : Type 0} (g : Ghosts S) (line : Line) (status : ℕ) (bytes : Passage)
     (errors : Course (Option (List ℕ))) (old new : Parts S) : Type 0 where
   pub cut : Bool

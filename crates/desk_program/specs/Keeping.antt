@@ -6,7 +6,7 @@ use Rattle.desk_store.specs.declared.store.PlanStore.{Ghosts}
 use Rattle.desk_store.specs.StoreFaults.{IsHonest}
 use Rattle.desk_store.specs.World.{World}
 use Rattle.desk_run.specs.DeskWorld.{DeskWorld, Parts, enrolled, world_of}
-use Rattle.desk_wire.specs.Given.{told_in_play}
+use Rattle.desk_wire.specs.Given.{reported_in_play}
 use Rattle.desk_wire.specs.RequestsKept.{IsCertain, IsKept, IsLeftBy}
 use Rattle.desk_wire.specs.Passage.{Course, Passage}
 use Rattle.desk_wire.specs.OneRequest.{HasServed, IsTaken}
@@ -14,8 +14,8 @@ use Rattle.desk_cli.specs.declared.failure.ErrorCode.{ErrorCode}
 use Rattle.desk_cli.specs.declared.line.Enrolment.{Enrolment}
 use Rattle.desk_cli.specs.declared.line.Line.{Line}
 use Rattle.desk_cli.specs.declared.line.Line.TheVariants as line
-use Rattle.desk_cli.specs.declared.line.Play.{Play as PlayWords}
-use Rattle.desk_cli.specs.declared.line.Serve.{Serve as ServeWords}
+use Rattle.desk_cli.specs.declared.line.PlayArgs.{PlayArgs}
+use Rattle.desk_cli.specs.declared.line.ServeArgs.{ServeArgs}
 use Rattle.desk_cli.specs.Exits.{Ending, EndsWith, IsBrokenDown}
 use Rattle.desk_program.specs.Enrolling.{AreListedSoFar, on_terms, with_operators}
 use Rattle.desk_program.specs.Outside.{Outside}
@@ -54,10 +54,10 @@ FindsEnrolled e end writes w found = (found ≡ Some (enrolled w e.operator e.ce
 
 -- the requests of the input are played, and what is found is theirs; or an operator could not be listed
 abbrev pub IsPlayKept :
-    Type 0 → PlayWords → Ending → Passage → DeskWorld → DeskWorld → Option World → Type 0
+    Type 0 → PlayArgs → Ending → Passage → DeskWorld → DeskWorld → Option World → Type 0
 IsPlayKept H play end p w after found =
     ((run : IsPlayed H play end p w after)
-    × IsKept run.ended (told_in_play run.ended run.answered) p
+    × IsKept run.ended (reported_in_play run.ended run.answered) p
     (with_operators (on_terms w play.desk.terms) play.desk.enrolments.items) play.moment.second after found)
     ⊎ (IsNotPlayed H play end p w after
     × AreKeptSoFar H play.desk.enrolments.items (on_terms w play.desk.terms) after found)
@@ -98,7 +98,7 @@ pub record AreKept {A S : Type 0} (g : Ghosts S) (done : Result A ErrorCode) (co
 
 -- connections are taken once all operators are listed, or an operator could not be listed
 abbrev pub IsPortKept :
-    {A : Type 0} → Type 0 → Result A ErrorCode → ServeWords → Course Traffic → DeskWorld → DeskWorld
+    {A : Type 0} → Type 0 → Result A ErrorCode → ServeArgs → Course Traffic → DeskWorld → DeskWorld
     → Option World → Type 0
 IsPortKept H done serve port w after found =
     ((begun : HasBegunServing H done serve port w after)
@@ -107,7 +107,7 @@ IsPortKept H done serve port w after found =
     × AreKeptSoFar H serve.desk.enrolments.items (on_terms w serve.desk.terms) after found)
 
 -- a line of `serve` is carried out, and that is what is found
-pub record IsServeKept (H : Type 0) (serve : ServeWords) (end : Ending) (port : Course Traffic)
+pub record IsServeKept (H : Type 0) (serve : ServeArgs) (end : Ending) (port : Course Traffic)
     (w after : DeskWorld) (found : Option World) : Type 0 where
   pub done : Result ⊤ ErrorCode
   pub ends : EndsWith done end

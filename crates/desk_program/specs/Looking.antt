@@ -1,4 +1,4 @@
--- Looking: the lines that tell an administrator what a file holds and what was copied, and what is
+-- Looking: the lines that report an administrator what a file holds and what was copied, and what is
 -- printed of them.
 use Rattle.std.specs.Prelude.{◌≡◌, ◌⊎◌, ℕ, ◌/◌, ◌%◌, Bool, true, false, List, ◌++◌, codes, decimal, if◌then◌else◌, Option}
 use Rattle.std.specs.Io.KnownBytes.{Appends}
@@ -10,7 +10,7 @@ use Rattle.desk_program.specs.declared.looking.CheckedFile.{CheckedFile}
 unfoldable pub tables_text : CheckedFile → List ℕ
 tables_text file =
     codes "schema " ++ (decimal (if file.is_old then 1 else 2)
-    ++ (codes ", sums " ++ ((if file.has_sums then codes "yes" else codes "no")
+    ++ (codes ", sums " ++ ((if file.has_checksums then codes "yes" else codes "no")
     ++ (codes ", " ++ (decimal file.operators ++ codes " operators, ")))))
 
 unfoldable pub plans_text : CheckedFile → List ℕ

@@ -6,9 +6,9 @@ use Rattle.desk_wire.specs.Passage.{Course, Passage, course, passage}
 use Rattle.desk_cli.specs.declared.failure.ExitReport.{ExitReport}
 use Rattle.desk_cli.specs.Exits.{Ending, ending}
 use Rattle.desk_program.specs.declared.running.Streams.{Streams}
-use Rattle.desk_program.specs.Serving.{Traffic, untold}
+use Rattle.desk_program.specs.Serving.{Traffic, unreported}
 
--- the bytes of the streams; what the port told before and tells after; the end
+-- the bytes of the streams; what the port reported before and reports after; the end
 pub record Outside : Type 0 where
   pub bytes : Passage
   pub port : Course Traffic
@@ -34,4 +34,4 @@ outside r w e old new port exit = record {
 
 -- streams, and how the line ended, where no port is asked
 abbrev pub streamed : Passage → Ending → Outside
-streamed bytes end = record { bytes = bytes; port = course untold untold; end = end }
+streamed bytes end = record { bytes = bytes; port = course unreported unreported; end = end }

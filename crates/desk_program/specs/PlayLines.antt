@@ -6,7 +6,7 @@ use Rattle.io_ends.specs.declared.playing.PlayEnd.{PlayEnd}
 use Rattle.desk_wire.specs.Passage.{Course, Passage}
 use Rattle.desk_wire.specs.Playing.{HasPlayed}
 use Rattle.desk_cli.specs.declared.failure.ErrorCode.{ErrorCode}
-use Rattle.desk_cli.specs.declared.line.Play.{Play as PlayWords}
+use Rattle.desk_cli.specs.declared.line.PlayArgs.{PlayArgs}
 use Rattle.desk_cli.specs.declared.line.Enrolment.{Enrolment}
 use Rattle.desk_cli.specs.declared.failure.ErrorCode.TheVariants as failure
 use Rattle.desk_cli.specs.Exits.{Ending, EndsWell, EndsWith, FailsWith, IsBrokenDown, failure_after}
@@ -19,7 +19,7 @@ done_unless (Some failure) = Err failure
 
 -- the requests of the input are played at the world on the line's terms in which its operators are
 -- listed, and the line ends as they do
-pub record IsPlayed (H : Type 0) (play : PlayWords) (end : Ending) (p : Passage) (w after : DeskWorld) :
+pub record IsPlayed (H : Type 0) (play : PlayArgs) (end : Ending) (p : Passage) (w after : DeskWorld) :
     Type 0 where
   pub ended : PlayEnd
   pub answered : ℕ
@@ -28,7 +28,7 @@ pub record IsPlayed (H : Type 0) (play : PlayWords) (end : Ending) (p : Passage)
       (with_operators (on_terms w play.desk.terms) play.desk.enrolments.items) play.moment.second after
 
 -- an operator could not be listed: those before it are, and nothing is read or written
-pub record IsNotPlayed (H : Type 0) (play : PlayWords) (end : Ending) (p : Passage) (w after : DeskWorld) :
+pub record IsNotPlayed (H : Type 0) (play : PlayArgs) (end : Ending) (p : Passage) (w after : DeskWorld) :
     Type 0 where
   pub ends : IsBrokenDown end
   pub listed : AreListedSoFar H play.desk.enrolments.items (on_terms w play.desk.terms) after
@@ -36,7 +36,7 @@ pub record IsNotPlayed (H : Type 0) (play : PlayWords) (end : Ending) (p : Passa
   pub unwritten : p.writes.after ≡ p.writes.before
 
 -- a line of `play` is carried out
-abbrev pub IsPlayDone : Type 0 → PlayWords → Ending → Passage → DeskWorld → DeskWorld → Type 0
+abbrev pub IsPlayDone : Type 0 → PlayArgs → Ending → Passage → DeskWorld → DeskWorld → Type 0
 IsPlayDone H play end p w after = IsPlayed H play end p w after ⊎ IsNotPlayed H play end p w after
 
 -- the operator is listed and its line printed; or its line is cut off, and it stays listed; or

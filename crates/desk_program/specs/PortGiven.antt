@@ -9,8 +9,8 @@ use Rattle.desk_wire.specs.Headline.{LookAlike, sender}
 use Rattle.desk_wire.specs.Passage.{Course}
 use Rattle.desk_cli.specs.declared.failure.ErrorCode.{ErrorCode}
 use Rattle.desk_cli.specs.declared.line.Enrolment.{Enrolment}
-use Rattle.desk_cli.specs.declared.line.Play.{Play as PlayWords}
-use Rattle.desk_cli.specs.declared.line.Serve.{Serve as ServeWords}
+use Rattle.desk_cli.specs.declared.line.PlayArgs.{PlayArgs}
+use Rattle.desk_cli.specs.declared.line.ServeArgs.{ServeArgs}
 use Rattle.desk_program.specs.PortPlays.{AreInputsTaken}
 use Rattle.desk_program.specs.PortTurns.{AreTurns, HasTurns, Turn, caller, sent_in, world_met}
 use Rattle.desk_program.specs.Serving.{AreTaken, HasBegunServing, Traffic}
@@ -20,7 +20,7 @@ pub record IsWhole (t : Turn) (r : Sent) : Type 0 where
   pub sent : sent_in t ≡ Some r
   pub answered : t.parting.outcome.is_answered ≡ true
 
--- of the connections that were taken at a port that tells what it closes, if the store is honest. In their
+-- of the connections that were taken at a port that reports what it closes, if the store is honest. In their
 -- turns the clients were sent the answers of a run over their requests, each at its moment, with the
 -- operators of the news listed where they came (`first`). So one request, sent at one moment in two runs at
 -- worlds that look alike to its operator, was given equal bytes where both answers are whole (`decided`); and
@@ -40,9 +40,9 @@ pub record PortGiven : Type 0 where
       → All (λ t. caller t ≢ Some operator) turns
       → All (All (λ e. e.operator ≢ operator)) (map (λ t. t.news) turns ++ option_to_list last)
       → OwnAlike operator after w
-  pub served : (doubt : ℕ) (done : Result ⊤ ErrorCode) (serve : ServeWords) (port : Course Traffic)
+  pub served : (doubt : ℕ) (done : Result ⊤ ErrorCode) (serve : ServeArgs) (port : Course Traffic)
       (w after : DeskWorld) (h : HasBegunServing (IsHonest doubt) done serve port w after) → IsHonest doubt
       → IsSome port.before.closed → HasTurns port h.begun after
-  pub played : (doubt : ℕ) (done : Result ⊤ ErrorCode) (play : PlayWords) (port : Course Traffic)
+  pub played : (doubt : ℕ) (done : Result ⊤ ErrorCode) (play : PlayArgs) (port : Course Traffic)
       (w after : DeskWorld) (h : AreInputsTaken (IsHonest doubt) done play port w after) → IsHonest doubt
       → IsSome port.before.closed → HasTurns port h.begun after

@@ -6,34 +6,34 @@ use Rattle.desk_run.specs.DeskWorld.{DeskWorld}
 use Rattle.desk_wire.specs.Passage.{Course}
 use Rattle.desk_wire.specs.Playing.{max_answered}
 use Rattle.desk_cli.specs.declared.failure.ErrorCode.{ErrorCode}
-use Rattle.desk_cli.specs.declared.line.Play.{Play as PlayWords}
+use Rattle.desk_cli.specs.declared.line.PlayArgs.{PlayArgs}
 use Rattle.desk_cli.specs.Exits.{IsLineBreakdown}
 use Rattle.desk_program.specs.Enrolling.{AreListedSoFar, on_terms, with_operators}
 use Rattle.desk_program.specs.Keeping.{AreKeptSoFar, IsFoundServed}
 use Rattle.desk_program.specs.Serving.{AreTaken, Traffic}
 
 -- the desk plans on the line's terms and its operators are listed, and then requests are taken
-pub record AreInputsTaken {A : Type 0} (H : Type 0) (done : Result A ErrorCode) (play : PlayWords)
+pub record AreInputsTaken {A : Type 0} (H : Type 0) (done : Result A ErrorCode) (play : PlayArgs)
     (port : Course Traffic) (w after : DeskWorld) : Type 0 where
   pub begun : DeskWorld
   pub listed : H → begun ≡ with_operators (on_terms w play.desk.terms) play.desk.enrolments.items
   pub taken : AreTaken H done max_answered port begun after
 
 -- an operator could not be listed: those before it are, and no request is taken
-pub record AreNoneTaken {A : Type 0} (H : Type 0) (done : Result A ErrorCode) (play : PlayWords)
+pub record AreNoneTaken {A : Type 0} (H : Type 0) (done : Result A ErrorCode) (play : PlayArgs)
     (port : Course Traffic) (w after : DeskWorld) : Type 0 where
   pub broken : IsErrAnd done IsLineBreakdown
   pub untaken : port.after ≡ port.before
   pub listed : AreListedSoFar H play.desk.enrolments.items (on_terms w play.desk.terms) after
 
 abbrev pub IsInputPlayed :
-    {A : Type 0} → Type 0 → Result A ErrorCode → PlayWords → Course Traffic → DeskWorld → DeskWorld → Type 0
+    {A : Type 0} → Type 0 → Result A ErrorCode → PlayArgs → Course Traffic → DeskWorld → DeskWorld → Type 0
 IsInputPlayed H done play port w after =
     AreInputsTaken H done play port w after ⊎ AreNoneTaken H done play port w after
 
 -- and what is found then
 abbrev pub IsInputKept :
-    {A : Type 0} → Type 0 → Result A ErrorCode → PlayWords → Course Traffic → DeskWorld → DeskWorld
+    {A : Type 0} → Type 0 → Result A ErrorCode → PlayArgs → Course Traffic → DeskWorld → DeskWorld
     → Option World → Type 0
 IsInputKept H done play port w after found =
     ((begun : AreInputsTaken H done play port w after)

@@ -64,7 +64,7 @@ abbrev pub ListsLast : Option (List Enrolment) → DeskWorld → DeskWorld → T
 ListsLast None w after = after ≡ w
 ListsLast (Some news) w after = (n : ℕ) × (after ≡ with_operators w (take n news))
 
--- the connections and the news that a port tells came in these turns: their clients were sent what is given
+-- the connections and the news that a port reports came in these turns: their clients were sent what is given
 -- in each, and that is what they left
 pub record AreTurns (port : Course Traffic) (w after : DeskWorld) (turns : List Turn)
     (last : Option (List Enrolment)) : Type 0 where

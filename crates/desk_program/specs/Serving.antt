@@ -8,11 +8,11 @@ use Rattle.io_ends.specs.declared.serving.ServeFault.{ServeFault}
 use Rattle.desk_wire.specs.Passage.{Course, Passage, course, passed}
 use Rattle.desk_wire.specs.OneRequest.{HasServed}
 use Rattle.desk_cli.specs.declared.failure.ErrorCode.{ErrorCode}
-use Rattle.desk_cli.specs.declared.line.Serve.{Serve as ServeWords}
+use Rattle.desk_cli.specs.declared.line.ServeArgs.{ServeArgs}
 use Rattle.desk_cli.specs.declared.failure.ErrorCode.TheVariants as failure
 use Rattle.desk_cli.specs.Exits.{Ending, EndsWith, IsAnnounced, IsLineBreakdown, failure_at}
 use Rattle.desk_cli.specs.declared.line.Enrolment.{Enrolment}
-use Rattle.desk_program.specs.declared.port.Outcome.{Outcome}
+use Rattle.desk_program.specs.declared.port.ExchangeEnd.{ExchangeEnd}
 use Rattle.desk_program.specs.Enrolling.{AreEnrolled, AreListedSoFar, on_terms, with_operators}
 use Rattle.desk_program.specs.Recorded.{IsOpen, Recorded, RecordsAnswer, RecordsNews, RecordsNone, RecordsRequest}
 
@@ -39,12 +39,12 @@ arrived moment bytes = record { moment = moment; bytes = bytes }
 pub record Parting : Type 0 where
   pub unread : Option (List ℕ)
   pub sent : Option (List ℕ)
-  pub outcome : Outcome
+  pub outcome : ExchangeEnd
 
-abbrev pub parted : Option (List ℕ) → Option (List ℕ) → Outcome → Parting
+abbrev pub parted : Option (List ℕ) → Option (List ℕ) → ExchangeEnd → Parting
 parted unread sent outcome = record { unread = unread; sent = sent; outcome = outcome }
 
--- what a port tells: the numbers at which it was asked to listen, and whether it does, the connections that
+-- what a port reports: the numbers at which it was asked to listen, and whether it does, the connections that
 -- were taken, those that were closed, and the enrolments of each news that it was asked for, in their order,
 -- and what it has recorded of them, if they are known
 pub record Traffic : Type 0 where
@@ -54,8 +54,8 @@ pub record Traffic : Type 0 where
   pub news : Option (List (List Enrolment))
   pub recorded : Option Recorded
 
-abbrev pub untold : Traffic
-untold = record { listened = None; taken = None; closed = None; news = None; recorded = None }
+abbrev pub unreported : Traffic
+unreported = record { listened = None; taken = None; closed = None; news = None; recorded = None }
 
 -- what is known is followed by these
 abbrev pub Grows : {A : Type 0} → Option (List A) → Option (List A) → List A → Type 0
@@ -98,7 +98,7 @@ abbrev pub Denies : Traffic → Traffic → Type 0
 Denies old new = (new.listened ≡ old.listened) × (new.taken ≡ old.taken) × (new.closed ≡ old.closed)
     × (new.news ≡ old.news) × RecordsNone old.recorded new.recorded
 
--- at a port that tells what it closes, or what it has recorded, nothing was sent yet
+-- at a port that reports what it closes, or what it has recorded, nothing was sent yet
 abbrev pub IsUnsent : Traffic → Option (List ℕ) → Type 0
 IsUnsent port out = IfSome port.closed (λ partings. out ≡ Some [])
 
@@ -129,7 +129,7 @@ abbrev pub is_answered : Result Served ServeFault → Bool
 is_answered (Ok served) = true
 is_answered (Err fault) = false
 
-abbrev pub outcome_of : Result Served ServeFault → Outcome
+abbrev pub outcome_of : Result Served ServeFault → ExchangeEnd
 outcome_of served = record { is_whole = is_whole served; is_answered = is_answered served }
 
 -- the news, the request and the answer of a connection are recorded
@@ -175,7 +175,7 @@ first_failure None then = then
 first_failure (Some failure) then = Some failure
 
 -- the machine denied memory, a write, a connection or the moment; or a request, or the answer to one, can't
--- be recorded: the client was told that the desk failed
+-- be recorded: the client was reported that the desk failed
 abbrev pub IsDenied : ErrorCode → Type 0
 IsDenied f =
     (f ≡ failure.Memory) ⊎ (f ≡ failure.Write) ⊎ (f ≡ failure.Network) ⊎ (f ≡ failure.Clock)
@@ -187,7 +187,8 @@ abbrev pub EndsAtNews : Type 0 → ErrorCode → List Enrolment → DeskWorld �
 EndsAtNews H f news w after =
     (IsLineBreakdown f × AreListedSoFar H news w after) ⊎ (IsDenied f × AreEnrolled H news w after)
 
--- what was told after the last connection that was taken is listed, as far as it could be, if the desk ended
+-- what was reported after the last connection that was taken is listed, as far as it could be, if the desk
+-- ended
 abbrev pub IsLastNews :
     {A : Type 0} → Type 0 → Option (List Enrolment) → Result A ErrorCode → DeskWorld → DeskWorld → Type 0
 IsLastNews H None done w after = after ≡ w
@@ -225,7 +226,7 @@ pub record AreTaken {A : Type 0} (H : Type 0) (done : Result A ErrorCode) (count
   pub taken : Grows port.before.taken port.after.taken (map (λ x. x.arrival) exchanges)
   pub closed : Grows port.before.closed port.after.closed (map (λ x. x.parting) exchanges)
   pub fresh : All (λ x. IsUnsent port.before x.out) exchanges
-  pub told : All (λ x. x.parting.outcome ≡ outcome_of x.served) exchanges
+  pub reported : All (λ x. x.parting.outcome ≡ outcome_of x.served) exchanges
   pub news : Grows port.before.news port.after.news (news_of exchanges last)
   pub recorded : AreNoted port.before.recorded exchanges last port.after.recorded
   pub stays_open : IsOpen port.before.recorded → OnOk done (IsOpen port.after.recorded)
@@ -235,7 +236,7 @@ pub record AreTaken {A : Type 0} (H : Type 0) (done : Result A ErrorCode) (count
 
 -- the desk plans on the line's terms and its operators are listed, the port is asked to listen at the line's
 -- number, and then connections are taken
-pub record HasBegunServing {A : Type 0} (H : Type 0) (done : Result A ErrorCode) (serve : ServeWords)
+pub record HasBegunServing {A : Type 0} (H : Type 0) (done : Result A ErrorCode) (serve : ServeArgs)
     (port : Course Traffic) (w after : DeskWorld) : Type 0 where
   pub begun : DeskWorld
   pub listed : H → begun ≡ with_operators (on_terms w serve.desk.terms) serve.desk.enrolments.items
@@ -244,19 +245,19 @@ pub record HasBegunServing {A : Type 0} (H : Type 0) (done : Result A ErrorCode)
   pub taken : AreTaken H done serve.connections (course listening port.after) begun after
 
 -- an operator could not be listed: those before it are, and no connection is taken
-pub record IsNotBegun {A : Type 0} (H : Type 0) (done : Result A ErrorCode) (serve : ServeWords)
+pub record IsNotBegun {A : Type 0} (H : Type 0) (done : Result A ErrorCode) (serve : ServeArgs)
     (port : Course Traffic) (w after : DeskWorld) : Type 0 where
   pub broken : IsErrAnd done IsLineBreakdown
   pub untaken : port.after ≡ port.before
   pub listed : AreListedSoFar H serve.desk.enrolments.items (on_terms w serve.desk.terms) after
 
 abbrev pub IsAtPort :
-    {A : Type 0} → Type 0 → Result A ErrorCode → ServeWords → Course Traffic → DeskWorld → DeskWorld → Type 0
+    {A : Type 0} → Type 0 → Result A ErrorCode → ServeArgs → Course Traffic → DeskWorld → DeskWorld → Type 0
 IsAtPort H done serve port w after =
     HasBegunServing H done serve port w after ⊎ IsNotBegun H done serve port w after
 
 -- a line of `serve` is carried out, prints that it listens, if it does, and ends as that does
-pub record IsLineServed (H : Type 0) (serve : ServeWords) (end : Ending) (port : Course Traffic)
+pub record IsLineServed (H : Type 0) (serve : ServeArgs) (end : Ending) (port : Course Traffic)
     (writes : Course (Option (List ℕ))) (w after : DeskWorld) : Type 0 where
   pub done : Result ⊤ ErrorCode
   pub ends : EndsWith done end

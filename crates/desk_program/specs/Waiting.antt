@@ -1,4 +1,4 @@
--- Waiting: how long a client is waited for, and the moment that a clock tells.
+-- Waiting: how long a client is waited for, and the moment that a clock reports.
 use Rattle.std.specs.Prelude.{ℕ, ◌+◌, ◌*◌, ◌/◌, ℤ, pos, int_le, Option, Some, None, if◌then◌else◌}
 use Rattle.volume4d.specs.VolumeLimits.{max_second}
 

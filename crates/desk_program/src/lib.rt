@@ -15,7 +15,7 @@ mod timed;
 pub use local::LocalPort;
 pub use looking::{CheckedFile, print_checked, print_copied};
 pub use moving::print_migrated;
-pub use port::{ClientStream, EnrolmentSource, Outcome, Port};
+pub use port::{ClientStream, EnrolmentSource, ExchangeEnd, Port};
 pub use program::{enrol, play, set_up};
 pub use running::{Streams, run_opened, with_desk};
 pub use server::{play_port, serve};

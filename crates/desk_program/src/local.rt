@@ -6,10 +6,10 @@ ghost use Rattle.std.specs.Result.{is_ok};
 ghost use Rattle.std.specs.Time.{system_time_nanos};
 ghost use Rattle.desk_program.specs.Enrolling.{IsWrittenIfRoom};
 ghost use Rattle.desk_program.specs.Serving as spec;
-ghost use Rattle.desk_program.specs.Serving.{IsDenied, Listens, untold};
+ghost use Rattle.desk_program.specs.Serving.{IsDenied, Listens, unreported};
 ghost use Rattle.desk_program.specs.Waiting.{moment_at};
 
-use crate::port::{ClientStream, EnrolmentSource, Outcome, Port};
+use crate::port::{ClientStream, EnrolmentSource, ExchangeEnd, Port};
 use crate::timed::{DeadlineStream, discard_extra, discard_rest};
 use desk_cli::{Enrolment, ErrorCode};
 use io_ends::{Moment, write_whole};
@@ -21,7 +21,7 @@ use volume4d::MAX_SECOND;
 
 /// A port of 127.0.0.1, whose connections have the moments of a clock, and whose news are those of a
 /// register. Each client has `PATIENCE` seconds to send its request, and as many to take the answer. Why the
-/// port can't be had is told.
+/// port can't be had is reported.
 #[derive(Drop)]
 pub struct LocalPort<'s, N: Net, C, G: Drop, E> {
     net: &'s N,
@@ -80,7 +80,7 @@ impl<'s, N: Net, C: Clock, G: EnrolmentSource + Drop, E: Write> Port for LocalPo
     type Output = DeadlineStream<'s, N::Stream, C>;
 
     fn listen(&mut self, number: u16) -> Result<(), ErrorCode>
-        ensures listens { Listens untold untold number (is_ok result) }
+        ensures listens { Listens unreported unreported number (is_ok result) }
         ensures fault { IfErr result IsDenied }
         ensures listener { OnOk result (IsSome self.new.listener) }
     {
@@ -90,7 +90,7 @@ impl<'s, N: Net, C: Clock, G: EnrolmentSource + Drop, E: Write> Port for LocalPo
                 Ok(())
             }
             Err(error) => {
-                tell_port(
+                report_port(
                     self.alloc,
                     number,
                     port_cause(error.kind()),
@@ -124,7 +124,7 @@ impl<'s, N: Net, C: Clock, G: EnrolmentSource + Drop, E: Write> Port for LocalPo
         &mut self,
         mut input: BufReader<DeadlineStream<'s, N::Stream, C>>,
         output: DeadlineStream<'s, N::Stream, C>,
-        outcome: Outcome,
+        outcome: ExchangeEnd,
     ) -> Result<(), ErrorCode> {
         let _ = if outcome.is_whole {
             discard_extra(input.get_mut(), &output)
@@ -135,24 +135,24 @@ impl<'s, N: Net, C: Clock, G: EnrolmentSource + Drop, E: Write> Port for LocalPo
     }
 }
 
-// Tells why a port can't be had. A fault of the writer is passed over, and so is want of memory.
-fn tell_port<E: Write>(alloc: Global, number: u16, cause: &str, errors: &mut E)
+// Reports why a port can't be had. A fault of the writer is passed over, and so is want of memory.
+fn report_port<E: Write>(alloc: Global, number: u16, cause: &str, errors: &mut E)
     ensures { IsWrittenIfRoom (spec.port_line number cause.now) (E.contents errors.old)
         (E.contents errors.new) }
 {
     if let Ok(text) = port_text(alloc, number, cause) {
-        tell_line(&text, errors);
+        report_line(&text, errors);
     }
 }
 
 // Prints a line. A fault of the writer is passed over.
-fn tell_line<E: Write>(line: &str, errors: &mut E)
+fn report_line<E: Write>(line: &str, errors: &mut E)
     ensures { IsWrittenIfRoom line.now (E.contents errors.old) (E.contents errors.new) }
 {
     let _ = write_whole(errors, line.as_bytes());
 }
 
-// The line that tells why a port can't be had.
+// The line that reports why a port can't be had.
 fn port_text(alloc: Global, number: u16, cause: &str) -> Result<String, AllocError>
     ensures { IfOk result (λ text. string_bytes text ≡ spec.port_line number cause.now) }
 {

@@ -1,4 +1,4 @@
-//! The lines that tell an administrator what a file holds, and what was copied of it.
+//! The lines that report an administrator what a file holds, and what was copied of it.
 
 ghost use Rattle.std.specs.Prelude.{◌≡◌, ℕ, IfOk, List, codes, if◌then◌else◌, string_bytes};
 ghost use Rattle.desk_cli.specs.Exits.{ending};
@@ -13,13 +13,13 @@ use std::io::Write;
 // How many bytes a tenth of a megabyte is.
 const TENTH: u64 = 100_000;
 
-/// What a file of a desk holds, as it is told to an administrator.
+/// What a file of a desk holds, as it is reported to an administrator.
 #[derive(Clone, Copy, Debug, PartialEq, Eq)]
 pub struct CheckedFile {
     /// Whether the rows are those of schema 1.
     pub is_old: bool,
     /// Whether its pages have the sums of SQLite's cksumvfs.
-    pub has_sums: bool,
+    pub has_checksums: bool,
     /// How many operators there are.
     pub operators: usize,
     /// How many plans there are, closed ones too.
@@ -89,7 +89,7 @@ pub(crate) fn print_line<W: Write, E: Write>(
     }
 }
 
-// The line that tells what a file holds.
+// The line that reports what a file holds.
 fn checked_text(alloc: Global, file: &CheckedFile) -> Result<String, AllocError>
     ensures { IfOk result (λ text. string_bytes text ≡ spec.checked_line file.now) }
 {
@@ -106,7 +106,7 @@ fn tables_text(alloc: Global, file: &CheckedFile) -> Result<String, AllocError>
     ensures { IfOk result (λ text. string_bytes text ≡ spec.tables_text file.now) }
 {
     let schema = schema_of(file.is_old);
-    let sums = yes_or_no(file.has_sums);
+    let sums = yes_or_no(file.has_checksums);
     let operators = file.operators;
     format!(in alloc; "schema {schema}, sums {sums}, {operators} operators, ")
 }
@@ -161,7 +161,7 @@ fn most_text(alloc: Global, file: &CheckedFile) -> Result<String, AllocError>
     )
 }
 
-// The line that tells what was copied.
+// The line that reports what was copied.
 #[tactic(auto, unfolding(crate::specs::Looking::copied_line))]
 fn copied_text(alloc: Global, operators: usize, plans: usize) -> Result<String, AllocError>
     ensures { IfOk result (λ text. string_bytes text ≡ spec.copied_line operators plans) }

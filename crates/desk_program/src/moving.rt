@@ -1,4 +1,4 @@
-//! The line that tells how many plans were moved to schema 2.
+//! The line that reports how many plans were moved to schema 2.
 
 ghost use Rattle.std.specs.Prelude.{◌≡◌, IfOk, string_bytes};
 ghost use Rattle.desk_cli.specs.Exits.{ending};
@@ -24,7 +24,7 @@ pub fn print_migrated<W: Write, E: Write>(
     print_line(migrated_text(alloc, count), output, errors)
 }
 
-// The line that tells how many plans were moved.
+// The line that reports how many plans were moved.
 #[tactic(auto, unfolding(crate::specs::MovedLine::migrated_line))]
 fn migrated_text(alloc: Global, count: u32) -> Result<String, AllocError>
     ensures { IfOk result (λ text. string_bytes text ≡ spec.migrated_line count) }

@@ -6,7 +6,7 @@ ghost use Rattle.desk_cli.specs.Lines.{AreEnrolments};
 ghost use Rattle.desk_program.specs.Recorded.{IsOpen};
 ghost use Rattle.desk_program.specs.Serving.{BringsNews, Closes, Denies, IsDenied, IsFresh, Listens};
 ghost use Rattle.desk_program.specs.Serving.{TakesArrival, Traffic};
-ghost use Rattle.desk_program.specs.Serving.{arrived, parted, untold};
+ghost use Rattle.desk_program.specs.Serving.{arrived, parted, unreported};
 
 use desk_cli::{Enrolment, ErrorCode};
 use io_ends::Moment;
@@ -26,7 +26,7 @@ pub struct ClientStream<I, O> {
 
 /// What came of the request of a connection.
 #[derive(Clone, Copy)]
-pub struct Outcome {
+pub struct ExchangeEnd {
     /// Whether no byte of the request is left unread, as far as is known.
     pub is_whole: bool,
     /// Whether the answer was written whole, or no request came.
@@ -54,7 +54,7 @@ pub trait Port {
     /// The numbers at which it was asked to listen, and whether it does, the connections that were taken,
     /// those that were closed, the news that it brought, in their order, and what it has recorded of them, if
     /// they are known.
-    ghost traffic: { Self → Traffic } = { λ _. untold };
+    ghost traffic: { Self → Traffic } = { λ _. unreported };
 
     /// Listens at the port of this number.
     ///
@@ -65,7 +65,7 @@ pub trait Port {
         ensures listens { Listens (traffic self.old) (traffic self.new) number (is_ok result) }
         ensures fault { IfErr result IsDenied };
 
-    /// Waits until there is a connection, which `take` takes then, and tells the operators that the
+    /// Waits until there is a connection, which `take` takes then, and reports the operators that the
     /// administrator has had enrolled since this was asked last.
     ///
     /// # Errors
@@ -82,7 +82,7 @@ pub trait Port {
     /// # Errors
     ///
     /// `Network` if none can be taken, `Clock` if the clock gives no moment in range, `Memory`; `Broken` if
-    /// the request can't be recorded: the client was told that the desk failed.
+    /// the request can't be recorded: the client was reported that the desk failed.
     fn take(&mut self, alloc: Global) -> Result<ClientStream<Self::Input, Self::Output>, ErrorCode>
         ensures taken { IfOk result (λ c. TakesArrival (traffic self.old) (traffic self.new)
             (arrived c.moment.second (Self.Input.remaining c.input))) }
@@ -95,13 +95,13 @@ pub trait Port {
     ///
     /// # Errors
     ///
-    /// `Broken` if the answer can't be recorded: the client was told that the desk failed. The connection has
-    /// ended all the same.
+    /// `Broken` if the answer can't be recorded: the client was reported that the desk failed. The connection
+    /// has ended all the same.
     fn close(
         &mut self,
         input: Self::Input,
         output: Self::Output,
-        outcome: Outcome,
+        outcome: ExchangeEnd,
     ) -> Result<(), ErrorCode>
         ensures closed { Closes (traffic self.old) (traffic self.new)
             (parted (Self.Input.remaining input) (Self.Output.contents output) outcome) }

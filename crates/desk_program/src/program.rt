@@ -17,7 +17,7 @@ ghost use Rattle.desk_program.specs.Keeping.{FindsEnrolled, FindsListed, FindsNe
 ghost use Rattle.desk_program.specs.Outside.{bytes_written, ended};
 ghost use Rattle.desk_program.specs.PlayLines.{IsEnrolled, IsPlayDone, done_unless};
 
-use desk_cli::{Enrolment, ErrorCode, ExitReport, Play, report_exit};
+use desk_cli::{Enrolment, ErrorCode, ExitReport, PlayArgs, report_exit};
 use desk_rules::terms::Terms;
 use desk_run::{Desk, DeskFault};
 use desk_store::PlanStore;
@@ -44,7 +44,7 @@ fn failure_after(ended: PlayEnd) -> Option<ErrorCode>
 /// passed over.
 pub fn play<S: PlanStore, R: Read, W: Write, E: Write>(
     alloc: Global,
-    line: &Play,
+    line: &PlayArgs,
     desk: &mut Desk<S>,
     input: &mut R,
     output: &mut W,
@@ -98,7 +98,7 @@ pub fn enrol<S: PlanStore, W: Write, E: Write>(
     }
 }
 
-// The line that tells of an enrolment.
+// The line that reports of an enrolment.
 #[tactic(auto, unfolding(crate::specs::Enrolling::enrolled_line))]
 fn enrolled_text(alloc: Global, enrolment: &Enrolment) -> Result<String, AllocError>
     ensures { IfOk result (λ text. string_bytes text ≡ enrolling.enrolled_line enrolment.now) }
@@ -140,7 +140,7 @@ pub fn set_up<S: PlanStore>(
     ensures remembered { Remembers S.doubt S.faults S.is_shielded desk.old.store desk.new.store }
     ensures cause { IfErr result (IsStoreCounted S.faults desk.old.store desk.new.store) }
 {
-    desk.keep_to(*terms);
+    desk.set_terms(*terms);
     enrol_all(desk, enrolments)
 }
 

@@ -10,7 +10,7 @@ ghost use Rattle.desk_program.specs.CarryingOut.{CarriesOut, EndsWithStatus, IsP
 use crate::port::Port;
 use crate::program::{enrol, play};
 use crate::server::serve;
-use desk_cli::{Action, ErrorCode, ExitReport, Line, report_exit};
+use desk_cli::{DeskCommand, ErrorCode, ExitReport, Line, report_exit};
 use desk_run::Desk;
 use desk_store::PlanStore;
 use std::alloc::Global;
@@ -31,7 +31,7 @@ pub struct Streams<R: Drop, W: Drop, E: Drop> {
 /// none was opened, the word of that failure goes to the error stream.
 pub fn run_opened<S: PlanStore + Drop, P: Port, R: Read + Drop, W: Write + Drop, E: Write + Drop>(
     alloc: Global,
-    action: Action<'_>,
+    action: DeskCommand<'_>,
     opened: Result<Desk<S>, ErrorCode>,
     port: &mut P,
     streams: &mut Streams<R, W, E>,
@@ -55,7 +55,7 @@ pub fn run_opened<S: PlanStore + Drop, P: Port, R: Read + Drop, W: Write + Drop,
 // Does what a command does at a desk, and answers how it ended.
 fn carry_out<S: PlanStore, P: Port, R: Read + Drop, W: Write + Drop, E: Write + Drop>(
     alloc: Global,
-    action: Action<'_>,
+    action: DeskCommand<'_>,
     desk: &mut Desk<S>,
     port: &mut P,
     streams: &mut Streams<R, W, E>,
@@ -67,9 +67,9 @@ fn carry_out<S: PlanStore, P: Port, R: Read + Drop, W: Write + Drop, E: Write + 
     let output = &mut streams.output;
     let errors = &mut streams.errors;
     match action {
-        Action::Play(words) => play(alloc, words, desk, &mut streams.input, output, errors),
-        Action::Serve(words) => serve(alloc, port, words, desk, output, errors),
-        Action::Enrol(words) => enrol(alloc, &words.enrolment, desk, output, errors),
+        DeskCommand::Play(words) => play(alloc, words, desk, &mut streams.input, output, errors),
+        DeskCommand::Serve(words) => serve(alloc, port, words, desk, output, errors),
+        DeskCommand::Enrol(words) => enrol(alloc, &words.enrolment, desk, output, errors),
     }
 }
 

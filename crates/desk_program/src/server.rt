@@ -18,9 +18,9 @@ ghost use Rattle.desk_program.specs.Serving as spec;
 ghost use Rattle.desk_program.specs.Serving.{IsAskedToListen, IsAtPort, IsDenied, IsLineServed, failing};
 ghost use Rattle.desk_program.specs.Serving.{PrintsIfListening, first_failure, listening_line};
 
-use crate::port::{ClientStream, Outcome, Port};
+use crate::port::{ClientStream, ExchangeEnd, Port};
 use crate::program::{enrol_news, set_up};
-use desk_cli::{ErrorCode, ExitReport, Play, Serve, report_exit};
+use desk_cli::{ErrorCode, ExitReport, PlayArgs, ServeArgs, report_exit};
 use desk_run::Desk;
 use desk_store::PlanStore;
 use desk_wire::serve_one;
@@ -39,7 +39,7 @@ const SERVER_ERROR: u16 = 500;
 pub fn serve<S: PlanStore, P: Port, W: Write, E: Write>(
     alloc: Global,
     port: &mut P,
-    line: &Serve,
+    line: &ServeArgs,
     desk: &mut Desk<S>,
     output: &mut W,
     errors: &mut E,
@@ -63,7 +63,7 @@ pub fn serve<S: PlanStore, P: Port, W: Write, E: Write>(
 fn serve_line<S: PlanStore, P: Port, W: Write>(
     alloc: Global,
     port: &mut P,
-    line: &Serve,
+    line: &ServeArgs,
     desk: &mut Desk<S>,
     output: &mut W,
 ) -> Result<(), ErrorCode>
@@ -123,7 +123,8 @@ fn listening_text(alloc: Global, port: u16) -> Result<String, AllocError>
 }
 
 /// Does what a line of `play` says at a desk, with the requests of a port in the place of an input: permits
-/// the line's priorities, enrols its operators, and answers the requests at the moments that the port tells.
+/// the line's priorities, enrols its operators, and answers the requests at the moments that the port
+/// reports.
 ///
 /// # Errors
 ///
@@ -131,7 +132,7 @@ fn listening_text(alloc: Global, port: u16) -> Result<String, AllocError>
 pub fn play_port<S: PlanStore, P: Port>(
     alloc: Global,
     port: &mut P,
-    play: &Play,
+    play: &PlayArgs,
     desk: &mut Desk<S>,
 ) -> Result<(), ErrorCode>
     requires { IsPlay play.now }
@@ -192,11 +193,11 @@ fn serve_connection<S: PlanStore, P: Port>(
     done_after(served, closed)
 }
 
-// What a port is told that came of a request.
-fn outcome_of(served: &Result<Served, ServeFault>) -> Outcome
+// What a port is reported that came of a request.
+fn outcome_of(served: &Result<Served, ServeFault>) -> ExchangeEnd
     ensures { result ≡ spec.outcome_of served.now }
 {
-    Outcome {
+    ExchangeEnd {
         is_whole: !matches!(served, Ok(Served::Answered { framed: false, .. })),
         is_answered: served.is_ok(),
     }

@@ -59,8 +59,8 @@ is_line bytes l long e =
       by_kind : (k : Option _) (n size : Option ℕ) → number_from 0 (take 20 (drop 10 bytes)) ≡ n
           → number_from 0 (take 20 (drop 31 bytes)) ≡ size
           → option_and_then (λ l. if bytes_eq (line_said l) bytes then Some l else None)
-          (option_and_then (λ told. option_and_then (λ n. option_and_then (λ size.
-          Some (record { kind = told; number = n; size = size; sum = take 16 (drop 52 bytes) })) size) n) k)
+          (option_and_then (λ reported. option_and_then (λ n. option_and_then (λ size.
+          Some (record { kind = reported; number = n; size = size; sum = take 16 (drop 52 bytes) })) size) n) k)
           ≡ Some l → IsEntryLine bytes l
       by_kind None n size is_n is_size f = cc
       by_kind (Some k) None size is_n is_size f = cc

@@ -47,10 +47,10 @@ line_said l = line l.kind l.number l.size l.sum
 -- what stands at the places of a line
 unfoldable pub line_parts_in : List ℕ → Option LineParts
 line_parts_in bytes =
-    option_and_then (λ told.
+    option_and_then (λ reported.
     option_and_then (λ n.
     option_and_then (λ size.
-    Some (record { kind = told; number = n; size = size; sum = take 16 (drop 52 bytes) }))
+    Some (record { kind = reported; number = n; size = size; sum = take 16 (drop 52 bytes) }))
     (number_from 0 (take 20 (drop 31 bytes))))
     (number_from 0 (take 20 (drop 10 bytes))))
     (kind_of (take 9 bytes))

@@ -7,7 +7,7 @@ use Rattle.hex.specs.Hex.{encode_lower}
 use Rattle.desk_record.specs.declared.kind.Kind.{Kind}
 use Rattle.desk_record.specs.declared.kind.Kind.TheVariants as kind
 
--- what an entry tells, as a word of nine characters
+-- what an entry reports, as a word of nine characters
 abbrev pub word : Kind → List ℕ
 word kind.Record = codes "record   "
 word kind.Permitted = codes "permitted"
@@ -33,14 +33,14 @@ sum bytes = encode_lower (take 8 (sha256 bytes))
 -- what a line says before its own sum: the word, the number, how many bytes follow the line, and their sum,
 -- each with a space behind it
 unfoldable pub front : Kind → ℕ → ℕ → List ℕ → List ℕ
-front told n size check =
-    word told ++ (32 ∷ (number n ++ (32 ∷ (number size ++ (32 ∷ (check ++ (32 ∷ [])))))))
+front reported n size check =
+    word reported ++ (32 ∷ (number n ++ (32 ∷ (number size ++ (32 ∷ (check ++ (32 ∷ [])))))))
 
 -- a line: this, its sum, and a line feed
 unfoldable pub line : Kind → ℕ → ℕ → List ℕ → List ℕ
-line told n size check = front told n size check ++ (sum (front told n size check) ++ (10 ∷ []))
+line reported n size check = front reported n size check ++ (sum (front reported n size check) ++ (10 ∷ []))
 
--- what an entry tells, its number and its bytes
+-- what an entry reports, its number and its bytes
 pub record EntryParts : Type 0 where
   pub kind : Kind
   pub number : ℕ

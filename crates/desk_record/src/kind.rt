@@ -1,10 +1,10 @@
-//! What the entries of a record tell.
+//! What the entries of a record report.
 
 ghost use Rattle.std.specs.Prelude.{◌≡◌};
 ghost use Rattle.desk_record.specs.Record.{word};
 ghost use Rattle.desk_record.specs.EntryLines.{kind_of};
 
-/// What an entry of a record tells. Each entry has a number and bytes.
+/// What an entry of a record reports. Each entry has a number and bytes.
 #[derive(Clone, Copy, Debug, PartialEq, Eq)]
 pub enum Kind {
     /// A record begins. Its number in its folder, and the version of the format.

@@ -10,7 +10,7 @@ ghost use Rattle.desk_record.specs.Reading.{IsFailure, LacksEntry, entry_shown, 
 use crate::entry::Entry;
 use crate::line::{LINE, Line, read_line};
 use crate::sums::sum_of;
-use io_ends::is_interruption;
+use io_ends::is_interrupted;
 use std::alloc::{AllocError, Global};
 use std::io::Read;
 
@@ -128,7 +128,7 @@ fn receive_some<R: Read>(input: &mut R, room: &mut [u8]) -> Result<usize, ReadFa
     for _ in 0..MAX_TRIES {
         match input.read(room) {
             Ok(count) => return Ok(count),
-            Err(error) if is_interruption(&error) => {}
+            Err(error) if is_interrupted(&error) => {}
             Err(_) => return Err(ReadFault::Read),
         }
     }

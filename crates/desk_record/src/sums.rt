@@ -1,4 +1,4 @@
-//! Sums of bytes, by which damage is told.
+//! Sums of bytes, by which damage is reported.
 
 ghost use Rattle.std.specs.Prelude.{◌≡◌, IfOk};
 ghost use Rattle.desk_record.specs.Record.{sum};

@@ -50,7 +50,7 @@ is_header n terms operators none first second third fourth text empty one two th
     let begun : first ≡ entry (record_entry n) = one ∙ ap (λ x. x ++ entry (record_entry n)) empty in
     let limits : fourth ≡ second ++ entries (spans ++ cells) =
     two_more second third fourth spans cells three four in
-    let told : fourth ≡ entry (record_entry n) ++ entries (permitted ++ (spans ++ cells)) =
+    let reported : fourth ≡ entry (record_entry n) ++ entries (permitted ++ (spans ++ cells)) =
     two_more (entry (record_entry n)) second fourth permitted (spans ++ cells)
     (two ∙ ap (λ x. x ++ entries permitted) begun) limits in
-    two_more (entry (record_entry n)) fourth text (permitted ++ (spans ++ cells)) listed told five
+    two_more (entry (record_entry n)) fourth text (permitted ++ (spans ++ cells)) listed reported five

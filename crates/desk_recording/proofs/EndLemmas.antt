@@ -29,7 +29,7 @@ use Rattle.desk_replay.specs.Replaying.{State, played, taken}
 use Rattle.desk_recording.specs.Played.{AddsPlayed, CatchesUp, EndsAs, EndsFound, EndsPlayed, IsPlayedTo, IsUnanswered, caught_up, entries_of, known, pair_of}
 use Rattle.desk_recording.proofs.ExchangeLemmas.{IsGivenUp, IsLeft, are_asked, is_certain, left_next, is_given_up, is_left, low_second, same_second, some_failure}
 use Rattle.desk_recording.proofs.PlayedLemmas.{asked_of, entries_then, failure_taken, is_asked, news_played, played_one, played_then}
-use Rattle.desk_recording.proofs.RecordLemmas.{all_enrolled, both_played, news_added, pair_added, served_known, told_whole}
+use Rattle.desk_recording.proofs.RecordLemmas.{all_enrolled, both_played, news_added, pair_added, served_known, reported_whole}
 
 -- operators, and then others
 with_both_operators : (w : DeskWorld) (xs ys : List Enrolment)
@@ -301,7 +301,7 @@ failed_end H h x n now moment [] answer s w listed left small named enrolled ran
     absurd (omega (arith, given.some))
 failed_end H h x n now moment (b ∷ request) [] s w listed left small named enrolled range at is given
     fails next =
-    absurd (omega (arith, subst (λ a. 0 < length a) (sym given.told) (some_failure given.why)))
+    absurd (omega (arith, subst (λ a. 0 < length a) (sym given.reported) (some_failure given.why)))
 failed_end H h x n now moment (b ∷ request)
     (c ∷ answer) s w listed left small named enrolled range at is given fails next =
     let m = with_answer (with_request (with_news n x.news) moment (b ∷ request)) (c ∷ answer) in
@@ -327,7 +327,7 @@ failed_end H h x n now moment (b ∷ request)
       plays = played_then s asked_state (map operator_entry x.news ++ request_is ∷ []) (answer_is ∷ [])
           (asked_played H h x.news moment (b ∷ request) s w listed small named enrolled range at)
           ∙ played_one asked_state taken_so.0 answer_is
-          (subst (λ a. taken asked_state (answer_entry (nat_abs moment) a) ≡ Ok taken_so.0) (sym given.told)
+          (subst (λ a. taken asked_state (answer_entry (nat_abs moment) a) ≡ Ok taken_so.0) (sym given.reported)
           taken_so.1);
       news = [];
       moment = moment;
@@ -444,10 +444,10 @@ module _ (H : Type 0) (h : H) (Ends : (request rest : List ℕ) → IsRequest re
       → EndsPlayed k now xs last t left)
       → IsPlayedTo s w → EndsPlayed n now (x ∷ xs) last s left
   one_ends x xs last done n answered now s w listed v between left request small named enrolled range whole
-      bytes out told served (inl a) stays noted (inl on) others is rest at =
+      bytes out reported served (inl a) stays noted (inl on) others is rest at =
       let first = with_news n x.news in
       let then = with_answer (with_request first x.arrival.moment request) a.answer in
-      then_ends x xs last n then now s v left (is_certain x.served on.0 (told_whole x told a.whole))
+      then_ends x xs last n then now s v left (is_certain x.served on.0 (reported_whole x reported a.whole))
       (subst (λ b. AddsPlayed n then.text (map operator_entry x.news
       ++ pair_of x.arrival.moment (known b) (known x.parting.sent)) s v) (sym bytes)
       (subst (λ c. AddsPlayed n then.text (map operator_entry x.news
@@ -457,11 +457,11 @@ module _ (H : Type 0) (h : H) (Ends : (request rest : List ℕ) → IsRequest re
       (news_added H h n x.news s w listed small named enrolled at)
       (λ t here. pair_added first x.arrival.moment request a.answer t listed v range
       (are_asked H h Ends x.served request a.answer x.parting.unread listed x.arrival.moment v on.0
-      (told_whole x told a.whole) whole
+      (reported_whole x reported a.whole) whole
       (served_known H h Ends x listed v request a.answer bytes out a.known served)) here))))
       (λ t here. rest then t (subst (λ r. AreNoted r xs last now) a.added noted) on.1 here)
   one_ends x xs last done n answered now s w listed v between left request small named enrolled range whole
-      bytes out told served (inl a) stays noted (inr end) others is rest at =
+      bytes out reported served (inl a) stays noted (inr end) others is rest at =
       let same : left ≡ v = last_left H done xs last v between left end.1 end.2 others is in
       let now_is = subst (λ r. IfSome r (λ recorded. failure_at x.served ≢ None
       → now ≡ r)) a.added stays end.0 in
@@ -470,11 +470,11 @@ module _ (H : Type 0) (h : H) (Ends : (request rest : List ℕ) → IsRequest re
       (failed_end H h x n now x.arrival.moment request a.answer s w listed left small named enrolled range at
       now_is (subst (IsGivenUp listed request a.answer) (sym same)
       (is_given_up H Ends x.served request a.answer x.parting.unread listed x.arrival.moment v end.0
-      (told_whole x told a.whole) whole
+      (reported_whole x reported a.whole) whole
       (served_known H h Ends x listed v request a.answer bytes out a.known served))) end.0
       (left_next Ends x request left bytes whole)))
   one_ends x xs last done n answered now s w listed v between left request small named enrolled range whole
-      bytes out told served (inr lost) stays noted only others is rest at =
+      bytes out reported served (inr lost) stays noted only others is rest at =
       let end = lost_last (with_request (with_news n x.news) x.arrival.moment request).text xs last now
       (subst (λ r. AreNoted r xs last now) lost noted) in
       let same : left ≡ v = last_left H done xs last v between left end.0 end.1 others is in
@@ -491,24 +491,24 @@ module _ (H : Type 0) (h : H) (Ends : (request rest : List ℕ) → IsRequest re
       → AreServed H xs w between → IsLastNews H last done between left → OnlyLast xs last
       → All (λ x. x.parting.outcome ≡ outcome_of x.served) xs → IsPlayedTo s w
       → EndsPlayed n now xs last s left
-  all_end [] None done n now s w between left noted served is only told at =
+  all_end [] None done n now s w between left noted served is only reported at =
       none_ends n now s w left noted (is ∙ served) at
-  all_end [] (Some news) done n now s w between left noted served is only told at =
+  all_end [] (Some news) done n now s w between left noted served is only reported at =
       last_news_end H h done n now news s w left
       (subst (λ v. IsLastNews H (Some news) done v left) served is) noted.1.0 noted.1.1
       (subst (λ r. RecordsNone r now) noted.1.2 noted.2) at
-  all_end (x ∷ xs) last done n now s w between left noted served is only told at =
+  all_end (x ∷ xs) last done n now s w between left noted served is only reported at =
       let news = noted.3.news in
       let request : IsRecorded (with_news n x.news) noted.1 x.arrival.moment x.arrival.bytes =
       subst (λ r. RecordsRequest r noted.1 x.arrival.moment x.arrival.bytes) news.2 noted.3.request in
       one_ends x xs last done n noted.2 now s w served.0 served.1 between left request.request news.0 news.1
       served.2 request.range request.whole request.known
       (subst (λ r. IfSome r (λ _. x.out ≡ Some [])) news.2 noted.3.unsent)
-      (All-head (λ x. x.parting.outcome ≡ outcome_of x.served) x xs told) served.3
+      (All-head (λ x. x.parting.outcome ≡ outcome_of x.served) x xs reported) served.3
       (subst (λ r. RecordsAnswer r noted.2 x.parting.sent x.parting.outcome.is_answered) request.added
       noted.3.answer) noted.4 noted.5 only served.4 is
       (λ k t rest more here. all_end xs last done k now t served.1 between left rest served.4 is more
-      (All-tail (λ x. x.parting.outcome ≡ outcome_of x.served) x xs told) here) at
+      (All-tail (λ x. x.parting.outcome ≡ outcome_of x.served) x xs reported) here) at
 
   -- connections that were taken, however they ended
   pub taken_end : (done : Result ⊤ ErrorCode) (count : ℕ) (port : Course Traffic) (w left : DeskWorld)
@@ -518,7 +518,7 @@ module _ (H : Type 0) (h : H) (Ends : (request rest : List ℕ) → IsRequest re
   taken_end done count port w left n s taken was at =
       all_end taken.exchanges taken.last done n port.after.recorded s w taken.between left
       (subst (λ r. AreNoted r taken.exchanges taken.last port.after.recorded) was taken.recorded) taken.served
-      taken.untaken (only_last done count taken.exchanges taken.last taken.ends) taken.told at
+      taken.untaken (only_last done count taken.exchanges taken.last taken.ends) taken.reported at
 
   -- and what is found then
   pub taken_found : (done : Result ⊤ ErrorCode) (count : ℕ) (port : Course Traffic) (w left : DeskWorld)

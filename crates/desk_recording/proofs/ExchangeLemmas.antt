@@ -14,7 +14,7 @@ use Rattle.request_parser.specs.Requests.{asked}
 use Rattle.desk_rules.specs.declared.call.Asked.{Asked}
 use Rattle.desk_store.specs.World.{World}
 use Rattle.desk_run.specs.DeskWorld.{DeskWorld}
-use Rattle.desk_run.specs.Verdicts.{Told, no_such_plan, replied, told_to, unknown_operator}
+use Rattle.desk_run.specs.Verdicts.{Reported, no_such_plan, replied, reported_to, unknown_operator}
 use Rattle.desk_writing.specs.Answer.{answer_text, error_text, json_answer}
 use Rattle.desk_writing.specs.ReplyText.{reply_text}
 use Rattle.desk_wire.specs.Bytes.{IsAnsweredSo, IsServerError, status_so, text, text_for, world_after}
@@ -51,16 +51,16 @@ some_error : (status : ℕ) (allow : Option (List ℕ)) (word : List ℕ) → 0 
 unfolding error_text json_answer
 some_error status allow word = some_answer status allow _
 
-some_told : (t : Told) → 0 < length (text t)
+some_reported : (t : Reported) → 0 < length (text t)
 unfolding text reply_text refusal_text json_answer
-some_told (replied reply) = some_answer _ _ _
-some_told unknown_operator = some_error _ _ _
-some_told no_such_plan = some_error _ _ _
+some_reported (replied reply) = some_answer _ _ _
+some_reported unknown_operator = some_error _ _ _
+some_reported no_such_plan = some_error _ _ _
 
 pub some_text : (w : DeskWorld) (moment : ℤ) (reading : Reading Asked) → 0 < length
     (text_for w moment reading)
 unfolding refusal_text
-some_text w moment (Ok a) = some_told (told_to w a.operator moment a.call)
+some_text w moment (Ok a) = some_reported (reported_to w a.operator moment a.call)
 some_text w moment (Err fault) = some_error _ _ _
 
 -- ---- what came of the request of a connection
@@ -117,10 +117,10 @@ are_asked H h Ends (Ok (Answered status framed)) request answer
     let same = all_of Ends has.request request rest has.taken.whole has.taken.taken one in
     let why = none_failed status has.why w moment (asked has.request) framed none (has.status_is h) in
     let done = subst (λ e. IsAnsweredSo e w moment (asked has.request) has.answer after) why
-    (has.replied.told h) in
+    (has.replied.reported h) in
     inr (
       same.0,
-      has.written ∙ done.told ∙ ap (λ v. text_for w moment (asked v)) (sym same.1),
+      has.written ∙ done.reported ∙ ap (λ v. text_for w moment (asked v)) (sym same.1),
       done.left ∙ ap (λ v. world_after w moment (asked v)) (sym same.1),
     )
 are_asked H h Ends (Ok End) request answer unread w moment after none whole one has =
@@ -139,12 +139,12 @@ left_by : (H : Type 0) (h : H) (Ends : (request rest : List ℕ) → IsRequest r
     (unread : Option (List ℕ)) (w : DeskWorld) (moment : ℤ) (after : DeskWorld) (why : Option ServerError)
     → (0 < length request → IsRequest request) → IsTaken (Some request) unread q
     → IsReplied H w moment q answer why after → IsLeft w moment request after
-left_by H h Ends q request answer None w moment after why one taken told = absurd taken.taken
-left_by H h Ends q request answer (Some rest) w moment after None one taken told =
+left_by H h Ends q request answer None w moment after why one taken reported = absurd taken.taken
+left_by H h Ends q request answer (Some rest) w moment after None one taken reported =
     let same = all_of Ends q request rest taken.whole taken.taken one in
-    inr (same.0, (told.told h).left ∙ ap (λ v. world_after w moment (asked v)) (sym same.1))
-left_by H h Ends q request answer (Some rest) w moment after (Some error) one taken told =
-    inl told.failed.left
+    inr (same.0, (reported.reported h).left ∙ ap (λ v. world_after w moment (asked v)) (sym same.1))
+left_by H h Ends q request answer (Some rest) w moment after (Some error) one taken reported =
+    inl reported.failed.left
 
 pub is_left : (H : Type 0) (h : H) (Ends : (request rest : List ℕ) → IsRequest request
     → request_len (request ++ rest) ≡ Some (length request)) (served : Result Served ServeFault)
@@ -165,7 +165,7 @@ is_left H h Ends (Err OutOfMemory) request unread out sent w moment after one ha
 pub record IsGivenUp (w : DeskWorld) (request answer : List ℕ) (after : DeskWorld) : Type 0 where
   pub some : 0 < length request
   pub why : ServerError
-  pub told : answer ≡ server_error_text why
+  pub reported : answer ≡ server_error_text why
   pub left : after ≡ w
 
 gave_up : (why : Option ServerError) (w : DeskWorld) (answer : List ℕ) (after : DeskWorld) → why ≢ None
@@ -194,7 +194,7 @@ is_given_up H Ends (Ok (Answered status framed)) request answer
     let same = all_of Ends has.request request rest has.taken.whole has.taken.taken one in
     let failed = gave_up has.why w has.answer after (has.gave_up (is_500 status framed fails))
     has.replied.failed in
-    record { some = same.0; why = failed.0; told = has.written ∙ failed.1.told; left = failed.1.left }
+    record { some = same.0; why = failed.0; reported = has.written ∙ failed.1.reported; left = failed.1.left }
 is_given_up H Ends (Ok End) request answer unread w moment after fails whole one has = absurd (fails refl)
 is_given_up H Ends (Err fault) request answer unread w moment after fails whole one has = cc
 

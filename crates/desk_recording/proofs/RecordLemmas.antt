@@ -94,7 +94,7 @@ pair_added n moment [] answer s w left range (inr one) now = absurd (omega (arit
 pair_added n moment (b ∷ request) answer s w left range (inl none) now = let no = none.0 in cc
 pair_added n moment (b ∷ request) answer s w left range (inr one) now =
     let second = same_second moment range in
-    let told : answer ≡ text_for s.world (pos (nat_abs moment)) (asked (b ∷ request)) =
+    let reported : answer ≡ text_for s.world (pos (nat_abs moment)) (asked (b ∷ request)) =
     one.1 ∙ ap (λ m. text_for w m (asked (b ∷ request))) (sym second)
     ∙ ap (λ v. text_for v (pos (nat_abs moment)) (asked (b ∷ request))) (sym now.world) in
     record {
@@ -102,7 +102,7 @@ pair_added n moment (b ∷ request) answer s w left range (inr one) now =
           (subst (λ a. 0 < length a) (sym one.1) (some_text w moment (asked (b ∷ request))));
       left = after s (nat_abs moment) (b ∷ request);
       plays = subst (λ a. played s (request_entry (nat_abs moment) (b ∷ request)
-          ∷ answer_entry (nat_abs moment) a ∷ []) ≡ Ok (after s (nat_abs moment) (b ∷ request))) (sym told)
+          ∷ answer_entry (nat_abs moment) a ∷ []) ≡ Ok (after s (nat_abs moment) (b ∷ request))) (sym reported)
           (pair_played s (nat_abs moment) (b ∷ request) now.begun now.answered (low_second moment range));
       now = record {
         world = ap (λ m. world_after s.world m (asked (b ∷ request))) second
@@ -151,10 +151,10 @@ stays_open xs r None noted is =
 stays_open xs r (Some (Open m)) noted is = (m, refl)
 stays_open xs r (Some (Ended text)) noted is = absurd is
 
-pub told_whole : (x : Exchange) → x.parting.outcome ≡ outcome_of x.served
+pub reported_whole : (x : Exchange) → x.parting.outcome ≡ outcome_of x.served
     → x.parting.outcome.is_answered ≡ true
     → is_answered x.served ≡ true
-told_whole x told whole = sym (ap (λ o. o.is_answered) told) ∙ whole
+reported_whole x reported whole = sym (ap (λ o. o.is_answered) reported) ∙ whole
 
 -- a desk that goes on has listed the operators of all news
 none_last : (H : Type 0) (last : Option (List Enrolment)) (w left : DeskWorld)
@@ -193,7 +193,7 @@ module _ (H : Type 0) (h : H) (Ends : (request rest : List ℕ) → IsRequest re
       → AddsPlayed k m.text (entries_of xs) t left)
       → IsPlayedTo s w → AddsPlayed n m.text (entries_of (x ∷ xs)) s left
   one_then x xs n m s w listed between left answered request small named enrolled range whole bytes out none
-      told served (inl a) noted rest now =
+      reported served (inl a) noted rest now =
       let first = with_news n x.news in
       let then = with_answer (with_request first x.arrival.moment request) a.answer in
       subst (λ b. AddsPlayed n m.text (map operator_entry x.news
@@ -206,11 +206,11 @@ module _ (H : Type 0) (h : H) (Ends : (request rest : List ℕ) → IsRequest re
       (λ t at. both_played first then m (pair_of x.arrival.moment request a.answer) (entries_of xs) t between
       left (pair_added first x.arrival.moment request a.answer t listed between range
       (are_asked H h Ends x.served request a.answer x.parting.unread listed x.arrival.moment between none
-      (told_whole x told a.whole) whole
+      (reported_whole x reported a.whole) whole
       (served_known x listed between request a.answer bytes out a.known served)) at)
       (λ u here. rest then u (subst (λ r. AreNoted r xs None (Some (Open m))) a.added noted) here))))
   one_then x xs n m s w listed between left answered request small named enrolled range whole bytes out none
-      told served (inr ended) noted rest now =
+      reported served (inr ended) noted rest now =
       absurd (not_opened (with_request (with_news n x.news) x.arrival.moment request).text xs None m
       (subst (λ r. AreNoted r xs None (Some (Open m))) ended noted))
 
@@ -218,13 +218,13 @@ module _ (H : Type 0) (h : H) (Ends : (request rest : List ℕ) → IsRequest re
       → AreNoted (Some (Open n)) xs None (Some (Open m)) → AreServed H xs w left
       → All (λ x. failure_at x.served ≡ None) xs → All (λ x. x.parting.outcome ≡ outcome_of x.served) xs
       → IsPlayedTo s w → AddsPlayed n m.text (entries_of xs) s left
-  all_added [] n m s w left (inl same) served none told now =
+  all_added [] n m s w left (inl same) served none reported now =
       none_played n m s w left (same_open n m same) served now
-  all_added [] n m s w left (inr cut) served none told now =
+  all_added [] n m s w left (inr cut) served none reported now =
       let never : Some (Open m) ≡ Some (Ended (with_request
       (with_news n cut.news) cut.moment cut.request).text)
       = cut.ended in cc
-  all_added (x ∷ xs) n m s w left noted served none told now =
+  all_added (x ∷ xs) n m s w left noted served none reported now =
       let news = noted.3.news in
       let request : IsRecorded (with_news n x.news) noted.1 x.arrival.moment x.arrival.bytes =
       subst (λ r. RecordsRequest r noted.1 x.arrival.moment x.arrival.bytes) news.2 noted.3.request in
@@ -232,12 +232,12 @@ module _ (H : Type 0) (h : H) (Ends : (request rest : List ℕ) → IsRequest re
       request.range
       request.whole request.known (subst (λ r. IfSome r (λ _. x.out ≡ Some [])) news.2 noted.3.unsent)
       (All-head (λ x. failure_at x.served ≡ None) x xs none)
-      (All-head (λ x. x.parting.outcome ≡ outcome_of x.served) x xs told) served.3
+      (All-head (λ x. x.parting.outcome ≡ outcome_of x.served) x xs reported) served.3
       (subst (λ r. RecordsAnswer r noted.2 x.parting.sent x.parting.outcome.is_answered) request.added
       noted.3.answer) noted.5
       (λ k t rest at. all_added xs k m t served.1 left rest served.4
       (All-tail (λ x. failure_at x.served ≡ None) x xs none)
-      (All-tail (λ x. x.parting.outcome ≡ outcome_of x.served) x xs told) at) now
+      (All-tail (λ x. x.parting.outcome ≡ outcome_of x.served) x xs reported) at) now
 
   -- connections that were taken
   pub taken_added : (count : ℕ) (port : Course Traffic) (w left : DeskWorld) (n : Noted) (s : State)
@@ -255,5 +255,5 @@ module _ (H : Type 0) (h : H) (Ends : (request rest : List ℕ) → IsRequest re
         is = here.1;
         adds = subst (AddsPlayed n here.0.text (entries_of xs) s) (sym goes.1)
             (all_added xs n here.0 s w taken.between
-            (subst (AreNoted (Some (Open n)) xs None) here.1 noted) taken.served taken.ends.1 taken.told now);
+            (subst (AreNoted (Some (Open n)) xs None) here.1 noted) taken.served taken.ends.1 taken.reported now);
       }

@@ -1,4 +1,4 @@
--- What one step more changes of what a port tells.
+-- What one step more changes of what a port reports.
 use Rattle.std.proofs.Common.{◌≡◌, ◌<◌, ◌⊎◌, ℕ, ℤ, pos, nat_abs, Bool, true, false, List, [], ◌∷◌, ◌++◌, Option, None, Some, IfSome, length, append-nil, ap, inl, inr, refl, subst, sym, ◌∙◌}
 use Rattle.std.specs.Prelude.{⊤, not, option_map, Result}
 use Rattle.io_ends.specs.Moments.{IsMoment}
@@ -11,7 +11,7 @@ use Rattle.desk_cli.specs.declared.line.Enrolment.{Enrolment}
 use Rattle.desk_program.specs.Recorded.{AreNamed, Ended, IsOpen, Noted, Recorded, RecordsAnswer, RecordsNews, RecordsNone, RecordsRequest, request_entry, with_answer, with_news, with_request}
 use Rattle.desk_program.specs.Serving.{BringsNews, Closes, Denies, Parting, TakesArrival, arrived}
 use Rattle.desk_recording.specs.Recording.{AddsStep, Answered, Asked, Enrolled, HasText, Lost, Notes, NotesOnDisk, SendsKept, Step, arrivals_in, news_in, partings_in, traffic_of}
-use Rattle.desk_recording.specs.Telling.{recorded_by}
+use Rattle.desk_recording.specs.Reporting.{recorded_by}
 
 news_and : (steps : List Step) (step : Step)
     → news_in (steps ++ step ∷ []) ≡ news_in steps ++ news_in (step ∷ [])
@@ -125,7 +125,7 @@ records_answer (Some n) now true false is_answered answer is may =
     let none = (may refl).0 in cc
 records_answer (Some n) now true true is_answered answer is may = ends_with now n.text is
 
--- ---- what a port tells
+-- ---- what a port reports
 
 -- more is recorded if nothing was lost
 pub is_open : (steps : Option (List Step)) (noted : Option Noted)

@@ -63,9 +63,9 @@ pub goes_on : (r : Option TailEnd) (old mid new : Option (List ℕ)) (s t : Tail
     → HasSaid old mid s → StepsTail (Ok r) mid new s t → HasSaid old new t
 goes_on r old mid new s t is first step = one_more first (subst (λ x. StepsTail (Ok x) mid new s t) is step)
 
--- why no tail is told
-pub untold : (fault : TailFault) (old mid new : Option (List ℕ)) (s t : TailParts) → HasSaid old mid s
+-- why no tail is reported
+pub unreported : (fault : TailFault) (old mid new : Option (List ℕ)) (s t : TailParts) → HasSaid old mid s
     → StepsTail (Err fault) mid new s t → HasNoTail old fault
-untold Read old mid new s t first step = tt
-untold OutOfMemory old mid new s t first step = tt
-untold NoRecord old mid new s t first step = none_more first step
+unreported Read old mid new s t first step = tt
+unreported OutOfMemory old mid new s t first step = tt
+unreported NoRecord old mid new s t first step = none_more first step

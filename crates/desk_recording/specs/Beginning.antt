@@ -18,7 +18,7 @@ abbrev pub permitted_entry : ℕ → EntryParts
 permitted_entry priority = record { kind = kind.Permitted; number = priority; bytes = [] }
 
 abbrev pub limit_entry : Kind → ℕ → EntryParts
-limit_entry told most = record { kind = told; number = most; bytes = [] }
+limit_entry reported most = record { kind = reported; number = most; bytes = [] }
 
 abbrev pub permitted_if : List ℕ → ℕ → List EntryParts
 permitted_if permitted priority =

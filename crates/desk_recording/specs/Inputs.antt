@@ -16,13 +16,13 @@ use Rattle.desk_wire.specs.Streams.{IsCut}
 use Rattle.desk_cli.specs.declared.failure.ExitReport.{ExitReport}
 use Rattle.desk_cli.specs.declared.failure.ErrorCode.{ErrorCode}
 use Rattle.desk_cli.specs.declared.failure.ErrorCode.TheVariants as failure
-use Rattle.desk_cli.specs.declared.line.Play.{Play as PlayWords}
+use Rattle.desk_cli.specs.declared.line.PlayArgs.{PlayArgs}
 use Rattle.desk_cli.specs.Exits.{Ending, EndsWith, FailsWith}
 use Rattle.desk_program.specs.EndCauses.{IsEndCounted}
 use Rattle.desk_program.specs.Outside.{ended}
 use Rattle.desk_program.specs.PortPlays.{IsInputKept, IsInputPlayed}
 use Rattle.desk_program.specs.Serving.{Traffic}
-use Rattle.desk_recording.specs.Telling.{told_of}
+use Rattle.desk_recording.specs.Reporting.{reported_of}
 use Rattle.desk_recording.specs.declared.inputs.InputEnd.{InputEnd}
 use Rattle.desk_recording.specs.declared.inputs.InputEnd.TheVariants.{AtEnd, CutShort, Unread, OutOfMemory, Unframed, Unwritten}
 use Rattle.desk_recording.specs.declared.inputs.InputPort.{InputPort}
@@ -40,13 +40,13 @@ HandsOutNone unframed left Unframed = unframed ≡ true
 HandsOutNone unframed left (Unwritten cut) = ⊥
 
 -- how a line ends by why an input hands out no more
-abbrev pub told_as : {R W : Type 0} → InputEnd R W → Result ⊤ ErrorCode
-told_as AtEnd = Ok (tt {0})
-told_as CutShort = Err failure.CutShort
-told_as (Unread unread) = Err failure.Read
-told_as OutOfMemory = Err failure.Memory
-told_as Unframed = Err failure.Unframed
-told_as (Unwritten cut) = Err failure.Write
+abbrev pub reported_as : {R W : Type 0} → InputEnd R W → Result ⊤ ErrorCode
+reported_as AtEnd = Ok (tt {0})
+reported_as CutShort = Err failure.CutShort
+reported_as (Unread unread) = Err failure.Read
+reported_as OutOfMemory = Err failure.Memory
+reported_as Unframed = Err failure.Unframed
+reported_as (Unwritten cut) = Err failure.Write
 
 -- an input ends since its output broke off inside an answer
 abbrev pub IsUnwritten : {R W : Type 0} → List ℕ → Course (Option (List ℕ)) → InputEnd R W → Type 0
@@ -68,8 +68,8 @@ ended_by None true (Ok done) = Err failure.Unframed
 ended_by None false (Ok done) = Err failure.Limit
 
 -- what is known of a recorded input, of the port that hands it out, and of how its line ended: how the input
--- or the output ended, if one did; whether the place of the next request is not known; what the port told
--- before and tells after; the end
+-- or the output ended, if one did; whether the place of the next request is not known; what the port reported
+-- before and reports after; the end
 pub record InputOutside : Type 0 where
   pub stopped : Option (Result ⊤ ErrorCode)
   pub unframed : Bool
@@ -81,21 +81,21 @@ abbrev pub input_outside :
     {R W K F E : Type 0} → Ghosts K F → write.Ghosts E → RecordedPort (InputPort R W) K
     → RecordedPort (InputPort R W) K → ExitReport E → E → E → InputOutside
 input_outside k e old new exit before now = record {
-  stopped = option_map told_as new.port.ended;
+  stopped = option_map reported_as new.port.ended;
   unframed = new.port.is_unframed;
-  port = course (told_of k old) (told_of k new);
+  port = course (reported_of k old) (reported_of k new);
   end = ended e exit before now;
 }
 
 -- the requests of an input are played, and the line ends by that
-pub record IsPlayRecorded (H : Type 0) (play : PlayWords) (o : InputOutside) (w after : DeskWorld) : Type 0
+pub record IsPlayRecorded (H : Type 0) (play : PlayArgs) (o : InputOutside) (w after : DeskWorld) : Type 0
   where
     pub done : Result ⊤ ErrorCode
     pub ends : EndsWith (ended_by o.stopped o.unframed done) o.end
     pub played : IsInputPlayed H done play o.port w after
 
 -- and what is found then
-pub record IsRecordedKept (H : Type 0) (play : PlayWords) (o : InputOutside) (w after : DeskWorld)
+pub record IsRecordedKept (H : Type 0) (play : PlayArgs) (o : InputOutside) (w after : DeskWorld)
     (found : Option World) : Type 0 where
   pub done : Result ⊤ ErrorCode
   pub ends : EndsWith (ended_by o.stopped o.unframed done) o.end
@@ -109,7 +109,7 @@ pub record IsRecordedCause (o : InputOutside) (old new : ℕ) : Type 0 where
 
 -- the requests of an input are played at a desk, and what may be found then; if the line ended with `store`,
 -- that has its cause
-pub record PlaysRecorded {S : Type 0} (g : store.Ghosts S) (play : PlayWords) (o : InputOutside)
+pub record PlaysRecorded {S : Type 0} (g : store.Ghosts S) (play : PlayArgs) (o : InputOutside)
     (old new : Parts S) : Type 0 where
   pub played : IsPlayRecorded (IsHonest (g.doubt new.store)) play o (world_of g.content old)
       (world_of g.content new)

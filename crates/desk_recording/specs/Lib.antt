@@ -6,4 +6,4 @@ pub mod RecordWrites
 pub mod Recording
 pub mod Recovering
 pub mod Tail
-pub mod Telling
+pub mod Reporting

@@ -1,4 +1,5 @@
--- Recording: what a record is asked to keep, in its order, and what a port tells whose connections are kept.
+-- Recording: what a record is asked to keep, in its order, and what a port reports whose connections are
+-- kept.
 use Rattle.std.specs.Prelude.{◌≡◌, ◌⊎◌, ⊤, ℕ, ℤ, Bool, true, false, List, [], ◌∷◌, ◌++◌, Option, None, Some, option_map, Result, Ok, Err}
 use Rattle.std.specs.Option.{IsSomeAnd}
 use Rattle.desk_cli.specs.declared.line.Enrolment.{Enrolment}
@@ -8,8 +9,8 @@ use Rattle.desk_wire.specs.Passage.{Course, course}
 use Rattle.desk_wire.specs.RefusalTexts.{server_error_text}
 use Rattle.desk_wire.specs.declared.response.ServerError.TheVariants.{Store}
 use Rattle.desk_program.specs.Recorded.{Noted, Recorded}
-use Rattle.desk_program.specs.Serving.{Arrival, Closes, Parting, TakesArrival, Traffic, arrived, parted, untold}
-use Rattle.desk_recording.specs.declared.record.Parted.{Parted}
+use Rattle.desk_program.specs.Serving.{Arrival, Closes, Parting, TakesArrival, Traffic, arrived, parted, unreported}
+use Rattle.desk_recording.specs.declared.record.Exchange.{Exchange}
 use Rattle.desk_recording.specs.Receiving.{IsReceived}
 use Rattle.std.specs.Io.KnownBytes.{Appends}
 
@@ -52,9 +53,9 @@ partings_in (Asked moment bytes ∷ steps) = partings_in steps
 partings_in (Answered parting ∷ steps) = parting ∷ partings_in steps
 partings_in (Lost parting ∷ steps) = parting ∷ partings_in steps
 
--- what a port tells whose record has made these steps, and what it has recorded
+-- what a port reports whose record has made these steps, and what it has recorded
 abbrev pub traffic_of : Option (List Step) → Option Recorded → Traffic
-traffic_of None recorded = record untold { recorded = recorded }
+traffic_of None recorded = record unreported { recorded = recorded }
 traffic_of (Some steps) recorded = record {
   listened = None;
   taken = Some (arrivals_in steps);
@@ -73,14 +74,14 @@ Notes None now done next = ⊤
 Notes (Some n) now true next = now ≡ Some (next n)
 Notes (Some n) now false next = HasText now n.text
 
--- the same; but what isn't told as noted may stand in the text all the same
+-- the same; but what isn't reported as noted may stand in the text all the same
 abbrev pub NotesOnDisk : Option Noted → Option Noted → Bool → (Noted → Noted) → Type 0
 NotesOnDisk None now done next = ⊤
 NotesOnDisk (Some n) now true next = now ≡ Some (next n)
 NotesOnDisk (Some n) now false next = HasText now n.text ⊎ HasText now (next n).text
 
 -- a connection as it is closed
-abbrev pub parting_of : Parted → Parting
+abbrev pub parting_of : Exchange → Parting
 parting_of connection = parted (Some connection.unread.now) (Some connection.sent.now) connection.outcome
 
 -- the bytes are sent; or their writing to a client of this type broke off, and the first ones are

@@ -14,10 +14,10 @@ use Rattle.desk_cli.specs.declared.line.Enrolment.{Enrolment}
 use Rattle.desk_cli.specs.Exits.{IsLineBreakdown}
 use Rattle.desk_program.specs.Enrolling.{AreListedSoFar, on_terms, with_operators}
 use Rattle.desk_program.specs.Serving.{Parting, parted}
-use Rattle.desk_program.specs.declared.port.Outcome.{Outcome}
+use Rattle.desk_program.specs.declared.port.ExchangeEnd.{ExchangeEnd}
 use Rattle.desk_replay.specs.Replaying.{last_moment}
 use Rattle.desk_recording.specs.declared.recovering.Unrecovered.{Unrecovered}
-use Rattle.desk_recording.specs.declared.recovering.Unrecovered.TheVariants.{OutOfMemory, Store, Clock, Unkept}
+use Rattle.desk_recording.specs.declared.recovering.Unrecovered.TheVariants.{OutOfMemory, Store, Clock, JournalError}
 use Rattle.desk_recording.specs.Recording.{Answered, Asked, Lost, Step}
 use Rattle.desk_recording.specs.Tail.{UnansweredParts}
 
@@ -37,19 +37,19 @@ abbrev pub AddsBoth : Option (List Step) → Option (List Step) → Step → Ste
 AddsBoth old new one other = new ≡ option_map (λ steps. steps ++ one ∷ other ∷ []) old
 
 -- the request is read whole, and answered whole
-abbrev pub whole_outcome : Outcome
+abbrev pub whole_outcome : ExchangeEnd
 whole_outcome = record { is_whole = true; is_answered = true }
 
 -- an answer that goes to no client
-abbrev pub told_again : List ℕ → Parting
-told_again answer = parted (Some []) (Some answer) whole_outcome
+abbrev pub reported_again : List ℕ → Parting
+reported_again answer = parted (Some []) (Some answer) whole_outcome
 
--- the failure that is told where what is left undone is not done; and how that ends
+-- the failure that is reported where what is left undone is not done; and how that ends
 abbrev pub failure_of : {R : Type 0} → Unrecovered R → ErrorCode
 failure_of OutOfMemory = failure.Memory
 failure_of Store = failure.Store
 failure_of Clock = failure.Clock
-failure_of (Unkept lost) = failure.Broken
+failure_of (JournalError lost) = failure.Broken
 
 abbrev pub ended_as : {R : Type 0} → Result ⊤ (Unrecovered R) → Result ⊤ ErrorCode
 ended_as (Ok done) = Ok done
@@ -64,13 +64,13 @@ module _ (H : Type 0) (u : UnansweredParts) (world : Course DeskWorld) (steps : 
     -- the request is kept, and then asked at its second; what came of its answer is kept
     pub record IsAskedAgain (came : Parting → Step) : Type 0 where
       pub answer : List ℕ
-      pub kept : AddsBoth steps.before steps.after (Asked (moment_of u) u.request) (came (told_again answer))
-      pub told : H → answer ≡ text_for world.before (moment_of u) (asked u.request)
+      pub kept : AddsBoth steps.before steps.after (Asked (moment_of u) u.request) (came (reported_again answer))
+      pub reported : H → answer ≡ text_for world.before (moment_of u) (asked u.request)
       pub left : H → world.after ≡ world_after world.before (moment_of u) (asked u.request)
 
     -- it is kept, and the desk failed and changed nothing
     pub record IsFailedAgain : Type 0 where
-      pub kept : AddsBoth steps.before steps.after (Asked (moment_of u) u.request) (Lost (told_again []))
+      pub kept : AddsBoth steps.before steps.after (Asked (moment_of u) u.request) (Lost (reported_again []))
       pub left : H → world.after ≡ world.before
 
     -- it is not kept, or not in time, and so it is not asked

@@ -179,7 +179,7 @@ pub record HasSaid (old new : Option (List ℕ)) (t : TailParts) : Type 0 where
   pub read : Consumes old new (entries all)
   pub are : said_by nothing_said all ≡ Some t
 
--- one entry is read, and says this; or this is what stands there; or why neither is told
+-- one entry is read, and says this; or this is what stands there; or why neither is reported
 pub record IsSaid (old new : Option (List ℕ)) (s t : TailParts) : Type 0 where
   pub one : EntryParts
   pub fits : Fits one
@@ -206,7 +206,7 @@ pub record IsNoRecord (old : Option (List ℕ)) : Type 0 where
   pub first : HasSaid old mid t
   pub unsaid : IsUnsaid mid new t
 
--- why no tail is told: a read failed, memory ran out, or this is no record of a desk
+-- why no tail is reported: a read failed, memory ran out, or this is no record of a desk
 abbrev pub HasNoTail : Option (List ℕ) → TailFault → Type 0
 HasNoTail old Read = ⊤
 HasNoTail old OutOfMemory = ⊤

@@ -9,15 +9,15 @@ ghost use Rattle.desk_wire.specs.OneRequest.{IsTaken};
 ghost use Rattle.desk_wire.specs.Passage.{course};
 ghost use Rattle.desk_cli.specs.Lines.{AreEnrolments, IsPlay};
 ghost use Rattle.desk_program.specs.Recorded.{IsOpen};
-ghost use Rattle.desk_program.specs.Serving.{BringsNews, Closes, Denies, IsDenied, IsFresh, Listens, TakesArrival, arrived, parted, untold};
+ghost use Rattle.desk_program.specs.Serving.{BringsNews, Closes, Denies, IsDenied, IsFresh, Listens, TakesArrival, arrived, parted, unreported};
 ghost use Rattle.desk_recording.specs.Inputs as spec;
 ghost use Rattle.desk_recording.specs.Inputs.{EndsInput, HandsOutNone, IsUnrecorded, PlaysRecorded, input_outside};
 
 use crate::port::RecordedPort;
-use crate::receiving::{Unread, Unreceived, receive};
+use crate::receiving::{ReceiveError, Unreceived, receive};
 use crate::record::Record;
-use desk_cli::{Enrolment, ErrorCode, ExitReport, Play, report_exit};
-use desk_program::{ClientStream, Outcome, Port, play_port};
+use desk_cli::{Enrolment, ErrorCode, ExitReport, PlayArgs, report_exit};
+use desk_program::{ClientStream, ExchangeEnd, Port, play_port};
 use desk_run::Desk;
 use desk_store::PlanStore;
 use io_ends::{Moment, WriteError, write_whole};
@@ -32,7 +32,7 @@ pub(crate) enum InputEnd<R, W> {
     /// It ends inside a request.
     CutShort,
     /// It could not be read.
-    Unread(Unread<R>),
+    Unread(ReceiveError<R>),
     /// Memory ran out for a request.
     OutOfMemory,
     /// The place of the next request is not known.
@@ -43,8 +43,8 @@ pub(crate) enum InputEnd<R, W> {
 
 impl<R, W> InputEnd<R, W> {
     // How a line ends by it.
-    fn told(self) -> Result<(), ErrorCode>
-        ensures { result ≡ spec.told_as self }
+    fn reported(self) -> Result<(), ErrorCode>
+        ensures { result ≡ spec.reported_as self }
     {
         match self {
             InputEnd::AtEnd => Ok(()),
@@ -90,10 +90,10 @@ impl<R: Read + Drop, W: Write + Drop> InputPort<R, W> {
 
     // How a line ends after which no more is played.
     fn ending(&self, done: Result<(), ErrorCode>) -> Result<(), ErrorCode>
-        ensures { result ≡ spec.ended_by (option_map spec.told_as self.now.ended) self.now.is_unframed done }
+        ensures { result ≡ spec.ended_by (option_map spec.reported_as self.now.ended) self.now.is_unframed done }
     {
         match (self.ended, done) {
-            (Some(ended), _) => ended.told(),
+            (Some(ended), _) => ended.reported(),
             (None, Err(failure)) => Err(failure),
             (None, Ok(())) if self.is_unframed => Err(ErrorCode::Unframed),
             (None, Ok(())) => Err(ErrorCode::Limit),
@@ -107,7 +107,7 @@ impl<R: Read + Drop, W: Write + Drop> Port for InputPort<R, W> {
     type Output = Vec<u8>;
 
     fn listen(&mut self, _number: u16) -> Result<(), ErrorCode>
-        ensures listens { Listens untold untold _number (is_ok result) }
+        ensures listens { Listens unreported unreported _number (is_ok result) }
         ensures fault { IfErr result IsDenied }
         ensures ok { result ≡ Ok (tt {0}) }
         ensures stays { self.new ≡ self.old }
@@ -117,8 +117,8 @@ impl<R: Read + Drop, W: Write + Drop> Port for InputPort<R, W> {
 
     fn news(&mut self, alloc: Global) -> Result<Vec<Enrolment>, ErrorCode>
         ensures small { IfOk result (λ news. AreEnrolments news.items) }
-        ensures brings { IfOk result (λ news. BringsNews untold untold news.items) }
-        ensures same { OnErr result (Denies untold untold) }
+        ensures brings { IfOk result (λ news. BringsNews unreported unreported news.items) }
+        ensures same { OnErr result (Denies unreported unreported) }
         ensures fault { IfErr result IsDenied }
         ensures none { IsOkAnd result (λ news. news.items ≡ []) }
         ensures stays { self.new ≡ self.old }
@@ -126,12 +126,12 @@ impl<R: Read + Drop, W: Write + Drop> Port for InputPort<R, W> {
         Ok(Vec::new(alloc))
     }
 
-    // Long: what a port tells, which request of the input it is, and when the input has ended.
+    // Long: what a port reports, which request of the input it is, and when the input has ended.
     fn take(&mut self, alloc: Global) -> Result<ClientStream<Cursor<Vec<u8>>, Vec<u8>>, ErrorCode>
-        ensures taken { IfOk result (λ c. TakesArrival untold untold
+        ensures taken { IfOk result (λ c. TakesArrival unreported unreported
             (arrived c.moment.second (cursor_remaining (λ v. Some v.items) c.input))) }
-        ensures unsent { IfOk result (λ c. IsFresh untold (Some c.output.items)) }
-        ensures same { OnErr result (Denies untold untold) }
+        ensures unsent { IfOk result (λ c. IsFresh unreported (Some c.output.items)) }
+        ensures same { OnErr result (Denies unreported unreported) }
         ensures fault { IfErr result IsDenied }
         ensures given { IfOk result (λ c. (c.moment ≡ self.old.moment)
             × IsTaken (R.remaining self.old.input) (R.remaining self.new.input)
@@ -163,11 +163,11 @@ impl<R: Read + Drop, W: Write + Drop> Port for InputPort<R, W> {
         &mut self,
         input: Cursor<Vec<u8>>,
         output: Vec<u8>,
-        outcome: Outcome,
+        outcome: ExchangeEnd,
     ) -> Result<(), ErrorCode>
-        ensures closed { Closes untold untold (parted (cursor_remaining (λ v. Some v.items) input)
+        ensures closed { Closes unreported unreported (parted (cursor_remaining (λ v. Some v.items) input)
             (Some output.items) outcome) }
-        ensures recorded { OnOk result (IsOpen untold.recorded) }
+        ensures recorded { OnOk result (IsOpen unreported.recorded) }
         ensures fault { IfErr result IsDenied }
         ensures ok { result ≡ Ok (tt {0}) }
         ensures sent { EndsInput output.items (course (W.contents self.old.output)
@@ -211,7 +211,7 @@ fn next_of<R: Read, W>(
 /// failure goes to `errors`; a fault there is passed over.
 pub fn play_opened<S, R, W, K, E>(
     alloc: Global,
-    play: &Play,
+    play: &PlayArgs,
     opened: Result<Desk<S>, ErrorCode>,
     port: &mut RecordedPort<InputPort<R, W>, K>,
     errors: &mut E,
@@ -240,7 +240,7 @@ where
 // Plays the requests of an input at a desk, and answers how the line ended.
 fn play_recorded<S: PlanStore, R: Read + Drop, W: Write + Drop, K: Record + Drop, E: Write>(
     alloc: Global,
-    play: &Play,
+    play: &PlayArgs,
     desk: &mut Desk<S>,
     port: &mut RecordedPort<InputPort<R, W>, K>,
     errors: &mut E,

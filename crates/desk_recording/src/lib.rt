@@ -18,7 +18,7 @@ pub use header::begin_record;
 pub use inputs::{InputPort, play_opened};
 pub use journal::{Journal, Unwritten};
 pub use port::RecordedPort;
-pub use record::{Parted, Record, RecordFault};
+pub use record::{Exchange, Record, RecordFault};
 pub use recovering::{Unrecovered, missing_of, recover};
 pub use streams::{Given, Held};
 pub use tail::{Tail, TailEnd, TailFault, Unanswered, read_tail};

@@ -15,21 +15,21 @@ ghost use Rattle.desk_program.specs.Serving.{TakesArrival, arrived};
 ghost use Rattle.desk_recording.specs.Recording.{AddsIf, AddsStep, Answered, IsClosedBy, IsTakenFrom, Notes, Sends};
 ghost use Rattle.desk_recording.specs.Recording.{SendsKept, client_of, parting_of};
 ghost use Rattle.desk_recording.specs.Receiving.{IsReceived};
-ghost use Rattle.desk_recording.specs.Telling as spec;
-ghost use Rattle.desk_recording.specs.Telling.{parted_in, told_of};
+ghost use Rattle.desk_recording.specs.Reporting as spec;
+ghost use Rattle.desk_recording.specs.Reporting.{parted_in, reported_of};
 
-use crate::receiving::{Unread, Unreceived, receive};
-use crate::record::{Parted, Record, RecordFault};
+use crate::receiving::{ReceiveError, Unreceived, receive};
+use crate::record::{Exchange, Record, RecordFault};
 use crate::streams::{Given, Held};
 use desk_cli::{Enrolment, ErrorCode};
-use desk_program::{ClientStream, Outcome, Port};
+use desk_program::{ClientStream, ExchangeEnd, Port};
 use desk_wire::ServerError;
 use io_ends::{WriteError, write_whole};
 use std::alloc::{AllocError, Global};
 use std::io::{Cursor, Read, Write};
 
 // What comes of a request that was read and isn't answered.
-const UNANSWERED: Outcome = Outcome {
+const UNANSWERED: ExchangeEnd = ExchangeEnd {
     is_whole: true,
     is_answered: false,
 };
@@ -38,7 +38,7 @@ const UNANSWERED: Outcome = Outcome {
 #[derive_where(Clone, Copy)]
 pub(crate) enum Loss<R> {
     /// The record failed to keep something.
-    Unkept(RecordFault<R>),
+    JournalError(RecordFault<R>),
     /// A request was not answered whole.
     Unanswered,
 }
@@ -73,10 +73,10 @@ impl<P: Port + Drop, R: Record + Drop> Port for RecordedPort<P, R> {
 
     type Output = Held<P::Output>;
 
-    ghost traffic = { λ s. told_of R.Record s };
+    ghost traffic = { λ s. reported_of R.Record s };
 
     fn listen(&mut self, number: u16) -> Result<(), ErrorCode>
-        ensures listens { Listens (told_of R.Record self.old) (told_of R.Record self.new) number
+        ensures listens { Listens (reported_of R.Record self.old) (reported_of R.Record self.new) number
             (is_ok result) }
         ensures asked { Listens (P.traffic self.old.port) (P.traffic self.new.port) number (is_ok result) }
         ensures fault { IfErr result IsDenied }
@@ -89,8 +89,8 @@ impl<P: Port + Drop, R: Record + Drop> Port for RecordedPort<P, R> {
     fn news(&mut self, alloc: Global) -> Result<Vec<Enrolment>, ErrorCode>
         ensures small { IfOk result (λ news. AreEnrolments news.items) }
         ensures brings { IfOk result (λ news.
-            BringsNews (told_of R.Record self.old) (told_of R.Record self.new) news.items) }
-        ensures same { OnErr result (Denies (told_of R.Record self.old) (told_of R.Record self.new)) }
+            BringsNews (reported_of R.Record self.old) (reported_of R.Record self.new) news.items) }
+        ensures same { OnErr result (Denies (reported_of R.Record self.old) (reported_of R.Record self.new)) }
         ensures fault { IfErr result IsDenied }
         ensures asked { IfOk result (λ news.
             BringsNews (P.traffic self.old.port) (P.traffic self.new.port) news.items) }
@@ -108,22 +108,22 @@ impl<P: Port + Drop, R: Record + Drop> Port for RecordedPort<P, R> {
         match self.journal.keep_news(&news) {
             Ok(()) => Ok(news),
             Err(fault) => {
-                self.broken = Some(Loss::Unkept(RecordFault::by(fault)));
+                self.broken = Some(Loss::JournalError(RecordFault::by(fault)));
                 Err(ErrorCode::Broken)
             }
         }
     }
 
-    // Long: what the port tells, what was taken of the client, and when it is broken.
+    // Long: what the port reports, what was taken of the client, and when it is broken.
     #[tactic(auto, using(crate::proofs::StepLemmas::takes_one))]
     fn take(
         &mut self,
         alloc: Global,
     ) -> Result<ClientStream<Given<P::Input>, Held<P::Output>>, ErrorCode>
-        ensures taken { IfOk result (λ c. TakesArrival (told_of R.Record self.old) (told_of R.Record self.new)
+        ensures taken { IfOk result (λ c. TakesArrival (reported_of R.Record self.old) (reported_of R.Record self.new)
             (arrived c.moment.second (cursor_remaining (λ v. Some v.items) c.input.request))) }
-        ensures unsent { IfOk result (λ c. IsFresh (told_of R.Record self.old) (Some c.output.answer.items)) }
-        ensures same { OnErr result (Denies (told_of R.Record self.old) (told_of R.Record self.new)) }
+        ensures unsent { IfOk result (λ c. IsFresh (reported_of R.Record self.old) (Some c.output.answer.items)) }
+        ensures same { OnErr result (Denies (reported_of R.Record self.old) (reported_of R.Record self.new)) }
         ensures fault { IfErr result IsDenied }
         ensures client { IfOk result (λ c. IsTakenFrom c.moment.second (cursor_inner c.input.request).items
             (is_some c.input.unread) (P.Input.remaining c.input.client)
@@ -159,7 +159,7 @@ impl<P: Port + Drop, R: Record + Drop> Port for RecordedPort<P, R> {
                 },
             }),
             Err(fault) => {
-                self.broken = Some(Loss::Unkept(RecordFault::by(fault)));
+                self.broken = Some(Loss::JournalError(RecordFault::by(fault)));
                 let _ = refuse(&mut taken.output);
                 let _ = self.port.close(taken.input, taken.output, UNANSWERED);
                 Err(ErrorCode::Broken)
@@ -167,19 +167,19 @@ impl<P: Port + Drop, R: Record + Drop> Port for RecordedPort<P, R> {
         }
     }
 
-    // Long: what the port tells, what its journal has, when it is broken, and what the client was sent.
+    // Long: what the port reports, what its journal has, when it is broken, and what the client was sent.
     #[tactic(auto, using(crate::proofs::StepLemmas::closes_so, crate::proofs::StepLemmas::is_open))]
     fn close(
         &mut self,
         input: Given<P::Input>,
         output: Held<P::Output>,
-        outcome: Outcome,
+        outcome: ExchangeEnd,
     ) -> Result<(), ErrorCode>
-        ensures closed { Closes (told_of R.Record self.old) (told_of R.Record self.new)
+        ensures closed { Closes (reported_of R.Record self.old) (reported_of R.Record self.new)
             (parted_in input output outcome) }
-        ensures recorded { OnOk result (IsOpen (told_of R.Record self.new).recorded) }
+        ensures recorded { OnOk result (IsOpen (reported_of R.Record self.new).recorded) }
         ensures fault { IfErr result IsDenied }
-        ensures told { IsSome self.new.broken → result ≡ Err ErrorCode.Broken }
+        ensures reported { IsSome self.new.broken → result ≡ Err ErrorCode.Broken }
         ensures cause { result ≡ Err ErrorCode.Broken → IsSome self.new.broken }
         ensures lost { self.new.broken ≡ Some Loss.Unanswered
             → (self.old.broken ≡ Some Loss.Unanswered) ⊎ (outcome.is_answered ≡ false) }
@@ -196,7 +196,7 @@ impl<P: Port + Drop, R: Record + Drop> Port for RecordedPort<P, R> {
             ..
         } = input;
         let Held { answer, mut to } = output;
-        let connection = Parted {
+        let connection = Exchange {
             unread: unread_of(&request),
             sent: &answer,
             outcome,
@@ -232,11 +232,11 @@ fn closed_as(is_lost: bool, closed: Result<(), ErrorCode>) -> Result<(), ErrorCo
 }
 
 // Keeps the answer of a connection, if it is whole and nothing was lost before, and then sends it; or else
-// tells the client that the desk failed. What is lost, if so, and whether all was sent.
+// reports the client that the desk failed. What is lost, if so, and whether all was sent.
 fn send_kept<R: Record, W: Write>(
     journal: &mut R,
     broken: Option<Loss<R>>,
-    connection: Parted<'_>,
+    connection: Exchange<'_>,
     client: &mut W,
 ) -> (Option<Loss<R>>, Result<(), WriteError<W>>)
     ensures sends { SendsKept (course (R.steps journal.old) (R.steps journal.new))
@@ -261,7 +261,7 @@ fn send_kept<R: Record, W: Write>(
 fn keep_or_lose<R: Record>(
     journal: &mut R,
     broken: Option<Loss<R>>,
-    connection: Parted<'_>,
+    connection: Exchange<'_>,
 ) -> Option<Loss<R>>
     ensures steps { AddsIf (R.steps journal.old) (R.steps journal.new) (is_none result)
         (Answered (parting_of connection.entry)) }
@@ -279,7 +279,7 @@ fn keep_or_lose<R: Record>(
     }
     match journal.keep_answer(connection) {
         Ok(()) => None,
-        Err(fault) => Some(Loss::Unkept(RecordFault::by(fault))),
+        Err(fault) => Some(Loss::JournalError(RecordFault::by(fault))),
     }
 }
 
@@ -287,7 +287,7 @@ fn keep_or_lose<R: Record>(
 #[derive(Drop)]
 struct Received<R> {
     request: Vec<u8>,
-    unread: Option<Unread<R>>,
+    unread: Option<ReceiveError<R>>,
 }
 
 // The request that a client sends: none, if it doesn't come whole.
@@ -312,7 +312,7 @@ fn request_of<R: Read>(alloc: Global, client: &mut R) -> Result<Received<R>, All
     }
 }
 
-// Tells a client that its request, or the answer to it, can't be kept.
+// Reports a client that its request, or the answer to it, can't be kept.
 fn refuse<W: Write>(client: &mut W) -> Result<(), WriteError<W>>
     ensures { Sends (server_error_text Store) (W.contents client.old) (W.contents client.new) result }
 {

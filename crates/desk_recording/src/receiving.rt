@@ -15,7 +15,7 @@ use std::marker::PhantomData;
 /// That a read of a client of this type failed, or that a request of it took more than 200,000 reads. Only
 /// `receive` makes one.
 #[derive_where(Clone, Copy)]
-pub(crate) struct Unread<R> {
+pub(crate) struct ReceiveError<R> {
     client: PhantomData<R>,
 }
 
@@ -25,7 +25,7 @@ pub(crate) enum Unreceived<R> {
     /// Its bytes end inside the request.
     CutShort,
     /// They could not be read.
-    Unread(Unread<R>),
+    Unread(ReceiveError<R>),
     /// Memory ran out.
     OutOfMemory,
 }
@@ -45,8 +45,10 @@ pub(crate) fn receive<R: Read>(alloc: Global, client: &mut R) -> Result<Vec<u8>,
         Ok(request) => Ok(request),
         Err(ServeFault::CutShort) => Err(Unreceived::CutShort),
         Err(ServeFault::OutOfMemory) => Err(Unreceived::OutOfMemory),
-        Err(ServeFault::Read | ServeFault::Write(_)) => Err(Unreceived::Unread(Unread {
-            client: PhantomData,
-        })),
+        Err(ServeFault::Read | ServeFault::Write(_)) => Err(Unreceived::Unread(
+            ReceiveError {
+                client: PhantomData,
+            },
+        )),
     }
 }

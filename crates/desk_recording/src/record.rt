@@ -7,19 +7,19 @@ ghost use Rattle.desk_recording.specs.Recording.{AddsIf, AddsStep, Answered, Ask
 ghost use Rattle.desk_recording.specs.Recording.{NotesOnDisk, Step, parting_of};
 
 use desk_cli::Enrolment;
-use desk_program::Outcome;
+use desk_program::ExchangeEnd;
 use io_ends::Moment;
 use std::marker::PhantomData;
 
 /// What came of a connection.
 #[derive(Clone, Copy)]
-pub struct Parted<'a> {
+pub struct Exchange<'a> {
     /// The bytes of the request that were left unread: none, where the desk answered it.
     pub unread: &'a [u8],
     /// The answer, or what there is of it.
     pub sent: &'a [u8],
     /// What is said to have come of the request.
-    pub outcome: Outcome,
+    pub outcome: ExchangeEnd,
 }
 
 /// A record, to which is appended. What can't be appended leaves no part of itself that is read.
@@ -62,14 +62,14 @@ pub trait Record {
     /// # Errors
     ///
     /// What failed.
-    fn keep_answer(&mut self, connection: Parted<'_>) -> Result<(), Self::Fault>
+    fn keep_answer(&mut self, connection: Exchange<'_>) -> Result<(), Self::Fault>
         ensures steps { AddsIf (steps self.old) (steps self.new) (is_ok result)
             (Answered (parting_of connection.entry)) }
         ensures noted { Notes (noted self.old) (noted self.new) (is_ok result)
             (λ n. with_answer n connection.entry.sent.now) };
 
     /// Notes that the answer to the request that was kept last is not kept.
-    fn lose_answer(&mut self, connection: Parted<'_>)
+    fn lose_answer(&mut self, connection: Exchange<'_>)
         ensures steps { AddsStep (steps self.old) (steps self.new) (Lost (parting_of connection.entry)) }
         ensures noted { noted self.new ≡ noted self.old };
 }

@@ -12,13 +12,13 @@ ghost use Rattle.desk_cli.specs.Lines.{AreEnrolments};
 ghost use Rattle.desk_replay.specs.Replaying.{IsOwn, StaysSettled};
 ghost use Rattle.desk_recording.specs.Recording.{AddsStep, Answered, Lost, parting_of};
 ghost use Rattle.desk_recording.specs.Recovering as spec;
-ghost use Rattle.desk_recording.specs.Recovering.{AsksAgain, AsksAgainIfAny, Recovers, ended_as, told_again, undone};
+ghost use Rattle.desk_recording.specs.Recovering.{AsksAgain, AsksAgainIfAny, Recovers, ended_as, reported_again, undone};
 ghost use Rattle.desk_recording.specs.Tail.{unanswered_in, unanswered_shown};
 
-use crate::record::{Parted, Record, RecordFault};
+use crate::record::{Exchange, Record, RecordFault};
 use crate::tail::Unanswered;
 use desk_cli::{Enrolment, ErrorCode};
-use desk_program::{Outcome, set_up};
+use desk_program::{ExchangeEnd, set_up};
 use desk_replay::{ReplayFault, answer_one};
 use desk_rules::decide::MAX_PRIORITY;
 use desk_rules::operator::Operator;
@@ -39,7 +39,7 @@ pub enum Unrecovered<R> {
     /// The second of the request is no moment.
     Clock,
     /// The record failed to keep the request, or its answer.
-    Unkept(RecordFault<R>),
+    JournalError(RecordFault<R>),
 }
 
 impl<R> From<Unrecovered<R>> for ErrorCode {
@@ -53,7 +53,7 @@ impl<R> From<Unrecovered<R>> for ErrorCode {
             Unrecovered::OutOfMemory => ErrorCode::Memory,
             Unrecovered::Store => ErrorCode::Store,
             Unrecovered::Clock => ErrorCode::Clock,
-            Unrecovered::Unkept(_) => ErrorCode::Broken,
+            Unrecovered::JournalError(_) => ErrorCode::Broken,
         }
     }
 }
@@ -189,12 +189,12 @@ fn ask_again<S: PlanStore, R: Record>(
     };
     let sent = (moment, request);
     if let Err(fault) = journal.keep_request(sent.0, &sent.1) {
-        return Err(Unrecovered::Unkept(RecordFault::by(fault)));
+        return Err(Unrecovered::JournalError(RecordFault::by(fault)));
     }
     match answer_one(alloc, desk, &sent) {
         Ok(answer) => keep_again(journal, &answer),
         Err(fault) => {
-            journal.lose_answer(told_again(b""));
+            journal.lose_answer(reported_again(b""));
             Err(unanswered_by(fault))
         }
     }
@@ -203,28 +203,28 @@ fn ask_again<S: PlanStore, R: Record>(
 // Keeps an answer that goes to no client.
 fn keep_again<R: Record>(journal: &mut R, answer: &[u8]) -> Result<(), Unrecovered<R>>
     ensures ok { OnOk result
-        (AddsStep (R.steps journal.old) (R.steps journal.new) (Answered (told_again answer.now))) }
+        (AddsStep (R.steps journal.old) (R.steps journal.new) (Answered (reported_again answer.now))) }
     ensures err { IfErr result (λ why. (spec.failure_of why ≡ ErrorCode.Broken)
-        × AddsStep (R.steps journal.old) (R.steps journal.new) (Lost (told_again answer.now))) }
+        × AddsStep (R.steps journal.old) (R.steps journal.new) (Lost (reported_again answer.now))) }
 {
-    let connection = told_again(answer);
+    let connection = reported_again(answer);
     match journal.keep_answer(connection) {
         Ok(()) => Ok(()),
         Err(fault) => {
             journal.lose_answer(connection);
-            Err(Unrecovered::Unkept(RecordFault::by(fault)))
+            Err(Unrecovered::JournalError(RecordFault::by(fault)))
         }
     }
 }
 
 // An answer that goes to no client.
-fn told_again(answer: &[u8]) -> Parted<'_>
-    ensures { parting_of result ≡ spec.told_again answer.now }
+fn reported_again(answer: &[u8]) -> Exchange<'_>
+    ensures { parting_of result ≡ spec.reported_again answer.now }
 {
-    Parted {
+    Exchange {
         unread: b"",
         sent: answer,
-        outcome: Outcome {
+        outcome: ExchangeEnd {
             is_whole: true,
             is_answered: true,
         },

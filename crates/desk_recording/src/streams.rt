@@ -5,7 +5,7 @@ ghost use Rattle.std.specs.Io.{ReadsAtMost, WritesAtMost};
 ghost use Rattle.std.specs.Io.Cursor.{cursor_remaining};
 ghost use Rattle.std.specs.Io.KnownBytes.{ReadConsumes, WriteAppends};
 
-use crate::receiving::Unread;
+use crate::receiving::ReceiveError;
 use std::io::{self, Cursor, Read, Write};
 
 /// A request that was kept, to be read by the desk, and the client that sent it.
@@ -13,7 +13,7 @@ use std::io::{self, Cursor, Read, Write};
 pub struct Given<I> {
     pub(crate) request: Cursor<Vec<u8>>,
     // Why the client's bytes could not be read, if so: then no request was kept.
-    pub(crate) unread: Option<Unread<I>>,
+    pub(crate) unread: Option<ReceiveError<I>>,
     pub(crate) client: I,
 }
 

@@ -9,7 +9,7 @@ ghost use Rattle.desk_recording.specs.Tail.{HasNoTail, IsTail, Notes, StepsTail,
 
 use desk_cli::Enrolment;
 use desk_record::{Entry, Kind, ReadFault, lengths, read_entry};
-use desk_replay::says_failure;
+use desk_replay::is_500;
 use desk_rules::decide::MAX_PRIORITY;
 use desk_rules::operator::Operator;
 use desk_rules::permission::Permitted;
@@ -60,7 +60,7 @@ pub enum TailEnd {
     Damaged,
 }
 
-/// Why it is not told what a record leaves to do.
+/// Why it is not reported what a record leaves to do.
 #[derive(Clone, Copy, Debug, PartialEq, Eq)]
 pub enum TailFault {
     /// A read failed.
@@ -98,7 +98,7 @@ impl Tail {
     }
 }
 
-/// Reads one record to its end, or to what is no whole entry, and tells what stands there.
+/// Reads one record to its end, or to what is no whole entry, and reports what stands there.
 ///
 /// # Errors
 ///
@@ -284,7 +284,7 @@ fn answer(tail: &mut Tail, second: u64, answer: &[u8]) -> Result<(), TailFault>
     if asked.second != second {
         return Err(TailFault::NoRecord);
     }
-    if !says_failure(answer) {
+    if !is_500(answer) {
         tail.asked = None;
     }
     Ok(())

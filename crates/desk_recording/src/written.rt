@@ -12,7 +12,7 @@ ghost use Rattle.desk_recording.specs.RecordWrites.{StopsWriting, Synced, answer
 ghost use Rattle.desk_recording.specs.RecordWrites.{news_writes, noted_in, request_writes};
 
 use crate::journal::{Journal, Unwritten, append_to, sync_to};
-use crate::record::{Parted, Record};
+use crate::record::{Exchange, Record};
 use desk_cli::Enrolment;
 use desk_record::{Kind, write_entry};
 use io_ends::Moment;
@@ -151,7 +151,7 @@ impl<J: Journal + Drop> Record for WrittenRecord<J> {
         sync_to(&mut self.journal)
     }
 
-    fn keep_answer(&mut self, connection: Parted<'_>) -> Result<(), Unwritten<J::Fault>>
+    fn keep_answer(&mut self, connection: Exchange<'_>) -> Result<(), Unwritten<J::Fault>>
         ensures steps { AddsIf None None (is_ok result) (Answered (parting_of connection.entry)) }
         ensures noted { Notes (noted_in self.old.second (J.writes self.old.journal))
             (noted_in self.new.second (J.writes self.new.journal)) (is_ok result)
@@ -166,5 +166,5 @@ impl<J: Journal + Drop> Record for WrittenRecord<J> {
         self.append(Kind::Answer, self.second, connection.sent)
     }
 
-    fn lose_answer(&mut self, _connection: Parted<'_>) {}
+    fn lose_answer(&mut self, _connection: Exchange<'_>) {}
 }

@@ -1,3 +1,3 @@
 pub mod LawLemmas
 pub mod RunLemmas
-pub mod TellingLemmas
+pub mod ReportingLemmas

@@ -1,5 +1,5 @@
 pub mod Faults
-pub mod ReplayTold
+pub mod ReplayReported
 pub mod Replaying
 pub mod Running
 pub mod WrittenDown

@@ -27,7 +27,7 @@ start w = record {
 }
 
 abbrev pub is_too_late : Option ℕ → Kind → ℕ → Bool
-is_too_late None told n = false
+is_too_late None reported n = false
 is_too_late (Some last) kind.Record n = false
 is_too_late (Some last) kind.Permitted n = false
 is_too_late (Some last) kind.Spans n = false

@@ -12,6 +12,6 @@ mod terms;
 pub use fault::ReplayFault;
 pub use laws::replayed;
 pub use line::replay_opened;
-pub use play::{answer_one, says_failure};
+pub use play::{answer_one, is_500};
 pub use progress::{Asking, Progress};
 pub use stream::{ReplayEnd, Replayed, replay};

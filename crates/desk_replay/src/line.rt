@@ -1,4 +1,4 @@
-//! The line of a replay: a record played at the desk that was opened for it, and what is told of it.
+//! The line of a replay: a record played at the desk that was opened for it, and what is reported of it.
 
 ghost use Rattle.std.specs.Prelude.{◌≡◌, ◌⊎◌, IfErr, IfOk, is_some, string_bytes};
 ghost use Rattle.desk_store.specs.StoreFaults.{IsHonest};
@@ -7,9 +7,9 @@ ghost use Rattle.desk_run.specs.DeskWorld.{world_of};
 ghost use Rattle.desk_wire.specs.Passage.{course, passage};
 ghost use Rattle.desk_cli.specs.Exits.{ending};
 ghost use Rattle.desk_cli.specs.Written.{HasWritten};
-ghost use Rattle.desk_replay.specs.ReplayTold as spec;
-ghost use Rattle.desk_replay.specs.ReplayTold.{IsLinePrinted, IsLineWritten, IsReplayTold, IsReplayed};
-ghost use Rattle.desk_replay.specs.ReplayTold.{IsUnplayed, Replays, place_line, replayed_line};
+ghost use Rattle.desk_replay.specs.ReplayReported as spec;
+ghost use Rattle.desk_replay.specs.ReplayReported.{IsLinePrinted, IsLineWritten, IsReplayReported, IsReplayed};
+ghost use Rattle.desk_replay.specs.ReplayReported.{IsUnplayed, Replays, place_line, replayed_line};
 
 use crate::fault::ReplayFault;
 use crate::stream::{ReplayEnd, Replayed, replay};
@@ -49,7 +49,7 @@ pub fn replay_opened<S: PlanStore + Drop, R: Read, W: Write, E: Write>(
     }
 }
 
-// Plays the record of the input at a desk, and tells what came of it.
+// Plays the record of the input at a desk, and reports what came of it.
 fn replay_here<S: PlanStore, R: Read, W: Write, E: Write>(
     alloc: Global,
     until: Option<u64>,
@@ -65,17 +65,17 @@ fn replay_here<S: PlanStore, R: Read, W: Write, E: Write>(
     ensures remembered { Remembers S.doubt S.faults S.is_shielded desk.old.store desk.new.store }
 {
     let replayed = replay(alloc, desk, until, input);
-    tell_end(alloc, &replayed, output, errors)
+    report_end(alloc, &replayed, output, errors)
 }
 
-// Tells what came of a replay, and answers how it ended.
-fn tell_end<W: Write, E: Write>(
+// Reports what came of a replay, and answers how it ended.
+fn report_end<W: Write, E: Write>(
     alloc: Global,
     replayed: &Replayed,
     output: &mut W,
     errors: &mut E,
 ) -> ExitReport<E>
-    ensures { IsReplayTold replayed.now.ended replayed.now.progress.requests replayed.now.progress.changes
+    ensures { IsReplayReported replayed.now.ended replayed.now.progress.requests replayed.now.progress.changes
         replayed.now.place (ending result (E.contents errors.old) (E.contents errors.new))
         (course (W.contents output.old) (W.contents output.new)) }
 {
@@ -85,7 +85,7 @@ fn tell_end<W: Write, E: Write>(
         None => report_exit(errors, print_replayed(alloc, requests, changes, output)),
         Some(failure) => {
             let cause = cause_of_end(replayed.ended);
-            tell_place(alloc, requests, replayed.place, cause, errors);
+            report_place(alloc, requests, replayed.place, cause, errors);
             report_exit(errors, Err(failure))
         }
     }
@@ -128,7 +128,7 @@ fn cause_of_end(ended: ReplayEnd) -> &'static str
 }
 
 // Prints that all was played.
-#[tactic(auto, using(crate::proofs::TellingLemmas::begun_part))]
+#[tactic(auto, using(crate::proofs::ReportingLemmas::begun_part))]
 fn print_replayed<W: Write>(
     alloc: Global,
     requests: u64,
@@ -143,27 +143,27 @@ fn print_replayed<W: Write>(
     Ok(())
 }
 
-// The line that tells that all was played.
-#[tactic(auto, unfolding(crate::specs::ReplayTold::replayed_line))]
+// The line that reports that all was played.
+#[tactic(auto, unfolding(crate::specs::ReplayReported::replayed_line))]
 fn replayed_text(alloc: Global, requests: u64, changes: u64) -> Result<String, AllocError>
     ensures { IfOk result (λ text. string_bytes text ≡ replayed_line requests changes) }
 {
     format!(in alloc; "replayed {requests} requests, {changes} changes, all answers alike\n")
 }
 
-// Tells where and why a replay ended. A fault of the writer is passed over, and so is want of memory.
-fn tell_place<E: Write>(alloc: Global, requests: u64, place: u64, cause: &str, errors: &mut E)
+// Reports where and why a replay ended. A fault of the writer is passed over, and so is want of memory.
+fn report_place<E: Write>(alloc: Global, requests: u64, place: u64, cause: &str, errors: &mut E)
     ensures { IsLineWritten (place_line requests place cause.now) (E.contents errors.old)
         (E.contents errors.new)
         ⊎ (E.contents errors.new ≡ E.contents errors.old) }
 {
     if let Ok(text) = place_text(alloc, requests, place, cause) {
-        let _ = write_told(errors, &text);
+        let _ = write_reported(errors, &text);
     }
 }
 
-// The line that tells where and why a replay ended.
-#[tactic(auto, unfolding(crate::specs::ReplayTold::place_line))]
+// The line that reports where and why a replay ended.
+#[tactic(auto, unfolding(crate::specs::ReplayReported::place_line))]
 fn place_text(alloc: Global, requests: u64, place: u64, cause: &str) -> Result<String, AllocError>
     ensures { IfOk result (λ text. string_bytes text ≡ place_line requests place cause.now) }
 {
@@ -171,8 +171,8 @@ fn place_text(alloc: Global, requests: u64, place: u64, cause: &str) -> Result<S
 }
 
 // Writes a text, and answers where it was broken off, if it was.
-#[tactic(auto, using(crate::proofs::TellingLemmas::begun_part))]
-fn write_told<E: Write>(errors: &mut E, text: &str) -> Option<WriteError<E>>
+#[tactic(auto, using(crate::proofs::ReportingLemmas::begun_part))]
+fn write_reported<E: Write>(errors: &mut E, text: &str) -> Option<WriteError<E>>
     ensures { HasWritten (is_some result) text.now (E.contents errors.old) (E.contents errors.new) }
 {
     match write_whole(errors, text.as_bytes()) {

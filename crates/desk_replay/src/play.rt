@@ -106,7 +106,7 @@ fn ask<S: PlanStore>(
         second: second as i64,
     };
     let sent = (moment, request);
-    let answer = tell_one(alloc, desk, &sent)?;
+    let answer = report_one(alloc, desk, &sent)?;
     if before.is_none() {
         progress.requests = progress.requests.saturating_add(1);
     }
@@ -193,13 +193,13 @@ pub fn answer_one<S: PlanStore>(
         → HasRisen (S.faults desk.old.store) (S.faults desk.new.store)) }
     ensures remembered { Remembers S.doubt S.faults S.is_shielded desk.old.store desk.new.store }
 {
-    let answer = tell_one(alloc, desk, sent)?;
+    let answer = report_one(alloc, desk, sent)?;
     Ok(answer.bytes)
 }
 
 // The answer to one request, the bytes of a whole one with its moment, and whether a change was made.
 // Long: the answer, the world that it leaves, each fault and what a crash leaves have each a clause.
-fn tell_one<S: PlanStore>(
+fn report_one<S: PlanStore>(
     alloc: Global,
     desk: &mut Desk<S>,
     sent: &(Moment, Vec<u8>),
@@ -242,7 +242,7 @@ fn compare(progress: &mut Progress, second: u64, answer: &[u8]) -> Result<(), Re
         progress.asking = None;
         return Ok(());
     }
-    if says_failure(answer) {
+    if is_500(answer) {
         Ok(())
     } else {
         Err(ReplayFault::Differs)
@@ -250,7 +250,7 @@ fn compare(progress: &mut Progress, second: u64, answer: &[u8]) -> Result<(), Re
 }
 
 /// Whether an answer says that the desk failed.
-pub fn says_failure(answer: &[u8]) -> bool
+pub fn is_500(answer: &[u8]) -> bool
     ensures { result ≡ is_failure answer.now }
 {
     answer == out_of_memory_answer() || answer == store_answer()

@@ -38,7 +38,7 @@ pub(crate) fn begin<S: PlanStore>(
     if !may_follow(progress.record, number) {
         return Err(ReplayFault::NotNext);
     }
-    desk.keep_to(Terms::none());
+    desk.set_terms(Terms::none());
     progress.record = Some(number);
     progress.permitted = Vec::new(alloc);
     progress.terms = Terms::none();
@@ -70,7 +70,7 @@ pub(crate) fn permit<S: PlanStore>(
         return Err(ReplayFault::NoRecord);
     };
     progress.terms.permitted = permitted;
-    desk.keep_to(progress.terms);
+    desk.set_terms(progress.terms);
     Ok(())
 }
 
@@ -89,7 +89,7 @@ pub(crate) fn limit_spans<S: PlanStore>(
         return Err(ReplayFault::NoRecord);
     }
     progress.terms.spans = Some(spans as u32);
-    desk.keep_to(progress.terms);
+    desk.set_terms(progress.terms);
     Ok(())
 }
 
@@ -108,7 +108,7 @@ pub(crate) fn limit_cells<S: PlanStore>(
         return Err(ReplayFault::NoRecord);
     }
     progress.terms.cells = Some(cells as u32);
-    desk.keep_to(progress.terms);
+    desk.set_terms(progress.terms);
     Ok(())
 }
 

@@ -23,7 +23,7 @@ pub struct Permitted {
 }
 
 /// Why priorities cannot be permitted. If several reasons apply, the first in the order of the
-/// variants is told.
+/// variants is reported.
 #[derive(Clone, Copy, Debug, PartialEq, Eq)]
 pub enum PermitFault {
     /// There are more than 32 of them.

@@ -34,7 +34,7 @@ use Rattle.desk_rules.specs.Replies as said
 use Rattle.desk_rules.specs.declared.reply.PutReply.{PutReply}
 use Rattle.desk_run.specs.declared.pending.Pending.{Pending}
 use Rattle.desk_run.specs.DeskWorld.{DeskWorld, held_in}
-use Rattle.desk_run.specs.Verdicts.{Told, Ruling, replied, unknown_operator, no_such_plan, ruling_alone, excess_asked, put_outcome, put_ruling, plans_left, delete_ruling, shown_in, list_ruling, show_ruling, clear_ruling, enrolled_ruling, ruling_under, verdict, world_with_plans, ruling_in, makes_change, told_to, step}
+use Rattle.desk_run.specs.Verdicts.{Reported, Ruling, replied, unknown_operator, no_such_plan, ruling_alone, excess_asked, put_outcome, put_ruling, plans_left, delete_ruling, shown_in, list_ruling, show_ruling, clear_ruling, enrolled_ruling, ruling_under, verdict, world_with_plans, ruling_in, makes_change, reported_to, step}
 use Rattle.desk_run.specs.Calls.{HasNoReply, IsPendingAs, Readies, IsPending, Prepares, change_after, world_with, world_committed}
 use Rattle.desk_run.proofs.OutcomeLemmas.{outcome_counts}
 use Rattle.desk_run.proofs.PutLemmas.{change_fits}
@@ -56,12 +56,12 @@ verdict_is terms w o put given moment stored standing meeting v e m s n over c =
     (record { own_rows = length (plans_of o w); ceiling = standing.ceiling; excess = over i }) (c i))
 
 -- a call to which an answer says no more than a word
-unanswered_by : (w : DeskWorld) (moment : ℤ) (asked : Asked) (reason : Told)
+unanswered_by : (w : DeskWorld) (moment : ℤ) (asked : Asked) (reason : Reported)
     → ruling_in w asked.operator moment asked.call ≡ ruling_alone reason
     → HasNoReply w moment asked reason
-unfolding told_to makes_change step
+unfolding reported_to makes_change step
 unanswered_by w moment asked reason e = record {
-  told = ap (λ a. a.told) e;
+  reported = ap (λ a. a.reported) e;
   change_is = ap (λ a. is_some a.plans) e;
   left = ap (λ a. record w { content = world_with_plans w.content asked.operator a.plans }) e;
 }
@@ -105,7 +105,7 @@ put_ready terms w o put given moment ceiling v r c listed low is m change reply_
     let v_is : v ≡ u = is ∙ ap (λ t. put_outcome terms (own w o) (held w o) ceiling t put) m in
     let c_is : c ≡ change_after u.effect o put = change ∙ ap (λ x. change_after x.effect o put) v_is in
     record {
-      told = ap (λ x. (put_ruling x put (plans_of o w)).told) (sym v_is)
+      reported = ap (λ x. (put_ruling x put (plans_of o w)).reported) (sym v_is)
           ∙ ap (λ q. replied (said.answered q)) (sym reply_is);
       change_is = ap is_some c_is ∙ change_asked o put (plans_of o w) u.effect;
       left = ap (world_with w) c_is ∙ change_made w o put u.effect;
@@ -119,13 +119,13 @@ pending_from : (w : DeskWorld) (moment : ℤ) (asked : Asked) (ceiling : ℕ) (p
     → ceiling_of asked.operator w.content ≡ Some ceiling → IsPendingAs w.content asked.operator
     (enrolled_ruling w.terms (own w.content asked.operator) (held_in w asked.operator) ceiling moment
     asked.call) p → IsPending w moment asked p
-unfolding told_to makes_change step verdict own world_committed
+unfolding reported_to makes_change step verdict own world_committed
 pending_from w moment asked ceiling p listed h =
     let o = asked.operator in
     let under : Option ℕ → Ruling =
     λ c. ruling_under c w.terms (own w.content o) (held_in w o) moment asked.call in
     record {
-      told = ap (λ c. (under c).told) listed ∙ h.told;
+      reported = ap (λ c. (under c).reported) listed ∙ h.reported;
       change_is = h.change_is ∙ sym (ap (λ c. is_some (under c).plans) listed);
       left = ap (λ v. record w { content = v })
           (h.left ∙ sym (ap (λ c. world_with_plans w.content o (under c).plans) listed));
@@ -148,9 +148,9 @@ prepares_from w moment asked ceiling (Err UnknownOperator) listed h = absurd h
 prepares_from w moment asked ceiling (Err Ceiling) listed h = absurd h
 
 -- a reply that goes with no change is ready
-alone_ready : (w : World) (o : List ℕ) (told : ReplyParts) (r : Reply) → said_in r ≡ told
-    → IsPendingAs w o (ruling_alone (replied told)) (record { reply = r; change = None })
-alone_ready w o told r e = record { told = ap replied (sym e); change_is = refl; left = refl; fits = tt }
+alone_ready : (w : World) (o : List ℕ) (reported : ReplyParts) (r : Reply) → said_in r ≡ reported
+    → IsPendingAs w o (ruling_alone (replied reported)) (record { reply = r; change = None })
+alone_ready w o reported r e = record { reported = ap replied (sym e); change_is = refl; left = refl; fits = tt }
 
 -- the list of an operator's plans is ready
 pub list_ready : (permitted : List ℕ) (w : World) (o : List ℕ) (shown : List Shown) (r : Reply)
@@ -180,7 +180,7 @@ status_ready w moment asked ceiling listed is =
     (subst (λ c. IsPendingAs w.content asked.operator (enrolled_ruling w.terms
     (own w.content asked.operator) (held_in w asked.operator) ceiling moment c)
     (record { reply = reply.Ready; change = None })) (sym is)
-    (record { told = refl; change_is = refl; left = refl; fits = tt }))
+    (record { reported = refl; change_is = refl; left = refl; fits = tt }))
 
 -- the closing of a stored plan is ready
 pub delete_ready : (w : World) (o id : List ℕ) (found : Option States) → found
@@ -211,7 +211,7 @@ delete_ready w o id found e s listed = by_stored (stored_of id (plans_of o w)) r
       })
   by_stored None f g = cc
   by_stored (Some row) f g =
-      record { told = refl; change_is = refl; left = refl; fits = (listed, ap is_some f) }
+      record { reported = refl; change_is = refl; left = refl; fits = (listed, ap is_some f) }
 
 -- the answers to a request to plan, and to close, are those to the call
 pub put_readies : (terms : Terms) (w before : World) (given moment : ℤ) (asked : Asked) (put : PutCall)

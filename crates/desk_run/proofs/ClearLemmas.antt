@@ -220,7 +220,7 @@ none_cleared w o extent ids is none =
     no_ids (is_in extent) rows (ap length (sym is) ∙ none) in
     let any : list_any (is_in extent) rows ≡ false = none_taken (is_in extent) rows taken in
     record {
-      told = ap (λ xs. replied (said.cleared (length xs))) taken;
+      reported = ap (λ xs. replied (said.cleared (length xs))) taken;
       change_is = rw any refl;
       left = rw any refl;
       fits = tt;
@@ -261,7 +261,7 @@ some_cleared w o extent ids count c is some parts counted s few listed =
     some_taken (is_in extent) rows (subst (λ n. 0 < n) size some) in
     let made = clear_made w o (is_in extent) c (parts ∙ ap (clear o) is) s listed in
     record {
-      told = ap (λ n. replied (said.cleared n)) (sym (counted (omega (arith, size, less, few)) ∙ size));
+      reported = ap (λ n. replied (said.cleared n)) (sym (counted (omega (arith, size, less, few)) ∙ size));
       change_is = rw any refl;
       left = rw any made.0;
       fits = made.1;
@@ -285,18 +285,18 @@ clearing_ready w o extent p h s few listed = by_change p.change h where
   ids : List (List ℕ)
   ids = ids_in extent (plans_of o w)
 
-  told : p.reply ≡ reply.Cleared (length ids)
-  told = h.told (few_ids w o extent few)
+  reported : p.reply ≡ reply.Cleared (length ids)
+  reported = h.reported (few_ids w o extent few)
 
   by_change : (c : Option Change) → IsClearing o ids (record { reply = p.reply; change = c })
       → IsPendingAs w o (clear_ruling (plans_of o w) extent) (record { reply = p.reply; change = c })
   by_change None k =
       subst (λ r. IsPendingAs w o (clear_ruling (plans_of o w) extent)
       (record { reply = r; change = None }))
-      (sym (told ∙ ap (λ xs. reply.Cleared (length xs)) k.asked))
+      (sym (reported ∙ ap (λ xs. reply.Cleared (length xs)) k.asked))
       (none_cleared w o extent ids refl (ap length k.asked))
   by_change (Some c) k =
       subst (λ r. IsPendingAs w o (clear_ruling (plans_of o w) extent)
       (record { reply = r; change = Some c }))
-      (sym told)
+      (sym reported)
       (some_cleared w o extent ids (length ids) c refl k.asked.0 k.asked.1 (λ _. refl) s few listed)

@@ -11,22 +11,22 @@ use Rattle.desk_rules.specs.declared.reply.Reply.{Reply}
 use Rattle.desk_run.specs.declared.fault.DeskFault.{DeskFault}
 use Rattle.desk_run.specs.declared.fault.DeskFault.TheVariants.{OutOfMemory, Store, UnknownOperator, NoSuchPlan, Ceiling}
 use Rattle.desk_run.specs.declared.run.Outcome.{Outcome}
-use Rattle.desk_run.specs.Verdicts.{told_to, step}
-use Rattle.desk_run.specs.Calls.{TellsReply}
-use Rattle.desk_run.specs.Runs.{IsFoundIn, told_in, world_after_calls, as_told, call_outcome}
+use Rattle.desk_run.specs.Verdicts.{reported_to, step}
+use Rattle.desk_run.specs.Calls.{ReportsReply}
+use Rattle.desk_run.specs.Runs.{IsFoundIn, reported_in, world_after_calls, as_reported, call_outcome}
 
 -- the first calls are answered
 pub record AreAnswered (w : DeskWorld) (calls : List (ℤ × Asked)) (n : ℕ) (outcomes : List Outcome)
     (now : DeskWorld) : Type 0 where
-  pub told : map as_told outcomes ≡ told_in w (take n calls)
+  pub reported : map as_reported outcomes ≡ reported_in w (take n calls)
   pub left : now ≡ world_after_calls w (take n calls)
   pub count : length outcomes ≡ n
 
-told_more : (w : DeskWorld) (calls : List (ℤ × Asked)) (call : ℤ × Asked) → told_in w (calls ++ call ∷ [])
-    ≡ told_in w calls ++ told_to (world_after_calls w calls) call.1.operator call.0 call.1.call ∷ []
-told_more w [] call = refl
-told_more w (c ∷ calls) call = ap (λ ts. told_to w c.1.operator c.0 c.1.call ∷ ts)
-    (told_more (step w c.1.operator c.0 c.1.call) calls call)
+reported_more : (w : DeskWorld) (calls : List (ℤ × Asked)) (call : ℤ × Asked) → reported_in w (calls ++ call ∷ [])
+    ≡ reported_in w calls ++ reported_to (world_after_calls w calls) call.1.operator call.0 call.1.call ∷ []
+reported_more w [] call = refl
+reported_more w (c ∷ calls) call = ap (λ ts. reported_to w c.1.operator c.0 c.1.call ∷ ts)
+    (reported_more (step w c.1.operator c.0 c.1.call) calls call)
 
 left_more : (w : DeskWorld) (calls : List (ℤ × Asked)) (call : ℤ × Asked)
     → world_after_calls w (calls ++ call ∷ [])
@@ -37,43 +37,43 @@ left_more w (c ∷ calls) call = left_more (step w c.1.operator c.0 c.1.call) ca
 -- one more is
 pub one_answered : (w now after : DeskWorld) (calls : List (ℤ × Asked)) (n : ℕ) (outcomes : List Outcome)
     (call : ℤ × Asked) (o : Outcome) → AreAnswered w calls n outcomes now → n < length calls → call
-    ≡ get_or calls n call → told_to now call.1.operator call.0 call.1.call ≡ as_told o → after
+    ≡ get_or calls n call → reported_to now call.1.operator call.0 call.1.call ≡ as_reported o → after
     ≡ step now call.1.operator call.0 call.1.call
     → AreAnswered w calls (n + 1) (outcomes ++ o ∷ []) after
-one_answered w now after calls n outcomes call o h below is told left =
+one_answered w now after calls n outcomes call o h below is reported left =
     let first = take n calls in
     let more : take (n + 1) calls ≡ first ++ call ∷ [] = take_more calls n call below
     ∙ ap (λ c. first ++ c ∷ []) (sym is) in
     record {
-      told =
-          map-append as_told outcomes (o ∷ []) ∙ ap (λ ts. ts ++ as_told o ∷ []) h.told
-          ∙ ap (λ t. told_in w first ++ t ∷ []) (sym told
-          ∙ ap (λ v. told_to v call.1.operator call.0 call.1.call) h.left)
-          ∙ sym (told_more w first call) ∙ ap (told_in w) (sym more);
+      reported =
+          map-append as_reported outcomes (o ∷ []) ∙ ap (λ ts. ts ++ as_reported o ∷ []) h.reported
+          ∙ ap (λ t. reported_in w first ++ t ∷ []) (sym reported
+          ∙ ap (λ v. reported_to v call.1.operator call.0 call.1.call) h.left)
+          ∙ sym (reported_more w first call) ∙ ap (reported_in w) (sym more);
       left = left ∙ ap (λ v. step v call.1.operator call.0 call.1.call) h.left
           ∙ sym (left_more w first call)
           ∙ ap (world_after_calls w) (sym more);
       count = length-append outcomes (o ∷ []) ∙ ap (λ k. k + 1) h.count;
     }
 
--- what was answered was told so, and its step made
+-- what was answered was reported so, and its step made
 pub answered_is : (w after : DeskWorld) (moment : ℤ) (asked : Asked) (r : Result Reply DeskFault)
     (o : Outcome)
-    → TellsReply w moment asked r → OnOk r (after ≡ step w asked.operator moment asked.call)
+    → ReportsReply w moment asked r → OnOk r (after ≡ step w asked.operator moment asked.call)
     → OnErr r (after ≡ w)
-    → call_outcome r ≡ Ok o → (told_to w asked.operator moment asked.call ≡ as_told o)
+    → call_outcome r ≡ Ok o → (reported_to w asked.operator moment asked.call ≡ as_reported o)
     × (after ≡ step w asked.operator moment asked.call)
-answered_is w after moment asked (Ok reply) o told ok err is = (told ∙ outcome_told is, ok) where
-  outcome_told : {p : Outcome} → ◌≡◌ {A = Result Outcome DeskFault} (Ok p) (Ok o) → as_told p
-      ≡ as_told o
-  outcome_told e = cc
-answered_is w after moment asked (Err UnknownOperator) o told ok err is =
-    (told.told ∙ cc, err ∙ sym told.left)
-answered_is w after moment asked (Err NoSuchPlan) o told ok err is =
-    (told.told ∙ cc, err ∙ sym told.left)
-answered_is w after moment asked (Err OutOfMemory) o told ok err is = cc
-answered_is w after moment asked (Err Store) o told ok err is = cc
-answered_is w after moment asked (Err Ceiling) o told ok err is = cc
+answered_is w after moment asked (Ok reply) o reported ok err is = (reported ∙ outcome_reported is, ok) where
+  outcome_reported : {p : Outcome} → ◌≡◌ {A = Result Outcome DeskFault} (Ok p) (Ok o) → as_reported p
+      ≡ as_reported o
+  outcome_reported e = cc
+answered_is w after moment asked (Err UnknownOperator) o reported ok err is =
+    (reported.reported ∙ cc, err ∙ sym reported.left)
+answered_is w after moment asked (Err NoSuchPlan) o reported ok err is =
+    (reported.reported ∙ cc, err ∙ sym reported.left)
+answered_is w after moment asked (Err OutOfMemory) o reported ok err is = cc
+answered_is w after moment asked (Err Store) o reported ok err is = cc
+answered_is w after moment asked (Err Ceiling) o reported ok err is = cc
 
 -- a call that has an outcome leaves a settled desk settled
 pub settled_next : {S : Type 0} (g : Ghosts S) (d e : Parts S) (moment : ℤ) (asked : Asked)

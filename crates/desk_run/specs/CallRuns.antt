@@ -2,8 +2,8 @@
 use Rattle.std.specs.Prelude.{◌≡◌, ℕ, ℤ, List, Option, Some}
 use Rattle.desk_run.specs.DeskWorld.{DeskWorld, Side, side}
 use Rattle.desk_rules.specs.declared.call.Asked.{Asked}
-use Rattle.desk_run.specs.Verdicts.{Told, step}
-use Rattle.desk_run.specs.Runs.{told_in, world_after_calls}
+use Rattle.desk_run.specs.Verdicts.{Reported, step}
+use Rattle.desk_run.specs.Runs.{reported_in, world_after_calls}
 use Rattle.desk_run.specs.Sides.{OwnAlike, beside, along}
 
 -- a call, with its moment
@@ -21,9 +21,9 @@ world_after_call w call = step w call.1.operator call.0 call.1.call
 abbrev pub calls_of : List ℕ → List TimedCall → List TimedCall
 calls_of o calls = beside caller o calls calls
 
--- what the operator is told
-abbrev pub told_for : List ℕ → DeskWorld → List TimedCall → List Told
-told_for o w calls = beside caller o calls (told_in w calls)
+-- what the operator is reported
+abbrev pub reported_for : List ℕ → DeskWorld → List TimedCall → List Reported
+reported_for o w calls = beside caller o calls (reported_in w calls)
 
 -- the worlds that its calls meet
 abbrev pub met_by_calls : List ℕ → DeskWorld → List TimedCall → List DeskWorld
@@ -34,11 +34,11 @@ abbrev pub owned_by_calls : List ℕ → DeskWorld → List TimedCall → List S
 owned_by_calls o w calls =
     beside caller o calls (along world_after_call (λ u call. side (world_after_call u call) o) w calls)
 
--- two runs are the same for an operator: it is told the same, and it owns the same after each of its
+-- two runs are the same for an operator: it is reported the same, and it owns the same after each of its
 -- calls and at the end
 pub record AreCallsSameFor (o : List ℕ) (v : DeskWorld) (calls : List TimedCall) (w : DeskWorld)
     (others : List TimedCall) :
     Type 0 where
-  pub told : told_for o v calls ≡ told_for o w others
+  pub reported : reported_for o v calls ≡ reported_for o w others
   pub owned : owned_by_calls o v calls ≡ owned_by_calls o w others
   pub at_end : OwnAlike o (world_after_calls v calls) (world_after_calls w others)

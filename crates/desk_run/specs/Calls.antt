@@ -20,23 +20,23 @@ use Rattle.desk_run.specs.DeskWorld.{DeskWorld}
 use Rattle.desk_run.specs.declared.pending.Pending.{Pending}
 use Rattle.desk_run.specs.declared.fault.DeskFault.{DeskFault}
 use Rattle.desk_run.specs.declared.fault.DeskFault.TheVariants.{OutOfMemory, Store, UnknownOperator, NoSuchPlan, Ceiling}
-use Rattle.desk_run.specs.Verdicts.{Told, Ruling, replied, unknown_operator, no_such_plan, is_in, row_asked, ruling_alone, world_with_plans, makes_change, told_to, step}
+use Rattle.desk_run.specs.Verdicts.{Reported, Ruling, replied, unknown_operator, no_such_plan, is_in, row_asked, ruling_alone, world_with_plans, makes_change, reported_to, step}
 
--- a call without a reply: what the caller is told instead, and that the call leaves the world as it was
-pub record HasNoReply (w : DeskWorld) (moment : ℤ) (asked : Asked) (reason : Told) : Type 0 where
-  pub told : told_to w asked.operator moment asked.call ≡ reason
+-- a call without a reply: what the caller is reported instead, and that the call leaves the world as it was
+pub record HasNoReply (w : DeskWorld) (moment : ℤ) (asked : Asked) (reason : Reported) : Type 0 where
+  pub reported : reported_to w asked.operator moment asked.call ≡ reason
   pub change_is : makes_change w asked.operator moment asked.call ≡ false
   pub left : step w asked.operator moment asked.call ≡ w
 
--- a reply is told as it is, and so are an unknown operator and a plan that is not there; of want of
+-- a reply is reported as it is, and so are an unknown operator and a plan that is not there; of want of
 -- memory, and of a store that failed, nothing is claimed; no other fault comes
-abbrev pub TellsReply : DeskWorld → ℤ → Asked → Result Reply DeskFault → Type 0
-TellsReply w moment asked (Ok r) = told_to w asked.operator moment asked.call ≡ replied (said_in r)
-TellsReply w moment asked (Err UnknownOperator) = HasNoReply w moment asked unknown_operator
-TellsReply w moment asked (Err NoSuchPlan) = HasNoReply w moment asked no_such_plan
-TellsReply w moment asked (Err OutOfMemory) = ⊤
-TellsReply w moment asked (Err Store) = ⊤
-TellsReply w moment asked (Err Ceiling) = ⊥
+abbrev pub ReportsReply : DeskWorld → ℤ → Asked → Result Reply DeskFault → Type 0
+ReportsReply w moment asked (Ok r) = reported_to w asked.operator moment asked.call ≡ replied (said_in r)
+ReportsReply w moment asked (Err UnknownOperator) = HasNoReply w moment asked unknown_operator
+ReportsReply w moment asked (Err NoSuchPlan) = HasNoReply w moment asked no_such_plan
+ReportsReply w moment asked (Err OutOfMemory) = ⊤
+ReportsReply w moment asked (Err Store) = ⊤
+ReportsReply w moment asked (Err Ceiling) = ⊥
 
 -- a change, if there is one, is one that a store takes
 abbrev pub IsFittingIf : World → Option Change → Type 0
@@ -71,7 +71,7 @@ pub record IsSamePending (p copy : Pending) : Type 0 where
 
 -- what is pending is what an answer to an operator says
 pub record IsPendingAs (w : World) (operator : List ℕ) (a : Ruling) (p : Pending) : Type 0 where
-  pub told : a.told ≡ replied (said_in (reply_in p))
+  pub reported : a.reported ≡ replied (said_in (reply_in p))
   pub change_is : has_change p ≡ is_some a.plans
   pub left : world_with w p.change ≡ world_with_plans w operator a.plans
   pub fits : IsFittingIf w p.change
@@ -97,12 +97,12 @@ ids_in extent rows = map (λ row. row.id) (filter (is_in extent) rows)
 
 -- what clears the plans of these ids: no change where there are none
 pub record IsClearing (operator : List ℕ) (ids : List (List ℕ)) (p : Pending) : Type 0 where
-  pub told : length ids < 2 ^ 32 → reply_in p ≡ Cleared (length ids)
+  pub reported : length ids < 2 ^ 32 → reply_in p ≡ Cleared (length ids)
   pub asked : MatchOption p.change (ids ≡ []) (λ c. (0 < length ids) × (parts_in c ≡ clear operator ids))
 
 -- what is pending is the reply and the change of the call at the moment, and may be committed
 pub record IsPending (w : DeskWorld) (moment : ℤ) (asked : Asked) (p : Pending) : Type 0 where
-  pub told : told_to w asked.operator moment asked.call ≡ replied (said_in (reply_in p))
+  pub reported : reported_to w asked.operator moment asked.call ≡ replied (said_in (reply_in p))
   pub change_is : has_change p ≡ makes_change w asked.operator moment asked.call
   pub left : world_committed w p ≡ step w asked.operator moment asked.call
   pub fits : CanCommit w p

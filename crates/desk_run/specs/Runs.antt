@@ -11,25 +11,25 @@ use Rattle.desk_run.specs.declared.run.Ran.{Ran}
 use Rattle.desk_run.specs.declared.run.Outcome.{Outcome}
 use Rattle.desk_run.specs.declared.run.Outcome.TheVariants as outcome
 use Rattle.desk_run.specs.CallFaults.{IsBreakdown}
-use Rattle.desk_run.specs.Verdicts.{Told, replied, unknown_operator, no_such_plan, told_to, step}
+use Rattle.desk_run.specs.Verdicts.{Reported, replied, unknown_operator, no_such_plan, reported_to, step}
 
--- what each caller is told
-abbrev pub told_in : DeskWorld → List (ℤ × Asked) → List Told
-told_in w [] = []
-told_in w (call ∷ calls) =
-    told_to w call.1.operator call.0 call.1.call
-    ∷ told_in (step w call.1.operator call.0 call.1.call) calls
+-- what each caller is reported
+abbrev pub reported_in : DeskWorld → List (ℤ × Asked) → List Reported
+reported_in w [] = []
+reported_in w (call ∷ calls) =
+    reported_to w call.1.operator call.0 call.1.call
+    ∷ reported_in (step w call.1.operator call.0 call.1.call) calls
 
 -- the world after all calls
 abbrev pub world_after_calls : DeskWorld → List (ℤ × Asked) → DeskWorld
 world_after_calls w [] = w
 world_after_calls w (call ∷ calls) = world_after_calls (step w call.1.operator call.0 call.1.call) calls
 
--- an outcome as it is told
-abbrev pub as_told : Outcome → Told
-as_told (outcome.Reply reply) = replied (said_in reply)
-as_told outcome.UnknownOperator = unknown_operator
-as_told outcome.NoSuchPlan = no_such_plan
+-- an outcome as it is reported
+abbrev pub as_reported : Outcome → Reported
+as_reported (outcome.Reply reply) = replied (said_in reply)
+as_reported outcome.UnknownOperator = unknown_operator
+as_reported outcome.NoSuchPlan = no_such_plan
 
 -- what a call came to, or the fault that stops a run
 abbrev pub call_outcome : Result Reply DeskFault → Result Outcome DeskFault
@@ -54,7 +54,7 @@ EndsAt (Some fault) answered asked = IsRunStopped fault answered asked
 -- the calls answered are the first of the list, all of them where nothing stopped the run; the
 -- outcomes, and what is left, are theirs
 pub record IsRun (w : DeskWorld) (calls : List (ℤ × Asked)) (ran : Ran) (after : DeskWorld) : Type 0 where
-  pub told : map as_told ran.outcomes.items ≡ told_in w (take (length ran.outcomes.items) calls)
+  pub reported : map as_reported ran.outcomes.items ≡ reported_in w (take (length ran.outcomes.items) calls)
   pub left : after ≡ world_after_calls w (take (length ran.outcomes.items) calls)
   pub ends : EndsAt ran.stopped (length ran.outcomes.items) (length calls)
 

@@ -33,16 +33,16 @@ use Rattle.desk_store.specs.World.{World, Own, own, held, held_at, cells_beside,
 use Rattle.desk_store.specs.Changes.{put_row, close_row, with_plans}
 use Rattle.desk_run.specs.DeskWorld.{DeskWorld, Side, held_in}
 
--- what a caller is told: a reply, that the operator is not enrolled, or that it has no such plan
-pub data Told : Type 0 where
-  replied : ReplyParts → Told
-  unknown_operator : Told
-  no_such_plan : Told
+-- what a caller is reported: a reply, that the operator is not enrolled, or that it has no such plan
+pub data Reported : Type 0 where
+  replied : ReplyParts → Reported
+  unknown_operator : Reported
+  no_such_plan : Reported
 
--- the verdict on a call: what the caller is told, and the operator's plans afterwards, or none
+-- the verdict on a call: what the caller is reported, and the operator's plans afterwards, or none
 -- where they stay as they were
 pub record Ruling : Type 0 where
-  pub told : Told
+  pub reported : Reported
   pub plans : Option (List PlanRow)
 
 -- which limits a request to plan exceeds: by the spans of the operator's other live plans and those of the
@@ -94,7 +94,7 @@ plans_left effect.Shut asked rows = Some (close_row asked.id rows)
 abbrev pub put_ruling : Verdict → PutCall → List PlanRow → Ruling
 put_ruling v asked rows =
     record {
-      told =
+      reported =
           replied
           (said.answered
           (record { result = v.result; status = v.status; note = v.note; meeting = v.meeting }));
@@ -102,15 +102,15 @@ put_ruling v asked rows =
     }
 
 -- an answer that changes nothing
-abbrev pub ruling_alone : Told → Ruling
-ruling_alone told = record { told = told; plans = None }
+abbrev pub ruling_alone : Reported → Ruling
+ruling_alone reported = record { reported = reported; plans = None }
 
 -- closing answers that the plan is closed, whatever it was
 abbrev pub delete_ruling : List PlanRow → List ℕ → Option PlanRow → Ruling
 delete_ruling rows id None = ruling_alone no_such_plan
 delete_ruling rows id (Some row) =
     record {
-      told =
+      reported =
           replied
           (said.answered
           (record { result = result.Completed; status = status.Closed; note = None; meeting = None }));
@@ -154,11 +154,11 @@ show_ruling permitted rows others (Some row) =
 abbrev pub is_in : Block → PlanRow → Bool
 is_in extent row = share_a_point (extent ∷ []) row.area
 
--- the plans that share a point with an extent are taken out, closed ones too, and their number is told
+-- the plans that share a point with an extent are taken out, closed ones too, and their number is reported
 abbrev pub clear_ruling : List PlanRow → Block → Ruling
 clear_ruling rows extent =
     record {
-      told = replied (said.cleared (length (filter (is_in extent) rows)));
+      reported = replied (said.cleared (length (filter (is_in extent) rows)));
       plans = cond (list_any (is_in extent) rows) (Some (filter (λ row. not (is_in extent row)) rows)) None;
     }
 
@@ -204,9 +204,9 @@ abbrev pub ruling_in : DeskWorld → List ℕ → ℤ → Call → Ruling
 ruling_in w operator moment asked =
     verdict w.terms (own w.content operator) (held_in w operator) moment asked
 
--- a call at a moment: what the caller is told, and the desk's world after it
-unfoldable pub told_to : DeskWorld → List ℕ → ℤ → Call → Told
-told_to w operator moment asked = (ruling_in w operator moment asked).told
+-- a call at a moment: what the caller is reported, and the desk's world after it
+unfoldable pub reported_to : DeskWorld → List ℕ → ℤ → Call → Reported
+reported_to w operator moment asked = (ruling_in w operator moment asked).reported
 
 -- whether it makes a change: a plan is stored or closed, as it may be already, or some are taken out
 unfoldable pub makes_change : DeskWorld → List ℕ → ℤ → Call → Bool

@@ -70,7 +70,7 @@ impl<S> Desk<S> {
     }
 
     /// Plans on these terms from here on. The content stays.
-    pub fn keep_to(&mut self, terms: Terms)
+    pub fn set_terms(&mut self, terms: Terms)
         ensures { self.new ≡ record { store = self.old.store; terms = terms } }
     {
         self.terms = terms;
@@ -85,7 +85,7 @@ impl<S: PlanStore> Desk<S> {
     ghost use Rattle.desk_run.specs.DeskWorld.{IsSettled, enrolled, world_of};
     ghost use Rattle.desk_run.specs.CallFaults.{IsBreakdown, IsStoreCounted};
     ghost use Rattle.desk_run.specs.Verdicts.{step_by};
-    ghost use Rattle.desk_run.specs.Calls.{TellsReply, Prepares, CanCommit, reply_in, world_committed};
+    ghost use Rattle.desk_run.specs.Calls.{ReportsReply, Prepares, CanCommit, reply_in, world_committed};
 
     /// Lists the operator under a ceiling of at most 1,000; its plans stay.
     ///
@@ -164,8 +164,8 @@ impl<S: PlanStore> Desk<S> {
     ///
     /// Those of `prepare`: nothing changed.
     pub fn call(&mut self, alloc: Global, moment: i64, asked: &Asked) -> Result<Reply, DeskFault>
-        ensures told { IsHonest (S.doubt self.new.store) →
-            TellsReply (world_of S.content self.old) moment asked.now result }
+        ensures reported { IsHonest (S.doubt self.new.store) →
+            ReportsReply (world_of S.content self.old) moment asked.now result }
         ensures ok { IsHonest (S.doubt self.new.store) → OnOk result
             (world_of S.content self.new ≡ step_by (world_of S.content self.old) moment asked.now) }
         ensures leaves { Leaves S.PlanStore self.old self.new

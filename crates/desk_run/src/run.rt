@@ -6,7 +6,7 @@ ghost use Rattle.desk_store.specs.StoreFaults.{IsHonest, HasRisen};
 ghost use Rattle.desk_run.specs.DeskFrames.{FindsOnly};
 ghost use Rattle.desk_run.specs.DeskWorld.{world_of};
 ghost use Rattle.desk_run.specs.Runs as spec;
-ghost use Rattle.desk_run.specs.Runs.{IsFoundIn, IsRun, as_told};
+ghost use Rattle.desk_run.specs.Runs.{IsFoundIn, IsRun, as_reported};
 
 use crate::desk::Desk;
 use crate::fault::DeskFault;
@@ -36,13 +36,13 @@ pub struct Ran {
 }
 
 impl Outcome {
-    /// An outcome that is told as this one is.
+    /// An outcome that is reported as this one is.
     ///
     /// # Errors
     ///
     /// `AllocError` if memory runs out.
     pub fn copy(&self) -> Result<Outcome, AllocError>
-        ensures { IfOk result (λ copy. as_told copy ≡ as_told self.now) }
+        ensures { IfOk result (λ copy. as_reported copy ≡ as_reported self.now) }
     {
         match self {
             Outcome::Reply(reply) => Ok(Outcome::Reply(reply.copy()?)),
@@ -53,14 +53,14 @@ impl Outcome {
 }
 
 impl Ran {
-    /// Outcomes that are told as these are, and the same fault.
+    /// Outcomes that are reported as these are, and the same fault.
     ///
     /// # Errors
     ///
     /// `AllocError` if memory runs out.
     pub fn copy(&self) -> Result<Ran, AllocError>
         ensures outcomes { IfOk result (λ copy.
-            map as_told copy.outcomes.items ≡ map as_told self.now.outcomes.items) }
+            map as_reported copy.outcomes.items ≡ map as_reported self.now.outcomes.items) }
         ensures stopped { IfOk result (λ copy. copy.stopped ≡ self.now.stopped) }
     {
         Ok(Ran {
@@ -93,7 +93,7 @@ impl<S: PlanStore> Desk<S> {
 
 // Copies of outcomes, in their order.
 fn copies(outcomes: &Vec<Outcome>) -> Result<Vec<Outcome>, AllocError>
-    ensures { IfOk result (λ copies. map as_told copies.items ≡ map as_told outcomes.now.items) }
+    ensures { IfOk result (λ copies. map as_reported copies.items ≡ map as_reported outcomes.now.items) }
 {
     let mut copies = Vec::new(*outcomes.allocator());
     for outcome in outcomes {

@@ -21,7 +21,7 @@ use Rattle.sqlite.specs.Held.{Held, state}
 use Rattle.sqlite.specs.Schema.{Schema}
 use Rattle.desk_sql.specs.declared.opening.finding.TablesPresent.{TablesPresent}
 use Rattle.desk_sql.specs.declared.opening.numbers.DeskTable.{DeskTable}
-use Rattle.desk_sql.specs.declared.reading.whole.Whole.{Whole}
+use Rattle.desk_sql.specs.declared.reading.whole.WholeTable.{WholeTable}
 use Rattle.desk_sql.specs.Queries.{table_read, table_in, key_cells, rows_read}
 use Rattle.desk_sql.specs.Schema.{desk_schema, HasTable, has_table, is_packed}
 use Rattle.desk_sql.specs.Finding.{Holds}
@@ -166,7 +166,7 @@ all_selected table text cells wanted known old new rows has h =
 -- ---- tables that may not be made
 
 -- a query of a table that stands in one tree
-pub one_tree : (whole : Whole) (table : DeskTable) (text : List ℕ) (cells : List ℕ)
+pub one_tree : (whole : WholeTable) (table : DeskTable) (text : List ℕ) (cells : List ℕ)
     → ((packed : Bool) → table_in whole packed ≡ table)
     → ((packed : Bool) (db : Trees) → rows_read whole (tables_in packed db) ≡ rows_read whole (tables_of db))
     → SelectsAll table text cells (λ db. rows_read whole (tables_of db)) → (packed : Bool)
@@ -182,20 +182,20 @@ pub two_trees : (P : Bool → Type 0) → P false → P true → (packed : Bool)
 two_trees P one two false = one
 two_trees P one two true = two
 
-pub part_at : (whole : Whole) (made : TablesPresent) (db : Trees) → rows_read whole (tables_at made db)
+pub part_at : (whole : WholeTable) (made : TablesPresent) (db : Trees) → rows_read whole (tables_at made db)
     ≡ (if has_table made (table_in whole (is_packed made))
     then rows_read whole (tables_in (is_packed made) db)
     else [])
 part_at whole made db = grind arith
 
-pub read_as : (whole : Whole) (made : TablesPresent) (db : Trees)
+pub read_as : (whole : WholeTable) (made : TablesPresent) (db : Trees)
     → has_table made (table_in whole (is_packed made)) ≡ true
     → rows_read whole (tables_in (is_packed made) db) ≡ rows_read whole (tables_at made db)
 read_as whole made db there = sym (part_at whole made db
     ∙ ap (λ b. if b then rows_read whole (tables_in (is_packed made) db) else []) there)
 
 -- what a table that is made shows is its part of what is made so far
-pub read_at : {V : Type 0} (whole : Whole) (made : TablesPresent) (there : Bool)
+pub read_at : {V : Type 0} (whole : WholeTable) (made : TablesPresent) (there : Bool)
     → has_table made (table_in whole (is_packed made)) ≡ there
     → (items : V → List Row) (db : Trees) (r : Result V Error)
     → IfOk r (λ v. Lists (key_cells (table_read whole))

@@ -1,6 +1,6 @@
 -- What each text that changes rows does.
 use Rattle.std.proofs.Common.{ℕ, List}
-use Rattle.desk_sql.specs.declared.changing.change.Change.TheVariants.{AddPlan, AddVolume, AddSpan, EmptyOldVolumes, EmptyOldSpans}
+use Rattle.desk_sql.specs.declared.changing.change.RowChange.TheVariants.{AddPlan, AddVolume, AddSpan, EmptyOldVolumes, EmptyOldSpans}
 use Rattle.desk_sql.specs.declared.changing.writing.PlanRecord.{PlanRecord}
 use Rattle.desk_sql.specs.declared.changing.writing.SpanRecord.{SpanRecord}
 use Rattle.desk_sql.specs.declared.changing.writing.VolumeRecord.{VolumeRecord}

@@ -8,7 +8,7 @@ use Rattle.sqlite.specs.Term.{eval_all, holds}
 use Rattle.sqlite_tied.specs.Compute.{everything}
 use Rattle.sqlite.specs.Listing.{understood}
 use Rattle.desk_sql.specs.Rows.{differs, is_at_most, is_at_least, is_below, is_above, held_columns, columns}
-use Rattle.desk_sql.specs.declared.reading.rivals.SpanQuery.{SpanQuery}
+use Rattle.desk_sql.specs.declared.reading.rivals.SpanFilter.{SpanFilter}
 use Rattle.desk_sql.specs.Schema.{desk_schema}
 use Rattle.desk_sql.specs.Queries.{others_params}
 use Rattle.desk_sql.specs.Refusals.{IsSureGiven}
@@ -20,7 +20,7 @@ use Rattle.desk_sql.proofs.StatementLemmas.{and_last, both_hold, one_plan, selec
 use Rattle.desk_sql.proofs.SureLemmas.{sure_given}
 use Rattle.desk_sql.proofs.Texts.{rival_spans_text}
 
-others_test : (operator : List ℕ) (reach : SpanQuery) (low : ℤ) (s : Row)
+others_test : (operator : List ℕ) (reach : SpanFilter) (low : ℤ) (s : Row)
     → list_all (holds (others_params operator reach low ∷ s ∷ [])) rival_spans_query.filter
     ≡ is_others_from operator reach low (columns 10 s)
 others_test operator reach low s =
@@ -36,7 +36,7 @@ others_test operator reach low s =
     (is_below (column s 8) reach.stop) (is_above (column s 9) reach.start)
     (is_at_least (column s 10) (pos reach.priority)) (differs (column s 1) (Text operator)))
 
-other_spans_sure : (operator : List ℕ) (reach : SpanQuery) (low : ℤ)
+other_spans_sure : (operator : List ℕ) (reach : SpanFilter) (low : ℤ)
     → IsSureGiven desk_schema rival_spans_text (others_params operator reach low)
 unfolding understood everything
 other_spans_sure operator reach low =
@@ -47,7 +47,7 @@ other_spans_sure operator reach low =
       | inr fold ↦ absurd fold.4
     ])
 
-pub other_spans_selected : (operator : List ℕ) (reach : SpanQuery) (low : ℤ)
+pub other_spans_selected : (operator : List ℕ) (reach : SpanFilter) (low : ℤ)
     → Selects rival_spans_text (others_params operator reach low) (0 ∷ [])
     (λ t. map held_columns (filter (is_others_from operator reach low) t.spans))
 other_spans_selected operator reach low =

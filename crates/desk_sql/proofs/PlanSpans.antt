@@ -11,7 +11,7 @@ use Rattle.sqlite_sql.specs.declared.ops.CompareOp.TheVariants.{Eq, Lt, Le, Gt, 
 use Rattle.sqlite_tied.specs.Compute.{everything}
 use Rattle.sqlite.specs.Listing.{understood}
 use Rattle.desk_sql.specs.Rows.{is_at_most, is_at_least, is_below, is_above, is_of, held_columns, columns}
-use Rattle.desk_sql.specs.declared.reading.rivals.SpanQuery.{SpanQuery}
+use Rattle.desk_sql.specs.declared.reading.rivals.SpanFilter.{SpanFilter}
 use Rattle.desk_sql.specs.Schema.{desk_schema}
 use Rattle.desk_sql.specs.Queries.{plan_params}
 use Rattle.desk_sql.specs.Refusals.{IsSureGiven}
@@ -47,7 +47,7 @@ grouped : (a b c d e f g h : Bool) → (a && (b && (c && (d && (e && (f && (g &&
 grouped a b c d e f g h =
     ap (λ t. a && (b && (c && (d && (e && (f && (g && t))))))) (sym (both_hold h)) ∙ and_last a b c d e f g h
 
-plan_test : (operator id : List ℕ) (reach : SpanQuery) (s : Row)
+plan_test : (operator id : List ℕ) (reach : SpanFilter) (s : Row)
     → list_all (holds (plan_params operator id reach ∷ s ∷ [])) plan_spans_query.filter
     ≡ is_plans operator id reach (columns 10 s)
 plan_test operator id reach s =
@@ -63,7 +63,7 @@ plan_test operator id reach s =
     (is_below (column s 8) reach.stop) (is_above (column s 9) reach.start)
     (is_at_least (column s 10) (pos reach.priority)) (is_of operator id (columns 10 s))
 
-pub plan_spans_sure : (operator id : List ℕ) (reach : SpanQuery)
+pub plan_spans_sure : (operator id : List ℕ) (reach : SpanFilter)
     → IsSureGiven desk_schema plan_spans_text (plan_params operator id reach)
 unfolding understood everything
 plan_spans_sure operator id reach =
@@ -74,7 +74,7 @@ plan_spans_sure operator id reach =
       | inr fold ↦ absurd fold.4
     ])
 
-pub plan_spans_selected : (operator id : List ℕ) (reach : SpanQuery)
+pub plan_spans_selected : (operator id : List ℕ) (reach : SpanFilter)
     → Selects plan_spans_text (plan_params operator id reach) []
     (λ t. map held_columns (filter (is_plans operator id reach) t.spans))
 plan_spans_selected operator id reach =

@@ -305,18 +305,18 @@ module _ {S : Type 0} (g : Ghosts S) (old new : Held S) (text : List ℕ) (table
       → Shown text [] (state g old) (state g new) rows → (r : Result V Error)
       → OnErr r (¬ AreRising rows)
       → IfErr r (λ e. e ≡ SqliteFailure DatabaseCorrupt) → IfErr r (IsUnnumbered g old new table)
-  unnumbered_if known clean live rows shown (Ok v) broken told = tt
-  unnumbered_if known clean live rows shown (Err e) broken told =
-      inr (told, λ num. broken (rises_if rows (known clean live) num shown))
+  unnumbered_if known clean live rows shown (Ok v) broken reported = tt
+  unnumbered_if known clean live rows shown (Err e) broken reported =
+      inr (reported, λ num. broken (rises_if rows (known clean live) num shown))
 
   pub unnumbered_handed : {V : Type 0} → Holds g old (HasTable table) → HasCleanDisk (state g old)
       → IsTrue (state g old).is_open → (still : Bool) (last : Option ℤ) → ((rows : List Row)
       × Shown text [] (state g old) (state g new) rows × RiseSo still last rows) → (r : Result V Error)
       → OnErr r (still ≡ false) → IfErr r (λ e. e ≡ SqliteFailure DatabaseCorrupt)
       → IfErr r (IsUnnumbered g old new table)
-  unnumbered_handed known clean live still last (rows, shown, so) r broken told =
+  unnumbered_handed known clean live still last (rows, shown, so) r broken reported =
       unnumbered_if known clean live rows shown r (on_err_weaker r
-      (λ none up. true≢false (sym ((all_risen rows still last so).1 up) ∙ none)) broken) told
+      (λ none up. true≢false (sym ((all_risen rows still last so).1 up) ∙ none)) broken) reported
 
 module _ {S : Type 0} (g : Ghosts S) (old mid new : Held S)
     (fewer : (state g old).faults ≤ (state g mid).faults) (limit : mid.step_limit ≡ old.step_limit)

@@ -16,7 +16,7 @@ use Rattle.sqlite.specs.State.{HasCleanDisk, Shown}
 use Rattle.sqlite.specs.Store.{Ghosts}
 use Rattle.sqlite.specs.Held.{Held, state}
 use Rattle.desk_sql.specs.Rows.{IsDesk, is_row_by, is_of, is_wanted, differs, is_at_most, is_at_least, is_below, is_above, held_columns, is_same, joined, has_volume, with_volumes, by_cells, columns, tables_of, Lists}
-use Rattle.desk_sql.specs.declared.reading.rivals.SpanQuery.{SpanQuery}
+use Rattle.desk_sql.specs.declared.reading.rivals.SpanFilter.{SpanFilter}
 use Rattle.desk_sql.specs.declared.reading.query.Query.{Query}
 use Rattle.desk_sql.specs.Queries.{params_of, order_of, rows_of, rival_params}
 use Rattle.sqlite.specs.Schema.{Schema}
@@ -301,7 +301,7 @@ and_last true true false d e f g h = refl
 and_last true false c d e f g h = refl
 and_last false b c d e f g h = refl
 
-rival_test : (operator id : List ℕ) (reach : SpanQuery) (low : ℤ) (s : Row)
+rival_test : (operator id : List ℕ) (reach : SpanFilter) (low : ℤ) (s : Row)
     → list_all (holds (rival_params operator id reach low ∷ s ∷ [])) rival_spans_query.filter
     ≡ is_wanted operator id reach low (columns 10 s)
 rival_test operator id reach low s =
@@ -318,7 +318,7 @@ rival_test operator id reach low s =
     (is_at_least (column s 10) (pos reach.priority))
     (differs (column s 1) (Text operator) || differs (column s 2) (Text id)))
 
-pub rival_spans_selected : (operator id : List ℕ) (reach : SpanQuery) (low : ℤ)
+pub rival_spans_selected : (operator id : List ℕ) (reach : SpanFilter) (low : ℤ)
     → Selects rival_spans_text (rival_params operator id reach low) (0 ∷ [])
     (λ t. map held_columns (filter (is_wanted operator id reach low) t.spans))
 rival_spans_selected operator id reach low =

@@ -150,9 +150,9 @@ module _ (text : List ℕ) (params : Row) (old new : State) (e : Error) (live : 
     by_command given same whole (inl (inl wrong, _)) = absurd (misplaced old c.command e whole.writes wrong)
     by_command given same whole (inl (inr (_, stops), _)) =
         some_stops old new e (at_stop given c.returning (Some e) same whole.bare stops)
-    by_command given same whole (inr (cause, told, h, _, _)) =
+    by_command given same whole (inr (cause, reported, h, _, _)) =
         by_cause old new e cause _ (λ big. none_stops _ (at_stop given c.returning None same whole.bare big))
-        told h live
+        reported h live
 
   caused : IsWholeIn text (length params) (understood old.now.schema text)
       → Executes text params old new (Err e) → IsCause old new e

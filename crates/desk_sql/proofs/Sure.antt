@@ -3,7 +3,7 @@ use Rattle.std.proofs.Common.{ℕ, ℤ, List, [], ◌∷◌, refl, true≢false,
 use Rattle.sqlite.specs.declared.types.Value.TheVariants.{Text}
 use Rattle.sqlite_tied.specs.Compute.{everything}
 use Rattle.sqlite.specs.Listing.{understood}
-use Rattle.desk_sql.specs.declared.reading.rivals.SpanQuery.{SpanQuery}
+use Rattle.desk_sql.specs.declared.reading.rivals.SpanFilter.{SpanFilter}
 use Rattle.desk_sql.specs.Schema.{desk_schema}
 use Rattle.desk_sql.specs.Refusals.{IsSureGiven}
 use Rattle.desk_sql.proofs.Texts.{plan_of_text, volumes_of_text, own_plans_text, rival_spans_text}
@@ -43,7 +43,7 @@ own_plans_sure operator =
       | inr fold ↦ absurd fold.4.4
     ])
 
-pub rival_spans_sure : (operator id : List ℕ) (reach : SpanQuery) (low : ℤ)
+pub rival_spans_sure : (operator id : List ℕ) (reach : SpanFilter) (low : ℤ)
     → IsSureGiven desk_schema rival_spans_text (rival_params operator id reach low)
 unfolding understood everything
 rival_spans_sure operator id reach low =

@@ -56,7 +56,7 @@ module _ (made : TablesPresent) (db : Trees) where
       → map cover_columns stored ≡ (tables_at made db).covers
   covers_at = grind arith
 
-  -- rows with all columns are told as the rows of the tables
+  -- rows with all columns are reported as the rows of the tables
   pub parts_listed : has_table made (volume_table_in (is_packed made)) ≡ true
       → (rows : List Row) → Lists key (map (columns 9) stored) rows → ListVolumes (tables_at made db) rows
   parts_listed there rows lists = record {

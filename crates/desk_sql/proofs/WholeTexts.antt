@@ -2,8 +2,8 @@
 use Rattle.std.proofs.Common.{◌≡◌, Bool, [], ◌∷◌, List, ℕ, refl, true, false}
 use Rattle.sqlite.specs.Tree.{Trees}
 use Rattle.desk_sql.specs.declared.opening.numbers.DeskTable.TheVariants as desk
-use Rattle.desk_sql.specs.declared.reading.whole.Whole.{Whole}
-use Rattle.desk_sql.specs.declared.reading.whole.Whole.TheVariants.{Operators, Plans, OldVolumes, OldSpans, Spans}
+use Rattle.desk_sql.specs.declared.reading.whole.WholeTable.{WholeTable}
+use Rattle.desk_sql.specs.declared.reading.whole.WholeTable.TheVariants.{Operators, Plans, OldVolumes, OldSpans, Spans}
 use Rattle.desk_sql.specs.Queries.{table_in, key_cells, rows_read, table_read}
 use Rattle.desk_sql.specs.Rows.{tables_of, tables_in}
 use Rattle.desk_sql.specs.Statements.{SelectsAll}
@@ -16,7 +16,7 @@ use Rattle.desk_sql.proofs.old_tables.ReadLemmas.{all_old_volumes_selected, all_
 use Rattle.desk_sql.proofs.old_tables.Texts.{all_old_volumes_text, all_old_spans_text}
 
 -- what is read of the tables of version 1 is the same in a packed file
-abbrev IsSame : Whole → Type 0
+abbrev IsSame : WholeTable → Type 0
 IsSame whole = (packed : Bool) (db : Trees)
     → rows_read whole (tables_in packed db) ≡ rows_read whole (tables_of db)
 
@@ -37,7 +37,7 @@ old_spans_same true db = refl
 old_spans_same false db = refl
 
 -- what a query reads, packed or not
-abbrev IsTextIn : Whole → List ℕ → Bool → Type 0
+abbrev IsTextIn : WholeTable → List ℕ → Bool → Type 0
 IsTextIn whole text packed = SelectsAll (table_in whole packed) text (key_cells (table_read whole))
     (λ db. rows_read whole (tables_in packed db))
 

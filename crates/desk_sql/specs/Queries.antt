@@ -4,9 +4,9 @@ use Rattle.sqlite.specs.declared.types.Value.TheVariants.{Int, Null, Text}
 use Rattle.sqlite.specs.Order.{Row}
 use Rattle.desk_sql.specs.declared.opening.numbers.DeskTable.{DeskTable}
 use Rattle.desk_sql.specs.declared.opening.numbers.DeskTable.TheVariants as desk
-use Rattle.desk_sql.specs.declared.reading.rivals.SpanQuery.{SpanQuery}
-use Rattle.desk_sql.specs.declared.reading.whole.Whole.{Whole}
-use Rattle.desk_sql.specs.declared.reading.whole.Whole.TheVariants as whole
+use Rattle.desk_sql.specs.declared.reading.rivals.SpanFilter.{SpanFilter}
+use Rattle.desk_sql.specs.declared.reading.whole.WholeTable.{WholeTable}
+use Rattle.desk_sql.specs.declared.reading.whole.WholeTable.TheVariants as whole
 use Rattle.desk_sql.specs.declared.reading.query.Query.{Query}
 use Rattle.desk_sql.specs.declared.reading.query.Query.TheVariants.{PlanOf, VolumesOf, OwnPlans, RivalSpans, OtherSpans, SpansOf}
 use Rattle.desk_sql.specs.Rows.{Tables, is_row_by, is_of, with_volumes, is_wanted, held_columns}
@@ -15,7 +15,7 @@ use Rattle.desk_sql.specs.Others.{is_others_from, is_plans}
 -- ---- whole tables
 
 -- the table that is read
-abbrev pub table_read : Whole → DeskTable
+abbrev pub table_read : WholeTable → DeskTable
 table_read whole.Operators = desk.Operator
 table_read whole.Plans = desk.Plan
 table_read whole.OldVolumes = desk.OldVolume
@@ -23,7 +23,7 @@ table_read whole.OldSpans = desk.OldSpan
 table_read whole.Spans = desk.Span
 
 -- that table, which in a packed file may stand in another tree
-abbrev pub table_in : Whole → Bool → DeskTable
+abbrev pub table_in : WholeTable → Bool → DeskTable
 table_in whole.Operators packed = desk.Operator
 table_in whole.Plans packed = desk.Plan
 table_in whole.OldVolumes packed = desk.OldVolume
@@ -42,7 +42,7 @@ key_cells desk.PackedVolume = 0 ∷ 1 ∷ 2 ∷ []
 key_cells desk.PackedSpan = 0 ∷ 1 ∷ 2 ∷ 3 ∷ []
 
 -- what is read of the tables
-abbrev pub rows_read : Whole → Tables → List Row
+abbrev pub rows_read : WholeTable → Tables → List Row
 rows_read whole.Operators t = t.operators
 rows_read whole.Plans t = t.plans
 rows_read whole.OldVolumes t = t.old_volumes
@@ -52,19 +52,19 @@ rows_read whole.Spans t = t.spans
 -- ---- queries that are given something
 
 -- which spans are asked for, but for those of one plan
-abbrev pub rival_params : List ℕ → List ℕ → SpanQuery → ℤ → Row
+abbrev pub rival_params : List ℕ → List ℕ → SpanFilter → ℤ → Row
 rival_params operator id reach low =
     Int reach.last ∷ Int reach.first ∷ Int reach.upper ∷ Int reach.lower ∷ Int reach.stop ∷ Int reach.start
     ∷ Int (pos reach.priority) ∷ Text operator ∷ Text id ∷ Int low ∷ []
 
 -- and but for those of one operator, given to the same text: no id differs from NULL
-abbrev pub others_params : List ℕ → SpanQuery → ℤ → Row
+abbrev pub others_params : List ℕ → SpanFilter → ℤ → Row
 others_params operator reach low =
     Int reach.last ∷ Int reach.first ∷ Int reach.upper ∷ Int reach.lower ∷ Int reach.stop ∷ Int reach.start
     ∷ Int (pos reach.priority) ∷ Text operator ∷ Null ∷ Int low ∷ []
 
 -- and of one plan alone
-abbrev pub plan_params : List ℕ → List ℕ → SpanQuery → Row
+abbrev pub plan_params : List ℕ → List ℕ → SpanFilter → Row
 plan_params operator id reach =
     Int reach.last ∷ Int reach.first ∷ Int reach.upper ∷ Int reach.lower ∷ Int reach.stop ∷ Int reach.start
     ∷ Int (pos reach.priority) ∷ Text operator ∷ Text id ∷ []

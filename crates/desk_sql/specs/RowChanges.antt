@@ -8,8 +8,8 @@ use Rattle.sqlite.specs.Effect.{Database}
 use Rattle.desk_sql.specs.declared.changing.writing.PlanRecord.{PlanRecord}
 use Rattle.desk_sql.specs.declared.changing.writing.VolumeRecord.{VolumeRecord}
 use Rattle.desk_sql.specs.declared.changing.writing.SpanRecord.{SpanRecord}
-use Rattle.desk_sql.specs.declared.changing.change.Change.{Change}
-use Rattle.desk_sql.specs.declared.changing.change.Change.TheVariants.{AddOperator, AddPlan, AddVolume, AddSpan, SetCeiling, SetClosed, RemovePlan, RemoveSpans, EmptyOldVolumes, EmptyOldSpans}
+use Rattle.desk_sql.specs.declared.changing.change.RowChange.{RowChange}
+use Rattle.desk_sql.specs.declared.changing.change.RowChange.TheVariants.{AddOperator, AddPlan, AddVolume, AddSpan, SetCeiling, SetClosed, RemovePlan, RemoveSpans, EmptyOldVolumes, EmptyOldSpans}
 use Rattle.desk_sql.specs.Rows.{Tables, tables_of, is_row_by, is_of, operator_row, plan_row, AddsOperator, AddsPlan, AddsVolume, AddsSpan, SetsOperators, SetsPlans, RemovesPlan, RemovesSpans, RemovesOldVolumes, RemovesOldSpans}
 use Rattle.desk_sql.specs.Batches.{PlanPut, volume_row_in, cover_of, volume_params, span_row_in}
 use Rattle.desk_sql.specs.Statements.{Changes}
@@ -39,7 +39,7 @@ closing_row operator id priority aircraft =
     Text operator ∷ Text id ∷ Int (pos priority) ∷ Int (pos aircraft) ∷ []
 
 -- what a change is given, as the parameters of its text in turn
-abbrev pub given_to : Change → Row
+abbrev pub given_to : RowChange → Row
 given_to (AddOperator name ceiling) = operator_row name.now ceiling
 given_to (AddPlan p) = plan_row_in p
 given_to (AddVolume v) = volume_params v
@@ -52,7 +52,7 @@ given_to EmptyOldVolumes = []
 given_to EmptyOldSpans = []
 
 -- how it changes the tables
-abbrev pub changes : Change → Tables → Tables → Type 0
+abbrev pub changes : RowChange → Tables → Tables → Type 0
 changes (AddOperator name ceiling) = AddsOperator (operator_row name.now ceiling)
 changes (AddPlan p) = AddsPlan (plan_row_in p)
 changes (AddVolume v) = AddsVolume (volume_row_in v) (cover_of v)
@@ -66,7 +66,7 @@ changes EmptyOldVolumes = RemovesOldVolumes
 changes EmptyOldSpans = RemovesOldSpans
 
 -- what has to be so for it
-abbrev pub fits : Change → Database → Type 0
+abbrev pub fits : RowChange → Database → Type 0
 fits (AddOperator name ceiling) db = FitsOperator name.now (operator_row name.now ceiling) db
 fits (AddPlan p) db = FitsPlan p.operator.now p.id.now (plan_row_in p) db
 fits (AddVolume v) db = FitsVolume v.operator.now v.id.now v.asked.now v.canon.now (volume_row_in v) db
@@ -81,12 +81,12 @@ abbrev pub StaysUnless : (Row → Bool) → Trees → Trees → Type 0
 StaysUnless passes old new = list_any passes (tables_of old).operators ≡ false → new 0 ≡ old 0
 
 -- how many rows it counts, where somebody asks
-abbrev pub counts : Change → ℕ → Tables → Type 0
+abbrev pub counts : RowChange → ℕ → Tables → Type 0
 counts (SetCeiling name ceiling) count t = count ≡ length (filter (is_row_by name.now) t.operators)
 counts _ count t = ⊤
 
 -- the room that it takes, where somebody asks
-abbrev pub takes : Change → Trees → Trees → Type 0
+abbrev pub takes : RowChange → Trees → Trees → Type 0
 takes (AddOperator name ceiling) old new = TakesOperators 1 old new
 takes (AddPlan p) old new = TakesRoom 1 0 0 old new
 takes (AddVolume v) old new = TakesRoom 0 1 0 old new
@@ -106,7 +106,7 @@ pub record Does (text : List ℕ) (params : Row) (Change : Tables → Tables →
     pub counted : TextCounts text params Counts
 
 -- the text of a change, which does all that
-abbrev pub IsTextOf : Change → List ℕ → Type 0
+abbrev pub IsTextOf : RowChange → List ℕ → Type 0
 IsTextOf change text = Does text (given_to change) (changes change) (fits change) (takes change) (counts change)
 
 -- ---- and of each that is given names and numbers

@@ -15,7 +15,7 @@ use Rattle.desk_sql.specs.declared.opening.finding.TablesPresent.{TablesPresent}
 use Rattle.desk_sql.specs.declared.opening.finding.TablesPresent.TheVariants.{Nothing, Operators, Plans, OldVolumes, OldSpans, OldIndex, Volumes, Spans, All, Packed}
 use Rattle.desk_sql.specs.declared.opening.numbers.DeskTable.{DeskTable}
 use Rattle.desk_sql.specs.Schema.{desk_schema, schema_of, tree_of, has_table}
-use Rattle.desk_sql.specs.declared.reading.rivals.SpanQuery.{SpanQuery}
+use Rattle.desk_sql.specs.declared.reading.rivals.SpanFilter.{SpanFilter}
 
 -- ---- what a row holds
 
@@ -281,7 +281,7 @@ abbrev pub is_above : Value → ℤ → Bool
 is_above v n = not (is_null v) && is_gt (value_cmp v (Int n))
 
 -- a span with a leaf, an altitude and a second of the reach, and a priority at least its least
-abbrev pub is_reached : SpanQuery → Row → Bool
+abbrev pub is_reached : SpanFilter → Row → Bool
 is_reached reach span =
     is_at_most (column span 3) reach.last
     && (is_at_least (column span 4) reach.first
@@ -292,13 +292,13 @@ is_reached reach span =
     && is_at_least (column span 9) (pos reach.priority))))))
 
 -- such a span of another plan than this one
-abbrev pub is_rival : List ℕ → List ℕ → SpanQuery → Row → Bool
+abbrev pub is_rival : List ℕ → List ℕ → SpanFilter → Row → Bool
 is_rival operator id reach span =
     is_reached reach span
     && (differs (column span 0) (Text operator) || differs (column span 1) (Text id))
 
 -- one that begins at a leaf position or later
-abbrev pub is_wanted : List ℕ → List ℕ → SpanQuery → ℤ → Row → Bool
+abbrev pub is_wanted : List ℕ → List ℕ → SpanFilter → ℤ → Row → Bool
 is_wanted operator id reach low span = is_at_least (column span 3) low && is_rival operator id reach span
 
 -- a span's columns from `first` on

@@ -18,8 +18,8 @@ volume_part row = map (column row) (range_with_len 0 8)
 abbrev pub cover_part : Row → Row
 cover_part row = map (column row) (0 ∷ 1 ∷ 2 ∷ 8 ∷ [])
 
--- rows with all columns are, without `canon`, those of volumes, and with the key and `canon` alone the covers;
--- both by the columns of the key
+-- rows with all columns are, without `canon`, those of volumes, and with the key and `canon` alone the
+-- covers; both by the columns of the key
 pub record ListVolumes (t : Tables) (rows : List Row) : Type 0 where
   pub volumes_listed : Lists (0 ∷ 1 ∷ 2 ∷ []) t.volumes (map volume_part rows)
   pub covers_listed : Lists (0 ∷ 1 ∷ 2 ∷ []) t.covers (map cover_part rows)

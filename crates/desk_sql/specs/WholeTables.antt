@@ -1,11 +1,11 @@
 -- What shows whole tables.
 use Rattle.std.specs.Prelude.{Bool, List, ℕ}
-use Rattle.desk_sql.specs.declared.reading.whole.Whole.{Whole}
+use Rattle.desk_sql.specs.declared.reading.whole.WholeTable.{WholeTable}
 use Rattle.desk_sql.specs.Queries.{table_read, table_in, key_cells, rows_read}
 use Rattle.desk_sql.specs.Rows.{tables_in}
 use Rattle.desk_sql.specs.Statements.{SelectsAll}
 
 -- a text that shows all rows of what is read, by the table's key, in a desk's own order and in a packed file
-abbrev pub ShowsWhole : Whole → List ℕ → Type 0
+abbrev pub ShowsWhole : WholeTable → List ℕ → Type 0
 ShowsWhole whole text = (packed : Bool) → SelectsAll (table_in whole packed) text
     (key_cells (table_read whole)) (λ db. rows_read whole (tables_in packed db))

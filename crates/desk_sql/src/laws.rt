@@ -8,7 +8,7 @@ ghost use Rattle.sqlite.specs.Held.{state};
 use sqlite::{Alter, Connection};
 
 /// Outside a transaction a connection shows what was committed, and what it shows is a sound database.
-pub fn settled_and_sound<S: Alter>(connection: &Connection<S>)
+pub fn committed_and_sound<S: Alter>(connection: &Connection<S>)
     ensures settled { connection.now.in_transaction ≡ false → IsTrue (state S.Store connection.now).is_open
         → (state S.Store connection.now).now ≡ (state S.Store connection.now).committed }
     ensures sound { IsLive (state S.Store connection.now) }

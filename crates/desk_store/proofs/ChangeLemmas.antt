@@ -8,7 +8,7 @@ use Rattle.std.specs.Map.{lookup, set_value, keys_of}
 use Rattle.std.specs.List.Sorted.{IsStrictlySortedBy}
 use Rattle.std.proofs.lemmas.Map.Lookups.{exact_bytes}
 use Rattle.desk_rules.specs.declared.plan.PlanRow.{PlanRow}
-use Rattle.desk_store.specs.declared.list.Enrolment.{Enrolment}
+use Rattle.desk_store.specs.declared.list.CeilingEntry.{CeilingEntry}
 use Rattle.desk_store.specs.World.{Filed, World, text_cmp, filed_cmp, rows_by, plans_of}
 use Rattle.desk_store.specs.Changes.{replaced, with_plans, closed, close_row, clear_rows}
 use Rattle.desk_store.specs.OwnRows.{is_own}
@@ -140,7 +140,7 @@ none_closed o id es more sorted none e = ap filed_all e ∙ unwritten o id es no
     ∙ closed_among o id es sorted
 
 -- the world when an operator's plans have changed
-pub changed : (f : List PlanRow → List PlanRow) (old : World) (ops counted : List (List ℕ × Enrolment))
+pub changed : (f : List PlanRow → List PlanRow) (old : World) (ops counted : List (List ℕ × CeilingEntry))
     (plans more : List (Key × PlanParts)) (o : List ℕ) → world_in_lists ops plans ≡ old
     → map listed_of counted
     ≡ map listed_of ops → filed_all more ≡ replaced o (f (rows_by o (filed_all plans)))

@@ -9,7 +9,7 @@ use Rattle.std.specs.BTreeMap.{insert_entry, is_at}
 use Rattle.std.specs.Map.{lookup, set_value, keys_of}
 use Rattle.std.specs.List.Sorted.{IsStrictlySortedBy}
 use Rattle.std.proofs.lemmas.Map.Lookups.{exact_bytes}
-use Rattle.desk_store.specs.declared.list.Enrolment.{Enrolment}
+use Rattle.desk_store.specs.declared.list.CeilingEntry.{CeilingEntry}
 use Rattle.desk_store.specs.World.{Filed, text_cmp, rows_by, ceiling_of}
 use Rattle.desk_store.specs.Parts.{PlanParts}
 use Rattle.desk_store.specs.Listing.{listed_of, filed_all, world_in_lists, AreCounted, IsStore, with_count}
@@ -19,12 +19,12 @@ use Rattle.desk_store.proofs.EntryLemmas.{Key}
 use Rattle.desk_store.proofs.StoreLemmas.{ceiling_found}
 
 -- the count of an operator that is found
-found_count : (o : List ℕ) (es : List (List ℕ × Enrolment)) (ps : List Filed) (e : Enrolment)
+found_count : (o : List ℕ) (es : List (List ℕ × CeilingEntry)) (ps : List Filed) (e : CeilingEntry)
     → AreCounted es ps → lookup (is_at (text_cmp o)) es ≡ Some e → e.plan_count ≡ length (rows_by o ps)
 found_count o [] ps e h f = cc
 found_count o (d ∷ es) ps e h f = by_test (is_eq (text_cmp o d.0)) refl f (found_count o es ps e h.1)
   where
-    is : ◌≡◌ {A = Option Enrolment} (Some d.1) (Some e) → e ≡ d.1
+    is : ◌≡◌ {A = Option CeilingEntry} (Some d.1) (Some e) → e ≡ d.1
     is g = cc
 
     by_test : (b : Bool) → is_eq (text_cmp o d.0) ≡ b
@@ -36,12 +36,12 @@ found_count o (d ∷ es) ps e h f = by_test (is_eq (text_cmp o d.0)) refl f (fou
     by_test false t g ih = ih g
 
 -- an operator's count is how many plans it has, listed or not
-pub count_is : (o : List ℕ) (es : List (List ℕ × Enrolment)) (plans : List (Key × PlanParts))
+pub count_is : (o : List ℕ) (es : List (List ℕ × CeilingEntry)) (plans : List (Key × PlanParts))
     → IsStore es plans → unwrap_or (option_map (λ e. e.plan_count) (lookup (is_at (text_cmp o)) es)) 0
     ≡ length (rows_by o (filed_all plans))
 unfolding ceiling_of
 count_is o es plans h = by_found (lookup (is_at (text_cmp o)) es) refl where
-  by_found : (found : Option Enrolment) → lookup (is_at (text_cmp o)) es ≡ found
+  by_found : (found : Option CeilingEntry) → lookup (is_at (text_cmp o)) es ≡ found
       → unwrap_or (option_map (λ e. e.plan_count) found) 0 ≡ length (rows_by o (filed_all plans))
   by_found None f = sym
       (ap length (unlisted_none o (world_in_lists es plans) h.0.world
@@ -56,21 +56,21 @@ unequal a b e = ap is_eq (nat_list_cmp_total.antisymm a b) ∙ by_order (text_cm
   by_order Greater f = refl
 
 -- the counts stay where the numbers of plans do
-pub counts_stay : (es : List (List ℕ × Enrolment)) (ps qs : List Filed)
+pub counts_stay : (es : List (List ℕ × CeilingEntry)) (ps qs : List Filed)
     → ((o : List ℕ) → length (rows_by o qs) ≡ length (rows_by o ps)) → AreCounted es ps
     → AreCounted es qs
 counts_stay es ps qs same = all_weaker (λ e. e.1.plan_count ≡ length (rows_by e.0 ps))
     (λ e. e.1.plan_count ≡ length (rows_by e.0 qs)) (λ e h. h ∙ sym (same e.0)) es
 
 -- and where the one that changes is replaced
-pub count_replaced : (o : List ℕ) (n : ℕ) (es : List (List ℕ × Enrolment)) (ps qs : List Filed) → n
+pub count_replaced : (o : List ℕ) (n : ℕ) (es : List (List ℕ × CeilingEntry)) (ps qs : List Filed) → n
     ≡ length (rows_by o qs) → ((q : List ℕ) → is_eq (text_cmp q o) ≡ false → rows_by q qs
     ≡ rows_by q ps)
     → AreCounted es ps → AreCounted (with_count o n es) qs
 count_replaced o n [] ps qs is same h = tt
 count_replaced o n (e ∷ es) ps qs is same h =
     (by_test (is_eq (text_cmp o e.0)) refl, count_replaced o n es ps qs is same h.1) where
-      new : Enrolment
+      new : CeilingEntry
       new = record e.1 { plan_count = n }
 
       by_test : (b : Bool) → is_eq (text_cmp o e.0) ≡ b → (cond b (e.0, new) e).1.plan_count
@@ -80,7 +80,7 @@ count_replaced o n (e ∷ es) ps qs is same h =
       by_test false t = h.0 ∙ sym (ap length (same e.0 (unequal e.0 o t)))
 
 -- an operator enrolled with its count
-pub count_enrolled : (o : List ℕ) (new : Enrolment) (es : List (List ℕ × Enrolment)) (ps : List Filed)
+pub count_enrolled : (o : List ℕ) (new : CeilingEntry) (es : List (List ℕ × CeilingEntry)) (ps : List Filed)
     → new.plan_count ≡ length (rows_by o ps) → AreCounted es ps
     → AreCounted (insert_entry text_cmp es o new) ps
 count_enrolled o new [] ps is h = (is, tt)
@@ -95,7 +95,7 @@ count_enrolled o new (e ∷ es) ps is h = by_order (text_cmp o e.0) refl
     by_order Greater l ih = (h.0, ih)
 
 -- a count replaced leaves the operators listed as they are
-pub listed_same : (o : List ℕ) (n : ℕ) (es : List (List ℕ × Enrolment))
+pub listed_same : (o : List ℕ) (n : ℕ) (es : List (List ℕ × CeilingEntry))
     → map listed_of (with_count o n es)
     ≡ map listed_of es
 listed_same o n [] = refl
@@ -109,24 +109,24 @@ less_is_not Less e = refl
 less_is_not Equal e = cc
 less_is_not Greater e = cc
 
-none_later : (o : List ℕ) (n : ℕ) (es : List (List ℕ × Enrolment))
+none_later : (o : List ℕ) (n : ℕ) (es : List (List ℕ × CeilingEntry))
     → AllByRecursion (λ k. text_cmp o k ≡ Less) (keys_of es) → with_count o n es ≡ es
 none_later o n [] h = refl
 none_later o n (e ∷ es) h = λ k. cond (less_is_not (text_cmp o e.0) h.0 k)
     (e.0, record e.1 { plan_count = n }) e ∷ none_later o n es h.1 k
 
 -- what is written through a look-up of the operator
-pub count_written : (o : List ℕ) (n : ℕ) (found : Enrolment) (es : List (List ℕ × Enrolment))
+pub count_written : (o : List ℕ) (n : ℕ) (found : CeilingEntry) (es : List (List ℕ × CeilingEntry))
     → IsStrictlySortedBy text_cmp (keys_of es) → lookup (is_at (text_cmp o)) es ≡ Some found
     → set_value (is_at (text_cmp o)) es (record found { plan_count = n }) ≡ with_count o n es
 unfolding IsStrictlySortedBy
 count_written o n found [] s f = cc
 count_written o n found (e ∷ es) s f = by_test (is_eq (text_cmp o e.0)) refl f
     (count_written o n found es s.1) where
-      left : List (List ℕ × Enrolment)
+      left : List (List ℕ × CeilingEntry)
       left = set_value (is_at (text_cmp o)) es (record found { plan_count = n })
 
-      is : ◌≡◌ {A = Option Enrolment} (Some e.1) (Some found) → found ≡ e.1
+      is : ◌≡◌ {A = Option CeilingEntry} (Some e.1) (Some found) → found ≡ e.1
       is g = cc
 
       by_test : (b : Bool) → is_eq (text_cmp o e.0) ≡ b
@@ -142,7 +142,7 @@ count_written o n found (e ∷ es) s f = by_test (is_eq (text_cmp o e.0)) refl f
           ∷ sym (none_later o n es after) k)
       by_test false t g ih = λ k. cond (sym t k) (e.0, record e.1 { plan_count = n }) e ∷ ih g k
 
-pub count_unwritten : (o : List ℕ) (n : ℕ) (es : List (List ℕ × Enrolment))
+pub count_unwritten : (o : List ℕ) (n : ℕ) (es : List (List ℕ × CeilingEntry))
     → lookup (is_at (text_cmp o)) es
     ≡ None → es ≡ with_count o n es
 count_unwritten o n [] f = refl

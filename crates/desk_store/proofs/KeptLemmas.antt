@@ -14,7 +14,7 @@ use Rattle.desk_rules.specs.declared.plan.PlanRow.{PlanRow}
 use Rattle.desk_rules.specs.Limits.{max_plans}
 use Rattle.desk_store.specs.declared.change.Change.{Change}
 use Rattle.desk_store.specs.declared.change.Change.TheVariants.{Put, Close}
-use Rattle.desk_store.specs.declared.list.Enrolment.{Enrolment}
+use Rattle.desk_store.specs.declared.list.CeilingEntry.{CeilingEntry}
 use Rattle.desk_store.specs.World.{World, text_cmp, rows_by, plans_of, stored_of, has_id}
 use Rattle.desk_store.specs.Content.{IsPlan, IsContent}
 use Rattle.desk_store.specs.Changes.{put_row, closed, close_row, is_named, clear_rows, with_plans}
@@ -34,7 +34,7 @@ pub kept_by : (change : Change) (before old after : World) → before ≡ old �
 kept_by change before old after same h keeps e = subst IsContent (sym e) (keeps (subst IsContent same h))
 
 -- the counts where an operator's number of plans stays
-same_counts : (old : World) (ops : List (List ℕ × Enrolment)) (plans more : List (Key × PlanParts))
+same_counts : (old : World) (ops : List (List ℕ × CeilingEntry)) (plans more : List (Key × PlanParts))
     (o : List ℕ) (rows : List PlanRow) → world_in_lists ops plans ≡ old → world_in_lists ops more
     ≡ with_plans old o rows
     → length rows ≡ length (plans_of o old) → AreCounted ops (filed_all plans)
@@ -53,7 +53,7 @@ same_counts old ops plans more o rows is after count =
       by_name q false e = ap length (others_kept q o rows old e)
 
 -- and where it changes
-new_counts : (old : World) (ops : List (List ℕ × Enrolment)) (plans more : List (Key × PlanParts))
+new_counts : (old : World) (ops : List (List ℕ × CeilingEntry)) (plans more : List (Key × PlanParts))
     (o : List ℕ) (n : ℕ) (rows : List PlanRow) → world_in_lists ops plans ≡ old
     → world_in_lists (with_count o n ops) more
     ≡ with_plans old o rows → n ≡ length rows → AreCounted ops (filed_all plans)
@@ -64,7 +64,7 @@ new_counts old ops plans more o n rows is after count =
     (λ q e. ap (plans_of q) after ∙ others_kept q o rows old e ∙ sym (ap (plans_of q) is))
 
 -- a row in place of one
-pub put_again : (old : World) (ops : List (List ℕ × Enrolment)) (plans more : List (Key × PlanParts))
+pub put_again : (old : World) (ops : List (List ℕ × CeilingEntry)) (plans more : List (Key × PlanParts))
     (o : List ℕ) (row : PlanRow) (found : Option PlanParts) → world_in_lists ops plans ≡ old
     → IsStore ops plans
     → IsFitting (Put o row) old → IsPlan row → IsStrictlySortedBy key_cmp (keys_of plans) → more
@@ -114,7 +114,7 @@ length-put_absent row (r ∷ rs) none = by_order (text_cmp row.id r.id) refl non
     by_order Greater l f ih = omega (arith, ih f)
 
 -- a row more
-pub put_first : (old : World) (ops : List (List ℕ × Enrolment)) (plans more : List (Key × PlanParts))
+pub put_first : (old : World) (ops : List (List ℕ × CeilingEntry)) (plans more : List (Key × PlanParts))
     (o : List ℕ) (row : PlanRow) (found : Option PlanParts) (count : ℕ) → world_in_lists ops plans ≡ old
     → IsStore ops plans → IsFitting (Put o row) old → IsPlan row
     → IsStrictlySortedBy key_cmp (keys_of plans) → more
@@ -152,14 +152,14 @@ put_first old ops plans more o row found count is h fits within sorted e f none 
   one_more = ap (λ n. n + 1) before ∙ sym (length-put_absent row (plans_of o old) absent)
 
 -- a count is within the limit
-pub count_within : (old : World) (ops : List (List ℕ × Enrolment)) (plans : List (Key × PlanParts))
+pub count_within : (old : World) (ops : List (List ℕ × CeilingEntry)) (plans : List (Key × PlanParts))
     (o : List ℕ) (count : ℕ) → IsStore ops plans → count
     ≡ unwrap_or (option_map (λ e. e.plan_count) (lookup (is_at (text_cmp o)) ops)) 0 → count ≤ max_plans
 count_within old ops plans o count h counted = omega
     (arith, counted ∙ count_is o ops plans h, h.0.world.rows o)
 
 -- plans taken out
-pub clear_kept : (old : World) (ops : List (List ℕ × Enrolment)) (plans more : List (Key × PlanParts))
+pub clear_kept : (old : World) (ops : List (List ℕ × CeilingEntry)) (plans more : List (Key × PlanParts))
     (o : List ℕ) (n : ℕ) (ids : List (List ℕ)) (change : Change) → changed_by change old
     ≡ with_plans old o (clear_rows ids (plans_of o old)) → world_in_lists ops plans ≡ old → IsStore ops plans
     → IsFitting change old
@@ -176,7 +176,7 @@ clear_kept old ops plans more o n ids change by is h fits after count = (
   rows = clear_rows ids (plans_of o old)
 
 -- those left are within the limit
-pub clear_within : (ops : List (List ℕ × Enrolment)) (plans more : List (Key × PlanParts)) (o : List ℕ)
+pub clear_within : (ops : List (List ℕ × CeilingEntry)) (plans more : List (Key × PlanParts)) (o : List ℕ)
     (ids : List (List ℕ)) → IsStore ops plans → more ≡ without o ids plans
     → length (rows_by o (filed_all more)) ≤ max_plans
 unfolding with_plans
@@ -189,7 +189,7 @@ clear_within ops plans more o ids h left =
     omega (arith, ap length are, fewer (λ r. not (is_named ids r)) (plans_of o w), h.0.world.rows o)
 
 -- a plan closed
-pub close_kept : (old : World) (ops : List (List ℕ × Enrolment)) (plans more : List (Key × PlanParts))
+pub close_kept : (old : World) (ops : List (List ℕ × CeilingEntry)) (plans more : List (Key × PlanParts))
     (o id : List ℕ) → world_in_lists ops plans ≡ old → IsStore ops plans → IsFitting (Close o id) old
     → world_in_lists ops more ≡ changed_by (Close o id) old → IsStore ops more
 unfolding changed_by

@@ -11,7 +11,7 @@ use Rattle.std.proofs.lemmas.List.{append_assoc}
 use Rattle.std.proofs.lemmas.Map.Lookups.{exact_bytes}
 use Rattle.desk_rules.specs.declared.plan.PlanRow.{PlanRow}
 use Rattle.desk_rules.specs.States.{states_in, states_of}
-use Rattle.desk_store.specs.declared.list.Enrolment.{Enrolment}
+use Rattle.desk_store.specs.declared.list.CeilingEntry.{CeilingEntry}
 use Rattle.desk_store.specs.World.{Filed, Listed, World, text_cmp, rows_by, plans_of, is_by, stored_of, has_id}
 use Rattle.desk_store.specs.Changes.{list_operator, put_row, replaced, with_operator, with_plans}
 use Rattle.desk_store.specs.Parts.{PlanParts, row_of, kept_states}
@@ -19,7 +19,7 @@ use Rattle.desk_store.specs.Listing.{listed_of, filed_of, filed_all, world_in_li
 use Rattle.desk_store.proofs.EntryLemmas.{Key, key_cmp, entry_inserted}
 
 -- the ceiling that a look-up finds
-pub ceiling_found : (o : List ℕ) (es : List (List ℕ × Enrolment))
+pub ceiling_found : (o : List ℕ) (es : List (List ℕ × CeilingEntry))
     → option_map (λ e. e.ceiling) (lookup (is_at (text_cmp o)) es)
     ≡ option_map (λ l. l.ceiling) (find (λ l. is_eq (text_cmp o l.name)) (map listed_of es))
 ceiling_found o [] = refl
@@ -72,7 +72,7 @@ states_found o id es = of_row (lookup (is_at (key_cmp (o, id))) es) ∙ ap state
   of_row (Some plan) = refl
 
 -- one more operator
-operator_inserted : (o : List ℕ) (new : Enrolment) (es : List (List ℕ × Enrolment))
+operator_inserted : (o : List ℕ) (new : CeilingEntry) (es : List (List ℕ × CeilingEntry))
     → map listed_of (insert_entry text_cmp es o new) ≡ list_operator o new.ceiling (map listed_of es)
 operator_inserted o new [] = refl
 operator_inserted o new (e ∷ es) = by_order (text_cmp o e.0) refl (operator_inserted o new es) where
@@ -92,8 +92,8 @@ operator_inserted o new (e ∷ es) = by_order (text_cmp o e.0) refl (operator_in
   by_order Greater l ih = ap (λ ls. listed_of e ∷ ls) ih
 
 -- enrolling is listing
-pub enrolled : (old : World) (ops more : List (List ℕ × Enrolment)) (plans : List (Key × PlanParts))
-    (o : List ℕ) (new : Enrolment) → world_in_lists ops plans ≡ old → more ≡ insert_entry text_cmp ops o new
+pub enrolled : (old : World) (ops more : List (List ℕ × CeilingEntry)) (plans : List (Key × PlanParts))
+    (o : List ℕ) (new : CeilingEntry) → world_in_lists ops plans ≡ old → more ≡ insert_entry text_cmp ops o new
     → world_in_lists more plans ≡ with_operator old o new.ceiling
 unfolding with_operator
 enrolled old ops more plans o new is e =
@@ -104,7 +104,7 @@ enrolled old ops more plans o new is e =
       listed w = record w { operators = list_operator o new.ceiling w.operators }
 
 -- storing is putting the row among the operator's
-pub stored : (old : World) (ops counted : List (List ℕ × Enrolment))
+pub stored : (old : World) (ops counted : List (List ℕ × CeilingEntry))
     (plans more : List (Key × PlanParts))
     (o id : List ℕ) (plan : PlanParts) → world_in_lists ops plans ≡ old → map listed_of counted
     ≡ map listed_of ops

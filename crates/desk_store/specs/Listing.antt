@@ -5,12 +5,12 @@ use Rattle.std.specs.Option.{option_map, unwrap_or}
 use Rattle.std.specs.Ordering.{is_eq}
 use Rattle.std.specs.BTreeMap.{is_at}
 use Rattle.std.specs.Map.{lookup}
-use Rattle.desk_store.specs.declared.list.Enrolment.{Enrolment}
+use Rattle.desk_store.specs.declared.list.CeilingEntry.{CeilingEntry}
 use Rattle.desk_store.specs.World.{World, Listed, Filed, text_cmp, rows_by}
 use Rattle.desk_store.specs.Content.{IsContent}
 use Rattle.desk_store.specs.Parts.{PlanParts, row_of}
 
-abbrev pub listed_of : List ℕ × Enrolment → Listed
+abbrev pub listed_of : List ℕ × CeilingEntry → Listed
 listed_of e = record { name = e.0; ceiling = e.1.ceiling }
 
 abbrev pub filed_of : (List ℕ × List ℕ) × PlanParts → Filed
@@ -19,23 +19,23 @@ filed_of e = record { operator = e.0.0; row = row_of e.0.1 e.1 }
 abbrev pub filed_all : List ((List ℕ × List ℕ) × PlanParts) → List Filed
 filed_all plans = map filed_of plans
 
-abbrev pub world_in_lists : List (List ℕ × Enrolment) → List ((List ℕ × List ℕ) × PlanParts) → World
+abbrev pub world_in_lists : List (List ℕ × CeilingEntry) → List ((List ℕ × List ℕ) × PlanParts) → World
 world_in_lists operators plans = record { operators = map listed_of operators; plans = filed_all plans }
 
 -- an operator's ceiling, or none where it is not listed, and its count, or 0
-abbrev pub ceiling_at : List ℕ → List (List ℕ × Enrolment) → Option ℕ
+abbrev pub ceiling_at : List ℕ → List (List ℕ × CeilingEntry) → Option ℕ
 ceiling_at operator operators = option_map (λ e. e.ceiling) (lookup (is_at (text_cmp operator)) operators)
 
-abbrev pub count_at : List ℕ → List (List ℕ × Enrolment) → ℕ
+abbrev pub count_at : List ℕ → List (List ℕ × CeilingEntry) → ℕ
 count_at operator operators =
     unwrap_or (option_map (λ e. e.plan_count) (lookup (is_at (text_cmp operator)) operators)) 0
 
 -- each operator's count is that of its plans
-abbrev pub AreCounted : List (List ℕ × Enrolment) → List Filed → Type 0
+abbrev pub AreCounted : List (List ℕ × CeilingEntry) → List Filed → Type 0
 AreCounted operators plans = AllByRecursion (λ e. e.1.plan_count ≡ length (rows_by e.0 plans)) operators
 
 -- what a store in memory always is
-abbrev pub IsStore : List (List ℕ × Enrolment) → List ((List ℕ × List ℕ) × PlanParts) → Type 0
+abbrev pub IsStore : List (List ℕ × CeilingEntry) → List ((List ℕ × List ℕ) × PlanParts) → Type 0
 IsStore operators plans = IsContent (world_in_lists operators plans) × AreCounted operators (filed_all plans)
 
 -- the key of one of an operator's plans of some ids, and the plans but those
@@ -47,6 +47,6 @@ abbrev pub without :
 without operator ids plans = filter (λ e. not (is_one_of operator ids e.0)) plans
 
 -- an operator's count replaced
-abbrev pub with_count : List ℕ → ℕ → List (List ℕ × Enrolment) → List (List ℕ × Enrolment)
+abbrev pub with_count : List ℕ → ℕ → List (List ℕ × CeilingEntry) → List (List ℕ × CeilingEntry)
 with_count operator count operators =
     map (λ e. cond (is_eq (text_cmp operator e.0)) (e.0, record e.1 { plan_count = count }) e) operators

@@ -37,7 +37,7 @@ use volume4d::{Held, Slab};
 
 /// What a store in memory keeps of an operator.
 #[derive(Clone, Copy, Debug)]
-pub struct Enrolment {
+pub struct CeilingEntry {
     ceiling: u32,
     plan_count: u32,
 }
@@ -46,7 +46,7 @@ pub struct Enrolment {
 /// Nothing of it is left for another start, so nothing is found.
 #[derive(Drop)]
 pub struct ListStore {
-    operators: BTreeMap<Operator, Enrolment>,
+    operators: BTreeMap<Operator, CeilingEntry>,
     plans: BTreeMap<(Operator, PlanId), Plan>,
     alloc: Global,
 }
@@ -165,7 +165,7 @@ impl ListStore {
         let plan_count = count_in(&self.operators, &operator);
         self.operators.insert(
             operator,
-            Enrolment {
+            CeilingEntry {
                 ceiling,
                 plan_count,
             },
@@ -211,7 +211,7 @@ impl ListStore {
     }
 }
 
-type Operators = BTreeMap<Operator, Enrolment>;
+type Operators = BTreeMap<Operator, CeilingEntry>;
 
 type Plans = BTreeMap<(Operator, PlanId), Plan>;
 

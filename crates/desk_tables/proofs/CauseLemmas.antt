@@ -25,7 +25,7 @@ use Rattle.desk_store.specs.World.{Filed, World, plans_of, stored_of}
 use Rattle.desk_store.specs.declared.fault.StoreFault.{StoreFault}
 use Rattle.desk_store.specs.declared.fault.StoreFault.TheVariants.{Store}
 use Rattle.desk_tables.specs.Causes.{BlamesStore}
-use Rattle.desk_tables.specs.ReadsMade.{IsToldAs}
+use Rattle.desk_tables.specs.ReadsMade.{IsReportedAs}
 use Rattle.desk_store.specs.Content.{IsContent, IsPlan}
 use Rattle.desk_tables.specs.Lookups.{one_or_none, own_of}
 use Rattle.desk_tables.specs.RowsRead.{IsHead, IsVolumeAt}
@@ -35,7 +35,7 @@ use Rattle.desk_tables.specs.Gathering.{BeginNoListing, HasCollected, HasNoArea}
 use Rattle.desk_tables.specs.RowsRead.{listing_rows}
 use Rattle.desk_tables.specs.RivalRows.{IsNoHeld}
 use Rattle.desk_tables.specs.Tables.{AreTables}
-use Rattle.desk_tables.specs.declared.reading.values.Head.{Head}
+use Rattle.desk_tables.specs.declared.reading.values.PlanHead.{PlanHead}
 use Rattle.desk_rules.specs.Limits.{max_plans}
 use Rattle.desk_sql.specs.Rows.{held_columns, tables_of}
 use Rattle.desk_sql.specs.Taking.{IsTakenInPart}
@@ -78,21 +78,21 @@ pub on_refused : {V E A : Type 0} (P : E → Type 0) (r : Result V E) → OnErr 
 on_refused P (Ok v) holds gives = tt
 on_refused P (Err e) holds gives = gives holds
 
--- what is told of an answer of SQLite
-pub told_value : {V : Type 0} (P : V → Type 0) (answer : Result V Error) (result : Result V StoreFault)
-    → IsToldAs answer result → IfOk answer P → IfOk result P
-told_value P (Ok v) result is holds = subst (λ r. IfOk r P) (sym is) holds
-told_value P (Err e) (Err f) is holds = tt
-told_value P (Err e) (Ok v) is holds = absurd is
+-- what is reported of an answer of SQLite
+pub reported_value : {V : Type 0} (P : V → Type 0) (answer : Result V Error) (result : Result V StoreFault)
+    → IsReportedAs answer result → IfOk answer P → IfOk result P
+reported_value P (Ok v) result is holds = subst (λ r. IfOk r P) (sym is) holds
+reported_value P (Err e) (Err f) is holds = tt
+reported_value P (Err e) (Ok v) is holds = absurd is
 
-pub told_cause : {S V : Type 0} (g : Ghosts S) (old new : Held S) (answer : Result V Error)
-    (result : Result V StoreFault) → old.step_limit ≡ None → IsToldAs answer result
+pub reported_cause : {S V : Type 0} (g : Ghosts S) (old new : Held S) (answer : Result V Error)
+    (result : Result V StoreFault) → old.step_limit ≡ None → IsReportedAs answer result
     → (HasCleanDisk (state g new) → IsTrue (state g new).is_open → IfErr answer (IsRefusal g old new))
     → IfErr result (BlamesStore g old new)
-told_cause g old new (Ok v) result unlimited is refusal =
+reported_cause g old new (Ok v) result unlimited is refusal =
     subst (λ r. IfErr r (BlamesStore g old new)) (sym is) tt
-told_cause g old new (Err e) (Err f) unlimited is refusal = blamed g old new e f unlimited is refusal
-told_cause g old new (Err e) (Ok v) unlimited is refusal = absurd is
+reported_cause g old new (Err e) (Err f) unlimited is refusal = blamed g old new e f unlimited is refusal
+reported_cause g old new (Err e) (Ok v) unlimited is refusal = absurd is
 
 pub within_bits : (ps : List Filed) → AllByRecursion (λ p. p.row.priority ≤ max_priority) ps
     → AllByRecursion (λ p. p.row.priority < 2 ^ 32) ps
@@ -168,7 +168,7 @@ name_short name h =
     let bounds = and_parts (nat_le 1 (length name)) _ parts.0 in
     omega (arith, leb-true (length name) max_name_length bounds.1)
 
--- what takes rows and refuses one that a reading tells of
+-- what takes rows and refuses one that a reading reports of
 abbrev Or : (List Row → Row → Type 0) → List Row → Row → Error → Type 0
 Or P taken row e = (e ≡ SqliteFailure code.OutOfMemory) ⊎ P taken row
 
@@ -183,7 +183,7 @@ module _ {S : Type 0} (g : Ghosts S) (old new : Held S) (unlimited : old.step_li
     (few : length ps ≤ max_plans)
     (are : (rows : List Row) → IsAnswer rows → rows ≡ listing_rows ps) where
   -- a listing of plans is gathered to its end
-  pub listing_blamed : (r : Result (Unit {0}) Error) (plans : List PlanRow) (head : Option Head)
+  pub listing_blamed : (r : Result (Unit {0}) Error) (plans : List PlanRow) (head : Option PlanHead)
       (volumes : List Block)
       → IfErr r (λ e. e ≢ SqliteFailure code.OutOfMemory) × OnOk r (HasNoArea head volumes)
       → IfErr r (IsTakenInPart g old new IsAnswer (Or BeginNoListing))

@@ -9,7 +9,7 @@ use Rattle.volume4d.specs.Volume.{Block, is_area}
 use Rattle.desk_rules.specs.declared.plan.PlanRow.{PlanRow}
 use Rattle.desk_store.specs.World.{Filed}
 use Rattle.desk_sql.specs.Rows.{joined}
-use Rattle.desk_tables.specs.declared.reading.values.Head.{Head}
+use Rattle.desk_tables.specs.declared.reading.values.PlanHead.{PlanHead}
 use Rattle.desk_tables.specs.Tables.{area_rows, row_of_plan, row_of_volume, volume_rows_from}
 use Rattle.desk_store.specs.Content.{IsBlock}
 use Rattle.desk_tables.specs.RowsRead.{IsVolumeAt, IsHead, joined_from, joined_rows, listing_rows}
@@ -34,14 +34,14 @@ last_low : (xs ys : List PlanRow) → AllByRecursion (λ r. r.priority < 2 ^ 32)
 last_low [] ys h = h
 last_low (x ∷ xs) ys h = last_low xs ys h.1
 
-more_low : (plans : List PlanRow) (head : Head) (volumes : List Block) (left : List Row) (ps : List Filed)
+more_low : (plans : List PlanRow) (head : PlanHead) (volumes : List Block) (left : List Row) (ps : List Filed)
     → AreLow ps → (way : IsPlanUnderWay plans head volumes left (map (λ p. p.row) ps)) → AreLow way.more
 more_low plans head volumes left ps low way =
     (rows_low (way.plan ∷ way.more) (last_low plans (map (λ p. p.row) (way.plan ∷ way.more))
     (subst (AllByRecursion (λ r. r.priority < 2 ^ 32)) (sym way.whole) (low_rows ps low)))).1
 
 -- the volumes of a plan of which no row is left are an area
-whole_area : (plans : List PlanRow) (head : Head) (volumes : List Block) (left : List Row)
+whole_area : (plans : List PlanRow) (head : PlanHead) (volumes : List Block) (left : List Row)
     (all : List PlanRow) (way : IsPlanUnderWay plans head volumes left all) → way.rest ≡ []
     → ¬ (is_area volumes ≡ false)
 whole_area plans head volumes left all way none off =
@@ -64,7 +64,7 @@ first_reads row left ps h low first =
     )
 
 -- the next row of a listing is gathered
-pub never_ungathered : (plans : List PlanRow) (head : Option Head) (volumes : List Block) (row : Row)
+pub never_ungathered : (plans : List PlanRow) (head : Option PlanHead) (volumes : List Block) (row : Row)
     (left : List Row) (ps : List Filed) → ArePlans ps → AreLow ps
     → Leads plans head volumes (row ∷ left) ps → ¬ IsUngathered head volumes row
 never_ungathered plans None volumes row left ps h low leads why =
@@ -107,7 +107,7 @@ never_ungathered plans (Some head) volumes row left ps h low way why = by_rest w
       ]
 
 -- and the last plan of a listing ends
-pub never_cut : (plans : List PlanRow) (head : Option Head) (volumes : List Block) (ps : List Filed)
+pub never_cut : (plans : List PlanRow) (head : Option PlanHead) (volumes : List Block) (ps : List Filed)
     → Leads plans head volumes [] ps → ¬ HasNoArea head volumes
 never_cut plans None volumes ps leads none = none
 never_cut plans (Some head) volumes ps way off =

@@ -109,11 +109,11 @@ all_and_one (r ∷ rows) row = let more = all_and_one rows row in (
 pub compared_on : (volumes after : List Row) (agree now : Bool) (row part : Row) → part ≡ volume_part row
     → after ≡ volumes ++ part ∷ [] → (IsTrue now ↔ (IsTrue agree × HasItsCover row)) → (rows : List Row)
     → AreCompared volumes agree rows → AreCompared after now (rows ++ row ∷ [])
-compared_on volumes after agree now row part is pushed tells rows h =
+compared_on volumes after agree now row part is pushed reports rows h =
     let all = all_and_one rows row in record {
       volumes_are = pushed ∙ (λ i. h.volumes_are i ++ is i ∷ []) ∙ sym (map-append volume_part rows (row ∷ []));
       agreed = (
-        λ t. let both = tells.0 t in all.1 (h.agreed.0 both.0, both.1),
-        λ a. let both = all.0 a in tells.1 (h.agreed.1 both.0, both.1),
+        λ t. let both = reports.0 t in all.1 (h.agreed.0 both.0, both.1),
+        λ a. let both = all.0 a in reports.1 (h.agreed.1 both.0, both.1),
       );
     }

@@ -218,7 +218,7 @@ module _ (one_shape : (one other : Shape) → HasValidParts one → HasValidPart
       → BeginsMoved g found new other count → other ≡ w
   begins_moved_shown g found new w other count has clean live begins = elim (begins clean live) [
     | inl (none, same) ↦ begins_shown g found new w other has clean live same
-    | inr (told, was) ↦ one_held one_shape (state g found).now other w (
+    | inr (reported, was) ↦ one_held one_shape (state g found).now other w (
       true,
       record {
         made = was.made;

@@ -189,7 +189,7 @@ can_then g w old begun is can live =
 
 module _ {S : Type 0} (g : Ghosts S) (a c : Held S) where
   pub blames_disk : (e : OpenFault) → a.step_limit ≡ None → BlamesDatabase g a c e → BlamesNew g a c e
-  blames_disk e unlimited why clean live told = inr (disk_blamed g a c e unlimited why clean live told)
+  blames_disk e unlimited why clean live reported = inr (disk_blamed g a c e unlimited why clean live reported)
 
   pub blames_later : (b : Held S) → (state g a).faults ≤ (state g b).faults → b.step_limit ≡ a.step_limit
       → (e : OpenFault) → a.step_limit ≡ None → BlamesReading g b c e → BlamesNew g a c e

@@ -95,7 +95,7 @@ listed_since g made spans_in a m b Checked one two live listed clean =
       checked,
     )
 
--- a refusal of what was read is told on
+-- a refusal of what was read is reported on
 pub refused_on : {S V : Type 0} (g : Ghosts S) (made : TablesPresent) (a b : Held S)
     {Gives : Tables → V → Type 0} {Refuses : Tables → Type 0} (r : Result V OpenFault) (e : OpenFault)
     → IsErrAnd r (λ fault. fault ≡ e) → OnlyReads g a b
@@ -105,20 +105,20 @@ refused_on g made a b (Ok v) e is reads none newer cause = absurd is
 refused_on g made a b (Err f) e is reads none newer cause = record {
   value = λ clean. tt;
   was_open = λ clean. tt;
-  none = λ told. none (sym is ∙ told);
-  newer = λ told. newer (sym is ∙ told);
+  none = λ reported. none (sym is ∙ reported);
+  newer = λ reported. newer (sym is ∙ reported);
   cause = subst (BlamesReading g a b) (sym is) cause;
   reads = reads;
 }
 
--- a refusal of what is in hand is told on
+-- a refusal of what is in hand is reported on
 pub refused_in_hand : {S V : Type 0} (g : Ghosts S) (made : TablesPresent) (a b : Held S)
     {Gives : Tables → V → Type 0} {Refuses : Tables → Type 0} (r : Result V OpenFault) (e : OpenFault)
     → IsErrAnd r (λ fault. fault ≡ e) → OnlyReads g a b
     → (e ≡ NotADesk → HasCleanDisk (state g b) → Refuses (tables_at made (state g a).now.trees))
     → (e ≢ Store) × (e ≢ OldSchema) → IsRead g a b r made Gives Refuses
 refused_in_hand g made a b r e is reads none other =
-    refused_on g made a b r e is reads none other.1 (λ clean live told. absurd (other.0 told))
+    refused_on g made a b r e is reads none other.1 (λ clean live reported. absurd (other.0 reported))
 
 -- tables are read as what spans that were held against the plans make of them, if they agree
 module _ {S V : Type 0} (g : Ghosts S) (made : TablesPresent) (a b : Held S) (world : V → World)
@@ -151,10 +151,10 @@ module _ {S V : Type 0} (g : Ghosts S) (made : TablesPresent) (a b : Held S) (wo
   spans_held (Err e) opened reads taken is agree none other = record {
     value = λ clean. tt;
     was_open = λ clean. tt;
-    none = λ told clean.
-        let (rows, lists, checked) = taken clean in refuses clean rows lists (none told rows checked);
+    none = λ reported clean.
+        let (rows, lists, checked) = taken clean in refuses clean rows lists (none reported rows checked);
     newer = other.1;
-    cause = λ clean live told. absurd (other.0 told);
+    cause = λ clean live reported. absurd (other.0 reported);
     reads = reads;
   }
 

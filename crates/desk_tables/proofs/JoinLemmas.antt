@@ -9,7 +9,7 @@ use Rattle.volume4d.specs.Volume.{Block, is_area}
 use Rattle.desk_rules.specs.declared.plan.PlanRow.{PlanRow}
 use Rattle.desk_sql.specs.Rows.{joined}
 use Rattle.desk_store.specs.World.{Filed}
-use Rattle.desk_tables.specs.declared.reading.values.Head.{Head}
+use Rattle.desk_tables.specs.declared.reading.values.PlanHead.{PlanHead}
 use Rattle.desk_tables.specs.Tables.{row_of_plan, row_of_volume}
 use Rattle.desk_store.specs.Content.{IsId, IsBlock}
 use Rattle.desk_tables.specs.RowsRead.{IsVolumeAt, IsHead, is_later, joined_from, listing_rows}
@@ -77,14 +77,14 @@ each_at [] y ys h = h.0
 each_at (x ∷ xs) y ys h = each_at xs y ys h.1
 
 -- what a row is read as, where it is a head's and a volume's
-abbrev pub ReadsHead : Row → Head → Type 0
+abbrev pub ReadsHead : Row → PlanHead → Type 0
 ReadsHead row head = (p : PlanRow) → IsId p.id → IsHead row p → plan_with head p.area ≡ p
 
 abbrev pub ReadsVolume : Row → Block → Type 0
 ReadsVolume row volume = (v : Block) → IsBlock v → IsVolumeAt row 6 v → volume ≡ v
 
 -- a plan's first row begins it
-begins : (plans : List PlanRow) (head : Head) (volume : Block) (row : Row) (left : List Row)
+begins : (plans : List PlanRow) (head : PlanHead) (volume : Block) (row : Row) (left : List Row)
     (ps : List Filed)
     (all : List PlanRow) → ArePlans ps → IsFirst row left ps → ReadsHead row head
     → ReadsVolume row volume
@@ -111,7 +111,7 @@ begins plans head volume row left ps all h first reads_head reads_volume e =
     }
 
 -- where no volume of the plan under way is left, the plan is whole
-closes : (plans : List PlanRow) (head : Head) (volumes : List Block) (left : List Row)
+closes : (plans : List PlanRow) (head : PlanHead) (volumes : List Block) (left : List Row)
     (all : List PlanRow)
     (way : IsPlanUnderWay plans head volumes left all) → way.rest ≡ []
     → closed_plans plans (Some head) volumes ++ map (λ p. p.row) way.more ≡ all
@@ -128,10 +128,10 @@ pub stays_later : (row : Row) (p : Filed) (n : ℕ) (v : Block) → 1 ≤ n → 
     ≡ joined (row_of_plan p) (row_of_volume p n v) → is_later row ≡ true
 stays_later row p n v low is = ap is_later is ∙ above n low
 
-takes_first : (plans : List PlanRow) (old : Option Head) (volumes : List Block) (row : Row)
+takes_first : (plans : List PlanRow) (old : Option PlanHead) (volumes : List Block) (row : Row)
     (left : List Row)
     (ps : List Filed) → ArePlans ps → Leads plans old volumes (row ∷ left) ps → is_later row ≡ false
-    → (head : Head) (volume : Block) → ReadsHead row head → ReadsVolume row volume
+    → (head : PlanHead) (volume : Block) → ReadsHead row head → ReadsVolume row volume
     → Leads (closed_plans plans old volumes) (Some head) (volume ∷ []) left ps
 takes_first plans None volumes row left ps h leads test head volume reads_head reads_volume =
     begins plans head volume row left ps (map (λ p. p.row) ps) h (first_row row left ps h leads.1)
@@ -156,7 +156,7 @@ takes_first plans (Some old) volumes row left ps h way test head volume reads_he
           (sym is) in
           absurd (true≢false (sym (stays_later row way.plan (length volumes) v way.begun cc) ∙ test))
 
-takes_later : (plans : List PlanRow) (old : Option Head) (volumes : List Block) (row : Row)
+takes_later : (plans : List PlanRow) (old : Option PlanHead) (volumes : List Block) (row : Row)
     (left : List Row)
     (ps : List Filed) → ArePlans ps → Leads plans old volumes (row ∷ left) ps → is_later row ≡ true
     → (volume : Block) → ReadsVolume row volume → Leads plans old (volumes ++ volume ∷ []) left ps
@@ -195,16 +195,16 @@ takes_later plans (Some head) volumes row left ps h way test volume reads = by_r
         whole = way.whole;
       }
 
-module _ (plans : List PlanRow) (old : Option Head) (volumes : List Block) (row : Row) (left : List Row)
+module _ (plans : List PlanRow) (old : Option PlanHead) (volumes : List Block) (row : Row) (left : List Row)
     (ps : List Filed) (h : ArePlans ps) (leads : Leads plans old volumes (row ∷ left) ps)
-    (volume : Block) (reads : ReadsVolume row volume) (now : List PlanRow) (head : Option Head)
+    (volume : Block) (reads : ReadsVolume row volume) (now : List PlanRow) (head : Option PlanHead)
     (begun after : List Block) (pushed : after ≡ begun ++ volume ∷ []) where
   pub adds_first : is_later row ≡ false → now ≡ closed_plans plans old volumes
       → IsSomeAnd head (ReadsHead row) → begun ≡ [] → Leads now head after left ps
   adds_first test whole some none =
       subst (λ vs. Leads now head vs left ps) (sym (pushed ∙ ap (λ vs. vs ++ volume ∷ []) none))
       (subst (λ qs. Leads qs head (volume ∷ []) left ps) (sym whole) (by_head head some)) where
-        by_head : (found : Option Head) → IsSomeAnd found (ReadsHead row)
+        by_head : (found : Option PlanHead) → IsSomeAnd found (ReadsHead row)
             → Leads (closed_plans plans old volumes) found (volume ∷ []) left ps
         by_head None none = absurd none
         by_head (Some found) reads_head = takes_first plans old volumes row left ps h leads test found
@@ -219,7 +219,7 @@ module _ (plans : List PlanRow) (old : Option Head) (volumes : List Block) (row 
       (subst (λ found. Leads plans found (volumes ++ volume ∷ []) left ps) (sym head_is)
       (takes_later plans old volumes row left ps h leads test volume reads)))
 
-pub ended : (plans : List PlanRow) (head : Option Head) (volumes : List Block) (ps : List Filed)
+pub ended : (plans : List PlanRow) (head : Option PlanHead) (volumes : List Block) (ps : List Filed)
     → ArePlans ps
     → Leads plans head volumes [] ps → closed_plans plans head volumes ≡ map (λ p. p.row) ps
 ended plans None volumes ps h leads = by_plans ps h leads.1 where

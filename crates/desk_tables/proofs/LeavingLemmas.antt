@@ -222,7 +222,7 @@ module _ {D E : Type 0} {g : disk.Ghosts D} {k : disk.Ghosts E} (last : Held (Fi
         first = it.refused.opened it.legible.0;
       })
 
-      -- that there is no desk, or one of schema 1, is never told of them
+      -- that there is no desk, or one of schema 1, is never reported of them
       pub never_none : IsRefusedAfter last e left → e ≢ NotADesk
       never_none it is = taken it (inr (inr (inl (it.refused.none is it.legible.0 it.legible.1))))
 
@@ -264,12 +264,12 @@ module _ {D E : Type 0} {g : disk.Ghosts D} {k : disk.Ghosts E} (last : Held (Fi
               holds.rows.tables;
         }
 
-    -- of such files neither is told, by a connection that can be read or by none
-    pub not_told : (image : Image) → IsImageLeft last image → (e : OpenFault)
+    -- of such files neither is reported, by a connection that can be read or by none
+    pub not_reported : (image : Image) → IsImageLeft last image → (e : OpenFault)
         → (connection : Result (Held (FileStore E k)) (NotOpened E k)) → AreRefused image e connection
         → IfOk connection IsLegible → IsUnread e
-    not_told image files e (Err it) unread legible = unread.unread
-    not_told image files e (Ok left) refused legible =
+    not_reported image files e (Err it) unread legible = unread.unread
+    not_reported image files e (Ok left) refused legible =
         let after : IsRefusedAfter last e left = record {
           image = image;
           files = files;

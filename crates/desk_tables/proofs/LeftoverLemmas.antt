@@ -64,7 +64,7 @@ reserved_is size = elim (cases_eq (size % 16) 8) [
   | inr other ↦ inr (rw (ne_eqb (size % 16) 8 other) (refl, λ is. cc))
 ]
 
--- files that were not opened are told so, with what is left of them
+-- files that were not opened are reported so, with what is left of them
 pub unread_if : {D V : Type 0} {g : disk.Ghosts D} (image : Image) (files : Files D)
     → image_of g files ≡ image → ((next : Image) → outcomes g files.log files.db next → next ≡ image)
     → (r : Result V (NotOpened D g))
@@ -102,8 +102,8 @@ module _ (image : Image) (db : Trees) (held : HoldsDatabase image db) where
       let equal : first ≡ page = cc in
       ap (λ b. be32 b 20) equal ∙ word ∙ ap (λ n. n * 0x100_0000 + 0x0040_2020) summed
 
-  has_sums : (size : ℕ) → stored_size held.0 ≡ size → SaysSums size image → reserved held.0 ≡ 8
-  has_sums size same says =
+  has_checksums : (size : ℕ) → stored_size held.0 ≡ size → SaysSums size image → reserved held.0 ≡ 8
+  has_checksums size same says =
       let (page, at, long, word, magic) =
       reserved_word held.0 image held.2.pages held.2.found large held.2.ours.file.sound in
       let is : be32 page 20 ≡ 0x0840_2020 = says held.2.found.stored page
@@ -116,7 +116,7 @@ module _ (image : Image) (db : Trees) (held : HoldsDatabase image db) where
   same_size size names says takes =
       let same = same_stored (stored_size size) names in
       let alike : reserved size ≡ reserved held.0 = elim (reserved_is size) [
-        | inl (eight, summed) ↦ eight ∙ sym (has_sums (stored_size size) same (says summed))
+        | inl (eight, summed) ↦ eight ∙ sym (has_checksums (stored_size size) same (says summed))
         | inr (none, unsummed) ↦ elim (reserved_is held.0) [
           | inl (eight, summed) ↦ absurd (unsummed (takes (says_sums (stored_size size) same eight)))
           | inr (zero, plain) ↦ none ∙ sym zero

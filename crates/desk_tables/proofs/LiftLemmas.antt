@@ -13,7 +13,7 @@ use Rattle.desk_tables.specs.Opening.{BeginsWith, BlamesDatabase, BlamesDisk, Sh
 -- without a limit on steps it is none that refuses
 pub disk_blamed : {S : Type 0} (g : Ghosts S) (a c : Held S) (e : OpenFault) → a.step_limit ≡ None
     → BlamesDatabase g a c e → BlamesDisk g a c e
-disk_blamed g a c e unlimited cause clean live told = elim (cause clean live told) [
+disk_blamed g a c e unlimited cause clean live reported = elim (cause clean live reported) [
   | inl (inl disk) ↦ inl disk
   | inl (inr steps) ↦ absurd (true≢false (sym (subst IsSome unlimited steps)))
   | inr numbers ↦ inr numbers
@@ -55,8 +55,8 @@ module _ {S : Type 0} (g : Ghosts S) (a c : Held S) where
   moves : (w : World) (count : ℕ) → BeginsMoved g (lifted a) c w count → BeginsMoved g a c w count
   moves w count it = λ clean live. elim (it clean live) [
     | inl none ↦ inl (none.0, begins w none.1)
-    | inr (told, was) ↦ inr (
-      told,
+    | inr (reported, was) ↦ inr (
+      reported,
       record {
         made = was.made;
         desk = was.desk;

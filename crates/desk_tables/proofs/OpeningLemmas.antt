@@ -221,13 +221,13 @@ module _ {S : Type 0} (g : Ghosts S) (a b c : Held S) (reads : OnlyReads g a b)
 module _ {S : Type 0} (g : Ghosts S) (a b c : Held S) (faults : (state g a).faults ≤ (state g b).faults)
     (limit : b.step_limit ≡ a.step_limit) where
   pub blames_since : (e : OpenFault) → BlamesReading g b c e → BlamesReading g a c e
-  blames_since e cause clean live told = elim (cause clean live told) [
+  blames_since e cause clean live reported = elim (cause clean live reported) [
     | inl failed ↦ inl (omega (arith, failed, faults))
     | inr limited ↦ inr (subst IsSome limit limited)
   ]
 
   pub cause_then : (e : OpenFault) → BlamesReading g b c e → BlamesDatabase g a c e
-  cause_then e cause clean live told = inl (blames_since e cause clean live told)
+  cause_then e cause clean live reported = inl (blames_since e cause clean live reported)
 
 -- what is set up after a reading is a whole opening
 pub opened_since : {S V : Type 0} (g : Ghosts S) (a b c : Held S) (world : V → World) (r : Result V OpenFault)
@@ -260,7 +260,7 @@ opened_since g a b c world (Err e) reads done = record {
   shield = λ s. done.shield (reads.shield s);
 }
 
--- a reading's refusal that is told on
+-- a reading's refusal that is reported on
 pub unread_as : {S V W : Type 0} (g : Ghosts S) (a b : Held S) (made : TablesPresent) {world : V → World}
     {Begins : V → Type 0} {Gives : Tables → W → Type 0} {Refuses : Tables → Type 0} {Keeps : Type 0}
     (r : Result V OpenFault) (e : OpenFault) → IsErrAnd r (λ fault. fault ≡ e)
@@ -273,8 +273,8 @@ unread_as g a b made (Err f) e is read keeps = record {
   stands = tt;
   was_open = λ clean. tt;
   live = tt;
-  none = λ told. read.none (sym is ∙ told);
-  newer = λ told. read.newer (sym is ∙ told);
+  none = λ reported. read.none (sym is ∙ reported);
+  newer = λ reported. read.newer (sym is ∙ reported);
   cause = subst (BlamesReading g a b) (sym is) read.cause;
   kept = keeps read.reads.kept;
   limit = read.reads.limit;
@@ -282,7 +282,7 @@ unread_as g a b made (Err f) e is read keeps = record {
   shield = read.reads.shield;
 }
 
--- an opening's refusal that is told on
+-- an opening's refusal that is reported on
 pub refused_as : {S V : Type 0} (g : Ghosts S) (a c : Held S) {world : V → World} {Begins : V → Type 0}
     {Refuses Older Keeps : Type 0} (r : Result V OpenFault) (e : OpenFault) → IsErrAnd r (λ fault. fault ≡ e)
     → (e ≡ NotADesk → Refuses) → e ≢ OldSchema → BlamesDatabase g a c e → Keeps
@@ -294,8 +294,8 @@ refused_as g a c (Err f) e is none newer cause kept limit rises shield = record 
   begins = tt;
   stands = tt;
   live = tt;
-  none = λ told. none (sym is ∙ told);
-  older = λ told. absurd (newer (sym is ∙ told));
+  none = λ reported. none (sym is ∙ reported);
+  older = λ reported. absurd (newer (sym is ∙ reported));
   cause = subst (BlamesDatabase g a c) (sym is) cause;
   kept = kept;
   limit = limit;
@@ -303,11 +303,11 @@ refused_as g a c (Err f) e is none newer cause kept limit rises shield = record 
   shield = shield;
 }
 
--- what is said of an error, once it is told on
-pub told_as : {V : Type 0} (P : OpenFault → Type 0) (r : Result V OpenFault) (e : OpenFault)
+-- what is said of an error, once it is reported on
+pub reported_as : {V : Type 0} (P : OpenFault → Type 0) (r : Result V OpenFault) (e : OpenFault)
     → IsErrAnd r (λ fault. fault ≡ e) → P e → IfErr r P
-told_as P (Ok v) e is p = tt
-told_as P (Err f) e is p = subst P (sym is) p
+reported_as P (Ok v) e is p = tt
+reported_as P (Err f) e is p = subst P (sym is) p
 
 pub kept_on_err : {V E A : Type 0} (r : Result V E) → A → OnErr r A
 kept_on_err (Ok v) a = tt
@@ -315,21 +315,21 @@ kept_on_err (Err e) a = a
 
 -- what a refusal is blamed on
 module _ {S : Type 0} (g : Ghosts S) where
-  -- what SQLite refuses is told as a failure only if the disk failed or the steps did not do
+  -- what SQLite refuses is reported as a failure only if the disk failed or the steps did not do
   failed_if : (a b c : Held S) (error : Error) → (state g a).faults ≤ (state g b).faults → b.step_limit
       ≡ a.step_limit → IsRefusal g b c error → open_fault_of error ≡ Store → IsHindered g a c
-  failed_if a b c error fewer limit (inl h) told =
+  failed_if a b c error fewer limit (inl h) reported =
       let e : open_fault_of (SqliteFailure code.OutOfMemory)
-      ≡ Store = subst (λ x. open_fault_of x ≡ Store) h told in cc
-  failed_if a b c error fewer limit (inr (inl h)) told = inl (omega (arith, h, fewer))
-  failed_if a b c error fewer limit (inr (inr h)) told = inr (subst IsSome limit h.1)
+      ≡ Store = subst (λ x. open_fault_of x ≡ Store) h reported in cc
+  failed_if a b c error fewer limit (inr (inl h)) reported = inl (omega (arith, h, fewer))
+  failed_if a b c error fewer limit (inr (inr h)) reported = inr (subst IsSome limit h.1)
 
   -- what the tables are not found for
   pub blames_unread : (a b : Held S) (error : Error)
       → (HasCleanDisk (state g b) → IsTrue (state g b).is_open → AreRowsUnread g a b error)
       → BlamesDatabase g a b (open_fault_of error)
-  blames_unread a b error why clean live told = elim (why clean live) [
-    | inl refusal ↦ inl (failed_if a a b error (omega arith) refl refusal told)
+  blames_unread a b error why clean live reported = elim (why clean live) [
+    | inl refusal ↦ inl (failed_if a a b error (omega arith) refl refusal reported)
     | inr numbers ↦ inr numbers.1
   ]
 
@@ -337,8 +337,8 @@ module _ {S : Type 0} (g : Ghosts S) where
       → b.step_limit ≡ a.step_limit
       → (HasCleanDisk (state g c) → IsTrue (state g c).is_open → IsRefusal g b c error)
       → BlamesReading g a c (open_fault_of error)
-  blames_reading a b c error fewer limit why clean live told =
-      failed_if a b c error fewer limit (why clean live) told
+  blames_reading a b c error fewer limit why clean live reported =
+      failed_if a b c error fewer limit (why clean live) reported
 
 no_rows : (rows : List Row) → has_rows rows ≡ false → rows ≡ []
 no_rows [] none = refl

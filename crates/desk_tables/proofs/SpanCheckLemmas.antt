@@ -194,7 +194,7 @@ module _ (p : Filed) (ps : List Filed) (s : Slab) (slabs : List Slab) (shown pla
   pub some_left : AreAwaited (p ∷ ps) (s ∷ slabs) shown place [] → ⊥
   some_left h = let (later, e, awaited) = begin_so [] h in cc
 
--- ---- as the cursor's calls tell it
+-- ---- as the cursor's calls report it
 
 -- what is alike twice is alike
 pub alike : {A B C : Type 0} → A ↔ B → B ↔ C → A ↔ C

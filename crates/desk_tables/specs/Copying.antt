@@ -112,7 +112,7 @@ module _ {D : Type 0} {g : disk.Ghosts D} (image : Image) where
     pub blank : HasCleanDisk (file_state h) → (file_state found).now.schema ≡ blank_schema
     pub guarded : HasCleanDisk (file_state found) → (file_state h).IsShielded
     pub summed : HasCleanDisk (file_state found) → IsBlankAs true image
-        → (view found.store).has_sums ≡ true
+        → (view found.store).has_checksums ≡ true
     pub live : IsOpenIfClean (over_files {D = D} {g = g}) h
 
 module _ {D : Type 0} {g : disk.Ghosts D} (image : Image) (e : OpenFault) where
@@ -127,8 +127,8 @@ module _ {D : Type 0} {g : disk.Ghosts D} (image : Image) (e : OpenFault) where
     pub cause : BlamesDisk (over_files {D = D} {g = g}) found left e
     pub reads : OnlyReads (over_files {D = D} {g = g}) found left
 
-  -- files of which no content is told were read so; or they were not opened, and it isn't said of them that
-  -- they have none
+  -- files of which no content is reported were read so; or they were not opened, and it isn't said of them
+  -- that they have none
   abbrev pub AreNotRead : Result (Held (FileStore D g)) (NotOpened D g) → Type 0
   AreNotRead (Ok left) = IsUnreadIn left
   AreNotRead (Err it) = IsOfUnreached image e it

@@ -5,12 +5,12 @@ use Rattle.sqlite_value.specs.Order.{Row}
 use Rattle.volume4d.specs.Volume.{Block, is_area}
 use Rattle.desk_rules.specs.declared.plan.PlanRow.{PlanRow}
 use Rattle.desk_store.specs.World.{Filed}
-use Rattle.desk_tables.specs.declared.reading.values.Head.{Head}
+use Rattle.desk_tables.specs.declared.reading.values.PlanHead.{PlanHead}
 use Rattle.desk_store.specs.Content.{IsBlock, IsId, IsPlan}
 use Rattle.desk_tables.specs.RowsRead.{IsHead, IsVolumeAt, is_later, joined_from, listing_rows}
 
 -- the plan that is this but for its area
-abbrev pub plan_with : Head → List Block → PlanRow
+abbrev pub plan_with : PlanHead → List Block → PlanRow
 plan_with head area =
     record {
       id = head.id;
@@ -21,13 +21,13 @@ plan_with head area =
     }
 
 -- the plans that are whole, and the one under way, as if no volume of it were left
-abbrev pub closed_plans : List PlanRow → Option Head → List Block → List PlanRow
+abbrev pub closed_plans : List PlanRow → Option PlanHead → List Block → List PlanRow
 closed_plans plans None volumes = plans
 closed_plans plans (Some head) volumes = plans ++ plan_with head volumes ∷ []
 
 -- the plan under way is the first of some whose other rows are left; with the plans before it they
 -- are all plans
-pub record IsPlanUnderWay (plans : List PlanRow) (head : Head) (volumes : List Block)
+pub record IsPlanUnderWay (plans : List PlanRow) (head : PlanHead) (volumes : List Block)
     (left : List Row) (all : List PlanRow) : Type 0 where
   pub plan : Filed
   pub rest : List Block
@@ -40,12 +40,12 @@ pub record IsPlanUnderWay (plans : List PlanRow) (head : Head) (volumes : List B
   pub whole : plans ++ map (λ p. p.row) (plan ∷ more) ≡ all
 
 -- what is gathered and the rows that are left make these plans
-abbrev pub Leads : List PlanRow → Option Head → List Block → List Row → List Filed → Type 0
+abbrev pub Leads : List PlanRow → Option PlanHead → List Block → List Row → List Filed → Type 0
 Leads plans None volumes left ps = (plans ≡ []) × (left ≡ listing_rows ps)
 Leads plans (Some head) volumes left ps = IsPlanUnderWay plans head volumes left (map (λ p. p.row) ps)
 
 -- whatever plans these are the first rows of a listing of: what is gathered leads to them
-abbrev pub HasCollected : List PlanRow → Option Head → List Block → List Row → Type 0
+abbrev pub HasCollected : List PlanRow → Option PlanHead → List Block → List Row → Type 0
 HasCollected plans head volumes rows =
     (ps : List Filed) (left : List Row) → AllByRecursion (λ p. IsPlan p.row) ps
     → rows ++ left ≡ listing_rows ps → Leads plans head volumes left ps
@@ -53,7 +53,7 @@ HasCollected plans head volumes rows =
 -- ---- rows that are not gathered
 
 -- the plan under way has no area's volumes
-abbrev pub HasNoArea : Option Head → List Block → Type 0
+abbrev pub HasNoArea : Option PlanHead → List Block → Type 0
 HasNoArea None volumes = ⊥
 HasNoArea (Some head) volumes = is_area volumes ≡ false
 
@@ -63,7 +63,7 @@ IsNoHead row = (p : PlanRow) → IsId p.id → p.priority < 2 ^ 32 → ¬ IsHead
 
 -- a row of a plan after the one under way, which can't end or which it can't begin; one of a plan of which no
 -- row came; or one without a volume
-abbrev pub IsUngathered : Option Head → List Block → Row → Type 0
+abbrev pub IsUngathered : Option PlanHead → List Block → Row → Type 0
 IsUngathered head volumes row =
     ((is_later row ≡ false) × (HasNoArea head volumes ⊎ IsNoHead row))
     ⊎ (((is_later row ≡ true) × (head ≡ None)) ⊎ ((v : Block) → IsBlock v → ¬ IsVolumeAt row 6 v))

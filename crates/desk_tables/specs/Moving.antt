@@ -146,9 +146,9 @@ pub record HasNoOldContent (db : Database) : Type 0 where
   pub old : has_old_rows (tables_at made db.trees) ≡ true
   pub none : AreNoOldContent (tables_at made db.trees)
 
--- how many plans were moved is told up to the greatest number of 32 bits
-abbrev pub told_count : List Filed → ℕ
-told_count ps = if nat_le (length ps) (2 ^ 32 - 1) then length ps else 2 ^ 32 - 1
+-- how many plans were moved is reported up to the greatest number of 32 bits
+abbrev pub reported_count : List Filed → ℕ
+reported_count ps = if nat_le (length ps) (2 ^ 32 - 1) then length ps else 2 ^ 32 - 1
 
 module _ {S : Type 0} (g : Ghosts S) (old new : Held S) where
   -- over a connection that is open and a clean disk, a store of this world begins, and so many plans were
@@ -156,7 +156,7 @@ module _ {S : Type 0} (g : Ghosts S) (old new : Held S) where
   abbrev pub BeginsMoved : World → ℕ → Type 0
   BeginsMoved w count =
       HasCleanDisk (state g new) → IsTrue (state g new).is_open →
-      ((count ≡ 0) × BeginsWith g old new w) ⊎ ((count ≡ told_count w.plans) × WasMoved g old new w)
+      ((count ≡ 0) × BeginsWith g old new w) ⊎ ((count ≡ reported_count w.plans) × WasMoved g old new w)
 
   -- what is shown is no desk's, in either schema
   abbrev pub ShowsNoContent : Type 0

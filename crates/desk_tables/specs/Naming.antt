@@ -51,8 +51,8 @@ pub record IsPlanHead (head : Row) : Type 0 where
 abbrev pub ArePlanHeads : List Row → Type 0
 ArePlanHeads heads = AllByRecursion IsPlanHead heads
 
--- these rows of spans were held against plans: they are named if they aren't the plans', and the covers if they
--- aren't those of the volumes
+-- these rows of spans were held against plans: they are named if they aren't the plans', and the covers if
+-- they aren't those of the volumes
 abbrev pub FailsSpans : List Filed → List Row → Bool → InvalidPart → Type 0
 FailsSpans ps rows covered Span = ¬ AreSpanRows ps rows
 FailsSpans ps rows covered Cover = AreSpanRows ps rows × (covered ≡ false)

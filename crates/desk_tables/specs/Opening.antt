@@ -229,7 +229,7 @@ module _ {S : Type 0} (g : Ghosts S) (old new : Held S) where
   BlamesReading e =
       HasCleanDisk (state g new) → IsTrue (state g new).is_open → e ≡ Store → IsHindered
 
-  -- why an opening, a move or a look tells that the database failed
+  -- why an opening, a move or a look reports that the database failed
   abbrev pub BlamesDatabase : OpenFault → Type 0
   BlamesDatabase e =
       HasCleanDisk (state g new) → IsTrue (state g new).is_open → e ≡ Store →

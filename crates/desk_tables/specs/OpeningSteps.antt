@@ -16,7 +16,7 @@ use Rattle.desk_store.specs.World.{World}
 use Rattle.desk_tables.specs.declared.opening.open.OpenFault.{OpenFault}
 use Rattle.desk_tables.specs.declared.opening.open.OpenFault.TheVariants.{NotADesk, OldSchema}
 use Rattle.desk_tables.specs.Opening.{AreNoContent, BlamesReading, BlamesDatabase, BlamesDisk, WasCompleted, WasOrdered}
-use Rattle.desk_tables.specs.Moving.{AreNoOldContent, HasAllTables, WasMoved, told_count}
+use Rattle.desk_tables.specs.Moving.{AreNoOldContent, HasAllTables, WasMoved, reported_count}
 use Rattle.desk_tables.specs.Leaving.{IsSettledAt}
 use Rattle.desk_tables.specs.Store.{Stands}
 
@@ -53,7 +53,7 @@ module _ {S : Type 0} (g : Ghosts S) (old new : Held S) where
   -- and with plans of schema 1 that were moved, which are so many
   abbrev pub BeginsAllMoved : World → ℕ → Type 0
   BeginsAllMoved w count =
-      HasCleanDisk (state g new) → (count ≡ told_count w.plans) × WasMoved g old new w
+      HasCleanDisk (state g new) → (count ≡ reported_count w.plans) × WasMoved g old new w
 
   -- over a clean disk the tables, so far as they were made, had the rows of no content
   abbrev pub HadNone : TablesPresent → Type 0
@@ -69,8 +69,8 @@ module _ {S : Type 0} (g : Ghosts S) (old new : Held S) {V : Type 0} (result : R
   MakesWhole made =
       HasCleanDisk (state g new) → IsTrue (state g new).is_open → OnOk result (HasAllTables g made old new)
 
-  -- tables that are made so far are read: what an open connection gives of them, which of them it tells to be
-  -- no desk's, and why it fails; nothing is changed
+  -- tables that are made so far are read: what an open connection gives of them, which of them it reports to
+  -- be no desk's, and why it fails; nothing is changed
   pub record IsRead (made : TablesPresent) (Gives : Tables → V → Type 0) (Refuses : Tables → Type 0) : Type 0
     where
       pub value : HasCleanDisk (state g new) → IfOk result (Gives (tables_at made (state g old).now.trees))
@@ -98,7 +98,7 @@ module _ {S : Type 0} (g : Ghosts S) (old new : Held S) {V : Type 0} (result : R
 
   module _ (world : V → World) (Begins : V → Type 0) where
     -- tables without a row of schema 1, or with those alone, come to have the rows of a world: how it begins,
-    -- what is told of them if they are no desk's, why it fails, and what is kept then
+    -- what is reported of them if they are no desk's, why it fails, and what is kept then
     pub record IsSetUp (Refuses Keeps : Type 0) : Type 0 where
       pub begins : IfOk result Begins
       pub stands : IfOk result (λ v. Stands g new (world v))
@@ -112,7 +112,7 @@ module _ {S : Type 0} (g : Ghosts S) (old new : Held S) {V : Type 0} (result : R
       pub doubt : doubt_of (state g old).is_clean ≤ doubt_of (state g new).is_clean
       pub shield : (state g old).IsShielded → (state g new).IsShielded
 
-    -- a whole opening, of which it may also be told that there are rows of schema 1
+    -- a whole opening, of which it may also be reported that there are rows of schema 1
     pub record IsOpening (Refuses Older Keeps : Type 0) : Type 0 where
       pub begins : IfOk result Begins
       pub stands : IfOk result (λ v. Stands g new (world v))
@@ -137,8 +137,8 @@ module _ {S : Type 0} (g : Ghosts S) (old new : Held S) where
     pub doubt : doubt_of (state g old).is_clean ≤ doubt_of (state g new).is_clean
     pub shield : (state g old).IsShielded → (state g new).IsShielded
 
-  -- the connection is given back, without a limit on steps, for this fault: what is told of it, and what is
-  -- kept
+  -- the connection is given back, without a limit on steps, for this fault: what is reported of it, and what
+  -- is kept
   pub record IsNotAdopted (e : OpenFault) (Refuses Older Keeps : Type 0) : Type 0 where
     pub none : e ≡ NotADesk → Refuses
     pub older : e ≡ OldSchema → Older

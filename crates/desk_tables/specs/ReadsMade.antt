@@ -15,9 +15,9 @@ use Rattle.desk_store.specs.declared.fault.StoreFault.TheVariants.{Store}
 use Rattle.desk_tables.specs.Causes.{BlamesSpans, BlamesStore}
 use Rattle.desk_tables.specs.Store.{HeldWorld}
 
--- what SQLite answered, or its error as a fault: a growth that was refused is told as that
-abbrev pub IsToldAs : {V : Type 0} → Result V Error → Result V StoreFault → Type 0
-IsToldAs answer result =
+-- what SQLite answered, or its error as a fault: a growth that was refused is reported as that
+abbrev pub IsReportedAs : {V : Type 0} → Result V Error → Result V StoreFault → Type 0
+IsReportedAs answer result =
     MatchResult answer (λ v. result ≡ Ok v)
     (λ error. IsErrAnd result (λ fault. fault ≡ Store → error ≢ SqliteFailure code.OutOfMemory))
 

@@ -11,7 +11,7 @@ use Rattle.volume4d.specs.Point.{Point}
 use Rattle.volume4d.specs.Slab.{slabs_have, top_held}
 use Rattle.desk_sql.specs.Rows.{held_columns, is_at_least, is_reached, is_wanted}
 use Rattle.desk_sql.specs.Others.{is_others_from, is_plans}
-use Rattle.desk_sql.specs.declared.reading.rivals.SpanQuery.{SpanQuery}
+use Rattle.desk_sql.specs.declared.reading.rivals.SpanFilter.{SpanFilter}
 use Rattle.live_index.specs.declared.near.PlanKey.{PlanKey}
 use Rattle.live_index.specs.declared.near.Wanted.{Wanted}
 use Rattle.live_index.specs.Near.{held_but}
@@ -51,7 +51,7 @@ abbrev pub HasTakenHelds : List Held → List Row → Type 0
 HasTakenHelds helds rows = AllZip IsHeldIn rows helds
 
 -- what spans are asked for that may hold a point of an extent, at a priority at least
-abbrev pub reach_of : Slab → ℕ → SpanQuery
+abbrev pub reach_of : Slab → ℕ → SpanFilter
 reach_of extent least = record {
   first = pos extent.first;
   last = pos extent.last;
@@ -63,12 +63,12 @@ reach_of extent least = record {
 }
 
 -- of these only those that begin at the leaves that a question is for
-abbrev pub reach_from : Span → Slab → ℕ → SpanQuery
+abbrev pub reach_from : Span → Slab → ℕ → SpanFilter
 reach_from question extent least = record (reach_of extent least) { last = pos question.last }
 
 -- a row of `span2` is of another plan than the operator's own one with this id, or, if there is no id, than
 -- all of its own; it is reached, and begins at a leaf position or later
-abbrev pub is_another_from : List ℕ → Option (List ℕ) → SpanQuery → ℤ → Row → Bool
+abbrev pub is_another_from : List ℕ → Option (List ℕ) → SpanFilter → ℤ → Row → Bool
 is_another_from operator None = is_others_from operator
 is_another_from operator (Some id) = is_wanted operator (id_text id)
 

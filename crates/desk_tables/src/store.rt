@@ -66,14 +66,14 @@ impl<S: Alter> Model for SqliteStore<S> {
 
 impl<S: Alter> SqliteStore<S> {
     /// A store over a connection, with the world that its rows are, and what is known of its plans. An error
-    /// of input and output is told as `told`; whether it begins with an operator, of which no clause speaks,
-    /// as `is_enrolled`.
+    /// of input and output is reported as `reported`; whether it begins with an operator, of which no clause
+    /// speaks, as `is_enrolled`.
     pub(crate) fn with(
         alloc: Global,
         connection: Connection<S>,
         kept: GhostState,
         known: MemoryIndex,
-        told: StoreFault,
+        reported: StoreFault,
         is_enrolled: bool,
     ) -> SqliteStore<S>
         requires stands { Stands S.Store connection kept.world }
@@ -86,7 +86,7 @@ impl<S: Alter> SqliteStore<S> {
             connection,
             kept,
             alloc,
-            told,
+            reported,
         };
         tables.settled();
         SqliteStore {
@@ -102,8 +102,8 @@ impl<S: Alter> SqliteStore<S> {
         self.is_enrolled
     }
 
-    /// The operators that are listed, ascending by name, each once, with their ceilings; told from what the
-    /// store remembers, with no look into its tables.
+    /// The operators that are listed, ascending by name, each once, with their ceilings; reported from what
+    /// the store remembers, with no look into its tables.
     ///
     /// # Errors
     ///

@@ -6,7 +6,7 @@ ghost use Rattle.desk_tables.specs.Leaving.{IsSettledAt};
 
 use crate::kept::GhostState;
 use crate::laws::one_content;
-use desk_sql::laws::settled_and_sound;
+use desk_sql::laws::committed_and_sound;
 use desk_store::StoreFault;
 use sqlite::Connection;
 use sqlite_trees::store::Alter;
@@ -21,8 +21,8 @@ pub(crate) struct DeskTables<S: Alter> {
     pub connection: Connection<S>,
     pub kept: GhostState,
     pub alloc: Global,
-    /// What an error of input and output is told as: a disk in memory has one only if it gets no memory.
-    pub told: StoreFault,
+    /// What an error of input and output is reported as: a disk in memory has one only if it gets no memory.
+    pub reported: StoreFault,
 }
 
 impl<S: Alter> Model for DeskTables<S> {
@@ -54,7 +54,7 @@ impl<S: Alter> DeskTables<S> {
         ensures stands { Stands S.Store self.now.held self.now.world }
         ensures left { IsSettledAt S.Store self.now.held self.now.world }
     {
-        settled_and_sound(&self.connection);
+        committed_and_sound(&self.connection);
         one_content();
     }
 

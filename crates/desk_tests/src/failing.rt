@@ -253,8 +253,8 @@ fn check_calls(
 }
 
 // Each request asks for the ceiling and the states of the plan, and for the number of plans where that plan
-// is not stored. Only one that is checked, and that nothing else refuses, asks for rivals, in four pieces; one
-// that is refused, or that is hypothetical, changes nothing.
+// is not stored. Only one that is checked, and that nothing else refuses, asks for rivals, in four pieces;
+// one that is refused, or that is hypothetical, changes nothing.
 #[test]
 fn a_request_asks_for_no_more_than_it_needs(rt: HostRuntime) -> Result<(), Fail> {
     for row in [

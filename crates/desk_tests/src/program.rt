@@ -3,7 +3,7 @@
 ghost use Rattle.std.specs.Prelude.{◌≡◌, IfOk};
 ghost use Rattle.desk_program.specs.CarryingOut.{IsPortless};
 
-use desk_cli::{Database, DeskArgs, Enrol, Enrolment, Line, Play};
+use desk_cli::{Database, DeskArgs, EnrolArgs, Enrolment, Line, Play};
 use desk_program::with_desk;
 use desk_rules::operator::Operator;
 use desk_rules::terms::Terms;
@@ -35,7 +35,7 @@ fn play_line(alloc: Global) -> Result<Line, Fail>
         operator: Operator::try_new(b"bravo").ok_or("a name")?,
         ceiling: 7,
     };
-    Ok(Line::Play(Play {
+    Ok(Line::Play(PlayArgs {
         desk: desk_in_memory(vec![in alloc; alfa, bravo]?),
         moment: Moment { second: 0 },
     }))
@@ -127,7 +127,7 @@ fn enrol_line(alloc: Global) -> Result<Line, Fail>
         operator: Operator::try_new(b"alfa").ok_or("a name")?,
         ceiling: 100,
     };
-    Ok(Line::Enrol(Enrol {
+    Ok(Line::Enrol(EnrolArgs {
         desk: desk_in_memory(Vec::new(alloc)),
         enrolment: alfa,
     }))

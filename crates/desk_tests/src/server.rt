@@ -71,7 +71,7 @@ pub fn serve_line(alloc: Global, connections: u32) -> Serve
     requires { IsInRange 1 1000000 connections }
     ensures { IsServe result }
 {
-    Serve {
+    ServeArgs {
         desk: DeskArgs {
             database: Database::InMemory,
             terms: Terms::none(),
@@ -84,14 +84,14 @@ pub fn serve_line(alloc: Global, connections: u32) -> Serve
     }
 }
 
-// A register that tells `alfa` when it is looked into for the Nth time.
+// A register that reports `alfa` when it is looked into for the Nth time.
 #[derive(Drop)]
 struct AtLook {
     looks: u32,
     wanted: u32,
 }
 
-// A register that tells `alfa` at the look of this number.
+// A register that reports `alfa` at the look of this number.
 fn alfa_at(wanted: u32) -> AtLook {
     AtLook { looks: 0, wanted }
 }

@@ -1,7 +1,7 @@
 //! Worked cases, at desks over a list and at desks over tables. Each line is a step of a case: a desk is
 //! made, its clock is set, a request is sent as bytes or a call is made. What comes of it over a list is
 //! printed under the case's name; what comes of it over tables is printed only if it is another, and the
-//! last line tells how many steps came to the same.
+//! last line reports how many steps came to the same.
 //! `Step` has the forms of the lines, and `Pair` those of two histories that are played side by side.
 
 mod ask;

@@ -5,7 +5,7 @@
 //! Printed is, for each stopped change, how many stops left the content as it was before it, as it is after
 //! it, and otherwise, which none may; after an answer only the content after it is right.
 //! Files of schema 1 are made by statements of SQL, and stopped while they are moved to schema 2; what is
-//! left is compared by the rows of all tables then, and by what is told if it is adopted.
+//! left is compared by the rows of all tables then, and by what is reported if it is adopted.
 //! `Line` has the forms of the lines.
 
 mod act;

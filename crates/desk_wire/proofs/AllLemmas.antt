@@ -18,11 +18,11 @@ pub record HaveAnswers {R V : Type 0} (shown : R → Sent) (items : V → List �
   pub first : AreFirst w (map shown requests) n (map items answers) now
   pub count : length answers ≡ n
 
-pub told_more : (w : DeskWorld) (requests : List Sent) (r : Sent) → answers_to w (requests ++ r ∷ [])
+pub reported_more : (w : DeskWorld) (requests : List Sent) (r : Sent) → answers_to w (requests ++ r ∷ [])
     ≡ answers_to w requests ++ text_for (world_left w requests) r.0 (asked r.1) ∷ []
-told_more w [] r = refl
-told_more w (q ∷ requests) r = ap (λ ts. text_for w q.0 (asked q.1) ∷ ts)
-    (told_more (world_after w q.0 (asked q.1)) requests r)
+reported_more w [] r = refl
+reported_more w (q ∷ requests) r = ap (λ ts. text_for w q.0 (asked q.1) ∷ ts)
+    (reported_more (world_after w q.0 (asked q.1)) requests r)
 
 pub left_more : (w : DeskWorld) (requests : List Sent) (r : Sent) → world_left w (requests ++ r ∷ [])
     ≡ world_after (world_left w requests) r.0 (asked r.1)
@@ -51,11 +51,11 @@ one_answered shown items w now after requests n answers r answer h below is done
     let s = shown r in
     record {
       first = record {
-        told =
-            map-append items answers (answer ∷ []) ∙ ap (λ ts. ts ++ items answer ∷ []) h.first.told
+        reported =
+            map-append items answers (answer ∷ []) ∙ ap (λ ts. ts ++ items answer ∷ []) h.first.reported
             ∙ ap (λ t. answers_to w first ++ t ∷ [])
-            (done.told ∙ ap (λ v. text_for v s.0 (asked s.1)) h.first.left)
-            ∙ sym (told_more w first s) ∙ ap (answers_to w) (sym more);
+            (done.reported ∙ ap (λ v. text_for v s.0 (asked s.1)) h.first.left)
+            ∙ sym (reported_more w first s) ∙ ap (answers_to w) (sym more);
         left = done.left ∙ ap (λ v. world_after v s.0 (asked s.1)) h.first.left
             ∙ sym (left_more w first s)
             ∙ ap (world_left w) (sym more);
@@ -71,7 +71,7 @@ all_answered shown items w after requests n answers h all =
     let whole : take n (map shown requests) ≡ map shown requests =
     take_all n (map shown requests) (omega (arith, length-map requests shown, all)) in
     record {
-      told = h.first.told ∙ ap (answers_to w) whole;
+      reported = h.first.reported ∙ ap (answers_to w) whole;
       left = h.first.left
           ∙ ap (world_left w) whole;
     }
@@ -84,7 +84,7 @@ cut_answered shown items w now after requests n answers h below same =
     let count : length (map items answers) ≡ n = length-map answers items ∙ h.count in
     record {
       first = subst (λ k. AreFirst w (map shown requests) k (map items answers) after) (sym count)
-          (record { told = h.first.told; left = same ∙ h.first.left });
+          (record { reported = h.first.reported; left = same ∙ h.first.left });
       cut = omega (arith, count, length-map requests shown, below);
     }
 
@@ -98,8 +98,8 @@ broken_answered shown items w now after requests n answers answer why h below gi
   why = why;
   count = n;
   before = map items answers;
-  first = record { told = h.first.told; left = given.left ∙ h.first.left };
-  last = map-append items answers (answer ∷ []) ∙ ap (λ t. map items answers ++ t ∷ []) given.told;
+  first = record { reported = h.first.reported; left = given.left ∙ h.first.left };
+  last = map-append items answers (answer ∷ []) ∙ ap (λ t. map items answers ++ t ∷ []) given.reported;
   cut = omega (arith, length-map requests shown, below);
 }
 

@@ -3,7 +3,7 @@ use Rattle.std.proofs.Common.{◌≡◌, ℤ, false, List, ℕ, Result, Ok, Err,
 use Rattle.desk_rules.specs.declared.call.Asked.{Asked}
 use Rattle.desk_run.specs.declared.pending.Pending.{Pending}
 use Rattle.desk_run.specs.DeskWorld.{DeskWorld}
-use Rattle.desk_run.specs.Verdicts.{Told}
+use Rattle.desk_run.specs.Verdicts.{Reported}
 use Rattle.desk_run.specs.Calls.{HasNoReply, IsPending, reply_in, world_committed}
 use Rattle.desk_rules.specs.Replies.{said_in}
 use Rattle.desk_writing.specs.ReplyText.{reply_text}
@@ -18,17 +18,17 @@ pub done_pending : (w after : DeskWorld) (moment : ℤ) (asked : Asked) (p : Pen
     ≡ world_committed w p
     → IsDone w moment (Ok asked) answer after
 unfolding text
-done_pending w after moment asked p answer h told left = record {
-  told = told ∙ sym (ap text h.told);
+done_pending w after moment asked p answer h reported left = record {
+  reported = reported ∙ sym (ap text h.reported);
   left = left ∙ h.left;
 }
 
 -- the answer to a call that has no reply
-pub done_unanswered : (w after : DeskWorld) (moment : ℤ) (asked : Asked) (reason : Told) (answer : List ℕ)
+pub done_unanswered : (w after : DeskWorld) (moment : ℤ) (asked : Asked) (reason : Reported) (answer : List ℕ)
     → HasNoReply w moment asked reason → answer ≡ text reason → after ≡ w
     → IsDone w moment (Ok asked) answer after
-done_unanswered w after moment asked reason answer h told left = record {
-  told = told ∙ ap text (sym h.told);
+done_unanswered w after moment asked reason answer h reported left = record {
+  reported = reported ∙ ap text (sym h.reported);
   left = left ∙ sym h.left;
 }
 
@@ -37,23 +37,23 @@ pub done_if_ok : {V E : Type 0} (items : V → List ℕ) (r : Result V E) (w aft
     (asked : Asked) (p : Pending) → IsPending w moment asked p
     → IfOk r (λ v. items v ≡ reply_text (said_in (reply_in p))) → OnOk r (after ≡ world_committed w p)
     → IfOk r (λ v. IsDone w moment (Ok asked) (items v) after)
-done_if_ok items (Ok v) w after moment asked p h told left =
-    done_pending w after moment asked p (items v) h told left
-done_if_ok items (Err e) w after moment asked p h told left = tt
+done_if_ok items (Ok v) w after moment asked p h reported left =
+    done_pending w after moment asked p (items v) h reported left
+done_if_ok items (Err e) w after moment asked p h reported left = tt
 
 -- a reply has the status 200
 pub status_pending : (w : DeskWorld) (moment : ℤ) (asked : Asked) (p : Pending) → IsPending w moment asked p
     → 200
     ≡ status_for w moment (Ok asked)
 unfolding status
-status_pending w moment asked p h = sym (ap status h.told)
+status_pending w moment asked p h = sym (ap status h.reported)
 
-pub status_unanswered : (w : DeskWorld) (moment : ℤ) (asked : Asked) (reason : Told)
+pub status_unanswered : (w : DeskWorld) (moment : ℤ) (asked : Asked) (reason : Reported)
     → HasNoReply w moment asked reason → status reason ≡ status_for w moment (Ok asked)
-status_unanswered w moment asked reason h = sym (ap status h.told)
+status_unanswered w moment asked reason h = sym (ap status h.reported)
 
 -- what has no reply makes no change
-pub change_unanswered : (w : DeskWorld) (moment : ℤ) (asked : Asked) (reason : Told)
+pub change_unanswered : (w : DeskWorld) (moment : ℤ) (asked : Asked) (reason : Reported)
     → HasNoReply w moment asked reason → false ≡ makes_change_for w moment (Ok asked)
 change_unanswered w moment asked reason h = sym h.change_is
 

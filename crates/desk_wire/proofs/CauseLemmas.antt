@@ -26,7 +26,7 @@ pub failed_there : (IsSaid : List ℕ → Type 0) (e : Option ServerError) (w af
 failed_there IsSaid None w after answer old new some says risen said = absurd (some refl)
 failed_there IsSaid (Some why) w after answer old new some says risen said = record {
   why = why;
-  said = subst IsSaid says.told said;
+  said = subst IsSaid says.reported said;
   cause = cause_of why old new risen;
 }
 

@@ -195,33 +195,33 @@ message_is text body h size =
       | inr full ↦ message_by_room text body h full.0 full.1
     ]
 
--- ---- the bytes that a reader told
+-- ---- the bytes that a reader reported
 
 -- the reader's bytes are those taken, if it is at its end
-told_all : (old new : Option (List ℕ)) (taken : List ℕ) (P : List ℕ → Type 0) → Consumes old new taken
+reported_all : (old new : Option (List ℕ)) (taken : List ℕ) (P : List ℕ → Type 0) → Consumes old new taken
     → IsAtEnd new → P taken → IfSome old P
-told_all None new taken P c e p = tt
-told_all (Some xs) None taken P c e p = absurd c
-told_all (Some xs) (Some ys) taken P c e p = subst P
+reported_all None new taken P c e p = tt
+reported_all (Some xs) None taken P c e p = absurd c
+reported_all (Some xs) (Some ys) taken P c e p = subst P
     (sym (c ∙ ap (λ zs. taken ++ zs) e ∙ append-nil taken)) p
 
 -- at the end of the reader's bytes inside a head
-pub told_cut : (old now new : Option (List ℕ)) (text : List ℕ) → Consumes old now text
+pub reported_cut : (old now new : Option (List ℕ)) (text : List ℕ) → Consumes old now text
     → Consumes now new []
     → IsAtEnd new → 0 < length text → HasNone text → ends_head text ≡ false → length text < head_room
     → IfSome old IsCut
-told_cut old now new text first next end some none fails short =
+reported_cut old now new text first next end some none fails short =
     let all = subst (Consumes old new) (append-nil text) (Consumes-trans old now new text [] first next)
     in
-    told_all old new text IsCut all end (is_cut_head text some none fails short)
+    reported_all old new text IsCut all end (is_cut_head text some none fails short)
 
 -- the stream of a front and a short body
-pub told_cut_body : (old now : Option (List ℕ)) (text : List ℕ) → Consumes old now text
+pub reported_cut_body : (old now : Option (List ℕ)) (text : List ℕ) → Consumes old now text
     → 0 < length text
     → IsFront text → IfSome now (λ rest. length rest < size_said (front_read text)) → IfSome old IsCut
-told_cut_body None now text c some h short = tt
-told_cut_body (Some xs) None text c some h short = absurd c
-told_cut_body (Some xs) (Some rest) text c some h short =
+reported_cut_body None now text c some h short = tt
+reported_cut_body (Some xs) None text c some h short = absurd c
+reported_cut_body (Some xs) (Some rest) text c some h short =
     subst IsCut (sym c) (is_cut_body text rest some h short)
 
 pub some_count : (n m : ℕ) → false ≡ (n == 0) → m ≡ n → 0 < m

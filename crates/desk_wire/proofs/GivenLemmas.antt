@@ -25,31 +25,31 @@ broken_first : (w after : DeskWorld) (rs : List Sent) (answers : List (List ℕ)
     → GivenFirst Broken w rs answers after
 broken_first w after rs answers h =
     let count : length h.before ≡ h.count =
-    ap length h.first.told ∙ one_each w (take h.count rs)
+    ap length h.first.reported ∙ one_each w (take h.count rs)
     ∙ length-take-le h.count rs (omega (arith, h.cut)) in
     let whole : length answers ≡ length h.before + 1 =
     ap length h.last ∙ length-append h.before (server_error_text h.why ∷ []) in
     let n : length answers - 1 ≡ length h.before = omega (arith, whole) in
     record {
-      told =
+      reported =
           ap (λ k. take k answers) n ∙ ap (take (length h.before)) h.last
           ∙ take-append_seam h.before (server_error_text h.why ∷ [])
-          ∙ h.first.told ∙ ap (λ k. answers_to w (take k rs)) (sym (n ∙ count));
+          ∙ h.first.reported ∙ ap (λ k. answers_to w (take k rs)) (sym (n ∙ count));
       left = h.first.left ∙ ap (λ k. world_left w (take k rs)) (sym (n ∙ count));
     }
 
 pub first_given : (e : AnswersEnd) (w after : DeskWorld) (rs : List Sent) (answers : List (List ℕ))
     → AreAnswers e w rs answers after → GivenFirst e w rs answers after
 first_given All w after rs answers h =
-    let count : length answers ≡ length rs = ap length h.told ∙ one_each w rs in
+    let count : length answers ≡ length rs = ap length h.reported ∙ one_each w rs in
     let whole : take (length answers) rs ≡ rs = take_all (length answers) rs (omega (arith, count)) in
     record {
-      told = take-length answers ∙ h.told ∙ ap (answers_to w) (sym whole);
+      reported = take-length answers ∙ h.reported ∙ ap (answers_to w) (sym whole);
       left = h.left ∙ ap (world_left w) (sym whole);
     }
 first_given Broken w after rs answers h = broken_first w after rs answers h
 first_given NoMemory w after rs answers h = record {
-  told = take-length answers ∙ h.first.told;
+  reported = take-length answers ∙ h.first.reported;
   left = h.first.left;
 }
 
@@ -73,7 +73,7 @@ given_at : (e : AnswersEnd) (w after : DeskWorld) (rs : List Sent) (answers : Li
 given_at e w after rs answers i r h below is =
     let n = answered e answers in
     sym (get_take answers n i below)
-    ∙ ap (λ xs. slice_get xs i) (first_given e w after rs answers h).told
+    ∙ ap (λ xs. slice_get xs i) (first_given e w after rs answers h).reported
     ∙ answer_at w (take n rs) i r (get_take rs n i below ∙ is)
     ∙ ap (λ qs. Some (text_for (world_left w qs) r.0 (asked r.1))) (take_take rs n i below)
 

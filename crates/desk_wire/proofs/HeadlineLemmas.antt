@@ -12,7 +12,7 @@ use Rattle.desk_run.specs.Sides.{OwnAlike, HoldAlike, is_from, beside, along}
 use Rattle.desk_run.proofs.lemmas.Side.{Levels, IsSeenBy, IsKeptBy, after_all, everywhere}
 use Rattle.desk_run.proofs.lemmas.Side.{same_found, same_last, quiet_is}
 use Rattle.desk_run.proofs.lemmas.Step.{own_stays, others_stay}
-use Rattle.desk_run.proofs.lemmas.TwoRun.{tell, keep, seen, kept, same_name, told_alike}
+use Rattle.desk_run.proofs.lemmas.TwoRun.{report, keep, seen, kept, same_name, reported_alike}
 use Rattle.desk_run.specs.Verdicts.{side_left, step}
 use Rattle.desk_wire.specs.declared.refusal.Refusal.TheVariants.{Fault}
 use Rattle.desk_wire.specs.Bytes.{text, text_for, world_after}
@@ -23,19 +23,19 @@ use Rattle.desk_wire.specs.TwoRuns.{left, requests_of, met_by, IsSameFor}
 
 -- the answer to what is asked, and what is left to its operator, by what the operator owns and what others
 -- hold
-abbrev tell_by : Side → Levels → ℤ → Reading Asked → List ℕ
-tell_by mine levels moment (Ok a) = text (tell mine levels (moment, a))
-tell_by mine levels moment (Err fault) = refusal_text (Fault fault)
+abbrev report_by : Side → Levels → ℤ → Reading Asked → List ℕ
+report_by mine levels moment (Ok a) = text (report mine levels (moment, a))
+report_by mine levels moment (Err fault) = refusal_text (Fault fault)
 
 abbrev keep_by : Side → Levels → ℤ → Reading Asked → Side
 keep_by mine levels moment (Ok a) = keep mine levels (moment, a)
 keep_by mine levels moment (Err fault) = mine
 
-told_by : (o : List ℕ) (w : DeskWorld) (moment : ℤ) (reading : Reading Asked)
+reported_by : (o : List ℕ) (w : DeskWorld) (moment : ℤ) (reading : Reading Asked)
     → is_from o (operator_in reading) ≡ true
-    → text_for w moment reading ≡ tell_by (side w o) (held_in w o) moment reading
-told_by o w moment (Ok a) e = ap text (seen o w (moment, a) e)
-told_by o w moment (Err fault) e = cc
+    → text_for w moment reading ≡ report_by (side w o) (held_in w o) moment reading
+reported_by o w moment (Ok a) e = ap text (seen o w (moment, a) e)
+reported_by o w moment (Err fault) e = cc
 
 kept_by : (o : List ℕ) (w : DeskWorld) (moment : ℤ) (reading : Reading Asked)
     → is_from o (operator_in reading) ≡ true
@@ -49,8 +49,8 @@ others_by o w moment (Ok a) e = (kept o).others w (moment, a) e
 others_by o w moment (Err fault) e = refl
 
 -- the same of requests
-abbrev tell_sent : Side → Levels → Sent → List ℕ
-tell_sent mine levels r = tell_by mine levels r.0 (asked r.1)
+abbrev report_sent : Side → Levels → Sent → List ℕ
+report_sent mine levels r = report_by mine levels r.0 (asked r.1)
 
 abbrev keep_sent : Side → Levels → Sent → Side
 keep_sent mine levels r = keep_by mine levels r.0 (asked r.1)
@@ -58,8 +58,8 @@ keep_sent mine levels r = keep_by mine levels r.0 (asked r.1)
 abbrev text_at : DeskWorld → Sent → List ℕ
 text_at w r = text_for w r.0 (asked r.1)
 
-seen_sent : (o : List ℕ) → IsSeenBy sender o text_at tell_sent
-seen_sent o w r e = told_by o w r.0 (asked r.1) e
+seen_sent : (o : List ℕ) → IsSeenBy sender o text_at report_sent
+seen_sent o w r e = reported_by o w r.0 (asked r.1) e
 
 kept_sent : (o : List ℕ) → IsKeptBy sender o left keep_sent
 kept_sent o = record {
@@ -81,7 +81,7 @@ pub same_for : (o : List ℕ) (v w : DeskWorld) (rs ss : List Sent) → OwnAlike
 same_for o v w rs ss mine asked held = record {
   answers =
       ap (beside sender o rs) (answers_along v rs)
-      ∙ same_found sender o left keep_sent kept text_at tell_sent (seen_sent o) v w rs ss mine asked held
+      ∙ same_found sender o left keep_sent kept text_at report_sent (seen_sent o) v w rs ss mine asked held
       ∙ sym (ap (beside sender o ss) (answers_along w ss));
   owned = same_found sender o left keep_sent kept _ keep_sent kept.mine v w rs ss mine asked held;
   at_end =
@@ -123,7 +123,7 @@ world_next w rs i r e =
 -- worlds that look alike to the operator give the same answer, and leave it the same
 pub same_text : (v w : DeskWorld) (moment : ℤ) (reading : Reading Asked) → LookAlike (operator_in reading) v w
     → text_for v moment reading ≡ text_for w moment reading
-same_text v w moment (Ok a) alike = ap text (told_alike v w (moment, a) alike.0 alike.1)
+same_text v w moment (Ok a) alike = ap text (reported_alike v w (moment, a) alike.0 alike.1)
 same_text v w moment (Err fault) alike = refl
 
 same_left : (v w : DeskWorld) (moment : ℤ) (reading : Reading Asked) → LookAlike (operator_in reading) v w

@@ -25,7 +25,7 @@ use Rattle.io_ends.specs.declared.writing.PartialWrite.{PartialWrite}
 use Rattle.desk_wire.specs.declared.response.ServerError.{ServerError}
 use Rattle.desk_wire.specs.AllAnswers.{Sent, answers_to, world_left}
 use Rattle.desk_wire.specs.Bytes.{IsServerError, status_so, world_after}
-use Rattle.desk_wire.specs.Given.{IsNextIn, answered, told_in_play}
+use Rattle.desk_wire.specs.Given.{IsNextIn, answered, reported_in_play}
 use Rattle.desk_wire.specs.RequestsKept.{FindsBy, IsCertain, IsFoundInRequests, IsFoundInStream, IsFoundNow, IsKept, IsLeftBy, IsOldOrNext, IsServedKept}
 use Rattle.desk_wire.specs.Passage.{Passage, passed}
 use Rattle.desk_wire.specs.Playing.{ArePlayed, EndsRunBy, IsWhole, at_moment}
@@ -195,7 +195,7 @@ module _ (H : Type 0) (old out : Option (List ℕ)) (w : DeskWorld) (moment : �
       → ArePlayed H count (passed old input out output) w moment world
       → EndsRunBy H ended count answered (passed input new output now) world moment after
       → FindsLast ended (IsTaken input new) world moment after found
-      → Kept ended (told_in_play ended answered) new now after found
+      → Kept ended (reported_in_play ended answered) new now after found
   kept_by End count answered input new output now world after found f last is =
       let given = given_first H old out w moment p End count input new output now world after last.2 refl f
       (λ e. e) in

@@ -17,7 +17,7 @@ use Rattle.desk_wire.specs.Bytes.{IsAnsweredSo, IsDone, IsServerError, status_so
 use Rattle.desk_wire.specs.Passage.{passed}
 use Rattle.desk_wire.specs.Playing.{ArePlayed, IsBroken, IsWhole, at_moment}
 use Rattle.desk_wire.specs.OneRequest.{IsServed}
-use Rattle.desk_wire.proofs.AllLemmas.{told_more, left_more}
+use Rattle.desk_wire.proofs.AllLemmas.{reported_more, left_more}
 
 -- an answer with another status is what is asked
 pub done_by_status : (w after : DeskWorld) (moment : ℤ) (reading : Reading Asked) (answer : List ℕ)
@@ -61,15 +61,15 @@ played_if H K count old new out now w moment after implies h = record {
 }
 
 -- the answers, with one more
-pub told_one : (w now after : DeskWorld) (moment : ℤ) (more : List Sent) (answer request : List ℕ)
+pub reported_one : (w now after : DeskWorld) (moment : ℤ) (more : List Sent) (answer request : List ℕ)
     → IsDone now moment (asked request) answer after → now ≡ world_left w more
     → concat (answers_to w more)
     ++ answer ≡ concat (answers_to w (more ++ (moment, request) ∷ []))
-told_one w now after moment more answer request done left =
-    ap (λ t. concat (answers_to w more) ++ t) (done.told
+reported_one w now after moment more answer request done left =
+    ap (λ t. concat (answers_to w more) ++ t) (done.reported
     ∙ ap (λ v. text_for v moment (asked request)) left)
     ∙ sym (concat_one (answers_to w more) (text_for (world_left w more) moment (asked request)))
-    ∙ ap concat (sym (told_more w more (moment, request)))
+    ∙ ap concat (sym (reported_more w more (moment, request)))
 
 pub one_played : (H : Type 0) (count : ℕ) (old mid new out then_out now : Option (List ℕ)) (w : DeskWorld)
     (moment : ℤ) (now_world after : DeskWorld) (code : ℕ) (framed : Bool)
@@ -78,7 +78,7 @@ pub one_played : (H : Type 0) (count : ℕ) (old mid new out then_out now : Opti
     → ArePlayed H (count + 1) (passed old new out now) w moment after
 one_played H count old mid new out then_out now w moment now_world after code framed h s other is =
     let done : H → IsDone now_world moment (asked s.request) s.answer after =
-    λ p. done_by_status now_world after moment (asked s.request) s.answer s.why code (s.replied.told p)
+    λ p. done_by_status now_world after moment (asked s.request) s.answer s.why code (s.replied.reported p)
     (s.status_is p) other in
     let more = at_moment moment h.requests in
     let sent : at_moment moment (h.requests ++ s.request ∷ []) ≡ more ++ (moment, s.request) ∷ [] =
@@ -93,7 +93,7 @@ one_played H count old mid new out then_out now w moment now_world after code fr
       taken = subst (Consumes old new) (sym (concat_one h.requests s.request))
           (Consumes-trans old mid new (concat h.requests) s.request h.taken s.taken.taken);
       written = λ p.
-          subst (Appends out now) (told_one w now_world after moment more s.answer s.request (done p)
+          subst (Appends out now) (reported_one w now_world after moment more s.answer s.request (done p)
           (h.left p) ∙ sym (ap (λ rs. concat (answers_to w rs)) sent))
           (Appends-trans out then_out now (concat (answers_to w more)) s.answer (h.written p)
           s.written);

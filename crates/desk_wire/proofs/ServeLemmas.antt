@@ -49,9 +49,9 @@ pub replied : (H : Type 0) (w after : DeskWorld) (moment : ℤ) (request answer 
     → (H → IsAnsweredSo why w moment (or_met reading asked_by) answer after)
     → IfSome why (λ error. IsServerError error w answer after)
     → IsReplied H w moment request answer why after
-replied H w after moment request answer reading why r told failed = record {
-  told = λ h. subst (λ a. IsAnsweredSo why w moment a answer after)
-      (asked_read request request reading r refl) (told h);
+replied H w after moment request answer reading why r reported failed = record {
+  reported = λ h. subst (λ a. IsAnsweredSo why w moment a answer after)
+      (asked_read request request reading r refl) (reported h);
   failed = failed;
 }
 
@@ -101,14 +101,14 @@ pub broken : (H : Type 0) (r : Result Served ServeFault) (fault : PartialWrite)
     (w after : DeskWorld) (moment : ℤ) (request answer : List ℕ) (why : Option ServerError)
     → IsErrAnd r (λ e. e ≡ Write fault) → BreaksOff answer out now fault → IsTaken old new request
     → IsReplied H w moment request answer why after → HasServed H r (passed old new out now) w moment after
-broken H (Ok s) fault old new out now w after moment request answer why is off taken told = absurd is
-broken H (Err e) fault old new out now w after moment request answer why is off taken told =
+broken H (Ok s) fault old new out now w after moment request answer why is off taken reported = absurd is
+broken H (Err e) fault old new out now w after moment request answer why is off taken reported =
     subst (λ z. HasServed H (Err z) (passed old new out now) w moment after) (sym is) (record {
       request = request;
       taken = taken;
       answer = answer;
       why = why;
-      replied = told;
+      replied = reported;
       off = off;
     })
 

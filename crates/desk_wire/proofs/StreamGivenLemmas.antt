@@ -20,7 +20,7 @@ use Rattle.io_ends.specs.declared.writing.PartialWrite.{PartialWrite}
 use Rattle.desk_wire.specs.declared.response.ServerError.{ServerError}
 use Rattle.desk_wire.specs.AllAnswers.{answers_to, world_left}
 use Rattle.desk_wire.specs.Bytes.{IsAnsweredSo, IsDone, world_after}
-use Rattle.desk_wire.specs.Given.{AreGiven, IsNextIn, LeavesBy, FollowsBy, told_in_play}
+use Rattle.desk_wire.specs.Given.{AreGiven, IsNextIn, LeavesBy, FollowsBy, reported_in_play}
 use Rattle.desk_wire.specs.Headline.{sender, LookAlike, world_at}
 use Rattle.desk_wire.specs.Passage.{Passage, passed}
 use Rattle.desk_wire.specs.Playing.{ArePlayed, EndsRunBy, HasPlayed, IsBroken, IsUnframed, IsWhole, at_moment}
@@ -31,7 +31,7 @@ use Rattle.desk_wire.proofs.AllLemmas.{left_more}
 use Rattle.desk_wire.proofs.FrontLemmas.{request_more}
 use Rattle.desk_wire.proofs.GivenLemmas.{quiet_take}
 use Rattle.desk_wire.proofs.HeadlineLemmas.{headline, quiet}
-use Rattle.desk_wire.proofs.PlayLemmas.{done_by_status, told_one}
+use Rattle.desk_wire.proofs.PlayLemmas.{done_by_status, reported_one}
 
 -- ---- the requests of a stream
 
@@ -140,7 +140,7 @@ module _ (H : Type 0) (old out : Option (List ℕ)) (w : DeskWorld) (moment : �
         count = f.count_is;
         first = are_first old input f.requests count (recursion_from_All IsWhole f.requests f.whole)
             f.count_is f.taken;
-        told = refl;
+        reported = refl;
         more = [];
         written = subst (Appends out now) (sym (append-nil answers))
             (Appends-kept out output now answers (f.written p) rest.written);
@@ -161,10 +161,10 @@ module _ (H : Type 0) (old out : Option (List ℕ)) (w : DeskWorld) (moment : �
         count = f.count_is;
         first = are_first old input f.requests count (recursion_from_All IsWhole f.requests f.whole)
             f.count_is f.taken;
-        told = refl;
+        reported = refl;
         more = b.answer;
         written = Appends-trans out output now answers b.answer (f.written p) b.written;
-        follows = (why.0, why.1.told);
+        follows = (why.0, why.1.reported);
         left = why.1.left ∙ f.left p;
       }
 
@@ -187,7 +187,7 @@ module _ (H : Type 0) (old out : Option (List ℕ)) (w : DeskWorld) (moment : �
       record {
         count = f.count_is;
         first = are_first old input f.requests count all f.count_is f.taken;
-        told = refl;
+        reported = refl;
         more = take fault.sent b.answer;
         written = Appends-trans out output now answers (take fault.sent b.answer) (f.written p) b.off.written;
         follows = length-take-le fault.sent b.answer (omega (arith, b.off.short));
@@ -195,7 +195,7 @@ module _ (H : Type 0) (old out : Option (List ℕ)) (w : DeskWorld) (moment : �
           b.request,
           is_next old input new f.requests b.request count all f.count_is f.taken b.taken,
           subst (λ v. (after ≡ world_after v moment (asked b.request)) ⊎ (after ≡ v)) (f.left p)
-              (left_off world after b.request b.answer b.why (b.replied.told p)),
+              (left_off world after b.request b.answer b.why (b.replied.reported p)),
         );
       }
 
@@ -211,19 +211,19 @@ module _ (H : Type 0) (old out : Option (List ℕ)) (w : DeskWorld) (moment : �
       let more = at_moment moment f.requests in
       let all = recursion_from_All IsWhole f.requests f.whole in
       let done : IsDone world moment (asked s.request) s.answer after =
-      done_by_status world after moment (asked s.request) s.answer s.why u.status (s.replied.told p)
+      done_by_status world after moment (asked s.request) s.answer s.why u.status (s.replied.reported p)
       (s.status_is p) u.answered in
       let both : at_moment moment (f.requests ++ s.request ∷ []) ≡ more ++ (moment, s.request) ∷ [] =
       map-append (λ r. (moment, r)) f.requests (s.request ∷ []) in
       let text : concat (answers_to w more) ++ s.answer
       ≡ concat (answers_to w (at_moment moment (f.requests ++ s.request ∷ []))) =
-      told_one w world after moment more s.answer s.request done (f.left p)
+      reported_one w world after moment more s.answer s.request done (f.left p)
       ∙ sym (ap (λ rs. concat (answers_to w rs)) both) in
       record {
         count = length-append f.requests (s.request ∷ []) ∙ ap (λ n. n + 1) f.count_is;
         first = next_first old count f.requests s.request
             (is_next old input new f.requests s.request count all f.count_is f.taken s.taken);
-        told = refl;
+        reported = refl;
         more = [];
         written =
             subst (Appends out now) (text ∙ sym (append-nil _))
@@ -244,7 +244,7 @@ module _ (H : Type 0) (old out : Option (List ℕ)) (w : DeskWorld) (moment : �
       (world after : DeskWorld)
       → ArePlayed H count (passed old input out output) w moment world
       → EndsRunBy H ended count answered (passed input new output now) world moment after
-      → Given ended (told_in_play ended answered) new now after
+      → Given ended (reported_in_play ended answered) new now after
   given_by End count answered input new output now world after f last =
       subst (λ n. Given End n new now after) (sym last.0)
       (f.requests, _, given_first End count input new output now world after last.2 refl f (λ e. e))
@@ -290,7 +290,7 @@ module _ (H : Type 0) (old out : Option (List ℕ)) (w : DeskWorld) (moment : �
 pub play_given : (H : Type 0) (ended : PlayEnd) (count : ℕ) (q : Passage) (w : DeskWorld) (moment : ℤ)
     (after : DeskWorld) → HasPlayed H ended count q w moment after → H
     → (requests answers : List (List ℕ))
-    × AreGiven ended (told_in_play ended count) q w moment after requests answers
+    × AreGiven ended (reported_in_play ended count) q w moment after requests answers
 play_given H ended count q w moment after h p =
     given_by H q.reads.before q.writes.before w moment p ended h.count count h.input q.reads.after h.output
     q.writes.after h.world after h.first h.last
@@ -309,11 +309,11 @@ pub given_same : (e f : PlayEnd) (m n : ℕ) (p q : Passage) (v w v_after w_afte
     (world_at w (at_moment moment ss) j)
     → slice_get xs i ≡ slice_get ys j
 given_same e f m n p q v w v_after w_after moment rs ss xs ys i j r g h is there alike =
-    ap (λ zs. slice_get zs i) g.told
+    ap (λ zs. slice_get zs i) g.reported
     ∙ headline.decided v w (at_moment moment rs) (at_moment moment ss) i j (moment, r)
     (sent_at moment rs i r is)
     (sent_at moment ss j r there) alike
-    ∙ sym (ap (λ zs. slice_get zs j) h.told)
+    ∙ sym (ap (λ zs. slice_get zs j) h.reported)
 
 -- ---- who sent nothing
 
@@ -355,8 +355,8 @@ module _ (o stream : List ℕ) (w : DeskWorld) (moment : ℤ) (count : ℕ)
       (ap (λ rs. requests_of o (at_moment moment rs)) (sym is) ∙ none)
 
   quiet_by : (ended : PlayEnd) (requests : List (List ℕ)) (after : DeskWorld)
-      → requests ≡ requests_in (told_in_play ended count) stream
-      → LeavesBy ended (IsNextIn (Some stream) (told_in_play ended count) requests)
+      → requests ≡ requests_in (reported_in_play ended count) stream
+      → LeavesBy ended (IsNextIn (Some stream) (reported_in_play ended count) requests)
       (world_left w (at_moment moment requests))
       moment after
       → OwnAlike o after w
@@ -387,7 +387,7 @@ pub play_quiet : (H : Type 0) (ended : PlayEnd) (count : ℕ) (q : Passage) (str
 play_quiet H ended count q stream w moment after h p is o none =
     let given = play_given H ended count q w moment after h p in
     quiet_by o stream w moment count none ended given.0 after
-    (subst (λ old. IfSome old (λ stream. given.0 ≡ requests_in (told_in_play ended count) stream)) is
+    (subst (λ old. IfSome old (λ stream. given.0 ≡ requests_in (reported_in_play ended count) stream)) is
     given.2.first)
-    (subst (λ old. LeavesBy ended (IsNextIn old (told_in_play ended count) given.0)
+    (subst (λ old. LeavesBy ended (IsNextIn old (reported_in_play ended count) given.0)
     (world_left w (at_moment moment given.0)) moment after) is given.2.left)

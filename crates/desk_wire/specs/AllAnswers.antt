@@ -35,13 +35,13 @@ world_left w (r ∷ rs) = world_left (world_after w r.0 (asked r.1)) rs
 -- the first requests are answered, and no more
 pub record AreFirst (w : DeskWorld) (requests : List Sent) (n : ℕ) (answers : List (List ℕ))
     (after : DeskWorld) : Type 0 where
-  pub told : answers ≡ answers_to w (take n requests)
+  pub reported : answers ≡ answers_to w (take n requests)
   pub left : after ≡ world_left w (take n requests)
 
 -- all are answered
 pub record AreAll (w : DeskWorld) (requests : List Sent) (answers : List (List ℕ)) (after : DeskWorld) :
     Type 0 where
-  pub told : answers ≡ answers_to w requests
+  pub reported : answers ≡ answers_to w requests
   pub left : after ≡ world_left w requests
 
 -- memory ran out before the answer to one of them

@@ -9,29 +9,29 @@ use Rattle.desk_wire.specs.declared.answering.Response.{Response}
 use Rattle.desk_wire.specs.declared.response.Answer.{Answer}
 use Rattle.desk_wire.specs.declared.response.ServerError.{ServerError}
 use Rattle.desk_wire.specs.RefusalTexts.{refusal_status, refusal_text, server_error_text}
-use Rattle.desk_run.specs.Verdicts.{Told, replied, unknown_operator, no_such_plan, makes_change, told_to, step}
+use Rattle.desk_run.specs.Verdicts.{Reported, replied, unknown_operator, no_such_plan, makes_change, reported_to, step}
 use Rattle.desk_run.specs.DeskWorld.{DeskWorld}
 
--- the text of what a caller is told
-unfoldable pub text : Told → List ℕ
+-- the text of what a caller is reported
+unfoldable pub text : Reported → List ℕ
 text (replied reply) = reply_text reply
 text unknown_operator = refusal_text UnknownOperator
 text no_such_plan = refusal_text NoSuchPlan
 
 -- the status code that it begins with
-unfoldable pub status : Told → ℕ
+unfoldable pub status : Reported → ℕ
 status (replied reply) = 200
 status unknown_operator = refusal_status UnknownOperator
 status no_such_plan = refusal_status NoSuchPlan
 
 -- the answer to what is asked at a moment, or to the fault that was met
 abbrev pub text_for : DeskWorld → ℤ → Reading Asked → List ℕ
-text_for w moment (Ok a) = text (told_to w a.operator moment a.call)
+text_for w moment (Ok a) = text (reported_to w a.operator moment a.call)
 text_for w moment (Err fault) = refusal_text (Fault fault)
 
 -- its status code
 abbrev pub status_for : DeskWorld → ℤ → Reading Asked → ℕ
-status_for w moment (Ok a) = status (told_to w a.operator moment a.call)
+status_for w moment (Ok a) = status (reported_to w a.operator moment a.call)
 status_for w moment (Err fault) = fault_status fault
 
 -- what it leaves: a fault leaves all as it was
@@ -47,13 +47,13 @@ makes_change_for w moment (Err fault) = false
 -- the answer, and what is left, are those of what is asked
 pub record IsDone (w : DeskWorld) (moment : ℤ) (reading : Reading Asked) (answer : List ℕ)
     (after : DeskWorld) : Type 0 where
-  pub told : answer ≡ text_for w moment reading
+  pub reported : answer ≡ text_for w moment reading
   pub left : after ≡ world_after w moment reading
 
 -- the desk failed: the answer says why, and all is as it was
 pub record IsServerError (why : ServerError) (w : DeskWorld) (answer : List ℕ)
     (after : DeskWorld) : Type 0 where
-  pub told : answer ≡ server_error_text why
+  pub reported : answer ≡ server_error_text why
   pub left : after ≡ w
 
 -- the answer to what is asked, and what it leaves, by whether the desk failed
@@ -80,8 +80,8 @@ pub record IsMadeAnswer (H : Type 0) (w : DeskWorld) (moment : ℤ) (reading : R
   pub change : H → made.made_change ≡ makes_change_for w moment reading
   pub other : made.status ≢ 500
 
--- the answer with its status code; why the desk failed is told whether the store is honest or not
-pub record IsAnswerTold (H : Type 0) (w : DeskWorld) (moment : ℤ) (reading : Reading Asked)
+-- the answer with its status code; why the desk failed is reported whether the store is honest or not
+pub record IsAnswerReported (H : Type 0) (w : DeskWorld) (moment : ℤ) (reading : Reading Asked)
     (after : DeskWorld)
     (answer : Answer) : Type 0 where
   pub bytes : H → IsAnsweredSo answer.error w moment reading answer.bytes.items after

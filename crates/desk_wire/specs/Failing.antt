@@ -6,7 +6,7 @@ use Rattle.desk_wire.specs.declared.response.Answer.{Answer}
 use Rattle.desk_wire.specs.declared.response.ServerError.{ServerError}
 use Rattle.desk_wire.specs.declared.response.ServerError.TheVariants.{OutOfMemory, Store}
 
--- the fault of the desk that an answer tells
+-- the fault of the desk that an answer reports
 abbrev pub desk_fault : ServerError → DeskFault
 desk_fault OutOfMemory = desk.OutOfMemory
 desk_fault Store = desk.Store
@@ -16,7 +16,7 @@ abbrev pub failure_of : {V : Type 0} → Result V ServerError → Option DeskFau
 failure_of (Ok v) = None
 failure_of (Err why) = Some (desk_fault why)
 
--- the same of an answer, which tells it, or of none for want of memory
-abbrev pub failure_told : {E : Type 0} → Result Answer E → Option DeskFault
-failure_told (Ok answer) = option_map desk_fault answer.error
-failure_told (Err e) = Some desk.OutOfMemory
+-- the same of an answer, which reports it, or of none for want of memory
+abbrev pub failure_reported : {E : Type 0} → Result Answer E → Option DeskFault
+failure_reported (Ok answer) = option_map desk_fault answer.error
+failure_reported (Err e) = Some desk.OutOfMemory

@@ -26,12 +26,12 @@ answered NoMemory answers = length answers
 
 -- how many of the requests of a stream that were answered have the answer to what they ask: all of them, but
 -- for a last one at which the desk failed
-abbrev pub told_in_play : PlayEnd → ℕ → ℕ
-told_in_play play.End count = count
-told_in_play play.Unframed count = count
-told_in_play play.Limit count = count
-told_in_play play.Broken count = count - 1
-told_in_play (play.Fault fault) count = count
+abbrev pub reported_in_play : PlayEnd → ℕ → ℕ
+reported_in_play play.End count = count
+reported_in_play play.Unframed count = count
+reported_in_play play.Limit count = count
+reported_in_play play.Broken count = count - 1
+reported_in_play (play.Fault fault) count = count
 
 -- what is written after their answers: why the desk failed, the first bytes of the next answer, or nothing
 abbrev pub FollowsBy : PlayEnd → List ℕ → Type 0
@@ -67,7 +67,7 @@ pub record AreGiven (ended : PlayEnd) (n : ℕ) (p : Passage) (w : DeskWorld) (m
     (after : DeskWorld) (requests answers : List (List ℕ)) : Type 0 where
   pub count : length requests ≡ n
   pub first : IfSome p.reads.before (λ stream. requests ≡ requests_in n stream)
-  pub told : answers ≡ answers_to w (at_moment moment requests)
+  pub reported : answers ≡ answers_to w (at_moment moment requests)
   pub more : List ℕ
   pub written : Appends p.writes.before p.writes.after (concat answers ++ more)
   pub follows : FollowsBy ended more

@@ -6,7 +6,7 @@ use Rattle.desk_run.specs.DeskWorld.{DeskWorld}
 use Rattle.io_ends.specs.declared.playing.PlayEnd.{PlayEnd}
 use Rattle.desk_wire.specs.declared.batch.AnswersEnd.{AnswersEnd}
 use Rattle.desk_wire.specs.AllAnswers.{AreAnswers, AreFirst, Sent}
-use Rattle.desk_wire.specs.Given.{answered, AreGiven, told_in_play}
+use Rattle.desk_wire.specs.Given.{answered, AreGiven, reported_in_play}
 use Rattle.desk_wire.specs.Headline.{LookAlike, sender, world_at}
 use Rattle.desk_wire.specs.Passage.{Passage}
 use Rattle.desk_wire.specs.Playing.{HasPlayed, at_moment}
@@ -36,7 +36,7 @@ pub record StreamGiven : Type 0 where
   pub first : (ended : PlayEnd) (doubt count : ℕ) (p : Passage) (w : DeskWorld) (moment : ℤ)
       (after : DeskWorld) → HasPlayed (IsHonest doubt) ended count p w moment after → IsHonest doubt
       → (requests answers : List (List ℕ))
-      × AreGiven ended (told_in_play ended count) p w moment after requests answers
+      × AreGiven ended (reported_in_play ended count) p w moment after requests answers
   pub decided : (e f : PlayEnd) (m n : ℕ) (p q : Passage) (v w v_after w_after : DeskWorld) (moment : ℤ)
       (rs ss xs ys : List (List ℕ)) (i j : ℕ) (r : List ℕ)
       → AreGiven e m p v moment v_after rs xs → AreGiven f n q w moment w_after ss ys

@@ -32,7 +32,7 @@ pub record IsTaken (old new : Option (List ℕ)) (request : List ℕ) : Type 0 w
 -- the answer to a request, if the store is honest; an answer that the desk failed is so in any case
 pub record IsReplied (H : Type 0) (w : DeskWorld) (moment : ℤ) (request answer : List ℕ)
     (why : Option ServerError) (after : DeskWorld) : Type 0 where
-  pub told : H → IsAnsweredSo why w moment (asked request) answer after
+  pub reported : H → IsAnsweredSo why w moment (asked request) answer after
   pub failed : IfSome why (λ error. IsServerError error w answer after)
 
 -- one request is taken, answered, and the answer written

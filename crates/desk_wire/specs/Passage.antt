@@ -1,5 +1,5 @@
--- Passages: what is known of the bytes that a run reads and writes. Of a reader or a writer that doesn't tell
--- its bytes nothing is.
+-- Passages: what is known of the bytes that a run reads and writes. Of a reader or a writer that doesn't
+-- report its bytes nothing is.
 use Rattle.std.specs.Prelude.{ℕ, List, Option}
 use Rattle.std.specs.declared.io.Read as read
 use Rattle.std.specs.declared.io.Write as write

@@ -10,8 +10,8 @@ ghost use Rattle.desk_run.specs.DeskWorld.{world_of};
 ghost use Rattle.desk_run.specs.Calls.{CanCommit, has_change, reply_in, world_committed};
 ghost use Rattle.desk_rules.specs.Replies.{said_in};
 ghost use Rattle.desk_writing.specs.ReplyText.{reply_text};
-ghost use Rattle.desk_wire.specs.Bytes.{IsAnswerTold, IsMadeAnswer, world_after};
-ghost use Rattle.desk_wire.specs.Failing.{failure_of, failure_told};
+ghost use Rattle.desk_wire.specs.Bytes.{IsAnswerReported, IsMadeAnswer, world_after};
+ghost use Rattle.desk_wire.specs.Failing.{failure_of, failure_reported};
 ghost use Rattle.desk_wire.specs.RefusalTexts.{refusal_status, refusal_text};
 ghost use Rattle.desk_wire.specs.OneRequest.{IsAnswered};
 
@@ -56,8 +56,8 @@ pub fn answer<S: PlanStore>(
     Ok(answer.bytes)
 }
 
-/// Answers `text` as `answer` does, and tells all of the answer: its status code, why the desk failed, if it
-/// did, and whether a change was made.
+/// Answers `text` as `answer` does, and reports all of the answer: its status code, why the desk failed, if
+/// it did, and whether a change was made.
 ///
 /// # Errors
 ///
@@ -68,10 +68,10 @@ pub fn answer_with_status<S: PlanStore>(
     moment: Moment,
     text: &[u8],
 ) -> Result<Answer, AllocError>
-    ensures told { IfOk result (IsAnswerTold (IsHonest (S.doubt desk.new.store)) (world_of S.content desk.old)
+    ensures reported { IfOk result (IsAnswerReported (IsHonest (S.doubt desk.new.store)) (world_of S.content desk.old)
         moment.second (asked_in text.now) (world_of S.content desk.new)) }
     ensures leaves { Leaves S.PlanStore desk.old desk.new
-        (world_after (world_of S.content desk.old) moment.second (asked_in text.now)) (failure_told result) }
+        (world_after (world_of S.content desk.old) moment.second (asked_in text.now)) (failure_reported result) }
     ensures err { OnErr result (desk.new ≡ desk.old) }
 {
     answer_request(alloc, desk, moment, &read_message(text))
@@ -88,11 +88,11 @@ pub fn answer_request<S: PlanStore>(
     moment: Moment,
     request: &Result<Message<'_>, WireFault>,
 ) -> Result<Answer, AllocError>
-    ensures told { IfOk result (IsAnswerTold (IsHonest (S.doubt desk.new.store)) (world_of S.content desk.old)
+    ensures reported { IfOk result (IsAnswerReported (IsHonest (S.doubt desk.new.store)) (world_of S.content desk.old)
         moment.second (or_met (message_read request.now) asked_by) (world_of S.content desk.new)) }
     ensures leaves { Leaves S.PlanStore desk.old desk.new
         (world_after (world_of S.content desk.old) moment.second (or_met (message_read request.now) asked_by))
-        (failure_told result) }
+        (failure_reported result) }
     ensures err { OnErr result (desk.new ≡ desk.old) }
 {
     let mut room = Vec::with_capacity(alloc, ANSWER_ROOM)?;

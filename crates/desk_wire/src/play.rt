@@ -6,7 +6,7 @@ ghost use Rattle.desk_store.specs.StoreFaults.{IsHonest};
 ghost use Rattle.desk_run.specs.DeskFrames.{FindsOnly};
 ghost use Rattle.desk_run.specs.DeskWorld.{world_of};
 ghost use Rattle.desk_wire.specs.FailureCauses.{AppendsLast, HasFailed};
-ghost use Rattle.desk_wire.specs.Given.{told_in_play};
+ghost use Rattle.desk_wire.specs.Given.{reported_in_play};
 ghost use Rattle.desk_wire.specs.RequestsKept.{IsKept};
 ghost use Rattle.desk_wire.specs.Passage.{passage};
 ghost use Rattle.desk_wire.specs.Playing.{HasPlayed};
@@ -43,7 +43,7 @@ pub fn play_all<S: PlanStore, R: Read, W: Write>(
         (passage R.Read W.Write input.old input.new output.old output.new)
         (world_of S.content desk.old) moment.second (world_of S.content desk.new) }
     ensures kept { FindsOnly S.PlanStore desk.old desk.new (IsKept result.ended
-        (told_in_play result.ended result.answered) (passage R.Read W.Write input.old input.new
+        (reported_in_play result.ended result.answered) (passage R.Read W.Write input.old input.new
         output.old output.new) (world_of S.content desk.old) moment.second (world_of S.content desk.new)) }
     ensures remembered { Remembers S.doubt S.faults S.is_shielded desk.old.store desk.new.store }
     ensures cause { result.ended ≡ PlayEnd.Broken → HasFailed (AppendsLast (W.contents output.old)

@@ -19,7 +19,7 @@ ghost use Rattle.desk_wire.specs.Streams.{IsCut, IsFront, byte_list, front_read,
 use crate::answering::answer_request;
 use desk_run::Desk;
 use desk_store::PlanStore;
-use io_ends::{Moment, ServeFault, Served, is_interruption, write_whole};
+use io_ends::{Moment, ServeFault, Served, is_interrupted, write_whole};
 use request_parser::{Front, HEAD_ROOM, Message, WireFault, is_ended, read_front};
 use std::alloc::Global;
 use std::io::{self, Read, Write};
@@ -227,7 +227,7 @@ fn receive_some<R: Read>(
     while *reads > 0 {
         match read_counted(input, room, reads) {
             Ok(count) => return Ok(count),
-            Err(error) if is_interruption(&error) => {}
+            Err(error) if is_interrupted(&error) => {}
             Err(_) => return Err(ServeFault::Read),
         }
     }

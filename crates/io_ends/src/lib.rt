@@ -8,7 +8,7 @@ mod serving;
 mod writes;
 mod writing;
 
-pub use interruption::is_interruption;
+pub use interruption::is_interrupted;
 pub use moment::Moment;
 pub use playing::PlayEnd;
 pub use serving::{ServeFault, Served};

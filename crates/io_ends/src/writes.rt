@@ -5,7 +5,7 @@ ghost use Rattle.std.specs.Io.{WritesAtMost};
 ghost use Rattle.std.specs.Io.KnownBytes.{WriteAppends};
 ghost use Rattle.io_ends.specs.Writes.{IsLast};
 
-use crate::interruption::is_interruption;
+use crate::interruption::is_interrupted;
 use std::io::{self, Write};
 
 /// How the last of some writes came out.
@@ -86,7 +86,7 @@ fn last_of(written: &io::Result<usize>) -> LastWrite
     match written {
         Ok(0) => LastWrite::Nothing,
         Ok(_) => LastWrite::Passed,
-        Err(error) if is_interruption(error) => LastWrite::Passed,
+        Err(error) if is_interrupted(error) => LastWrite::Passed,
         Err(_) => LastWrite::Failed,
     }
 }

@@ -11,11 +11,11 @@ use Rattle.live_index.specs.Live.{AreLive, is_beside, is_of_any, is_volume_of}
 use Rattle.live_index.proofs.lemmas.Live.{live_permuted}
 
 -- what is left of those in groups and of the others
-pub left_of_both : (o id : List ℕ) (old left young younger : List LiveVolume)
-    → left ≡ filter (is_beside o id) old → younger ≡ filter (is_beside o id) young
-    → left ++ younger ≡ filter (is_beside o id) (old ++ young)
-left_of_both o id old left young younger a b =
-    (λ i. a i ++ b i) ∙ sym (filter-append (is_beside o id) old young)
+pub left_of_both : (o id : List ℕ) (old left unindexed younger : List LiveVolume)
+    → left ≡ filter (is_beside o id) old → younger ≡ filter (is_beside o id) unindexed
+    → left ++ younger ≡ filter (is_beside o id) (old ++ unindexed)
+left_of_both o id old left unindexed younger a b =
+    (λ i. a i ++ b i) ∙ sym (filter-append (is_beside o id) old unindexed)
 
 -- and then some more
 pub followed : (stays : LiveVolume → Bool) (old left younger now fresh : List LiveVolume)
@@ -70,12 +70,12 @@ all_stay (x ∷ xs) = ap (λ vs. x ∷ vs) (all_stay xs)
 
 -- ---- the last one goes into groups
 
-pub last_moved : (w : World) (live : LiveVolume) (old new young left now : List LiveVolume)
-    → AreLive w (old ++ young) → young ≡ left ++ live ∷ [] → now ≡ take (length left) young
+pub last_moved : (w : World) (live : LiveVolume) (old new unindexed left now : List LiveVolume)
+    → AreLive w (old ++ unindexed) → unindexed ≡ left ++ live ∷ [] → now ≡ take (length left) unindexed
     → IsPermutation (live ∷ old) new → AreLive w (new ++ now)
-last_moved w live old new young left now h is rest same =
-    live_permuted w (old ++ young) (new ++ now) h
-    (subst (λ ys. IsPermutation (old ++ young) (new ++ ys))
+last_moved w live old new unindexed left now h is rest same =
+    live_permuted w (old ++ unindexed) (new ++ now) h
+    (subst (λ ys. IsPermutation (old ++ unindexed) (new ++ ys))
     (sym (rest ∙ ap (take (length left)) is ∙ taken left))
     (subst (λ ys. IsPermutation (old ++ ys) (new ++ left)) (sym is)
     (IsPermutation-trans (old ++ (left ++ live ∷ [])) ((live ∷ old) ++ left) (new ++ left)
@@ -89,7 +89,7 @@ last_moved w live old new young left now h is rest same =
       taken (x ∷ xs) = ap (λ ys. x ∷ ys) (taken xs)
 
 -- those in groups in another order
-pub groups_moved : (w : World) (old new young : List LiveVolume) → AreLive w (old ++ young)
-    → IsPermutation old new → AreLive w (new ++ young)
-groups_moved w old new young h same =
-    live_permuted w (old ++ young) (new ++ young) h (IsPermutation-append_left young old new same)
+pub groups_moved : (w : World) (old new unindexed : List LiveVolume) → AreLive w (old ++ unindexed)
+    → IsPermutation old new → AreLive w (new ++ unindexed)
+groups_moved w old new unindexed h same =
+    live_permuted w (old ++ unindexed) (new ++ unindexed) h (IsPermutation-append_left unindexed old new same)

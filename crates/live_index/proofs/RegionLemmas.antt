@@ -181,10 +181,10 @@ module _ (o : List ℕ) (extent : Slab) (x : Point) (here : slab_has extent x �
       → list_any (is_theirs_at o x) (volumes_of kept) ≡ false
   none_kept kept hedged far =
       let parts = either (list_any (group_has_theirs o extent) kept.groups.items)
-      (list_any (is_theirs o extent) kept.young.items) far in
-      list_any-append (is_theirs_at o x) (volumes_under kept.groups.items) kept.young.items
+      (list_any (is_theirs o extent) kept.unindexed.items) far in
+      list_any-append (is_theirs_at o x) (volumes_under kept.groups.items) kept.unindexed.items
       ∙ (λ i. none_in (λ g. volumes_in g.chunks.items) IsHedged (group_has_theirs o extent) none_in_group
-      kept.groups.items hedged parts.0 i || none_beside kept.young.items parts.1 i)
+      kept.groups.items hedged parts.0 i || none_beside kept.unindexed.items parts.1 i)
 
 -- ---- where no such volume lies others hold nothing
 

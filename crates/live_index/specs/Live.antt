@@ -94,7 +94,7 @@ abbrev pub volumes_under : List Group → List LiveVolume
 volumes_under groups = gather (λ g. volumes_in g.chunks.items) groups
 
 abbrev pub volumes_of : LiveIndex → List LiveVolume
-volumes_of kept = volumes_under kept.groups.items ++ kept.young.items
+volumes_of kept = volumes_under kept.groups.items ++ kept.unindexed.items
 
 -- each volume of a group lies within the fence of its chunk, and within that of the group
 pub record IsHedged (group : Group) : Type 0 where
@@ -125,11 +125,11 @@ gathered_in gathering = gathering.volumes.items
 
 -- there is room for so many more
 abbrev pub HasRoomForVolumes : LiveIndex → ℕ → Type 0
-HasRoomForVolumes kept count = length kept.young.items + count ≤ kept.young.cap
+HasRoomForVolumes kept count = length kept.unindexed.items + count ≤ kept.unindexed.cap
 
 -- no volume waits to be put into a chunk
 abbrev pub AreSettled : LiveIndex → Type 0
-AreSettled kept = length kept.young.items ≡ 0
+AreSettled kept = length kept.unindexed.items ≡ 0
 
 -- ---- changes
 
@@ -162,8 +162,8 @@ pub record HasLeft (stays : LiveVolume → Bool) (old new : LiveIndex) : Type 0 
   pub hedged : AreHedged old.groups.items → AreHedged new.groups.items
   pub placed : ArePlaced old.places (volumes_under old.groups.items)
       → ArePlaced new.places (volumes_under new.groups.items)
-  pub room : new.young.cap ≡ old.young.cap
-  pub less : length new.young.items ≤ length old.young.items
+  pub room : new.unindexed.cap ≡ old.unindexed.cap
+  pub less : length new.unindexed.items ≤ length old.unindexed.items
 
 -- ---- questions
 

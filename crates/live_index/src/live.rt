@@ -44,7 +44,7 @@ const LOOKS: usize = 1 << 13;
 pub struct LiveIndex {
     groups: Vec<Group>,
     // those that the last change brought
-    young: Vec<LiveVolume>,
+    unindexed: Vec<LiveVolume>,
     // where those in chunks stand
     places: Places,
 }
@@ -56,7 +56,7 @@ impl LiveIndex {
     {
         LiveIndex {
             groups: Vec::new(alloc),
-            young: Vec::new(alloc),
+            unindexed: Vec::new(alloc),
             places: Places::new(alloc),
         }
     }
@@ -89,7 +89,7 @@ impl LiveIndex {
             .iter()
             .any(|group| group.has_theirs(operator, extent))
             || self
-                .young
+                .unindexed
                 .iter()
                 .any(|live| live.is_theirs(operator, extent))
     }
@@ -144,7 +144,7 @@ impl LiveIndex {
     }
 
     // The plans whose volumes are wanted and near extents, which are asked all at once, if they have at most
-    // so many rows. Those near a slab round all are told, if there are more than `PARTS` extents.
+    // so many rows. Those near a slab round all are reported, if there are more than `PARTS` extents.
     fn near_at_once(
         &self,
         alloc: Global,
@@ -179,20 +179,20 @@ impl LiveIndex {
             → AddsPlans wanted.now (sought_has sought.now) (volumes_of self.now) near.old near.new) }
     {
         add_near_in(near, &self.groups, wanted, sought)?;
-        self.add_young(near, wanted, sought)
+        self.add_unindexed(near, wanted, sought)
     }
 
     // Adds those of the volumes that are in no chunk.
-    fn add_young(
+    fn add_unindexed(
         &self,
         near: &mut NearPlans,
         wanted: &Wanted,
         sought: &Sought,
     ) -> Result<(), AllocError>
-        ensures { OnOk result (AddsPlans wanted.now (sought_has sought.now) self.now.young.items near.old
+        ensures { OnOk result (AddsPlans wanted.now (sought_has sought.now) self.now.unindexed.items near.old
             near.new) }
     {
-        add_each(near, &self.young, wanted, sought)
+        add_each(near, &self.unindexed, wanted, sought)
     }
 
     /// The volumes that a change brings, for which there is room then.
@@ -208,7 +208,7 @@ impl LiveIndex {
     {
         self.settle(alloc)?;
         let fresh = brought_by(alloc, change)?;
-        self.young.reserve(fresh.len())?;
+        self.unindexed.reserve(fresh.len())?;
         Ok(fresh)
     }
 
@@ -222,7 +222,7 @@ impl LiveIndex {
         ensures kept { (w : World) → AreKeptOnce self.old w → AreKeptOnce self.new (changed_by change.now w) }
     {
         self.take_out(change);
-        push_all(&mut self.young, fresh);
+        push_all(&mut self.unindexed, fresh);
     }
 
     // Takes out the volumes of the plans that a change names.
@@ -250,7 +250,7 @@ impl LiveIndex {
     fn leave(&mut self, operator: &Operator, id: &PlanId)
         ensures { HasLeft (is_beside operator.now id.now) self.old self.new }
     {
-        leave(&mut self.young, operator, id);
+        leave(&mut self.unindexed, operator, id);
         let key = PlanKey {
             operator: *operator,
             id: *id,
@@ -264,7 +264,7 @@ impl LiveIndex {
         ensures kept { (w : World) → AreKeptOnce self.old w → AreKeptOnce self.new w }
         ensures settled { OnOk result (AreSettled self.new) }
     {
-        while !self.young.is_empty() {
+        while !self.unindexed.is_empty() {
             self.settle_one(alloc)?;
         }
         Ok(())
@@ -273,15 +273,15 @@ impl LiveIndex {
     // Puts the last of them into a chunk.
     fn settle_one(&mut self, alloc: Global) -> Result<(), AllocError>
         ensures kept { (w : World) → AreKeptOnce self.old w → AreKeptOnce self.new w }
-        ensures fewer { OnOk result (length self.new.young.items ≡ length self.old.young.items - 1) }
+        ensures fewer { OnOk result (length self.new.unindexed.items ≡ length self.old.unindexed.items - 1) }
     {
-        let Some((last, rest)) = self.young.split_last() else {
+        let Some((last, rest)) = self.unindexed.split_last() else {
             return Ok(());
         };
         let (live, left) = (*last, rest.len());
         self.places.add(alloc, &live)?;
         insert(alloc, &mut self.groups, &live)?;
-        self.young.truncate(left);
+        self.unindexed.truncate(left);
         Ok(())
     }
 }
@@ -328,7 +328,7 @@ impl LiveIndexBuilder {
         Ok(LiveIndex {
             groups: grouped(alloc, &volumes)?,
             places: places_of(alloc, &volumes)?,
-            young: Vec::new(alloc),
+            unindexed: Vec::new(alloc),
         })
     }
 }

@@ -15,13 +15,13 @@ pub behind : (path : List ℕ) (r : Option (Bor (List ℕ)))
     (λ x. StripsPrefix (FindsTextPrefix plans_folder) path x.now)
     → option_map (λ rest. rest.now) r ≡ rest_in path
 behind path None lacks =
-    let told = starts_is Decides-eqb path plans_folder (starts_with nat_eq path plans_folder) refl in
+    let reported = starts_is Decides-eqb path plans_folder (starts_with nat_eq path plans_folder) refl in
     rw (false_from_ne_true (starts_with nat_eq path plans_folder)
-    (λ e. lacks (drop (length plans_folder) path) (told.0 e))) refl
+    (λ e. lacks (drop (length plans_folder) path) (reported.0 e))) refl
 behind path (Some rest) (n, is, what, size) =
-    let told = starts_is Decides-eqb path plans_folder (starts_with nat_eq path plans_folder) refl in
-    rw (told.1 (drop n path) is.1, what, is.0) refl
+    let reported = starts_is Decides-eqb path plans_folder (starts_with nat_eq path plans_folder) refl in
+    rw (reported.1 (drop n path) is.1, what, is.0) refl
 
--- what `from_utf8` tells of a text, as the test
+-- what `from_utf8` reports of a text, as the test
 pub is_utf8-false : (text : List ℕ) → ¬ (IsUtf8 text) → is_utf8 text ≡ false
 is_utf8-false text none = false_from_ne_true (is_utf8 text) (λ e. none (IsUtf8-from_is_utf8 text e))

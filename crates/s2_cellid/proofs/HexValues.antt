@@ -32,9 +32,9 @@ all_fit : IsTrue (values_fit 0 HEX_VALUES)
 unfolding values_fit
 all_fit = refl
 
-told : (value digit : ℕ) → IsTrue (value == (if nat_lt digit 16 then digit else 16))
+reported : (value digit : ℕ) → IsTrue (value == (if nat_lt digit 16 then digit else 16))
     → (value < 16 → (digit < 16) × (value ≡ digit)) × (16 ≤ value → digit < 16 → ⊥)
-told value digit fits = (
+reported value digit fits = (
   λ below. (grind (arith, nat_tests), grind (arith, nat_tests)),
   λ above digit_below. grind (arith, nat_tests),
 )
@@ -44,5 +44,5 @@ pub hex_value_at : (byte default : ℕ) → byte < 256 →
     → (digit_value byte < 16) × (slice_index_or HEX_VALUES byte default ≡ digit_value byte))
     × (16 ≤ slice_index_or HEX_VALUES byte default → digit_value byte < 16 → ⊥)
 hex_value_at byte default below =
-    told (slice_index_or HEX_VALUES byte default) (digit_value byte)
+    reported (slice_index_or HEX_VALUES byte default) (digit_value byte)
     (fits_at 0 byte byte HEX_VALUES default (omega arith) all_fit below)

@@ -109,48 +109,48 @@ crossings_append set most first middle upto quarter level one two block place is
       members = λ id. (
         λ there. elim (Contains-append_cases one two id there) [
           | inl early ↦
-              let told = (before.members id).0 early in
+              let reported = (before.members id).0 early in
               record {
-                crossed = told.crossed;
-                place = told.place;
-                begins = told.begins;
-                ends = omega (arith, told.ends, is);
+                crossed = reported.crossed;
+                place = reported.place;
+                begins = reported.begins;
+                ends = omega (arith, reported.ends, is);
               }
           | inr late ↦
-              let told = (here.members id).0 late in
+              let reported = (here.members id).0 late in
               let at_most =
-              within_place id quarter level middle told.crossed.valid block told.begins
-              (omega (arith, told.ends, is)) in
+              within_place id quarter level middle reported.crossed.valid block reported.begins
+              (omega (arith, reported.ends, is)) in
               record {
-                crossed = told.crossed;
+                crossed = reported.crossed;
                 place = omega (arith, at_most, place);
-                begins = omega (arith, told.begins, order);
-                ends = told.ends;
+                begins = omega (arith, reported.begins, order);
+                ends = reported.ends;
               }
         ],
-        λ told. elim (cases_lt (last_leaf id) middle) [
+        λ reported. elim (cases_lt (last_leaf id) middle) [
           | inl early ↦
               Contains-append_left one two id ((before.members id).1
               (record {
-                crossed = told.crossed;
-                place = told.place;
-                begins = told.begins;
+                crossed = reported.crossed;
+                place = reported.place;
+                begins = reported.begins;
                 ends = early;
               }))
           | inr late ↦
               let p = last_leaf id in
-              let valid = told.crossed.valid in
+              let valid = reported.crossed.valid in
               let in_quarter : IsTrue (cell_has quarter p) =
               has_position quarter p block.valid (omega (arith, block.begins, late))
-              (omega (arith, block.ends, told.ends, is)) in
+              (omega (arith, block.ends, reported.ends, is)) in
               let lies =
               nested id quarter p valid block.valid (last_belongs id valid) in_quarter
-              (omega (arith, told.place, place)) in
+              (omega (arith, reported.place, place)) in
               Contains-append_right one two id ((here.members id).1 (record {
-                crossed = told.crossed;
+                crossed = reported.crossed;
                 place = omega (arith, place_of id valid);
                 begins = omega (arith, lies.first, block.begins);
-                ends = told.ends;
+                ends = reported.ends;
               }))
         ],
       );
@@ -165,21 +165,21 @@ crossings_whole set most first upto id level ids block inner place is crossed be
   once = pairs_append ids (id ∷ []) below.once (λ i j d less within. absurd
       (omega (arith, less, within)))
       (λ x y there_x there_y same.
-      let told = (below.members x).0 there_x in
+      let reported = (below.members x).0 there_x in
       let last : id ≡ y = elim (Contains-push_cases [] id y there_y) [
         | inl none ↦ absurd (omega (arith, none.1))
         | inr is ↦ is
       ] in
-      omega (arith, told.place, block.place, place, inner, ap lowest_place (same ∙ sym last)));
+      omega (arith, reported.place, block.place, place, inner, ap lowest_place (same ∙ sym last)));
   members = λ x. (
     λ there. elim (Contains-push_cases ids id x there) [
       | inl smaller ↦
-          let told = (below.members x).0 smaller in
+          let reported = (below.members x).0 smaller in
           record {
-            crossed = told.crossed;
-            place = omega (arith, place_of x told.crossed.valid);
-            begins = told.begins;
-            ends = told.ends;
+            crossed = reported.crossed;
+            place = omega (arith, place_of x reported.crossed.valid);
+            begins = reported.begins;
+            ends = reported.ends;
           }
       | inr same ↦ subst (IsCrossedIn set 60 first upto) same (record {
         crossed = crossed;
@@ -188,20 +188,20 @@ crossings_whole set most first upto id level ids block inner place is crossed be
         ends = omega (arith, block.ends, is, some_leaves level);
       })
     ],
-    λ told. elim (cases_lt most (lowest_place x)) [
+    λ reported. elim (cases_lt most (lowest_place x)) [
       | inr smaller ↦
           Contains-append_left ids (id ∷ []) x ((below.members x).1
-          (record { crossed = told.crossed; place = smaller; begins = told.begins; ends = told.ends }))
+          (record { crossed = reported.crossed; place = smaller; begins = reported.begins; ends = reported.ends }))
       | inl larger ↦
-          let valid = told.crossed.valid in
+          let valid = reported.crossed.valid in
           let p = first_leaf x in
           let leaves = has_leaves x valid in
-          let at_most = within_place x id level first valid block told.begins
-          (omega (arith, told.ends, is))
+          let at_most = within_place x id level first valid block reported.begins
+          (omega (arith, reported.ends, is))
           in
           let here : IsTrue (cell_has id p) =
-          has_position id p block.valid (omega (arith, block.begins, told.begins))
-          (omega (arith, block.ends, told.ends, is, leaves)) in
+          has_position id p block.valid (omega (arith, block.begins, reported.begins))
+          (omega (arith, block.ends, reported.ends, is, leaves)) in
           let same : id ≡ x =
           same_cell id x p block.valid valid here (first_belongs x valid)
           (omega (arith, larger, at_most, place, block.place, place_of x valid, inner)) in

@@ -196,9 +196,9 @@ covers_footprint rect ids is same leaf here =
     let tests : leaves_of ids (position_of leaf) ≡ wide_has (widened rect) leaf =
     same (position_of leaf)
     ∙ undone in
-    let told = footprint_is rect leaf is in (
-      λ has. told.0 (sym tests ∙ has),
-      λ inside. tests ∙ told.1 inside,
+    let reported = footprint_is rect leaf is in (
+      λ has. reported.0 (sym tests ∙ has),
+      λ inside. tests ∙ reported.1 inside,
     )
 
 -- the leaf at the least coordinates belongs to its rectangle
@@ -222,7 +222,7 @@ pub some_cells : (r : RectParts) (ids : List ℕ) → IsRect r
     ↔ IsInFootprint r leaf)
     → 0 < length ids
 unfolding least_leaf
-some_cells r ids is told =
+some_cells r ids is reported =
     let least = least_leaf r is in
     some_of ids (position_of (grid_leaf r.face r.i_min r.j_min))
-    ((told (grid_leaf r.face r.i_min r.j_min) least.is).1 least)
+    ((reported (grid_leaf r.face r.i_min r.j_min) least.is).1 least)

@@ -1,4 +1,4 @@
--- What a look at a square tells of the leaves in it.
+-- What a look at a square reports of the leaves in it.
 use Rattle.std.proofs.Common.{◌≡◌, ◌≢◌, ℕ, ◌-◌, ◌*◌, ◌/◌, ◌^◌, ◌<◌, ◌≤◌, Bool, true, false, refl, sym, ◌∙◌, ap, subst, arith, inl, inr, ◌⊎◌}
 use Rattle.std.specs.Prelude.{◌↔◌, ◌&&◌, ◌==◌}
 use Rattle.std.specs.Int.{IsInRange}
@@ -262,7 +262,7 @@ never_level square level quotient first last spans apart same =
     let high : last / side_of square.level ≡ quotient = (spans last).1 (order, omega arith) in
     apart (ap (λ s. first / s) sides ∙ low ∙ sym high ∙ sym (ap (λ s. last / s) sides))
 
--- a look tells how the square lies to the set
+-- a look reports how the square lies to the set
 pub square_seen : (w : WideParts) (square : GridSquare) (i_first i_last j_first j_last side : ℕ)
     (i_sight j_sight : Overlap)
     → side ≡ side_of w.level → IsSquare square → square.face ≡ w.face → square.level ≤ w.level

@@ -1,5 +1,5 @@
 //! Covers of sets of leaves by cells of the S2 geometry library: of a list of cells, which gives its
-//! normal form, and of a rectangle of leaves. A cover's leaves are told as ranges of positions too.
+//! normal form, and of a rectangle of leaves. A cover's leaves are reported as ranges of positions too.
 #![tactic(auto)]
 
 mod covers;

@@ -10,36 +10,36 @@ const QUADRANTS: [[u8; 4]; 4] = [[0, 1, 3, 2], [0, 2, 3, 1], [3, 2, 0, 1], [3, 1
 const CHANGES: [u8; 4] = [1, 0, 0, 3];
 
 /// One level down to a quadrant: its place along the curve, and the orientation in it.
-pub struct Step {
+pub struct CurveStep {
     pub place: u8,
     pub turn: u8,
 }
 
 // For each orientation the steps to the quadrants 0 to 3.
-static STEPS: [[Step; 4]; 4] = [
+static STEPS: [[CurveStep; 4]; 4] = [
     [
-        Step { place: 0, turn: 1 },
-        Step { place: 1, turn: 0 },
-        Step { place: 3, turn: 3 },
-        Step { place: 2, turn: 0 },
+        CurveStep { place: 0, turn: 1 },
+        CurveStep { place: 1, turn: 0 },
+        CurveStep { place: 3, turn: 3 },
+        CurveStep { place: 2, turn: 0 },
     ],
     [
-        Step { place: 0, turn: 0 },
-        Step { place: 3, turn: 2 },
-        Step { place: 1, turn: 1 },
-        Step { place: 2, turn: 1 },
+        CurveStep { place: 0, turn: 0 },
+        CurveStep { place: 3, turn: 2 },
+        CurveStep { place: 1, turn: 1 },
+        CurveStep { place: 2, turn: 1 },
     ],
     [
-        Step { place: 2, turn: 2 },
-        Step { place: 3, turn: 1 },
-        Step { place: 1, turn: 2 },
-        Step { place: 0, turn: 3 },
+        CurveStep { place: 2, turn: 2 },
+        CurveStep { place: 3, turn: 1 },
+        CurveStep { place: 1, turn: 2 },
+        CurveStep { place: 0, turn: 3 },
     ],
     [
-        Step { place: 2, turn: 3 },
-        Step { place: 1, turn: 3 },
-        Step { place: 3, turn: 0 },
-        Step { place: 0, turn: 2 },
+        CurveStep { place: 2, turn: 3 },
+        CurveStep { place: 1, turn: 3 },
+        CurveStep { place: 3, turn: 0 },
+        CurveStep { place: 0, turn: 2 },
     ],
 ];
 
@@ -62,7 +62,7 @@ pub fn quadrant_at(turn: u8, place: u8) -> u8
 
 /// The step down to a quadrant.
 #[tactic(auto, unfolding(crate::specs::Curve::place_of, crate::specs::Curve::turned))]
-pub fn step_to(turn: u8, quadrant: u8) -> &'static Step
+pub fn step_to(turn: u8, quadrant: u8) -> &'static CurveStep
     requires turn { turn < 4 }
     requires quadrant { quadrant < 4 }
     ensures place { result.now.place ≡ curve.place_of turn quadrant }

@@ -12,7 +12,7 @@ use Rattle.desk_cli.specs.declared.failure.ErrorCode.TheVariants as failure
 use Rattle.desk_cli.specs.Exits.{Ending, FailsWith, IsSilent}
 use Rattle.uss_desk.specs.declared.watching.CloseReport.{CloseReport}
 
--- a line ends with the status that it had, and nothing more is told
+-- a line ends with the status that it had, and nothing more is reported
 abbrev pub EndsAsItWas : ℕ → Ending → Type 0
 EndsAsItWas status end = (end.status ≡ status) × IsSilent end
 
@@ -29,7 +29,7 @@ IsEnded (Err it) are_at_paths status end = IsUnclosed status end
 
 module _ {D : Type 0} {g : disk.Ghosts D} where
   -- a desk over files is closed, however its line ended: if the disk returned what was written, its last
-  -- commit is in the database file alone. Or it was tried, and can't be, which the failure tells. In memory
+  -- commit is in the database file alone. Or it was tried, and can't be, which the failure reports. In memory
   -- there is nothing to close
   abbrev pub IsClosed :
       Option (Parts (Shown (FileStore D g))) → ℕ → Ending → Option (CloseReport D g) → Type 0

@@ -1,4 +1,4 @@
--- Read first: Running, Opening, Guarding, Closing, Keeping; DamageTold stands alone.
+-- Read first: Running, Opening, Guarding, Closing, Keeping; DamageReported stands alone.
 pub mod OpenedFor
 pub mod Rolls
 pub mod LineRecord

@@ -4,20 +4,20 @@ use Rattle.desk_cli.specs.declared.failure.ErrorCode.{ErrorCode}
 use Rattle.desk_cli.specs.declared.failure.ErrorCode.TheVariants as failure
 use Rattle.desk_cli.specs.declared.line.Line.{Line}
 use Rattle.desk_cli.specs.declared.line.Line.TheVariants as line
-use Rattle.desk_host.specs.declared.folders.FoundRecord.{FoundRecord}
-use Rattle.desk_host.specs.declared.folders.Unkept.{Unkept}
-use Rattle.desk_host.specs.declared.folders.Unkept.TheVariants as unkept
+use Rattle.desk_host.specs.declared.folders.JournalFile.{JournalFile}
+use Rattle.desk_host.specs.declared.folders.JournalError.{JournalError}
+use Rattle.desk_host.specs.declared.folders.JournalError.TheVariants as unkept
 use Rattle.desk_recording.specs.declared.tail.Tail.{Tail}
 use Rattle.desk_recording.specs.declared.tail.TailEnd.{TailEnd}
 use Rattle.desk_recording.specs.declared.tail.TailEnd.TheVariants.{End, Short, Damaged}
 
 -- the number of a folder's last record and how many bytes that has, each 0 if there is none
-abbrev pub extent_of : Option FoundRecord → ℕ × ℕ
+abbrev pub extent_of : Option JournalFile → ℕ × ℕ
 extent_of None = (0, 0)
 extent_of (Some found) = (found.number, found.len)
 
--- what came of something that is done in the folder: why it wasn't, once that is told
-abbrev pub failure_of : {V : Type 0} → Result V Unkept → Result V ErrorCode
+-- what came of something that is done in the folder: why it wasn't, once that is reported
+abbrev pub failure_of : {V : Type 0} → Result V JournalError → Result V ErrorCode
 failure_of (Ok v) = Ok v
 failure_of (Err unkept.Memory) = Err failure.Memory
 failure_of (Err (unkept.Cause cause)) = Err failure.Write

@@ -78,12 +78,12 @@ abbrev pub StaysGuarded :
 StaysGuarded past opened left = IfOk opened (λ desk. IsSomeAnd left (λ left.
     HasCleanDisk (file_state desk.store.held) → IsTrueOrCollided past left))
 
--- the line that tells how many plans were moved is printed, or cut off, and the plans are moved all the same;
--- or the move failed, and nothing is printed
-abbrev pub IsMoveTold :
+-- the line that reports how many plans were moved is printed, or cut off, and the plans are moved all the
+-- same; or the move failed, and nothing is printed
+abbrev pub IsMoveReported :
     {S : Type 0} → Result (Parts (Shown S) × ℕ) ErrorCode → Ending → Option (Parts (Shown S))
     → Course (Option (List ℕ)) → Type 0
-IsMoveTold (Ok moved) end left writes =
+IsMoveReported (Ok moved) end left writes =
     (left ≡ Some moved.0) × IsCountPrinted moved.1 end writes.before writes.after
-IsMoveTold (Err failure) end left writes =
+IsMoveReported (Err failure) end left writes =
     (left ≡ None) × FailsWith failure end × (writes.after ≡ writes.before)

@@ -12,12 +12,12 @@ use Rattle.desk_run.specs.DeskWorld.{Parts}
 use Rattle.desk_tables.specs.Leaving.{MayLeave}
 use Rattle.desk_tables.specs.Store.{Shown}
 use Rattle.desk_cli.specs.declared.failure.ErrorCode.{ErrorCode}
-use Rattle.desk_cli.specs.declared.line.Play.{Play as PlayWords}
+use Rattle.desk_cli.specs.declared.line.PlayArgs.{PlayArgs}
 use Rattle.desk_recording.specs.Inputs.{InputOutside, IsPlayRecorded, IsRecordedKept, IsUnrecorded}
 use Rattle.uss_desk.specs.OpenedFor.{load_world}
 use Rattle.uss_desk.specs.OpenedLines.{IsSound}
 
-module _ {S : Type 0} (g : Ghosts S) (play : PlayWords) (o : InputOutside) where
+module _ {S : Type 0} (g : Ghosts S) (play : PlayArgs) (o : InputOutside) where
   -- the input is played at the desk that was opened: its disk was then in no more doubt than it is now, and
   -- if each later read was tested then, each is
   abbrev pub IsInputDoneAt : Option (Parts (Shown S)) → Parts (Shown S) → Type 0

@@ -10,7 +10,7 @@ use Rattle.desk_tables.specs.Store.{Shown}
 use Rattle.desk_cli.specs.declared.failure.ErrorCode.{ErrorCode}
 use Rattle.desk_cli.specs.Exits.{Ending}
 use Rattle.desk_wire.specs.Passage.{Passage}
-use Rattle.desk_replay.specs.ReplayTold.{IsReplayed, IsUnplayed}
+use Rattle.desk_replay.specs.ReplayReported.{IsReplayed, IsUnplayed}
 use Rattle.uss_desk.specs.OpenedFor.{load_world}
 use Rattle.uss_desk.specs.OpenedLines.{IsSound}
 

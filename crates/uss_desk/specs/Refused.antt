@@ -4,8 +4,8 @@ use Rattle.std.specs.declared.io.Error.{Error}
 use Rattle.desk_cli.specs.declared.failure.ErrorCode.{ErrorCode}
 use Rattle.desk_cli.specs.declared.failure.ErrorCode.TheVariants as failure
 use Rattle.desk_host.specs.Causes.{unkept_text}
-use Rattle.desk_host.specs.declared.folders.FoundRecord.{FoundRecord}
-use Rattle.desk_host.specs.declared.folders.Unkept.{Unkept}
+use Rattle.desk_host.specs.declared.folders.JournalFile.{JournalFile}
+use Rattle.desk_host.specs.declared.folders.JournalError.{JournalError}
 use Rattle.desk_recording.specs.declared.tail.Tail.{Tail}
 use Rattle.desk_recording.specs.declared.tail.TailEnd.{TailEnd}
 use Rattle.uss_desk.specs.LineRecord.{cause_of_tail}
@@ -26,7 +26,7 @@ abbrev pub IsUnfound : ErrorCode → Type 0
 IsUnfound f = (f ≡ failure.Store) ⊎ IsKeptOut f
 
 -- the end of a record is gone on from, if there is no cause against it
-abbrev pub GoesOnUnless : Option (List ℕ) → Tail × TailEnd → Result (Tail × TailEnd) Unkept → Type 0
+abbrev pub GoesOnUnless : Option (List ℕ) → Tail × TailEnd → Result (Tail × TailEnd) JournalError → Type 0
 GoesOnUnless None read result = result ≡ Ok read
 GoesOnUnless (Some cause) read (Ok other) = ⊥
 GoesOnUnless (Some cause) read (Err why) = unkept_text why ≡ Some cause
@@ -36,13 +36,13 @@ abbrev pub MayGoOn : ℕ → Tail → TailEnd → Type 0
 MayGoOn number tail ended = cause_of_tail number tail.record ended ≡ None
 
 -- what is undone at a file is what this record left, and it may be gone on from
-pub record IsUndoneAt (file : List ℕ) (last : FoundRecord) (left : PendingRecovery) : Type 0 where
+pub record IsUndoneAt (file : List ℕ) (last : JournalFile) (left : PendingRecovery) : Type 0 where
   pub at : left.file.now ≡ file
   pub of : left.record ≡ last
   pub may : MayGoOn last.number left.tail left.ended
 
--- a write or a sync of a journal is handed on; that it failed is told, once
+-- a write or a sync of a journal is handed on; that it failed is reported, once
 abbrev pub HandsOn : Result ⊤ Error → LocalJournal → LocalJournal → Result ⊤ FileError → Type 0
 HandsOn (Ok done) old new result = (result ≡ Ok (tt {0})) × (new ≡ old)
 HandsOn (Err e) old new result =
-    (result ≡ Err (record { error = e })) × (new ≡ record old { is_told = true })
+    (result ≡ Err (record { error = e })) × (new ≡ record old { is_reported = true })

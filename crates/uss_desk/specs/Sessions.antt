@@ -1,4 +1,4 @@
--- Sessions: what a command has before its desk is opened, and of which desk it is told that it has no
+-- Sessions: what a command has before its desk is opened, and of which desk it is reported that it has no
 -- operator.
 use Rattle.std.specs.Prelude.{◌≡◌, Bool, true, false, List, [], Option, None, Some, option_map}
 use Rattle.std.specs.Prelude.{string_bytes, unwrap_or}

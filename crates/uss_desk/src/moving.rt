@@ -3,14 +3,14 @@
 ghost use Rattle.std.specs.Prelude.{◌≡◌};
 ghost use Rattle.desk_program.specs.Outside.{bytes_written, ended};
 ghost use Rattle.desk_admin.specs.Unopened.{or_failure};
-ghost use Rattle.uss_desk.specs.OpenedLines.{IsMoveTold};
+ghost use Rattle.uss_desk.specs.OpenedLines.{IsMoveReported};
 
 use crate::closing::{close_after, status_closed};
 use crate::opening::{FileDesk, MovedDesk, open_old};
-use crate::refusals::tell_refusal;
+use crate::refusals::report_refusal;
 use desk_admin::reordering::reorder_for;
 use desk_cli::{Database, ErrorCode, ExitReport, report_exit};
-use desk_host::damage::look_before;
+use desk_host::damage::check_before;
 use desk_host::paths::{OpenPaths, paths_at};
 use desk_program::print_migrated;
 use sqlite::{Start, Unknown};
@@ -26,24 +26,24 @@ use std::io::Write;
 /// put in order.
 pub fn migrate_here(rt: &HostRuntime, database: &Database) -> Result<u8, ErrorCode> {
     let mut errors = rt.stderr();
-    look_before(rt, database, false, &mut errors)?;
+    check_before(rt, database, false, &mut errors)?;
     let paths = paths_at(rt, database)?;
     reorder_for(rt, database, true)?;
     let moved = open_old(rt, database, Unknown, paths);
-    tell_refusal(rt, database, false, &moved, &mut errors);
-    let (exit, desk) = tell_moved(rt.alloc(), moved, &mut rt.stdout(), &mut errors);
+    report_refusal(rt, database, false, &moved, &mut errors);
+    let (exit, desk) = report_moved(rt.alloc(), moved, &mut rt.stdout(), &mut errors);
     Ok(status_closed(close_after(exit.status, desk, &mut errors)))
 }
 
 /// Prints how many plans were moved, or the word of why none were, and answers how that ended and the desk
 /// over the files. A fault of `errors` is passed over.
-pub fn tell_moved<F: Start, N: OpenPaths + Drop, W: Write, E: Write>(
+pub fn report_moved<F: Start, N: OpenPaths + Drop, W: Write, E: Write>(
     alloc: Global,
     moved: MovedDesk<F, N>,
     output: &mut W,
     errors: &mut E,
 ) -> (ExitReport<E>, Option<FileDesk<F, N>>)
-    ensures { IsMoveTold (or_failure moved) (ended E.Write result.0 errors.old errors.new) result.1
+    ensures { IsMoveReported (or_failure moved) (ended E.Write result.0 errors.old errors.new) result.1
         (bytes_written W.Write output.old output.new) }
 {
     match moved {

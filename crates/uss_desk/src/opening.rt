@@ -9,7 +9,7 @@ ghost use Rattle.uss_desk.specs.Rolls.{HasNoted, HasNotedAt, HasNotedDesk};
 use crate::rolls::NotedOperators;
 use crate::watching::PathChecked;
 use db_file::Ram;
-use desk_admin::unopened::{OpenError, Unread, open_failure};
+use desk_admin::unopened::{FileOpenError, OpenError, open_failure};
 use desk_cli::{Database, ErrorCode};
 use desk_host::naming::make_private;
 use desk_host::paths::{NoPaths, OpenPaths};
@@ -41,10 +41,10 @@ pub enum Opened<M: Drop, D: Drop> {
 pub type OpenedDesk<F, N> = Opened<Result<MemoryDesk, ErrorCode>, FoundDesk<F, N>>;
 
 /// A desk over files, or why there is none.
-pub type FoundDesk<F, N> = Result<FileDesk<F, N>, Unread<F>>;
+pub type FoundDesk<F, N> = Result<FileDesk<F, N>, FileOpenError<F>>;
 
 /// A desk over files and how many plans were moved to it from schema 1, or why there is none.
-pub type MovedDesk<F, N> = Result<(FileDesk<F, N>, u32), Unread<F>>;
+pub type MovedDesk<F, N> = Result<(FileDesk<F, N>, u32), FileOpenError<F>>;
 
 /// Opens the desk over a database; `start` stands for what its files held, and `paths` are theirs. The
 /// operators that a desk over files has then are noted in `roll`.

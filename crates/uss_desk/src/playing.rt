@@ -20,7 +20,7 @@ use std::io::{Read, Write};
 /// written. The word of a failure goes to `errors`; a fault there is passed over.
 pub fn play_line<D, N, R, W, K, E>(
     alloc: Global,
-    words: &Play,
+    words: &PlayArgs,
     opened: Result<DeskAt<D, N>, ErrorCode>,
     port: &mut RecordedPort<InputPort<R, W>, K>,
     errors: &mut E,

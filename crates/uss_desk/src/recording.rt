@@ -1,5 +1,5 @@
 //! The folder of a desk's records: what the last one left undone is done at the desk that is open, and then
-//! the next one is begun. No clause tells what the operating system did.
+//! the next one is begun. No clause reports what the operating system did.
 
 ghost use Rattle.std.specs.Prelude.{◌≡◌, ◌⊎◌, ◌++◌, ◌↔◌, false, true, IfErr, IfOk, IfSome, IsSome, IsTrue};
 ghost use Rattle.std.specs.Prelude.{None, Ok, OnErr, OnOk, Some, option_map};
@@ -16,15 +16,15 @@ use crate::closing::close_after;
 use crate::opening::{DeskAt, opened_anew};
 use crate::rolls::NotedOperators;
 use crate::watching::CloseReport;
-use desk_cli::{Action, DeskArgs, Enrolment, ErrorCode, ExitReport};
+use desk_cli::{DeskArgs, DeskCommand, Enrolment, ErrorCode, ExitReport};
 use desk_host::folders::{
-    FoundRecord, Unkept, last_record, make_part, move_rest, name_part, tail_of,
+    JournalError, JournalFile, last_record, make_part, move_rest, name_part, tail_of,
 };
 use desk_host::naming::IN_USE;
 use desk_host::paths::OpenPaths;
-use desk_host::telling::tell_of;
+use desk_host::reporting::report_of;
 use desk_recording::{
-    Journal, Parted, Record, Tail, TailEnd, WrittenRecord, begin_record, missing_of, recover,
+    Exchange, Journal, Record, Tail, TailEnd, WrittenRecord, begin_record, missing_of, recover,
 };
 use desk_rules::terms::Terms;
 use io_ends::Moment;
@@ -34,33 +34,33 @@ use std::fs::{self, File};
 use std::io::{self, Write};
 use std::time::SystemTime;
 
-/// The file of a record. That it can't be written is told on the standard error, once.
+/// The file of a record. That it can't be written is reported on the standard error, once.
 #[derive(Drop)]
 pub struct LocalJournal<'s> {
     rt: &'s HostRuntime,
     folder: &'s str,
     file: File,
-    is_told: bool,
+    is_reported: bool,
 }
 
-/// An error of the file of a record, which is told.
+/// An error of the file of a record, which is reported.
 #[derive(Drop)]
 pub struct FileError {
     error: io::Error,
 }
 
 impl LocalJournal<'_> {
-    // Tells that the record can't be written, if that is so and wasn't told, and hands the error on.
+    // Reports that the record can't be written, if that is so and wasn't reported, and hands the error on.
     fn hand_on(&mut self, done: io::Result<()>) -> Result<(), FileError>
         ensures { HandsOn done self.old self.new result }
     {
         let Err(error) = done else {
             return Ok(());
         };
-        if !self.is_told {
-            self.is_told = true;
+        if !self.is_reported {
+            self.is_reported = true;
             let text = "the record can't be written";
-            tell_of(self.rt.alloc(), self.folder, text, &mut self.rt.stderr());
+            report_of(self.rt.alloc(), self.folder, text, &mut self.rt.stderr());
         }
         Err(FileError { error })
     }
@@ -102,7 +102,7 @@ pub struct RecordFolder<'s> {
 #[derive(Drop)]
 struct PendingRecovery<'s> {
     file: &'s str,
-    record: FoundRecord,
+    record: JournalFile,
     tail: Tail,
     ended: TailEnd,
 }
@@ -112,11 +112,11 @@ struct PendingRecovery<'s> {
 /// # Errors
 ///
 /// `Store` if the database is in memory, or its file is gone; `Write` if the folder can't be read, or nothing
-/// goes on from its last record; `Memory`. Why is told.
+/// goes on from its last record; `Memory`. Why is reported.
 pub fn folder_for<'s>(
     rt: &'s HostRuntime,
     words: &'s DeskArgs,
-    action: Action<'_>,
+    action: DeskCommand<'_>,
 ) -> Result<Option<RecordFolder<'s>>, ErrorCode>
     ensures none { words.now.folder ≡ None → result ≡ Ok None }
     ensures some { IsSome words.now.folder → IfOk result IsSome }
@@ -126,7 +126,7 @@ pub fn folder_for<'s>(
     let Some(path) = words.folder.as_deref() else {
         return Ok(None);
     };
-    let last = told(rt, path, last_record(rt, path))?;
+    let last = reported(rt, path, last_record(rt, path))?;
     let (number, len) = extent_of(&last);
     let undone = match words.database.path() {
         Some(file) => undone_at(rt, path, file, last)?,
@@ -143,7 +143,7 @@ pub fn folder_for<'s>(
 }
 
 // The number of a folder's last record and how many bytes that has, each 0 if there is none.
-fn extent_of(last: &Option<FoundRecord>) -> (u64, u64)
+fn extent_of(last: &Option<JournalFile>) -> (u64, u64)
     ensures { result ≡ spec.extent_of last.now }
 {
     match last {
@@ -156,16 +156,20 @@ fn extent_of(last: &Option<FoundRecord>) -> (u64, u64)
 fn alone<'s>(
     rt: &HostRuntime,
     folder: &str,
-    action: Action<'_>,
+    action: DeskCommand<'_>,
     has_records: bool,
 ) -> Result<Option<PendingRecovery<'s>>, ErrorCode>
     ensures { BeginsAlone (line_of action.entry) has_records result }
 {
     match action {
-        Action::Play(_) if has_records => {
-            told(rt, folder, Err(Unkept::Cause("records of another desk")))
+        DeskCommand::Play(_) if has_records => {
+            reported(
+                rt,
+                folder,
+                Err(JournalError::Cause("records of another desk")),
+            )
         }
-        Action::Play(_) => Ok(None),
+        DeskCommand::Play(_) => Ok(None),
         _ => Err(store_failure(rt, folder, "a record needs a database in a file")),
     }
 }
@@ -176,7 +180,7 @@ fn undone_at<'s>(
     rt: &HostRuntime,
     folder: &str,
     file: &'s str,
-    last: Option<FoundRecord>,
+    last: Option<JournalFile>,
 ) -> Result<Option<PendingRecovery<'s>>, ErrorCode>
     ensures none { last ≡ None → result ≡ Ok None }
     ensures is { IfOk result (λ undone. IfSome undone (λ it.
@@ -189,7 +193,7 @@ fn undone_at<'s>(
     if !matches!(fs::exists(rt, file), Ok(true)) {
         return Err(store_failure(rt, file, "no such file, and there are records of it"));
     }
-    let (tail, ended) = told(rt, folder, read_last(rt, &record))?;
+    let (tail, ended) = reported(rt, folder, read_last(rt, &record))?;
     Ok(undone_by(PendingRecovery {
         file,
         record,
@@ -210,7 +214,7 @@ fn undone_by(left: PendingRecovery<'_>) -> Option<PendingRecovery<'_>>
 }
 
 // What the last record of a folder says as it ends.
-fn read_last(rt: &HostRuntime, last: &FoundRecord) -> Result<(Tail, TailEnd), Unkept>
+fn read_last(rt: &HostRuntime, last: &JournalFile) -> Result<(Tail, TailEnd), JournalError>
     ensures { IfOk result (λ read. MayGoOn last.now.number read.0 read.1) }
 {
     let (tail, ended) = tail_of(rt, last)?;
@@ -218,11 +222,11 @@ fn read_last(rt: &HostRuntime, last: &FoundRecord) -> Result<(Tail, TailEnd), Un
 }
 
 // The end of a record, or why nothing goes on from it.
-fn going_on(number: u64, tail: Tail, ended: TailEnd) -> Result<(Tail, TailEnd), Unkept>
+fn going_on(number: u64, tail: Tail, ended: TailEnd) -> Result<(Tail, TailEnd), JournalError>
     ensures { GoesOnUnless (spec.cause_of_tail number tail.record ended) (tail, ended) result }
 {
     match cause_of_tail(number, tail.record, ended) {
-        Some(cause) => Err(Unkept::Cause(cause)),
+        Some(cause) => Err(JournalError::Cause(cause)),
         None => Ok((tail, ended)),
     }
 }
@@ -248,26 +252,30 @@ fn leaves_nothing(tail: &Tail, ended: TailEnd) -> bool
     ended == TailEnd::End && tail.asked.is_none() && tail.operators.is_empty()
 }
 
-// The value, or the failure once its cause is told.
-fn told<T: Drop>(rt: &HostRuntime, folder: &str, done: Result<T, Unkept>) -> Result<T, ErrorCode>
+// The value, or the failure once its cause is reported.
+fn reported<T: Drop>(
+    rt: &HostRuntime,
+    folder: &str,
+    done: Result<T, JournalError>,
+) -> Result<T, ErrorCode>
     ensures is { result ≡ spec.failure_of done }
     ensures fault { IfErr result IsKeptOut }
 {
     match done {
         Ok(value) => Ok(value),
-        Err(Unkept::Memory) => Err(ErrorCode::Memory),
-        Err(Unkept::Cause(cause)) => {
-            tell_of(rt.alloc(), folder, cause, &mut rt.stderr());
+        Err(JournalError::Memory) => Err(ErrorCode::Memory),
+        Err(JournalError::Cause(cause)) => {
+            report_of(rt.alloc(), folder, cause, &mut rt.stderr());
             Err(ErrorCode::Write)
         }
     }
 }
 
-// The failure of a database, once its cause is told.
+// The failure of a database, once its cause is reported.
 fn store_failure(rt: &HostRuntime, path: &str, cause: &str) -> ErrorCode
     ensures { result ≡ ErrorCode.Store }
 {
-    tell_of(rt.alloc(), path, cause, &mut rt.stderr());
+    report_of(rt.alloc(), path, cause, &mut rt.stderr());
     ErrorCode::Store
 }
 
@@ -286,7 +294,8 @@ impl<'s> RecordFolder<'s> {
     /// # Errors
     ///
     /// `Write` if the folder can't be read or written, or has another last record than it had; `Store` by the
-    /// desk, or if that can't be closed; `Broken` if a request can't be kept; `Memory`; `Clock`. Why is told.
+    /// desk, or if that can't be closed; `Broken` if a request can't be kept; `Memory`; `Clock`. Why is
+    /// reported.
     pub fn finish<D: Disk + Drop, N: OpenPaths + Drop>(
         &mut self,
         mut desk: DeskAt<D, N>,
@@ -322,7 +331,7 @@ impl<'s> RecordFolder<'s> {
             ..
         } = undone;
         if ended == TailEnd::Short {
-            told(rt, path, move_rest(rt, &record, tail.size))?;
+            reported(rt, path, move_rest(rt, &record, tail.size))?;
         }
         let Some(operators) = roll.take() else {
             return Err(ErrorCode::Memory);
@@ -358,9 +367,9 @@ impl<'s> RecordFolder<'s> {
             return Ok(());
         }
         let (rt, path) = (self.rt, self.path);
-        let (number, len) = extent_of(&told(rt, path, last_record(rt, path))?);
+        let (number, len) = extent_of(&reported(rt, path, last_record(rt, path))?);
         if number != self.number || len != self.len {
-            tell_of(rt.alloc(), path, IN_USE, &mut rt.stderr());
+            report_of(rt.alloc(), path, IN_USE, &mut rt.stderr());
             return Err(ErrorCode::Write);
         }
         self.is_held = true;
@@ -395,7 +404,7 @@ impl<'s> RecordFolder<'s> {
     /// # Errors
     ///
     /// `Write` if the folder can't be written, or has another last record than it had; `Memory`; `Clock`. Why
-    /// is told.
+    /// is reported.
     fn begin(
         mut self,
         terms: &Terms,
@@ -413,7 +422,7 @@ impl<'s> RecordFolder<'s> {
         let operators = joined(operators, enrolments)?;
         let journal = begin_part(rt, path, number, terms, &operators)?;
         let second = second_now(rt)?;
-        told(rt, path, name_part(rt, path, number, second))?;
+        reported(rt, path, name_part(rt, path, number, second))?;
         Ok(WrittenRecord::new(rt.alloc(), journal))
     }
 }
@@ -445,7 +454,7 @@ fn next_number(rt: &HostRuntime, folder: &str, number: u64) -> Result<u64, Error
 {
     match number.checked_add(1) {
         Some(next) => Ok(next),
-        None => told(rt, folder, Err(Unkept::Cause("no number is left"))),
+        None => reported(rt, folder, Err(JournalError::Cause("no number is left"))),
     }
 }
 
@@ -470,8 +479,8 @@ fn begin_part<'s>(
     let mut journal = LocalJournal {
         rt,
         folder,
-        file: told(rt, folder, make_part(rt, folder, number))?,
-        is_told: false,
+        file: reported(rt, folder, make_part(rt, folder, number))?,
+        is_reported: false,
     };
     match begin_record(rt.alloc(), &mut journal, number, terms, operators) {
         Ok(()) => Ok(journal),
@@ -492,7 +501,7 @@ fn second_now(rt: &HostRuntime) -> Result<u64, ErrorCode>
     }
 }
 
-// That a request that is asked again, or its answer, is not recorded. Why is told.
+// That a request that is asked again, or its answer, is not recorded. Why is reported.
 #[derive(Drop)]
 struct Unrecorded;
 
@@ -525,7 +534,7 @@ impl<'s> AskedRecord<'s> {
             return Err(ErrorCode::Write);
         }
         let second = second_now(self.rt)?;
-        told(
+        reported(
             self.rt,
             self.folder,
             name_part(self.rt, self.folder, self.number, second),
@@ -549,7 +558,7 @@ impl Record for AskedRecord<'_> {
         }
     }
 
-    fn keep_answer(&mut self, connection: Parted<'_>) -> Result<(), Unrecorded> {
+    fn keep_answer(&mut self, connection: Exchange<'_>) -> Result<(), Unrecorded> {
         let Some(record) = &mut self.record else {
             return Err(Unrecorded);
         };
@@ -559,5 +568,5 @@ impl Record for AskedRecord<'_> {
         Err(Unrecorded)
     }
 
-    fn lose_answer(&mut self, _connection: Parted<'_>) {}
+    fn lose_answer(&mut self, _connection: Exchange<'_>) {}
 }

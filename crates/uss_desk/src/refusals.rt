@@ -1,31 +1,31 @@
-//! Why the files of a database were refused, told before a command ends for it.
+//! Why the files of a database were refused, reported before a command ends for it.
 
 ghost use Rattle.std.specs.Prelude.{◌≡◌, OnOk};
 ghost use Rattle.desk_program.specs.Outside.{bytes_written};
-ghost use Rattle.desk_host.specs.Telling.{Tells};
+ghost use Rattle.desk_host.specs.Reporting.{Reports};
 
-use desk_admin::causes::{tell_database, tell_made};
-use desk_admin::unopened::Unread;
+use desk_admin::causes::{report_database, report_made};
+use desk_admin::unopened::FileOpenError;
 use desk_cli::Database;
 use sqlite::Start;
 use std::io::Write;
 
-/// Tells why the files of a database can't be opened, if they can't: those that are made where there are none
-/// (`is_made`), or that have to be there.
-#[tactic(auto, using(desk_host::proofs::TellLemmas::tells_nothing))]
-pub fn tell_refusal<T, F: Start, E: Write>(
+/// Reports why the files of a database can't be opened, if they can't: those that are made where there are
+/// none (`is_made`), or that have to be there.
+#[tactic(auto, using(desk_host::proofs::ReportLemmas::reports_nothing))]
+pub fn report_refusal<T, F: Start, E: Write>(
     rt: &HostRuntime,
     database: &Database,
     is_made: bool,
-    opened: &Result<T, Unread<F>>,
+    opened: &Result<T, FileOpenError<F>>,
     errors: &mut E,
 )
-    ensures tells { Tells (bytes_written E.Write errors.old errors.new) }
+    ensures reports { Reports (bytes_written E.Write errors.old errors.new) }
     ensures silent { OnOk opened.now (E.contents errors.new ≡ E.contents errors.old) }
 {
     match opened {
         Ok(_) => {}
-        Err(unread) if is_made => tell_made(rt, database, unread.failure, errors),
-        Err(unread) => tell_database(rt, database, unread.failure, errors),
+        Err(unread) if is_made => report_made(rt, database, unread.failure, errors),
+        Err(unread) => report_database(rt, database, unread.failure, errors),
     }
 }

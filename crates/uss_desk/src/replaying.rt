@@ -9,11 +9,11 @@ ghost use Rattle.uss_desk.specs.RecordsPlayed.{IsReplayRun};
 
 use crate::closing::{close_after, status_closed};
 use crate::opening::{DeskAt, Opened, open_database};
-use crate::refusals::tell_refusal;
+use crate::refusals::report_refusal;
 use crate::rolls::NotedOperators;
 use desk_admin::unopened::or_failure;
 use desk_cli::{ErrorCode, ExitReport, ReplayArgs};
-use desk_host::damage::look_before;
+use desk_host::damage::check_before;
 use desk_host::paths::{OpenPaths, paths_at};
 use desk_replay::replay_opened;
 use sqlite::Unknown;
@@ -29,7 +29,7 @@ use std::io::{BufReader, Read, Write};
 /// Why the log of its file refuses that; `Memory` if memory runs out before the database is opened.
 pub fn replay_here(rt: &HostRuntime, words: &ReplayArgs) -> Result<u8, ErrorCode> {
     let (mut output, mut errors) = (rt.stdout(), rt.stderr());
-    look_before(rt, &words.database, false, &mut errors)?;
+    check_before(rt, &words.database, false, &mut errors)?;
     let Ok(mut input) = BufReader::new(rt.alloc(), rt.stdin()) else {
         return Err(ErrorCode::Memory);
     };
@@ -42,7 +42,7 @@ pub fn replay_here(rt: &HostRuntime, words: &ReplayArgs) -> Result<u8, ErrorCode
             Ok(exit.status)
         }
         Opened::Files(found) => {
-            tell_refusal(rt, &words.database, true, &found, &mut errors);
+            report_refusal(rt, &words.database, true, &found, &mut errors);
             let desk = or_failure(found);
             let (exit, desk) = replay_line(
                 alloc,

@@ -9,7 +9,7 @@ ghost use Rattle.uss_desk.specs.Guarding.{IsPastOf, Past};
 ghost use Rattle.uss_desk.specs.OpenedLines.{AreReadsTested, IsLineRun, StaysGuarded};
 
 use crate::opening::DeskAt;
-use desk_cli::{Action, ErrorCode, ExitReport};
+use desk_cli::{DeskCommand, ErrorCode, ExitReport};
 use desk_host::paths::OpenPaths;
 use desk_program::{Port, Streams, run_opened};
 use sqlite_disk::Disk;
@@ -20,7 +20,7 @@ use std::io::{Read, Write};
 /// there was one. The word of a failure goes to `errors`; a fault there is passed over.
 pub fn run_line<D, N, P, R, W, E>(
     alloc: Global,
-    action: Action<'_>,
+    action: DeskCommand<'_>,
     opened: Result<DeskAt<D, N>, ErrorCode>,
     port: &mut P,
     streams: &mut Streams<R, W, E>,

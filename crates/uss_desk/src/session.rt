@@ -1,9 +1,9 @@
 //! A command of a desk: what it needs is got ready, its desk is opened, and then it is carried out there. No
-//! clause tells what the operating system did.
+//! clause reports what the operating system did.
 
 ghost use Rattle.std.specs.Prelude.{◌≡◌, ◌↔◌, [], IfOk, IsTrue, None};
 ghost use Rattle.desk_cli.specs.Lines.{IsLine, file_of, line_of};
-ghost use Rattle.desk_host.specs.Telling.{IsWrittenIfRoom, unenrolled_line};
+ghost use Rattle.desk_host.specs.Reporting.{IsWrittenIfRoom, unenrolled_line};
 ghost use Rattle.desk_program.specs.Outside.{bytes_written};
 ghost use Rattle.uss_desk.specs.OpenedLines.{AreReadsTested};
 ghost use Rattle.uss_desk.specs.Sessions as spec;
@@ -14,17 +14,17 @@ use crate::fail;
 use crate::opening::{DeskAt, Opened, open_database};
 use crate::playing::play_line;
 use crate::recording::{RecordFolder, folder_for};
-use crate::refusals::tell_refusal;
+use crate::refusals::report_refusal;
 use crate::rolls::NotedOperators;
 use crate::running::run_line;
 use desk_admin::reordering::reorder_for;
 use desk_admin::unopened::or_failure;
-use desk_cli::{Action, DeskArgs, Enrolment, ErrorCode};
-use desk_host::damage::look_before;
+use desk_cli::{DeskArgs, DeskCommand, Enrolment, ErrorCode};
+use desk_host::damage::check_before;
 use desk_host::files::LocalHost;
 use desk_host::operators::{EnrolmentFile, operators_of};
 use desk_host::paths::{LocalOpenPaths, OpenPaths, paths_at};
-use desk_host::telling::tell_unenrolled;
+use desk_host::reporting::report_unenrolled;
 use desk_program::{LocalPort, Streams};
 use desk_recording::{InputPort, RecordedPort};
 use sqlite::Unknown;
@@ -51,11 +51,11 @@ impl<'s> Session<'s> {
         rt: &'s HostRuntime,
         words: &'s DeskArgs,
         enrolments: &'s [Enrolment],
-        action: Action<'_>,
+        action: DeskCommand<'_>,
     ) -> Result<(Session<'s>, LocalOpenPaths<'s>), ErrorCode>
         ensures { IfOk result (λ it. IsPrepared words.entry.now enrolments.entry.now it.0 it.1) }
     {
-        look_before(rt, &words.database, false, &mut rt.stderr())?;
+        check_before(rt, &words.database, false, &mut rt.stderr())?;
         let Ok(input) = BufReader::new(rt.alloc(), rt.stdin()) else {
             return Err(ErrorCode::Memory);
         };
@@ -113,16 +113,16 @@ impl<'s> Session<'s> {
         self.roll.is_empty() && enrols_none(self.words, self.enrolments)
     }
 
-    // Tells that no operator is enrolled, if that is known of the desk, and the command names none.
-    fn tell_if_unenrolled<E: Write>(&self, errors: &mut E)
-        ensures told { IsUnenrolled self.now
+    // Reports that no operator is enrolled, if that is known of the desk, and the command names none.
+    fn report_if_unenrolled<E: Write>(&self, errors: &mut E)
+        ensures reported { IsUnenrolled self.now
             → IsWrittenIfRoom (unenrolled_line (file_of self.now.words.now.database))
             (bytes_written E.Write errors.old errors.new) }
         ensures quiet { ¬ IsUnenrolled self.now → E.contents errors.new ≡ E.contents errors.old }
     {
         if self.is_unenrolled() {
             let path = self.words.database.path();
-            tell_unenrolled(self.rt.alloc(), path, errors);
+            report_unenrolled(self.rt.alloc(), path, errors);
         }
     }
 
@@ -130,7 +130,7 @@ impl<'s> Session<'s> {
     // those of an input, or those of connections at a port. Answers the exit status and the desk.
     fn run<D: Disk + Drop, N: OpenPaths + Drop>(
         self,
-        action: Action<'_>,
+        action: DeskCommand<'_>,
         opened: Result<DeskAt<D, N>, ErrorCode>,
     ) -> (u8, Option<DeskAt<D, N>>)
         requires { IsLine (line_of action) }
@@ -155,7 +155,7 @@ impl<'s> Session<'s> {
         };
         let mut port = LocalPort::new(rt, rt, register, alloc, rt.stderr());
         let (exit, desk) = match (record, action) {
-            (Some(record), Action::Play(words)) => {
+            (Some(record), DeskCommand::Play(words)) => {
                 let Streams {
                     input,
                     output,
@@ -189,27 +189,27 @@ fn enrols_none(words: &DeskArgs, enrolments: &[Enrolment]) -> bool
 /// # Errors
 ///
 /// Why the desk is not opened: its log, its file of enrolments, its tables or the folder of its records,
-/// which is told; or memory ran out.
+/// which is reported; or memory ran out.
 pub fn at_desk(
     rt: &HostRuntime,
     words: &DeskArgs,
     enrolments: &[Enrolment],
-    action: Action<'_>,
+    action: DeskCommand<'_>,
 ) -> Result<u8, ErrorCode>
     requires { IsLine (line_of action) }
 {
     let (mut session, paths) = Session::prepare(rt, words, enrolments, action)?;
     match open_database(rt, &words.database, Unknown, paths, &mut session.roll) {
         Opened::Memory(desk) => {
-            session.tell_if_unenrolled(&mut rt.stderr());
+            session.report_if_unenrolled(&mut rt.stderr());
             Ok(session.run(action, desk).0)
         }
         Opened::Files(found) => {
             let is_made = !session.has_undone();
-            tell_refusal(rt, &words.database, is_made, &found, &mut rt.stderr());
+            report_refusal(rt, &words.database, is_made, &found, &mut rt.stderr());
             let desk = session.recover(or_failure(found));
             if desk.is_ok() {
-                session.tell_if_unenrolled(&mut rt.stderr());
+                session.report_if_unenrolled(&mut rt.stderr());
             }
             let (status, desk) = session.run(action, desk);
             Ok(status_closed(close_after(status, desk, &mut rt.stderr())))

@@ -80,7 +80,7 @@ impl<D: Disk + Drop, N: OpenPaths + Drop> PathChecked<FileStore<D>, N> {
         roll.note(&self.store);
     }
 
-    /// Copies the log into the database file, wherever that is, and gives the files back; and tells whether
+    /// Copies the log into the database file, wherever that is, and gives the files back; and reports whether
     /// they were at their paths.
     pub fn close(self) -> CloseReport<D>
         ensures copied { IfOk result.files (λ files. AreClean D.Disk files.log files.db →

@@ -26,8 +26,8 @@ use std::alloc::{AllocError, Global};
 use std::marker::Model;
 
 /// A footprint with altitudes and times (`Volume4D` of ASTM F3548-21), always within the desk's
-/// limits. It keeps the ranges of its footprint's leaves, so that they are computed once, until it is told to
-/// drop them.
+/// limits. It keeps the ranges of its footprint's leaves, so that they are computed once, until it is
+/// reported to drop them.
 #[derive(Debug, Drop)]
 pub struct Volume {
     footprint: Footprint,

@@ -1,4 +1,4 @@
--- Laws of two runs of calls, with their proofs: what an operator is told, and what it owns.
+-- Laws of two runs of calls, with their proofs: what an operator is reported, and what it owns.
 use Rattle.std.proofs.Common.{◌≡◌, ℕ, true, List, [], ◌∷◌, refl, sym, ap, subst, ◌∙◌}
 use Rattle.std.specs.List.{AllZip}
 use Rattle.std.specs.Ordering.{is_eq}
@@ -6,8 +6,8 @@ use Rattle.std.proofs.lemmas.Map.Lookups.{exact_bytes}
 use Rattle.desk_store.specs.World.{own, text_cmp}
 use Rattle.desk_store.proofs.lemmas.Order.{is_equal}
 use Rattle.desk_run.specs.DeskWorld.{DeskWorld, Side, side, held_in}
-use Rattle.desk_run.specs.Verdicts.{Told, verdict, side_left, told_to, step}
-use Rattle.desk_run.specs.Runs.{told_in, world_after_calls}
+use Rattle.desk_run.specs.Verdicts.{Reported, verdict, side_left, reported_to, step}
+use Rattle.desk_run.specs.Runs.{reported_in, world_after_calls}
 use Rattle.desk_run.specs.Sides.{OwnAlike, HoldAlike, beside, along}
 use Rattle.desk_run.specs.CallRuns.{TimedCall, caller, world_after_call, calls_of, met_by_calls, AreCallsSameFor}
 use Rattle.desk_run.proofs.lemmas.Step.{own_stays, others_stay}
@@ -16,20 +16,20 @@ use Rattle.desk_run.proofs.lemmas.Side.{everywhere, Levels, IsSeenBy, IsKeptBy, 
 pub same_name : (o name : List ℕ) → is_eq (text_cmp o name) ≡ true → o ≡ name
 same_name o name e = exact_bytes o name (is_equal (text_cmp o name) e)
 
--- what is told, and what is left to its operator, by its side and what others hold
-abbrev pub tell : Side → Levels → TimedCall → Told
-tell mine levels call = (verdict mine.terms mine.own levels call.0 call.1.call).told
+-- what is reported, and what is left to its operator, by its side and what others hold
+abbrev pub report : Side → Levels → TimedCall → Reported
+report mine levels call = (verdict mine.terms mine.own levels call.0 call.1.call).reported
 
 abbrev pub keep : Side → Levels → TimedCall → Side
 keep mine levels call = side_left mine levels call.0 call.1.call
 
-abbrev pub told_at : DeskWorld → TimedCall → Told
-told_at w call = told_to w call.1.operator call.0 call.1.call
+abbrev pub reported_at : DeskWorld → TimedCall → Reported
+reported_at w call = reported_to w call.1.operator call.0 call.1.call
 
-pub seen : (o : List ℕ) → IsSeenBy caller o told_at tell
-unfolding told_to
+pub seen : (o : List ℕ) → IsSeenBy caller o reported_at report
+unfolding reported_to
 seen o w call e =
-    ap (λ name. (verdict w.terms (own w.content name) (held_in w name) call.0 call.1.call).told)
+    ap (λ name. (verdict w.terms (own w.content name) (held_in w name) call.0 call.1.call).reported)
     (sym (same_name o call.1.operator e))
 
 pub kept : (o : List ℕ) → IsKeptBy caller o world_after_call keep
@@ -42,17 +42,17 @@ kept o = record {
       subst (λ name. side (step w name call.0 call.1.call) o ≡ keep (side w o) (held_in w o) call)
       (same_name o call.1.operator e) (own_stays w o call.0 call.1.call)
 
--- a call of an operator to which two worlds look alike is told the same
-pub told_alike : (v w : DeskWorld) (call : TimedCall) → OwnAlike call.1.operator v w
-    → HoldAlike call.1.operator v w → told_at v call ≡ told_at w call
-unfolding told_to
-told_alike v w call own_same held_same = λ i.
-    tell (own_same i) (everywhere call.1.operator v w held_same i) call
+-- a call of an operator to which two worlds look alike is reported the same
+pub reported_alike : (v w : DeskWorld) (call : TimedCall) → OwnAlike call.1.operator v w
+    → HoldAlike call.1.operator v w → reported_at v call ≡ reported_at w call
+unfolding reported_to
+reported_alike v w call own_same held_same = λ i.
+    report (own_same i) (everywhere call.1.operator v w held_same i) call
 
-told_along : (w : DeskWorld) (calls : List TimedCall) → told_in w calls
-    ≡ along world_after_call told_at w calls
-told_along w [] = refl
-told_along w (call ∷ calls) = ap (λ ts. told_at w call ∷ ts) (told_along (world_after_call w call) calls)
+reported_along : (w : DeskWorld) (calls : List TimedCall) → reported_in w calls
+    ≡ along world_after_call reported_at w calls
+reported_along w [] = refl
+reported_along w (call ∷ calls) = ap (λ ts. reported_at w call ∷ ts) (reported_along (world_after_call w call) calls)
 
 left_all : (w : DeskWorld) (calls : List TimedCall) → world_after_calls w calls
     ≡ after_all world_after_call w calls
@@ -64,11 +64,11 @@ pub same_for : (o : List ℕ) (v w : DeskWorld) (calls others : List TimedCall) 
     → AllZip (HoldAlike o) (met_by_calls o v calls) (met_by_calls o w others)
     → AreCallsSameFor o v calls w others
 same_for o v w calls others own_same asked held = record {
-  told =
-      ap (beside caller o calls) (told_along v calls)
-      ∙ same_found caller o world_after_call keep (kept o) told_at tell (seen o) v w calls others own_same
+  reported =
+      ap (beside caller o calls) (reported_along v calls)
+      ∙ same_found caller o world_after_call keep (kept o) reported_at report (seen o) v w calls others own_same
       asked held
-      ∙ sym (ap (beside caller o others) (told_along w others));
+      ∙ sym (ap (beside caller o others) (reported_along w others));
   owned = same_found caller o world_after_call keep (kept o) _ keep (kept o).mine v w calls others own_same
       asked held;
   at_end =

@@ -13,7 +13,7 @@ ghost use Rattle.desk_sql.specs.Finding.{Holds};
 ghost use Rattle.desk_sql.specs.Rows.{RemovesPlan, IsDesk};
 ghost use Rattle.desk_sql.specs.Putting.{AreNewSpans, AreNewVolumes, TakesRoom};
 
-use crate::changing::change::Change;
+use crate::changing::change::RowChange;
 use crate::changing::execute::execute;
 use crate::changing::writing::{SpanRecord, VolumeRecord};
 use sqlite::{Alter, Error, Transaction};
@@ -31,7 +31,7 @@ pub fn insert_volumes<S: Alter>(
         (TakesRoom 0 (length rows.now) 0) }
 {
     'rows: for row in rows {
-        execute(tx, Change::AddVolume(*row))?;
+        execute(tx, RowChange::AddVolume(*row))?;
     }
     Ok(())
 }
@@ -48,7 +48,7 @@ pub fn insert_spans<S: Alter>(
         (TakesRoom 0 0 (length rows.now)) }
 {
     'rows: for row in rows {
-        execute(tx, Change::AddSpan(*row))?;
+        execute(tx, RowChange::AddSpan(*row))?;
     }
     Ok(())
 }
@@ -71,7 +71,7 @@ pub fn remove_plans<S: Alter>(
     ensures remembered { Remembers S.Store tx.old.conn.now tx.new.conn.now }
 {
     // Refused on a connection that is shut, also if there are no ids.
-    let _statement = tx.prepare(Change::RemovePlan { operator, id: "" }.text())?;
+    let _statement = tx.prepare(RowChange::RemovePlan { operator, id: "" }.text())?;
     'ids: for id in ids {
         remove_one(tx, operator, id)?;
     }
@@ -89,5 +89,5 @@ fn remove_one<S: Alter>(
     ensures changed { IsChanged S.Store tx.old.conn.now tx.new.conn.now result
         (RemovesPlan operator.now (string_bytes id.now)) (λ _. ⊤) (TakesRoom 0 0 0) }
 {
-    execute(tx, Change::RemovePlan { operator, id })
+    execute(tx, RowChange::RemovePlan { operator, id })
 }

@@ -14,7 +14,7 @@ use sqlite::params;
 
 /// A change of rows, with what it is given.
 #[derive(Clone, Copy)]
-pub(crate) enum Change<'a> {
+pub(crate) enum RowChange<'a> {
     /// Adds a row to `operator`.
     AddOperator {
         name: &'a str,
@@ -55,22 +55,22 @@ pub(crate) enum Change<'a> {
     EmptyOldSpans,
 }
 
-impl<'a> Change<'a> {
+impl<'a> RowChange<'a> {
     /// The text, whose parameters are what the change is given.
     pub(crate) fn text(self) -> &'static str
         ensures { IsTextOf self.entry result.now }
     {
         match self {
-            Change::AddOperator { .. } => add_operator_text(),
-            Change::AddPlan(_) => add_plan_text(),
-            Change::AddVolume(_) => add_volume_text(),
-            Change::AddSpan(_) => add_span_text(),
-            Change::SetCeiling { .. } => set_ceiling_text(),
-            Change::SetClosed { .. } => set_closed_text(),
-            Change::RemovePlan { .. } => remove_plan_text(),
-            Change::RemoveSpans { .. } => remove_spans_text(),
-            Change::EmptyOldVolumes => empty_old_volumes_text(),
-            Change::EmptyOldSpans => empty_old_spans_text(),
+            RowChange::AddOperator { .. } => add_operator_text(),
+            RowChange::AddPlan(_) => add_plan_text(),
+            RowChange::AddVolume(_) => add_volume_text(),
+            RowChange::AddSpan(_) => add_span_text(),
+            RowChange::SetCeiling { .. } => set_ceiling_text(),
+            RowChange::SetClosed { .. } => set_closed_text(),
+            RowChange::RemovePlan { .. } => remove_plan_text(),
+            RowChange::RemoveSpans { .. } => remove_spans_text(),
+            RowChange::EmptyOldVolumes => empty_old_volumes_text(),
+            RowChange::EmptyOldSpans => empty_old_spans_text(),
         }
     }
 
@@ -79,27 +79,27 @@ impl<'a> Change<'a> {
         ensures { result ≡ given_to self.entry }
     {
         match self {
-            Change::AddOperator { name, ceiling } => Parameters::of(params![name, ceiling]),
-            Change::AddPlan(p) => {
+            RowChange::AddOperator { name, ceiling } => Parameters::of(params![name, ceiling]),
+            RowChange::AddPlan(p) => {
                 Parameters::of(params![p.operator, p.id, p.priority, p.usage, p.aircraft])
             }
-            Change::AddVolume(v) => Parameters::of(params![
+            RowChange::AddVolume(v) => Parameters::of(params![
                 v.operator, v.id, v.place, v.lower, v.upper, v.start, v.stop, v.asked, v.canon
             ]),
-            Change::AddSpan(s) => Parameters::of(params![
+            RowChange::AddSpan(s) => Parameters::of(params![
                 s.operator, s.id, s.place, s.first, s.last, s.lower, s.upper, s.start, s.stop,
                 s.priority
             ]),
-            Change::SetCeiling { name, ceiling } => Parameters::of(params![name, ceiling]),
-            Change::SetClosed {
+            RowChange::SetCeiling { name, ceiling } => Parameters::of(params![name, ceiling]),
+            RowChange::SetClosed {
                 operator,
                 id,
                 priority,
                 aircraft,
             } => { Parameters::of(params![operator, id, priority, aircraft]) }
-            Change::RemovePlan { operator, id } => Parameters::of(params![operator, id]),
-            Change::RemoveSpans { operator, id } => Parameters::of(params![operator, id]),
-            Change::EmptyOldVolumes | Change::EmptyOldSpans => Parameters::of(&[]),
+            RowChange::RemovePlan { operator, id } => Parameters::of(params![operator, id]),
+            RowChange::RemoveSpans { operator, id } => Parameters::of(params![operator, id]),
+            RowChange::EmptyOldVolumes | RowChange::EmptyOldSpans => Parameters::of(&[]),
         }
     }
 }
@@ -113,14 +113,14 @@ fn add_operator_text() -> &'static str
 
 // Adds a row to `plan`.
 fn add_plan_text() -> &'static str
-    ensures { (row : PlanRow) → IsTextOf (Change.AddPlan row) result.now }
+    ensures { (row : PlanRow) → IsTextOf (RowChange.AddPlan row) result.now }
 {
     "INSERT INTO plan (operator, id, priority, usage, aircraft) VALUES (?1, ?2, ?3, ?4, ?5)"
 }
 
 // Adds a row to `volume2`.
 fn add_volume_text() -> &'static str
-    ensures { (row : VolumeRow) → IsTextOf (Change.AddVolume row) result.now }
+    ensures { (row : VolumeRow) → IsTextOf (RowChange.AddVolume row) result.now }
 {
     "INSERT INTO volume2 (operator, id, place, lower, upper, start, stop, asked, canon) \
      VALUES (?1, ?2, ?3, ?4, ?5, ?6, ?7, ?8, ?9)"
@@ -128,7 +128,7 @@ fn add_volume_text() -> &'static str
 
 // Adds a row to `span2`.
 fn add_span_text() -> &'static str
-    ensures { (row : SpanRow) → IsTextOf (Change.AddSpan row) result.now }
+    ensures { (row : SpanRow) → IsTextOf (RowChange.AddSpan row) result.now }
 {
     "INSERT INTO span2 (operator, id, place, first, last, lower, upper, start, stop, priority) \
      VALUES (?1, ?2, ?3, ?4, ?5, ?6, ?7, ?8, ?9, ?10)"
@@ -166,7 +166,7 @@ fn remove_spans_text() -> &'static str
 // Removes all rows of `volume`.
 #[tactic(auto, using(crate::proofs::ChangeTexts::empty_old_volumes_does))]
 fn empty_old_volumes_text() -> &'static str
-    ensures { IsTextOf Change.EmptyOldVolumes result.now }
+    ensures { IsTextOf RowChange.EmptyOldVolumes result.now }
 {
     "DELETE FROM volume"
 }
@@ -174,7 +174,7 @@ fn empty_old_volumes_text() -> &'static str
 // Removes all rows of `span`.
 #[tactic(auto, using(crate::proofs::ChangeTexts::empty_old_spans_does))]
 fn empty_old_spans_text() -> &'static str
-    ensures { IsTextOf Change.EmptyOldSpans result.now }
+    ensures { IsTextOf RowChange.EmptyOldSpans result.now }
 {
     "DELETE FROM span"
 }

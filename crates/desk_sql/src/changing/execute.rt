@@ -8,14 +8,14 @@ ghost use Rattle.desk_sql.specs.RowChanges.{changes, counts, fits, takes};
 ghost use Rattle.desk_sql.specs.Finding.{Holds};
 ghost use Rattle.desk_sql.specs.Rows.{IsDesk, tables_of};
 
-use crate::changing::change::Change;
+use crate::changing::change::RowChange;
 use crate::changing::run::run;
 use sqlite::{Alter, Error, Transaction};
 
 /// Makes a change, and counts the rows that it changed.
 pub(crate) fn execute_counted<S: Alter>(
     tx: &mut Transaction<'_, S>,
-    change: Change<'_>,
+    change: RowChange<'_>,
 ) -> Result<usize, Error>
     requires desk { Holds S.Store tx.old.conn.now IsDesk }
     ensures same_reference { tx.new.conn.ghost_name ≡ tx.old.conn.ghost_name }
@@ -31,7 +31,7 @@ pub(crate) fn execute_counted<S: Alter>(
 /// Makes a change.
 pub(crate) fn execute<S: Alter>(
     tx: &mut Transaction<'_, S>,
-    change: Change<'_>,
+    change: RowChange<'_>,
 ) -> Result<(), Error>
     requires desk { Holds S.Store tx.old.conn.now IsDesk }
     ensures same_reference { tx.new.conn.ghost_name ≡ tx.old.conn.ghost_name }

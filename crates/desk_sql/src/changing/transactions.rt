@@ -12,12 +12,12 @@ ghost use Rattle.desk_sql.specs.Effects.{IsReady};
 ghost use Rattle.desk_sql.specs.QueryEnds.{IsChanged, IsCommitted};
 
 use crate::changing::batch::{insert_spans, insert_volumes, remove_plans};
-use crate::changing::change::Change;
+use crate::changing::change::RowChange;
 use crate::changing::execute::{execute, execute_counted};
 use crate::changing::writing::{
     PlanRecord, SpanRecord, VolumeRecord, insert_operator, insert_plan,
 };
-use crate::laws::settled_and_sound;
+use crate::laws::committed_and_sound;
 use sqlite::{Alter, Connection, Error, Transaction};
 
 /// Removes the plans of these ids, and their volumes and spans with them, as one transaction.
@@ -30,7 +30,7 @@ pub fn clear_plans<S: Alter>(
     ensures committed { IsCommitted S.Store connection.old connection.new result
         (RemovesPlans operator.now (map string_bytes ids.now)) (λ _. ⊤) }
 {
-    settled_and_sound(connection);
+    committed_and_sound(connection);
     let mut tx = connection.transaction();
     remove_plans(&mut tx, operator, ids)?;
     tx.commit()
@@ -48,10 +48,10 @@ pub fn put_plan<S: Alter>(
         (PutsPlan (plan_put plan.entry volumes.now spans.now))
         (IsPuttable (plan_put plan.entry volumes.now spans.now)) }
 {
-    settled_and_sound(connection);
+    committed_and_sound(connection);
     let mut tx = connection.transaction();
     let (operator, id) = (plan.operator, plan.id);
-    execute(&mut tx, Change::RemovePlan { operator, id })?;
+    execute(&mut tx, RowChange::RemovePlan { operator, id })?;
     insert_plan(
         &mut tx,
         plan.operator,
@@ -72,7 +72,7 @@ fn set_or_add<S: Alter>(tx: &mut Transaction<'_, S>, name: &str, ceiling: u32) -
     ensures changed { IsChanged S.Store tx.old.conn.now tx.new.conn.now result
         (PutsOperator name.now ceiling) (λ db. IsShort name.now × HasRowids 1 (db.trees 0)) (λ _ _. ⊤) }
 {
-    let count = execute_counted(tx, Change::SetCeiling { name, ceiling })?;
+    let count = execute_counted(tx, RowChange::SetCeiling { name, ceiling })?;
     let is_set = count > 0;
     if is_set {
         return Ok(());
@@ -91,7 +91,7 @@ pub fn put_operator<S: Alter>(
     ensures committed { IsCommitted S.Store connection.old connection.new result
         (PutsOperator name.now ceiling) (λ db. IsShort name.now × HasRowids 1 (db.trees 0)) }
 {
-    settled_and_sound(connection);
+    committed_and_sound(connection);
     let mut tx = connection.transaction();
     set_or_add(&mut tx, name, ceiling)?;
     tx.commit()
@@ -111,15 +111,15 @@ pub fn close_plan<S: Alter>(
         (ClosesPlan operator.now id.now priority aircraft)
         (λ db. IsShort operator.now × IsShort id.now × AreLow (db.trees 2)) }
 {
-    settled_and_sound(connection);
+    committed_and_sound(connection);
     let mut tx = connection.transaction();
-    let closed = Change::SetClosed {
+    let closed = RowChange::SetClosed {
         operator,
         id,
         priority,
         aircraft,
     };
     execute(&mut tx, closed)?;
-    execute(&mut tx, Change::RemoveSpans { operator, id })?;
+    execute(&mut tx, RowChange::RemoveSpans { operator, id })?;
     tx.commit()
 }

@@ -7,7 +7,7 @@ ghost use Rattle.desk_sql.specs.Changing.{FitsOperator, FitsPlan};
 ghost use Rattle.desk_sql.specs.Putting.{TakesOperators, TakesRoom};
 ghost use Rattle.desk_sql.specs.Finding.{Holds};
 
-use crate::changing::change::Change;
+use crate::changing::change::RowChange;
 use crate::changing::execute::execute;
 use sqlite::{Alter, Error, Transaction};
 
@@ -64,7 +64,7 @@ pub fn insert_operator<S: Alter>(
         (AddsOperator (operator_row name.now ceiling))
         (FitsOperator name.now (operator_row name.now ceiling)) (TakesOperators 1) }
 {
-    execute(tx, Change::AddOperator { name, ceiling })
+    execute(tx, RowChange::AddOperator { name, ceiling })
 }
 
 /// Adds a row to `plan`.
@@ -90,5 +90,5 @@ pub fn insert_plan<S: Alter>(
         usage,
         aircraft,
     };
-    execute(tx, Change::AddPlan(plan))
+    execute(tx, RowChange::AddPlan(plan))
 }

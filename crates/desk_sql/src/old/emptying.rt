@@ -6,7 +6,7 @@ ghost use Rattle.desk_sql.specs.QueryEnds.{IsChanged};
 ghost use Rattle.desk_sql.specs.Putting.{TakesRoom};
 ghost use Rattle.desk_sql.specs.Finding.{Holds};
 
-use crate::changing::change::Change;
+use crate::changing::change::RowChange;
 use crate::changing::execute::execute;
 use sqlite::{Alter, Error, Transaction};
 
@@ -17,7 +17,7 @@ pub fn empty_old_volumes<S: Alter>(tx: &mut Transaction<'_, S>) -> Result<(), Er
     ensures changed { IsChanged S.Store tx.old.conn.now tx.new.conn.now result
         RemovesOldVolumes (λ _. ⊤) (TakesRoom 0 0 0) }
 {
-    execute(tx, Change::EmptyOldVolumes)
+    execute(tx, RowChange::EmptyOldVolumes)
 }
 
 /// Removes all rows of `span`, which version 1 of the schema has.
@@ -27,5 +27,5 @@ pub fn empty_old_spans<S: Alter>(tx: &mut Transaction<'_, S>) -> Result<(), Erro
     ensures changed { IsChanged S.Store tx.old.conn.now tx.new.conn.now result
         RemovesOldSpans (λ _. ⊤) (TakesRoom 0 0 0) }
 {
-    execute(tx, Change::EmptyOldSpans)
+    execute(tx, RowChange::EmptyOldSpans)
 }

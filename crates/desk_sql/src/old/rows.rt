@@ -8,9 +8,9 @@ ghost use Rattle.desk_sql.specs.Effects.{IsReady};
 
 use crate::opening::finding::TablesPresent;
 use crate::opening::numbers::{DeskTable, but_memory, rowids_text};
-use crate::reading::taking::{RowSink, hand_rows};
+use crate::reading::taking::{RowVisitor, hand_rows};
 use crate::reading::volumes::volume_table;
-use crate::reading::whole::Whole;
+use crate::reading::whole::WholeTable;
 use sqlite::{Alter, Connection, Error, Row};
 
 /// Whether a row was taken, where none is kept.
@@ -19,7 +19,7 @@ struct AnyRow {
     was_taken: bool,
 }
 
-impl RowSink for AnyRow {
+impl RowVisitor for AnyRow {
     ghost use Rattle.std.specs.Prelude.{◌≡◌, ⊤};
     ghost use Rattle.desk_sql.specs.Rows.{has_rows};
 
@@ -95,5 +95,5 @@ pub fn has_new_rows<S: Alter>(
     if has_row_in(connection, made, volume_table(packed))? {
         return Ok(true);
     }
-    has_row_in(connection, made, Whole::Spans.table(packed))
+    has_row_in(connection, made, WholeTable::Spans.table(packed))
 }

@@ -76,8 +76,8 @@ impl TablesPresent {
 /// # Errors
 ///
 /// What a query may fail with. Also `DatabaseCorrupt` if the tables are a desk's, and a rowid in them is no
-/// whole number or comes twice, which no sound database shows: that is no want of memory, and never told as
-/// `None`.
+/// whole number or comes twice, which no sound database shows: that is no want of memory, and never reported
+/// as `None`.
 pub fn find_tables<S: Alter>(connection: &mut Connection<S>) -> Result<Option<TablesPresent>, Error>
     requires settled { connection.old.in_transaction ≡ false }
     ensures found { IfOk result (λ found. MatchOption found

@@ -13,7 +13,7 @@ ghost use Rattle.desk_sql.specs.Frames.{IsOver};
 ghost use Rattle.desk_sql.specs.Refusals.{IsRefusal};
 
 use crate::changing::run::run;
-use crate::laws::settled_and_sound;
+use crate::laws::committed_and_sound;
 use crate::opening::finding::TablesPresent;
 use crate::opening::objects::{
     LEAVES, OLD_LEAVES, OLD_SPAN_TABLE, OLD_VOLUME_TABLE, OPERATOR_TABLE, PLAN_TABLE, SPAN_TABLE,
@@ -141,7 +141,7 @@ pub fn complete_tables<S: Alter>(
     ensures over { IsOver S.Store connection.old connection.new }
     ensures crash { MayComplete S.Store made connection.old connection.new }
 {
-    settled_and_sound(connection);
+    committed_and_sound(connection);
     let mut tx = connection.transaction();
     make_rest(&mut tx, made)?;
     tx.commit()

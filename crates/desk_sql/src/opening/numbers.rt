@@ -14,7 +14,7 @@ ghost use Rattle.desk_sql.specs.Frames.{OnlyReads};
 ghost use Rattle.desk_sql.specs.Effects.{IsReady};
 
 use crate::opening::finding::TablesPresent;
-use crate::reading::taking::{RowSink, hand_rows};
+use crate::reading::taking::{RowVisitor, hand_rows};
 use sqlite::{Alter, Connection, Error, ErrorCode, Row};
 use sqlite_value::value::ValueRef;
 
@@ -55,7 +55,7 @@ impl Rowids {
     }
 }
 
-impl RowSink for Rowids {
+impl RowVisitor for Rowids {
     ghost use Rattle.std.specs.Prelude.{⊤};
     ghost use Rattle.desk_sql.specs.Finding.{RiseSo};
 

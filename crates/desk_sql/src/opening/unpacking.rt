@@ -54,7 +54,7 @@ fn unpack<S: Alter>(tx: &mut Transaction<'_, S>) -> Result<(), Error>
 /// Puts the tables of a packed file into a desk's own order, within a transaction. The rows of `volume2` and
 /// `span2` go, and those of the others stay, which stand in the same trees.
 #[tactic(auto, using(crate::proofs::DropLemmas::remade))]
-pub fn remake_tables<S: Alter>(tx: &mut Transaction<'_, S>) -> Result<(), Error>
+pub fn rebuild_tables<S: Alter>(tx: &mut Transaction<'_, S>) -> Result<(), Error>
     requires at { Holds S.Store tx.old.conn.now (IsMadeTo TablesPresent.Packed) }
     ensures same_reference { tx.new.conn.ghost_name ≡ tx.old.conn.ghost_name }
     ensures ran { IsRunWithin S.Store tx.old.conn.now tx.new.conn.now result

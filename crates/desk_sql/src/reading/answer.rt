@@ -5,7 +5,7 @@ ghost use Rattle.desk_sql.specs.Effects.{IsReady};
 ghost use Rattle.desk_sql.specs.QueryEnds.{WasOpen, Answers};
 ghost use Rattle.desk_sql.specs.Queries.{order_of, rows_of};
 
-use crate::laws::settled_and_sound;
+use crate::laws::committed_and_sound;
 use crate::reading::query::Query;
 use sqlite::{Alter, Connection, Error, Row};
 
@@ -19,7 +19,7 @@ pub(crate) fn answer<S: Alter>(
         (λ db rows. Lists (order_of query.entry) (rows_of query.entry (tables_of db)) rows.items) }
     ensures open { WasOpen S.Store connection.old connection.new result }
 {
-    settled_and_sound(connection);
+    committed_and_sound(connection);
     // Refused on a connection that is shut, whose schema is not known.
     let statement = connection.prepare(query.text())?;
     statement.query_all(connection, query.params().as_slice())

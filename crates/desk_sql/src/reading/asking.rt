@@ -7,7 +7,7 @@ ghost use Rattle.desk_sql.specs.Effects.{StaysOpen, IsReady};
 ghost use Rattle.desk_sql.specs.Refusals.{IsSure};
 ghost use Rattle.desk_sql.specs.QueryEnds.{WasOpen, Answers};
 
-use crate::laws::settled_and_sound;
+use crate::laws::committed_and_sound;
 use sqlite::{Alter, Connection, Error, Row};
 
 /// All rows of a query with no parameters. The rows of the tables stay, whatever is answered.
@@ -19,7 +19,7 @@ pub(crate) fn ask<S: Alter>(connection: &mut Connection<S>, query: &str) -> Resu
     ensures open { WasOpen S.Store connection.old connection.new result }
     ensures live { OnOk result (StaysOpen S.Store connection.old connection.new) }
 {
-    settled_and_sound(connection);
+    committed_and_sound(connection);
     // Refused on a connection that is shut, whose schema is not known.
     let statement = connection.prepare(query)?;
     statement.query_all(connection, &[])

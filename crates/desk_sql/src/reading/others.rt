@@ -7,8 +7,8 @@ ghost use Rattle.desk_sql.specs.QueryEnds.{WasOpen, HandsOut};
 ghost use Rattle.desk_sql.specs.Others.{is_others_from};
 
 use crate::reading::query::Query;
-use crate::reading::rivals::SpanQuery;
-use crate::reading::taking::{RowSink, for_each_row};
+use crate::reading::rivals::SpanFilter;
+use crate::reading::taking::{RowVisitor, for_each_row};
 use sqlite::{Alter, Connection, Error};
 
 /// Hands over, one at a time and by `first`, the columns of `span2` from `first` on of each span that is
@@ -18,10 +18,10 @@ use sqlite::{Alter, Connection, Error};
 /// # Errors
 ///
 /// What a query or the taker may fail with. Nothing is said of what the taker has taken then.
-pub fn other_spans<S: Alter, T: RowSink>(
+pub fn other_spans<S: Alter, T: RowVisitor>(
     connection: &mut Connection<S>,
     operator: &str,
-    reach: SpanQuery,
+    reach: SpanFilter,
     low: i64,
     taker: &mut T,
 ) -> Result<(), Error>

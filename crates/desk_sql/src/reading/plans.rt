@@ -7,8 +7,8 @@ ghost use Rattle.desk_sql.specs.QueryEnds.{WasOpen, HandsOut};
 ghost use Rattle.desk_sql.specs.Others.{is_plans};
 
 use crate::reading::query::Query;
-use crate::reading::rivals::SpanQuery;
-use crate::reading::taking::{RowSink, for_each_row};
+use crate::reading::rivals::SpanFilter;
+use crate::reading::taking::{RowVisitor, for_each_row};
 use sqlite::{Alter, Connection, Error};
 
 /// Hands over, one at a time, the columns of `span2` from `first` on of each span that is reached of the plan
@@ -17,11 +17,11 @@ use sqlite::{Alter, Connection, Error};
 /// # Errors
 ///
 /// What a query or the taker may fail with. Nothing is said of what the taker has taken then.
-pub fn plan_spans<S: Alter, T: RowSink>(
+pub fn plan_spans<S: Alter, T: RowVisitor>(
     connection: &mut Connection<S>,
     operator: &str,
     id: &str,
-    reach: SpanQuery,
+    reach: SpanFilter,
     taker: &mut T,
 ) -> Result<(), Error>
     requires ready { IsReady S.Store connection.old IsDesk }

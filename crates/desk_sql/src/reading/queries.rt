@@ -7,7 +7,7 @@ ghost use Rattle.desk_sql.specs.QueryEnds.{WasOpen, Answers, HandsOut};
 
 use crate::reading::answer::answer;
 use crate::reading::query::Query;
-use crate::reading::taking::{RowSink, for_each_row};
+use crate::reading::taking::{RowVisitor, for_each_row};
 use sqlite::{Alter, Connection, Error, Row};
 
 /// The row `operator`, `id`, `priority`, `usage`, `aircraft` of the plan of this operator with this id.
@@ -46,7 +46,7 @@ pub fn volumes_of<S: Alter>(
 /// # Errors
 ///
 /// What a query or the taker may fail with. Nothing is said of what the taker has taken then.
-pub fn own_plans<S: Alter, T: RowSink>(
+pub fn own_plans<S: Alter, T: RowVisitor>(
     connection: &mut Connection<S>,
     operator: &str,
     taker: &mut T,

@@ -2,18 +2,18 @@
 
 ghost use Rattle.std.specs.Prelude.{◌≡◌, [], ◌∷◌, ℕ, ℤ, List, filter, map};
 ghost use Rattle.sqlite.specs.declared.types.Value.TheVariants.{Text};
-ghost use Rattle.desk_sql.specs.declared.reading.rivals.SpanQuery.{SpanQuery as Reach};
+ghost use Rattle.desk_sql.specs.declared.reading.rivals.SpanFilter.{SpanFilter as Reach};
 ghost use Rattle.desk_sql.specs.Queries.{params_of, order_of, rows_of, plan_params, rival_params, others_params};
 ghost use Rattle.desk_sql.specs.Rows.{held_columns, is_of, is_row_by, is_wanted, with_volumes};
 ghost use Rattle.desk_sql.specs.Others.{is_others_from, is_plans};
 ghost use Rattle.desk_sql.specs.Statements.{Selects};
 
 use crate::parameters::Parameters;
-use crate::reading::rivals::SpanQuery;
+use crate::reading::rivals::SpanFilter;
 use sqlite::params;
 
-// In place of a plan's id. No comparison with NULL is true: so the text of the spans but for those of one plan
-// leaves out all spans of the operator then.
+// In place of a plan's id. No comparison with NULL is true: so the text of the spans but for those of one
+// plan leaves out all spans of the operator then.
 const NO_ID: Option<&'static str> = None;
 
 /// A query, with what it is given.
@@ -37,20 +37,20 @@ pub(crate) enum Query<'a> {
     RivalSpans {
         operator: &'a str,
         id: &'a str,
-        reach: SpanQuery,
+        reach: SpanFilter,
         low: i64,
     },
     /// The spans that are reached and begin at `low` or later, but for those of one operator, by `first`.
     OtherSpans {
         operator: &'a str,
-        reach: SpanQuery,
+        reach: SpanFilter,
         low: i64,
     },
     /// The spans of one plan that are reached.
     SpansOf {
         operator: &'a str,
         id: &'a str,
-        reach: SpanQuery,
+        reach: SpanFilter,
     },
 }
 

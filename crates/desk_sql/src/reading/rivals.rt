@@ -6,14 +6,14 @@ ghost use Rattle.desk_sql.specs.Effects.{IsReady};
 ghost use Rattle.desk_sql.specs.QueryEnds.{WasOpen, HandsOut};
 
 use crate::reading::query::Query;
-use crate::reading::taking::{RowSink, for_each_row};
+use crate::reading::taking::{RowVisitor, for_each_row};
 use sqlite::{Alter, Connection, Error};
 
 /// What spans are asked for: those that share a leaf position of `first..=last`, an altitude of
 /// `lower..upper` (decimetres above the WGS84 ellipsoid) and a moment of `start..stop` (seconds since
 /// 1970), of a priority at least.
 #[derive(Clone, Copy, Debug)]
-pub struct SpanQuery {
+pub struct SpanFilter {
     pub first: i64,
     pub last: i64,
     pub lower: i64,
@@ -30,11 +30,11 @@ pub struct SpanQuery {
 /// # Errors
 ///
 /// What a query or the taker may fail with. Nothing is said of what the taker has taken then.
-pub fn rival_spans<S: Alter, T: RowSink>(
+pub fn rival_spans<S: Alter, T: RowVisitor>(
     connection: &mut Connection<S>,
     operator: &str,
     id: &str,
-    reach: SpanQuery,
+    reach: SpanFilter,
     low: i64,
     taker: &mut T,
 ) -> Result<(), Error>

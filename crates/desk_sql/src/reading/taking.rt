@@ -13,13 +13,13 @@ ghost use Rattle.desk_sql.specs.Takers.{KeepsOn};
 ghost use Rattle.desk_sql.specs.Refusals.{IsSureGiven};
 ghost use Rattle.desk_sql.specs.Taking.{FailsNext, FailsToHandAll, HandsOver, HandsAll, IsHanded, TakesOn};
 
-use crate::laws::settled_and_sound;
+use crate::laws::committed_and_sound;
 use crate::reading::query::Query;
 use sqlite::{Alter, Connection, Error, ErrorCode, Row, Rows};
 use sqlite_value::value::ValueRef;
 
 /// What takes the rows of an answer, one at a time.
-pub trait RowSink {
+pub trait RowVisitor {
     ghost use Rattle.std.specs.Prelude.{List, [], ◌∷◌, ◌++◌};
     ghost use Rattle.std.specs.Prelude.{IfErr};
     ghost use Rattle.sqlite.specs.Order.{Row};
@@ -50,7 +50,7 @@ pub trait RowSink {
 
 /// Hands over the next row, if there is one.
 // Long: what is handed over, and apart from it what holds whatever the disk returned.
-fn hand_next<S: Alter, T: RowSink>(rows: &mut Rows<'_, S>, taker: &mut T) -> Result<bool, Error>
+fn hand_next<S: Alter, T: RowVisitor>(rows: &mut Rows<'_, S>, taker: &mut T) -> Result<bool, Error>
     ensures same_reference { rows.new.conn.ghost_name ≡ rows.old.conn.ghost_name }
     ensures handed { IsHanded S.Store rows.old.conn.now rows.new.conn.now result
         (HandsOver S.Store rows.old.conn.now rows.new.conn.now (T.has_taken taker.old)
@@ -78,7 +78,7 @@ fn hand_next<S: Alter, T: RowSink>(rows: &mut Rows<'_, S>, taker: &mut T) -> Res
 /// # Errors
 ///
 /// What a query or the taker may fail with.
-fn hand_all<S: Alter, T: RowSink>(rows: &mut Rows<'_, S>, taker: &mut T) -> Result<(), Error>
+fn hand_all<S: Alter, T: RowVisitor>(rows: &mut Rows<'_, S>, taker: &mut T) -> Result<(), Error>
     requires { HasCleanDisk (state S.Store rows.old.conn.now)
         → IsTrue (state S.Store rows.old.conn.now).is_open }
     ensures same_reference { rows.new.conn.ghost_name ≡ rows.old.conn.ghost_name }
@@ -104,7 +104,7 @@ fn hand_all<S: Alter, T: RowSink>(rows: &mut Rows<'_, S>, taker: &mut T) -> Resu
 /// # Errors
 ///
 /// What a query or the taker may fail with.
-pub(crate) fn hand_rows<S: Alter, T: RowSink>(
+pub(crate) fn hand_rows<S: Alter, T: RowVisitor>(
     connection: &mut Connection<S>,
     text: &str,
     params: &[ValueRef<'_>],
@@ -121,7 +121,7 @@ pub(crate) fn hand_rows<S: Alter, T: RowSink>(
     ensures taken { OnOk result ((rows : List Values) × T.has_taken taker.new rows) }
     ensures kept { OnOk result (KeepsOn T.keeps taker.old taker.new) }
 {
-    settled_and_sound(connection);
+    committed_and_sound(connection);
     // Refused on a connection that is shut, whose schema is not known.
     let statement = connection.prepare(text)?;
     let mut rows = connection.query_prepared(&statement, params)?;
@@ -133,7 +133,7 @@ pub(crate) fn hand_rows<S: Alter, T: RowSink>(
 /// # Errors
 ///
 /// What a query or the taker may fail with.
-pub(crate) fn for_each_row<S: Alter, T: RowSink>(
+pub(crate) fn for_each_row<S: Alter, T: RowVisitor>(
     connection: &mut Connection<S>,
     query: Query<'_>,
     taker: &mut T,

@@ -12,7 +12,7 @@ ghost use Rattle.desk_sql.specs.Volumes.{ListVolumes, volume_table_in};
 
 use crate::opening::finding::TablesPresent;
 use crate::opening::numbers::DeskTable;
-use crate::reading::taking::{RowSink, hand_rows};
+use crate::reading::taking::{RowVisitor, hand_rows};
 use sqlite::{Alter, Connection, Error};
 
 /// `volume2`, which in a packed file stands in another tree.
@@ -35,13 +35,13 @@ fn volumes_text() -> &'static str
      ORDER BY operator, id, place"
 }
 
-/// Hands over, one at a time and by the key, all rows of `volume2` with all columns: `operator`, `id`, `place`,
-/// `lower`, `upper`, `start`, `stop`, `asked`, `canon`. None if the table isn't made.
+/// Hands over, one at a time and by the key, all rows of `volume2` with all columns: `operator`, `id`,
+/// `place`, `lower`, `upper`, `start`, `stop`, `asked`, `canon`. None if the table isn't made.
 ///
 /// # Errors
 ///
 /// What a query or the taker may fail with.
-pub fn each_volume<S: Alter, T: RowSink>(
+pub fn each_volume<S: Alter, T: RowVisitor>(
     connection: &mut Connection<S>,
     made: TablesPresent,
     taker: &mut T,

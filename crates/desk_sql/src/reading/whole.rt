@@ -13,13 +13,13 @@ ghost use Rattle.desk_sql.specs.QueryEnds.{WasOpen, Answers, HandsOut};
 use crate::opening::finding::TablesPresent;
 use crate::opening::numbers::DeskTable;
 use crate::reading::asking::ask;
-use crate::reading::taking::{RowSink, hand_rows};
+use crate::reading::taking::{RowVisitor, hand_rows};
 use sqlite::{Alter, Connection, Error, Row};
 use std::alloc::Global;
 
 /// What is read as a whole: the rows of a table.
 #[derive(Clone, Copy)]
-pub enum Whole {
+pub enum WholeTable {
     /// `operator`: `name`, `ceiling`
     Operators,
     /// `plan`: `operator`, `id`, `priority`, `usage`, `aircraft`
@@ -33,18 +33,18 @@ pub enum Whole {
     Spans,
 }
 
-impl Whole {
+impl WholeTable {
     /// The table that is read.
     pub(crate) fn table(self, packed: bool) -> DeskTable
         ensures { result ≡ table_in self packed }
     {
         match self {
-            Whole::Operators => DeskTable::Operator,
-            Whole::Plans => DeskTable::Plan,
-            Whole::OldVolumes => DeskTable::OldVolume,
-            Whole::OldSpans => DeskTable::OldSpan,
-            Whole::Spans if packed => DeskTable::PackedSpan,
-            Whole::Spans => DeskTable::Span,
+            WholeTable::Operators => DeskTable::Operator,
+            WholeTable::Plans => DeskTable::Plan,
+            WholeTable::OldVolumes => DeskTable::OldVolume,
+            WholeTable::OldSpans => DeskTable::OldSpan,
+            WholeTable::Spans if packed => DeskTable::PackedSpan,
+            WholeTable::Spans => DeskTable::Span,
         }
     }
 
@@ -53,43 +53,43 @@ impl Whole {
         ensures { ShowsWhole self result.now }
     {
         match self {
-            Whole::Operators => operators_text(),
-            Whole::Plans => plans_text(),
-            Whole::OldVolumes => old_volumes_text(),
-            Whole::OldSpans => old_spans_text(),
-            Whole::Spans => spans_text(),
+            WholeTable::Operators => operators_text(),
+            WholeTable::Plans => plans_text(),
+            WholeTable::OldVolumes => old_volumes_text(),
+            WholeTable::OldSpans => old_spans_text(),
+            WholeTable::Spans => spans_text(),
         }
     }
 }
 
 fn operators_text() -> &'static str
-    ensures { ShowsWhole Whole.Operators result.now }
+    ensures { ShowsWhole WholeTable.Operators result.now }
 {
     "SELECT name, ceiling FROM operator ORDER BY name"
 }
 
 fn plans_text() -> &'static str
-    ensures { ShowsWhole Whole.Plans result.now }
+    ensures { ShowsWhole WholeTable.Plans result.now }
 {
     "SELECT operator, id, priority, usage, aircraft FROM plan ORDER BY operator, id"
 }
 
 fn old_volumes_text() -> &'static str
-    ensures { ShowsWhole Whole.OldVolumes result.now }
+    ensures { ShowsWhole WholeTable.OldVolumes result.now }
 {
     "SELECT operator, id, place, lower, upper, start, stop, asked FROM volume \
      ORDER BY operator, id, place"
 }
 
 fn old_spans_text() -> &'static str
-    ensures { ShowsWhole Whole.OldSpans result.now }
+    ensures { ShowsWhole WholeTable.OldSpans result.now }
 {
     "SELECT operator, id, place, first, last, lower, upper, start, stop, priority FROM span \
      ORDER BY operator, id, place, first"
 }
 
 fn spans_text() -> &'static str
-    ensures { ShowsWhole Whole.Spans result.now }
+    ensures { ShowsWhole WholeTable.Spans result.now }
 {
     "SELECT operator, id, place, first, last, lower, upper, start, stop, priority FROM span2 \
      ORDER BY operator, id, place, first"
@@ -99,7 +99,7 @@ fn spans_text() -> &'static str
 pub fn all_rows<S: Alter>(
     alloc: Global,
     connection: &mut Connection<S>,
-    whole: Whole,
+    whole: WholeTable,
     made: TablesPresent,
 ) -> Result<Vec<Row>, Error>
     requires ready { IsReady S.Store connection.old (IsMadeTo made) }
@@ -121,9 +121,9 @@ pub fn all_rows<S: Alter>(
 /// # Errors
 ///
 /// What a query or the taker may fail with.
-pub fn each_row<S: Alter, T: RowSink>(
+pub fn each_row<S: Alter, T: RowVisitor>(
     connection: &mut Connection<S>,
-    whole: Whole,
+    whole: WholeTable,
     made: TablesPresent,
     taker: &mut T,
 ) -> Result<(), Error>

@@ -20,7 +20,7 @@ use crate::changing::records::{
     aircraft_number, asked_of, lengths_with, span_rows, texts_of, usage_number, volume_rows,
 };
 use crate::kept::GhostState;
-use crate::reading::values::{count_at, fault_told};
+use crate::reading::values::{count_at, fault_reported};
 use crate::span_bounds::SpanBounds;
 use crate::tables::DeskTables;
 use desk_rules::operator::Operator;
@@ -81,7 +81,7 @@ impl<S: Alter> DeskTables<S> {
             → IfErr result (BlamesStore S.Store self.old.held self.new.held) }
     {
         let committed = put_operator(&mut self.connection, operator.as_str(), ceiling);
-        follow(&mut self.kept, committed, next, (), self.told)
+        follow(&mut self.kept, committed, next, (), self.reported)
     }
 
     // Stores a plan's row for its id, with its volumes and, while it is live, their spans. The answer is how
@@ -116,7 +116,7 @@ impl<S: Alter> DeskTables<S> {
         covers_are_few();
         let committed = put_plan(&mut self.connection, head, &volumes, &spans);
         let after = lengths_with(span_bounds, &spans);
-        follow(&mut self.kept, committed, next, after, self.told)
+        follow(&mut self.kept, committed, next, after, self.reported)
     }
 
     // Closes the operator's plan of the id: its spans go, and all else of it but the usage stays.
@@ -145,7 +145,7 @@ impl<S: Alter> DeskTables<S> {
             priority,
             aircraft,
         );
-        follow(&mut self.kept, committed, next, (), self.told)
+        follow(&mut self.kept, committed, next, (), self.reported)
     }
 
     // Takes the operator's plans of the ids out.
@@ -161,7 +161,7 @@ impl<S: Alter> DeskTables<S> {
     {
         let texts = texts_of(self.alloc, ids)?;
         let committed = clear_plans(&mut self.connection, operator.as_str(), &texts);
-        follow(&mut self.kept, committed, next, (), self.told)
+        follow(&mut self.kept, committed, next, (), self.reported)
     }
 }
 
@@ -178,13 +178,13 @@ fn numbers_in(head: &Row) -> Result<(u32, u32), StoreFault>
 }
 
 // What comes of a change that was asked for: where it was committed, the world after it follows. An error of
-// input and output is told as this.
+// input and output is reported as this.
 fn follow<T: Copy>(
     kept: &mut GhostState,
     committed: Result<(), Error>,
     next: GhostState,
     answer: T,
-    told: StoreFault,
+    reported: StoreFault,
 ) -> Result<T, StoreFault>
     ensures { HasFollowed committed answer result kept.old.world kept.new.world next.world }
 {
@@ -193,6 +193,6 @@ fn follow<T: Copy>(
             *kept = next;
             Ok(answer)
         }
-        Err(e) => Err(fault_told(e, told)),
+        Err(e) => Err(fault_reported(e, reported)),
     }
 }

@@ -28,7 +28,7 @@ use crate::opening::finding::create_tables;
 use crate::opening::moving::write_plans;
 use crate::opening::open::{AdoptFault, OpenFault};
 use crate::store::SqliteStore;
-use desk_sql::laws::settled_and_sound;
+use desk_sql::laws::committed_and_sound;
 use desk_sql::{TablesPresent, find_tables, insert_operator, insert_plan};
 use desk_store::StoreFault;
 use operator_index::ListedOperator;
@@ -127,7 +127,7 @@ fn fill<S: Alter>(
         → IfErr result (BlamesReading S.Store connection.old connection.new) }
     ensures over { IsOver S.Store connection.old connection.new }
 {
-    settled_and_sound(connection);
+    committed_and_sound(connection);
     let mut tx = connection.transaction();
     write_world(alloc, &mut tx, operators, plans)?;
     tx.commit()?;

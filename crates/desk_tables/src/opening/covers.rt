@@ -18,7 +18,7 @@ use crate::canon::canon_of;
 use crate::opening::open::OpenFault;
 use crate::opening::spans::fault_of;
 use crate::reading::values::volume_in;
-use desk_sql::{RowSink, TablesPresent, each_volume};
+use desk_sql::{RowVisitor, TablesPresent, each_volume};
 use desk_store::StoreFault;
 use sqlite::{Connection, Error, Row};
 use sqlite_exec::work::FromRow;
@@ -66,7 +66,7 @@ impl CoverCheck {
     }
 }
 
-impl RowSink for CoverCheck {
+impl RowVisitor for CoverCheck {
     ghost use Rattle.std.specs.Prelude.{◌≡◌, ⊤};
     ghost use Rattle.sqlite.specs.declared.error.Error.TheVariants.{SqliteFailure};
     ghost use Rattle.sqlite.specs.declared.error.ErrorCode.TheVariants.{OutOfMemory};

@@ -36,7 +36,7 @@ use crate::opening::open::OpenFault;
 use crate::opening::ordering::ordered_in;
 use crate::opening::spans::{SpanCheck, take_spans};
 use crate::span_bounds::SpanBounds;
-use desk_sql::{TablesPresent, Whole, all_rows, complete_tables, find_tables, has_old_rows};
+use desk_sql::{TablesPresent, WholeTable, all_rows, complete_tables, find_tables, has_old_rows};
 use operator_index::ListedOperator;
 use s2_cover::laws::one_list_of_ranges;
 use sqlite::{Connection, Row};
@@ -140,7 +140,7 @@ pub(crate) fn create_tables<S: Alter>(
 }
 
 // The world whose rows the tables have, which get what is missing of them.
-// Long: which tables there are is told by five facts; one record says how it may end.
+// Long: which tables there are is reported by five facts; one record says how it may end.
 #[tactic(auto, using(crate::proofs::OpeningLemmas::some_operators))]
 fn completed_in<S: Alter>(
     alloc: Global,
@@ -202,7 +202,7 @@ pub(crate) fn content_found<S: Alter>(
     let (heads, covered) = heads_in(alloc, connection, made)?;
     let (operators, plans) = parts_of(alloc, &heads, covered)?;
     let mut check = SpanCheck::new(alloc, plans);
-    take_spans(connection, Whole::Spans, made, &mut check)?;
+    take_spans(connection, WholeTable::Spans, made, &mut check)?;
     content_with(alloc, operators, check)
 }
 
@@ -313,8 +313,8 @@ pub(crate) fn heads_in<S: Alter>(
     ensures cause { IfErr result (BlamesReading S.Store connection.old connection.new) }
     ensures reads { OnlyReads S.Store connection.old connection.new }
 {
-    let operators = all_rows(alloc, connection, Whole::Operators, made)?;
-    let plans = all_rows(alloc, connection, Whole::Plans, made)?;
+    let operators = all_rows(alloc, connection, WholeTable::Operators, made)?;
+    let plans = all_rows(alloc, connection, WholeTable::Plans, made)?;
     let mut check = CoverCheck::new(alloc);
     take_volumes(connection, made, &mut check)?;
     let spans = Vec::new(alloc);

@@ -91,7 +91,7 @@ pub(crate) fn holdings_of(content: &Content, is_old: bool) -> DbStats
 /// # Errors
 ///
 /// Those of `look_into`.
-// Long: the value, what is known of it, and each fault by when it is told.
+// Long: the value, what is known of it, and each fault by when it is reported.
 pub(crate) fn read_content<S: Alter>(
     alloc: Global,
     connection: &mut Connection<S>,

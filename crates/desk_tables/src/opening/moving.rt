@@ -39,9 +39,9 @@ use crate::opening::finding::{content_with, tables_found, uncovered_parts, world
 use crate::opening::open::OpenFault;
 use crate::opening::ordering::unpack;
 use crate::opening::spans::{SpanCheck, take_spans};
-use desk_sql::laws::settled_and_sound;
+use desk_sql::laws::committed_and_sound;
 use desk_sql::{
-    TablesPresent, Whole, all_rows, complete_tables, empty_old_spans, empty_old_volumes,
+    TablesPresent, WholeTable, all_rows, complete_tables, empty_old_spans, empty_old_volumes,
     has_new_rows, insert_spans, insert_volumes,
 };
 use operator_index::ListedOperator;
@@ -152,7 +152,7 @@ fn rewrite<S: Alter>(
     ensures crash { MayMake S.Store connection.old connection.new (MovesRows plans.now) }
 {
     covers_are_few();
-    settled_and_sound(connection);
+    committed_and_sound(connection);
     let mut tx = connection.transaction();
     empty_old_tables(&mut tx)?;
     write_plans(alloc, &mut tx, plans)?;
@@ -240,12 +240,12 @@ pub(crate) fn load_old_tables<S: Alter>(
     let heads = old_heads_alone(alloc, connection, made)?;
     let (operators, plans) = old_parts_of(alloc, &heads)?;
     let mut check = SpanCheck::new(alloc, plans);
-    take_spans(connection, Whole::OldSpans, made, &mut check)?;
+    take_spans(connection, WholeTable::OldSpans, made, &mut check)?;
     content_with(alloc, operators, check)
 }
 
 // The rows of schema 1's tables but for spans, where the tables that schema 2 has alone have no row.
-// Long: the value, and each fault by when it is told.
+// Long: the value, and each fault by when it is reported.
 fn old_heads_alone<S: Alter>(
     alloc: Global,
     connection: &mut Connection<S>,
@@ -304,9 +304,9 @@ pub(crate) fn old_heads_in<S: Alter>(
     ensures cause { IfErr result (BlamesReading S.Store connection.old connection.new) }
     ensures reads { OnlyReads S.Store connection.old connection.new }
 {
-    let operators = all_rows(alloc, connection, Whole::Operators, made)?;
-    let plans = all_rows(alloc, connection, Whole::Plans, made)?;
-    let volumes = all_rows(alloc, connection, Whole::OldVolumes, made)?;
+    let operators = all_rows(alloc, connection, WholeTable::Operators, made)?;
+    let plans = all_rows(alloc, connection, WholeTable::Plans, made)?;
+    let volumes = all_rows(alloc, connection, WholeTable::OldVolumes, made)?;
     let spans = Vec::new(alloc);
     Ok(TableRows {
         operators,

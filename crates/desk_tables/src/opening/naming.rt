@@ -1,4 +1,4 @@
-//! Which part of a database is that of no desk: what an administrator is told of files that were refused.
+//! Which part of a database is that of no desk: what an administrator is reported of files that were refused.
 //! It is found afterwards, by the tests that refuse a database, in their order. Nothing is changed.
 
 ghost use Rattle.std.specs.Prelude.{◌≡◌, ◌≢◌, ◌⊎◌, List, true, false, IfErr, IfOk, IfSome, OnOk};
@@ -28,7 +28,7 @@ use crate::opening::path::NotOpened;
 use crate::opening::spans::{SpanCheck, take_spans};
 use crate::reading::values::{count_at, head_in, id_in};
 use desk_rules::decide::MAX_PRIORITY;
-use desk_sql::{TablesPresent, Whole};
+use desk_sql::{TablesPresent, WholeTable};
 use sqlite::{Connection, FileFrom, FileStore, Row, Start};
 use sqlite_disk::Disk;
 use sqlite_trees::store::Alter;
@@ -152,7 +152,7 @@ fn new_fault<S: Alter>(
         Err(part) => return part,
     };
     let mut check = SpanCheck::new(alloc, plans);
-    match take_spans(connection, Whole::Spans, made, &mut check) {
+    match take_spans(connection, WholeTable::Spans, made, &mut check) {
         Ok(()) => fault_of_spans(check, covered),
         Err(_) => None,
     }
@@ -199,7 +199,7 @@ fn old_part<S: Alter>(
         Err(part) => return part,
     };
     let mut check = SpanCheck::new(alloc, plans);
-    match take_spans(connection, Whole::OldSpans, made, &mut check) {
+    match take_spans(connection, WholeTable::OldSpans, made, &mut check) {
         Ok(()) => fault_of_old_spans(check),
         Err(_) => None,
     }

@@ -13,7 +13,7 @@ use crate::opening::finding::{create_tables, load_world};
 use crate::opening::moving::moved_world_in;
 use crate::store::SqliteStore;
 use db_file::Ram;
-use desk_sql::laws::settled_and_sound;
+use desk_sql::laws::committed_and_sound;
 use desk_sql::{TablesPresent, find_tables};
 use desk_store::StoreFault;
 use sqlite::{Connection, ErrorCode, FileStore, Files, Options};
@@ -165,7 +165,7 @@ impl<S: Alter> SqliteStore<S> {
             (λ store. LeavesShownOr S.Store connection store.held IsCompletedAs)
             (λ refused. LeavesShownOr S.Store connection refused.connection IsCompletedAs) }
     {
-        settled_and_sound(&connection);
+        committed_and_sound(&connection);
         connection.set_step_limit(None);
         match load_world(alloc, &mut connection) {
             Ok((kept, known, is_enrolled)) => Ok(SqliteStore::with(
@@ -184,7 +184,7 @@ impl<S: Alter> SqliteStore<S> {
     /// A limit on steps is lifted.
     /// Where there are rows of schema 1, they are replaced by those of the same content in schema 2, in one
     /// transaction. Where there are none, no plan is moved, and the number is 0. More plans than the number
-    /// can tell are told as its greatest value.
+    /// can report are reported as its greatest value.
     ///
     /// # Errors
     ///
@@ -210,7 +210,7 @@ impl<S: Alter> SqliteStore<S> {
             (λ moved. LeavesShownOr S.Store connection moved.0.held IsMovedOn)
             (λ refused. LeavesShownOr S.Store connection refused.connection IsMovedOn) }
     {
-        settled_and_sound(&connection);
+        committed_and_sound(&connection);
         connection.set_step_limit(None);
         match moved_world_in(alloc, &mut connection) {
             Ok((kept, known, count)) => {

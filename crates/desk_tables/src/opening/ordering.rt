@@ -20,8 +20,8 @@ use crate::opening::exact::FiledPlan;
 use crate::opening::finding::content_found;
 use crate::opening::moving::write_plans;
 use crate::opening::open::OpenFault;
-use desk_sql::laws::settled_and_sound;
-use desk_sql::{TablesPresent, remake_tables};
+use desk_sql::laws::committed_and_sound;
+use desk_sql::{TablesPresent, rebuild_tables};
 use sqlite::Connection;
 use sqlite_trees::store::Alter;
 use std::alloc::Global;
@@ -67,9 +67,9 @@ fn put_in_order<S: Alter>(
     ensures crash { MayMake S.Store connection.old connection.new (OrdersRows plans.now) }
 {
     covers_are_few();
-    settled_and_sound(connection);
+    committed_and_sound(connection);
     let mut tx = connection.transaction();
-    remake_tables(&mut tx)?;
+    rebuild_tables(&mut tx)?;
     write_plans(alloc, &mut tx, plans)?;
     tx.commit()?;
     Ok(())
@@ -88,9 +88,9 @@ pub(crate) fn unpack<S: Alter>(connection: &mut Connection<S>) -> Result<(), Ope
     ensures over { IsOver S.Store connection.old connection.new }
     ensures crash { MayMake S.Store connection.old connection.new RemakesTables }
 {
-    settled_and_sound(connection);
+    committed_and_sound(connection);
     let mut tx = connection.transaction();
-    remake_tables(&mut tx)?;
+    rebuild_tables(&mut tx)?;
     tx.commit()?;
     Ok(())
 }

@@ -1,4 +1,4 @@
-//! What asks for the files at a path, and tells if they were not opened: nothing else makes an `NotOpened`.
+//! What asks for the files at a path, and reports if they were not opened: nothing else makes an `NotOpened`.
 
 ghost use Rattle.std.specs.Prelude.{◌≡◌, IfErr, IfOk, IsTrue, None, true, false};
 ghost use Rattle.std.specs.Option.{IsSomeAnd};
@@ -42,7 +42,7 @@ impl<D: Disk> NotOpened<D> {
     }
 }
 
-/// A connection to the database in two files. If there is none, what is left of the files is told.
+/// A connection to the database in two files. If there is none, what is left of the files is reported.
 pub(crate) fn over_pair<D: Disk + Drop>(
     alloc: Global,
     files: Files<D>,

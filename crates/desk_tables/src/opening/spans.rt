@@ -30,7 +30,7 @@ use crate::opening::finding::length_with;
 use crate::opening::looking::is_live;
 use crate::opening::open::OpenFault;
 use crate::span_bounds::SpanBounds;
-use desk_sql::{RowSink, TablesPresent, Whole, each_row};
+use desk_sql::{RowVisitor, TablesPresent, WholeTable, each_row};
 use s2_cover::laws::one_list_of_ranges;
 use sqlite::{Connection, Error, ErrorCode, Row};
 use sqlite_trees::store::Alter;
@@ -233,7 +233,7 @@ impl SpanCheck {
     }
 }
 
-impl RowSink for SpanCheck {
+impl RowVisitor for SpanCheck {
     ghost use Rattle.std.specs.Prelude.{◌≡◌};
     ghost use Rattle.sqlite.specs.declared.error.Error.TheVariants.{SqliteFailure};
     ghost use Rattle.sqlite.specs.declared.error.ErrorCode.TheVariants.{OutOfMemory};
@@ -260,7 +260,7 @@ impl RowSink for SpanCheck {
 // Long: the value, and apart from it what holds whatever the disk returned.
 pub(crate) fn take_spans<S: Alter>(
     connection: &mut Connection<S>,
-    table: Whole,
+    table: WholeTable,
     made: TablesPresent,
     check: &mut SpanCheck,
 ) -> Result<(), OpenFault>

@@ -98,11 +98,11 @@ impl<S: Alter> DeskTables<S> {
                     low,
                     &mut rivals,
                 );
-                held_by(handed, rivals, self.told)
+                held_by(handed, rivals, self.reported)
             }
             None => {
                 let handed = other_spans(&mut self.connection, operator, reach, low, &mut rivals);
-                held_by(handed, rivals, self.told)
+                held_by(handed, rivals, self.reported)
             }
         }
     }

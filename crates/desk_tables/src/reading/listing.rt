@@ -10,9 +10,9 @@ ghost use Rattle.desk_tables.specs.RowsRead as spec;
 ghost use Rattle.desk_tables.specs.RowsRead.{IsHead, listing_rows};
 ghost use Rattle.desk_tables.specs.Gathering.{Leads, HasCollected, HasNoArea, IsNoHead, IsUngathered, closed_plans, plan_with};
 
-use crate::reading::values::{Head, head_in, volume_in};
+use crate::reading::values::{PlanHead, head_in, volume_in};
 use desk_rules::plan::PlanRow;
-use desk_sql::RowSink;
+use desk_sql::RowVisitor;
 use desk_store::StoreFault;
 use sqlite::{Error, ErrorCode, Row};
 use sqlite_value::value::ValueRef;
@@ -26,7 +26,7 @@ pub(crate) struct PlanCollector {
     alloc: Global,
     plans: Vec<PlanRow>,
     // the plan of the last row, whose volumes so far follow
-    head: Option<Head>,
+    head: Option<PlanHead>,
     volumes: Vec<Volume>,
 }
 
@@ -112,7 +112,7 @@ impl PlanCollector {
     }
 }
 
-impl RowSink for PlanCollector {
+impl RowVisitor for PlanCollector {
     ghost use Rattle.std.specs.Prelude.{◌≡◌, ◌⊎◌, ⊤};
     ghost use Rattle.sqlite.specs.declared.error.Error.TheVariants.{SqliteFailure};
     ghost use Rattle.sqlite.specs.declared.error.ErrorCode.TheVariants.{OutOfMemory};

@@ -109,7 +109,7 @@ impl<S: Alter> DeskTables<S> {
             reach,
             &mut rivals,
         );
-        held_by(handed, rivals, self.told)
+        held_by(handed, rivals, self.reported)
     }
 }
 

@@ -18,7 +18,7 @@ use crate::known::MemoryIndex;
 use crate::reading::listing::PlanCollector;
 use crate::reading::plans::room_beside;
 use crate::reading::rivals::SpanCollector;
-use crate::reading::values::{area_in, fault_told, or_fault, plan_in};
+use crate::reading::values::{area_in, fault_reported, or_fault, plan_in};
 use crate::tables::DeskTables;
 use desk_rules::operator::Operator;
 use desk_rules::plan::PlanRow;
@@ -48,7 +48,7 @@ impl<S: Alter> DeskTables<S> {
         let mut buffer = [0u8; 36];
         let text = id.encode(&mut buffer);
         let answer = plan_of(&mut self.connection, operator.as_str(), text);
-        or_fault(answer, self.told)
+        or_fault(answer, self.reported)
     }
 
     // The rows of `volume2` of the operator's plan of the id, by place.
@@ -59,7 +59,7 @@ impl<S: Alter> DeskTables<S> {
         let mut buffer = [0u8; 36];
         let text = id.encode(&mut buffer);
         let answer = volumes_of(&mut self.connection, operator.as_str(), text);
-        or_fault(answer, self.told)
+        or_fault(answer, self.reported)
     }
 
     /// The operator's plan of the id, or none if it is not stored.
@@ -97,7 +97,7 @@ impl<S: Alter> DeskTables<S> {
     {
         let mut collector = PlanCollector::new(self.alloc);
         let taken = own_listing(&mut self.connection, operator.as_str(), &mut collector);
-        collected(taken, collector, self.told)
+        collected(taken, collector, self.reported)
     }
 
     /// The slabs that live plans hold, of those that are wanted, where they meet extents. No row is read if
@@ -148,11 +148,11 @@ fn plan_of_rows(alloc: Global, head: &Row, rows: &[Row]) -> Result<PlanRow, Stor
     plan_in(head, area)
 }
 
-// The plans of a listing, if it was taken to its end; an error of input and output is told as this.
+// The plans of a listing, if it was taken to its end; an error of input and output is reported as this.
 fn collected(
     taken: Result<(), Error>,
     collector: PlanCollector,
-    told: StoreFault,
+    reported: StoreFault,
 ) -> Result<Vec<PlanRow>, StoreFault>
     ensures whole { OnOk result (IsOk taken) }
     ensures value { IfOk result (λ plans. (ps : List Filed)
@@ -165,15 +165,15 @@ fn collected(
 {
     match taken {
         Ok(()) => collector.finish(),
-        Err(e) => Err(fault_told(e, told)),
+        Err(e) => Err(fault_reported(e, reported)),
     }
 }
 
-// The slabs of spans that were handed over, if all were; an error of input and output is told as this.
+// The slabs of spans that were handed over, if all were; an error of input and output is reported as this.
 pub(crate) fn held_by(
     handed: Result<(), Error>,
     rivals: SpanCollector,
-    told: StoreFault,
+    reported: StoreFault,
 ) -> Result<Vec<Held>, StoreFault>
     ensures whole { OnOk result (IsOk handed) }
     ensures value { IfOk result (λ helds. helds.items ≡ rivals.helds.items) }
@@ -182,6 +182,6 @@ pub(crate) fn held_by(
 {
     match handed {
         Ok(()) => Ok(rivals.finish()),
-        Err(e) => Err(fault_told(e, told)),
+        Err(e) => Err(fault_reported(e, reported)),
     }
 }

@@ -9,7 +9,7 @@ ghost use Rattle.desk_tables.specs.RivalRows.{FitsColumns, IsHeldIn, IsNoHeld, I
 
 use crate::reading::listing::error_of;
 use crate::reading::values::{count_at, narrow_at, wide_at};
-use desk_sql::{RowSink, SpanQuery};
+use desk_sql::{RowVisitor, SpanFilter};
 use desk_store::StoreFault;
 use s2_cover::Span;
 use sqlite::{Error, Row};
@@ -43,7 +43,7 @@ impl SpanCollector {
     }
 }
 
-impl RowSink for SpanCollector {
+impl RowVisitor for SpanCollector {
     ghost use Rattle.std.specs.Prelude.{◌≡◌, ◌⊎◌, ⊤};
     ghost use Rattle.sqlite.specs.declared.error.Error.TheVariants.{SqliteFailure};
     ghost use Rattle.sqlite.specs.declared.error.ErrorCode.TheVariants.{OutOfMemory};
@@ -65,10 +65,10 @@ impl RowSink for SpanCollector {
 }
 
 /// The spans that may hold a point of an extent, of a priority at least.
-pub(crate) fn reach_of(extent: &Slab, least: u32) -> SpanQuery
+pub(crate) fn reach_of(extent: &Slab, least: u32) -> SpanFilter
     ensures { result ≡ spec.reach_of extent.now least }
 {
-    SpanQuery {
+    SpanFilter {
         first: extent.first as i64,
         last: extent.last as i64,
         lower: i64::from(extent.lower),
@@ -80,7 +80,7 @@ pub(crate) fn reach_of(extent: &Slab, least: u32) -> SpanQuery
 }
 
 /// Of these only those that begin at the leaves that a question is for.
-pub(crate) fn reach_from(question: &Span, extent: &Slab, least: u32) -> SpanQuery
+pub(crate) fn reach_from(question: &Span, extent: &Slab, least: u32) -> SpanFilter
     requires { question.now.last < 6 * 2 ^ 60 }
     ensures { result ≡ spec.reach_from question.now extent.now least }
 {

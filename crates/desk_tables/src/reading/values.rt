@@ -16,7 +16,7 @@ ghost use Rattle.desk_store.specs.Content.{IsId, IsBlock};
 ghost use Rattle.desk_tables.specs.RowsRead.{IsVolumeAt, IsHead};
 ghost use Rattle.desk_tables.specs.Records.{AreNumbersOf};
 ghost use Rattle.desk_tables.specs.Gathering.{plan_with};
-ghost use Rattle.desk_tables.specs.ReadsMade.{IsToldAs};
+ghost use Rattle.desk_tables.specs.ReadsMade.{IsReportedAs};
 
 use desk_rules::plan::PlanRow;
 use desk_rules::plan_id::PlanId;
@@ -31,32 +31,33 @@ use volume4d::{Area, Footprint, Volume, VolumeFault, Window};
 pub(crate) fn fault_of(error: Error) -> StoreFault
     ensures { result ≡ StoreFault.Store → error ≢ Error.SqliteFailure ErrorCode.OutOfMemory }
 {
-    fault_told(error, StoreFault::Store)
+    fault_reported(error, StoreFault::Store)
 }
 
-/// The fault of a store that an error of SQLite is, if one of input and output is told as this.
-pub(crate) fn fault_told(error: Error, told: StoreFault) -> StoreFault
+/// The fault of a store that an error of SQLite is, if one of input and output is reported as this.
+pub(crate) fn fault_reported(error: Error, reported: StoreFault) -> StoreFault
     ensures store { result ≡ StoreFault.Store → error ≢ Error.SqliteFailure ErrorCode.OutOfMemory }
     ensures shut { error ≡ Error.SqliteFailure ErrorCode.Closed → result ≡ StoreFault.Store }
 {
     match error {
         Error::SqliteFailure(ErrorCode::OutOfMemory) => StoreFault::OutOfMemory,
-        Error::SqliteFailure(ErrorCode::SystemIoFailure) => told,
+        Error::SqliteFailure(ErrorCode::SystemIoFailure) => reported,
         _ => StoreFault::Store,
     }
 }
 
-/// What SQLite answered, or its error as a fault of the store, if one of input and output is told as this.
+/// What SQLite answered, or its error as a fault of the store, if one of input and output is reported as
+/// this.
 ///
 /// # Errors
 ///
-/// That of `fault_told`.
-pub(crate) fn or_fault<T>(answer: Result<T, Error>, told: StoreFault) -> Result<T, StoreFault>
-    ensures { IsToldAs answer result }
+/// That of `fault_reported`.
+pub(crate) fn or_fault<T>(answer: Result<T, Error>, reported: StoreFault) -> Result<T, StoreFault>
+    ensures { IsReportedAs answer result }
 {
     match answer {
         Ok(value) => Ok(value),
-        Err(e) => Err(fault_told(e, told)),
+        Err(e) => Err(fault_reported(e, reported)),
     }
 }
 
@@ -238,14 +239,14 @@ fn aircraft_in(row: &Row) -> Result<Aircraft, StoreFault>
 
 /// A plan but for its area.
 #[derive(Clone, Copy)]
-pub(crate) struct Head {
+pub(crate) struct PlanHead {
     id: PlanId,
     priority: u32,
     usage: Usage,
     aircraft: Aircraft,
 }
 
-impl Head {
+impl PlanHead {
     /// The plan, with its area.
     pub(crate) fn with(self, area: Area) -> PlanRow
         ensures { result ≡ plan_with self area }
@@ -265,14 +266,14 @@ impl Head {
 /// # Errors
 ///
 /// `OutOfMemory` if memory runs out. `Store` if they are no plan's.
-pub(crate) fn head_in(row: &Row) -> Result<Head, StoreFault>
+pub(crate) fn head_in(row: &Row) -> Result<PlanHead, StoreFault>
     ensures value { IfOk result (λ head. (p : Plan) → IsId p.id → IsHead row.now p
         → plan_with head p.area ≡ p) }
     ensures is { IfOk result (λ head. IsId head.id × AreNumbersOf row.now (plan_with head [])) }
     ensures none { IfErr result (λ e. e ≡ StoreFault.Store →
         (p : Plan) → IsId p.id → p.priority < 2 ^ 32 → ¬ IsHead row.now p) }
 {
-    Ok(Head {
+    Ok(PlanHead {
         id: id_in(row)?,
         priority: count_at(row, 2)?,
         usage: usage_in(row)?,

@@ -35,7 +35,7 @@ impl<S: EmptyStore> Both<S> {
         for line in lines {
             self.play(line, output)?;
         }
-        self.tell(output)
+        self.report(output)
     }
 
     // Plays a line, which may be empty or a comment, and prints what comes of it.
@@ -62,7 +62,7 @@ impl<S: EmptyStore> Both<S> {
     }
 
     // Prints how many steps came to the same.
-    fn tell<W: Write>(&self, output: &mut W) -> anyhow::Result<()> {
+    fn report<W: Write>(&self, output: &mut W) -> anyhow::Result<()> {
         let Both { same, others, .. } = self;
         writeln!(
             output,

@@ -74,7 +74,7 @@ impl<S: EmptyStore> Stage<S> {
     // Permits these priorities, or prints why they are refused.
     fn set_permitted<W: Write>(&mut self, list: &str, output: &mut W) -> anyhow::Result<()> {
         match Permitted::try_new(&numbers_in(self.alloc, list)?) {
-            Ok(permitted) => self.keep_to(&Terms {
+            Ok(permitted) => self.set_terms(&Terms {
                 permitted,
                 ..self.terms
             }),
@@ -86,7 +86,7 @@ impl<S: EmptyStore> Stage<S> {
     // Takes the most spans of an operator's live plans; `-` if any number will do.
     fn set_spans(&mut self, word: &str) -> anyhow::Result<()> {
         let spans = most_in(word)?;
-        self.keep_to(&Terms {
+        self.set_terms(&Terms {
             spans,
             ..self.terms
         });
@@ -96,16 +96,16 @@ impl<S: EmptyStore> Stage<S> {
     // Takes the most cells of an operator's plans; `-` if any number will do.
     fn set_cells(&mut self, word: &str) -> anyhow::Result<()> {
         let cells = most_in(word)?;
-        self.keep_to(&Terms {
+        self.set_terms(&Terms {
             cells,
             ..self.terms
         });
         Ok(())
     }
 
-    fn keep_to(&mut self, terms: &Terms) {
+    fn set_terms(&mut self, terms: &Terms) {
         self.terms = *terms;
-        self.desk.keep_to(*terms);
+        self.desk.set_terms(*terms);
     }
 
     // Makes the call of a step that makes one.
@@ -206,7 +206,7 @@ impl<S: EmptyStore> Stage<S> {
         let mut store = std::mem::replace(&mut self.desk, empty).into_store();
         let rows = store.own_plans(operator);
         self.desk = Desk::new(store);
-        self.desk.keep_to(self.terms);
+        self.desk.set_terms(self.terms);
         rows.ok().context("the plans can't be read")
     }
 }

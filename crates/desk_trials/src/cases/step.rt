@@ -14,7 +14,8 @@ pub enum Step<'l> {
     Desk(&'l str),
     /// `at SECOND`: the moment of what follows, a Unix second.
     At(&'l str),
-    /// `equal PRIORITY,..`: these priorities are permitted from here on; if they can't be, it is told why.
+    /// `equal PRIORITY,..`: these priorities are permitted from here on; if they can't be, it is reported
+    /// why.
     Equal(&'l str),
     /// `spans N`: the most spans of an operator's live plans from here on; `-` for any number.
     Spans(&'l str),

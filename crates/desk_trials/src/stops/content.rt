@@ -1,7 +1,7 @@
 //! What a store holds, as a text.
 
 use crate::named::operator_of;
-use crate::stops::moving::Told;
+use crate::stops::moving::Reported;
 use anyhow::bail;
 use desk_rules::plan::PlanRow;
 use desk_store::PlanStore;
@@ -64,9 +64,9 @@ impl Content {
         Ok(())
     }
 
-    /// Appends what is told of it.
-    pub fn tell(&mut self, told: &Told) -> anyhow::Result<()> {
-        writeln!(self.text, "{told}")?;
+    /// Appends what is reported of it.
+    pub fn report(&mut self, reported: &Reported) -> anyhow::Result<()> {
+        writeln!(self.text, "{reported}")?;
         Ok(())
     }
 

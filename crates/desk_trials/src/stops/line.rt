@@ -22,7 +22,7 @@ pub enum Line {
     Sql(String),
     /// `rows QUERY`: prints the texts that a query of one column lists.
     Rows(String),
-    /// `adopt`: the files are adopted; prints what is told, and whether the rows are the same afterwards.
+    /// `adopt`: the files are adopted; prints what is reported, and whether the rows are the same afterwards.
     Adopt,
     /// `move`: the files are moved to schema 2; prints the same.
     Move,

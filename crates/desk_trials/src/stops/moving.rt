@@ -16,9 +16,9 @@ use sqlite::{Connection, FileStore};
 use std::alloc::Global;
 use std::fmt::{self, Display, Formatter, Write};
 
-/// What is told of a database.
+/// What is reported of a database.
 #[derive(Clone, Copy, Debug, PartialEq, Eq)]
-pub enum Told {
+pub enum Reported {
     /// It is adopted.
     Adopted,
     /// It is adopted, and so many plans were moved.
@@ -27,48 +27,48 @@ pub enum Told {
     Refused(OpenFault),
 }
 
-impl Told {
+impl Reported {
     fn is_refusal(self) -> bool {
         match self {
-            Told::Adopted | Told::Moved(_) => false,
-            Told::Refused(_) => true,
+            Reported::Adopted | Reported::Moved(_) => false,
+            Reported::Refused(_) => true,
         }
     }
 }
 
-impl Display for Told {
+impl Display for Reported {
     fn fmt<W: Write>(&self, f: &mut Formatter<W>) -> fmt::Result {
         match self {
-            Told::Adopted => f.write_str("a desk's tables"),
-            Told::Moved(count) => write!(f, "{count} moved"),
-            Told::Refused(fault) => f.write_str(open_word(fault)),
+            Reported::Adopted => f.write_str("a desk's tables"),
+            Reported::Moved(count) => write!(f, "{count} moved"),
+            Reported::Refused(fault) => f.write_str(open_word(fault)),
         }
     }
 }
 
-// Adopts a connection: what is told, and the connection.
+// Adopts a connection: what is reported, and the connection.
 fn adopted<D: Fused>(
     alloc: Global,
     connection: Connection<FileStore<D>>,
-) -> (Told, Connection<FileStore<D>>)
+) -> (Reported, Connection<FileStore<D>>)
     requires settled { connection.in_transaction ≡ false }
 {
     match SqliteStore::adopt(alloc, connection) {
-        Ok(store) => (Told::Adopted, store.release()),
-        Err(refused) => (Told::Refused(refused.fault), refused.connection),
+        Ok(store) => (Reported::Adopted, store.release()),
+        Err(refused) => (Reported::Refused(refused.fault), refused.connection),
     }
 }
 
-// Moves what a connection shows to schema 2: what is told, and the connection.
+// Moves what a connection shows to schema 2: what is reported, and the connection.
 fn moved<D: Fused>(
     alloc: Global,
     connection: Connection<FileStore<D>>,
-) -> (Told, Connection<FileStore<D>>)
+) -> (Reported, Connection<FileStore<D>>)
     requires settled { connection.in_transaction ≡ false }
 {
     match SqliteStore::adopt_old(alloc, connection) {
-        Ok((store, count)) => (Told::Moved(count), store.release()),
-        Err(refused) => (Told::Refused(refused.fault), refused.connection),
+        Ok((store, count)) => (Reported::Moved(count), store.release()),
+        Err(refused) => (Reported::Refused(refused.fault), refused.connection),
     }
 }
 
@@ -88,34 +88,37 @@ pub fn rows_left<D: Fused>(alloc: Global, image: &Image<D>) -> anyhow::Result<Co
     rows_of(alloc, &mut connection)
 }
 
-// The rows in files of these bytes, and what is told if they are adopted.
+// The rows in files of these bytes, and what is reported if they are adopted.
 fn state_of<D: Fused>(alloc: Global, image: &Image<D>) -> anyhow::Result<Content> {
     let mut content = rows_left(alloc, image)?;
     let connection = connect_to(alloc, image)?;
-    let (told, _) = adopted(alloc, connection);
-    content.tell(&told)?;
+    let (reported, _) = adopted(alloc, connection);
+    content.report(&reported)?;
     Ok(content)
 }
 
-/// Adopts files of these bytes: what is told, and the rows that the connection shows then.
-pub fn adopt_files<D: Fused>(alloc: Global, image: &Image<D>) -> anyhow::Result<(Told, Content)> {
+/// Adopts files of these bytes: what is reported, and the rows that the connection shows then.
+pub fn adopt_files<D: Fused>(
+    alloc: Global,
+    image: &Image<D>,
+) -> anyhow::Result<(Reported, Content)> {
     let connection = connect_to(alloc, image)?;
-    let (told, mut connection) = adopted(alloc, connection);
+    let (reported, mut connection) = adopted(alloc, connection);
     let rows = rows_of(alloc, &mut connection)?;
-    Ok((told, rows))
+    Ok((reported, rows))
 }
 
-/// Moves files of these bytes to schema 2: what is told, the rows that the connection shows then, and what
-/// the files are.
+/// Moves files of these bytes to schema 2: what is reported, the rows that the connection shows then, and
+/// what the files are.
 pub fn move_files<D: Fused>(
     alloc: Global,
     image: &Image<D>,
-) -> anyhow::Result<(Told, Content, Image<D>)> {
+) -> anyhow::Result<(Reported, Content, Image<D>)> {
     let connection = connect_to(alloc, image)?;
-    let (told, mut connection) = moved(alloc, connection);
+    let (reported, mut connection) = moved(alloc, connection);
     let rows = rows_of(alloc, &mut connection)?;
     let left = Image::left(alloc, close(connection), Left::Synced)?;
-    Ok((told, rows, left))
+    Ok((reported, rows, left))
 }
 
 /// What files of these bytes hold before they are moved and afterwards.
@@ -142,9 +145,9 @@ pub fn move_stopped<D: Fused>(
 fn move_over<D: Fused>(alloc: Global, files: FusedFiles) -> (Came, FusedFiles) {
     match connect::<D>(alloc, files) {
         Ok(connection) => {
-            let (told, connection) = moved(alloc, connection);
+            let (reported, connection) = moved(alloc, connection);
             let mut files = close(connection);
-            let came = when(is_stopped(&mut files), !told.is_refusal());
+            let came = when(is_stopped(&mut files), !reported.is_refusal());
             (came, files)
         }
         Err(files) => (Came::Unanswered, files),

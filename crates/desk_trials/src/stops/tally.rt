@@ -112,7 +112,7 @@ impl Sums {
         }
     }
 
-    /// Counts a stop, and tells whether it came.
+    /// Counts a stop, and reports whether it came.
     pub fn count(&mut self, came: Came, left: &Content, edges: &Edges) -> bool {
         let counts = match came {
             Came::Unanswered => &mut self.unanswered,

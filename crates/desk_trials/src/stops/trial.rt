@@ -135,16 +135,16 @@ impl<D: Fused> Trial<D> {
     // Adopts the files, which stay as they are.
     fn adopt<W: Write>(&self, output: &mut W) -> anyhow::Result<()> {
         let before = rows_left(self.alloc, &self.image)?;
-        let (told, after) = adopt_files(self.alloc, &self.image)?;
-        writeln!(output, "adopt: {told}; {} rows", which(&before, &after))?;
+        let (reported, after) = adopt_files(self.alloc, &self.image)?;
+        writeln!(output, "adopt: {reported}; {} rows", which(&before, &after))?;
         Ok(())
     }
 
     // Moves the files to schema 2.
     fn move_over<W: Write>(&mut self, output: &mut W) -> anyhow::Result<()> {
         let before = rows_left(self.alloc, &self.image)?;
-        let (told, after, left) = move_files(self.alloc, &self.image)?;
-        writeln!(output, "move: {told}; {} rows", which(&before, &after))?;
+        let (reported, after, left) = move_files(self.alloc, &self.image)?;
+        writeln!(output, "move: {reported}; {} rows", which(&before, &after))?;
         self.image = left;
         self.opening = Opening::unknown();
         Ok(())

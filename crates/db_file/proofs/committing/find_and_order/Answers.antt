@@ -30,33 +30,33 @@ returns-in_err-recover-clause-crash g c left may =
 
 pub returns-clause-ordered : goal.returns-clause-ordered
 returns-clause-ordered g c =
-    finds_and_orders c.args.pager.now c.recover.new.self c.order_first.new.pager c.recover.ensures.size
-    c.in_ok-recover.ensures.clean c.in_ok-recover.ensures.found c.order_first.ensures.stays c.order_first.result
-    c.order_first.ensures.ordered c.order_first.ensures.settled
+    finds_and_orders c.args.pager.now c.recover.new.self c.reorder_first_page.new.pager c.recover.ensures.size
+    c.in_ok-recover.ensures.clean c.in_ok-recover.ensures.found c.reorder_first_page.ensures.stays c.reorder_first_page.result
+    c.reorder_first_page.ensures.ordered c.reorder_first_page.ensures.settled
 
 pub returns-clause-cause : goal.returns-clause-cause
 returns-clause-cause g c =
     let it = c.args.pager.now in
-    let new = c.order_first.new.pager in
-    subst (λ n. FailsFor c.order_first.result (IsTrue (state new).is_clean) (state it).faults (state new).faults
+    let new = c.reorder_first_page.new.pager in
+    subst (λ n. FailsFor c.reorder_first_page.result (IsTrue (state new).is_clean) (state it).faults (state new).faults
     (RefusesFiles n (image it) new)) c.requires.size
     (order_fails it c.recover.new.self new c.recover.ensures.size c.in_ok-recover.ensures.clean
-    c.in_ok-recover.ensures.found c.order_first.ensures.stays g.met.D.Disk.seen_may_stay c.order_first.result
-    c.in_ok-recover.ensures.ready c.in_ok-recover.ensures.cause c.order_first.ensures.cause)
+    c.in_ok-recover.ensures.found c.reorder_first_page.ensures.stays g.met.D.Disk.seen_may_stay c.reorder_first_page.result
+    c.in_ok-recover.ensures.ready c.in_ok-recover.ensures.cause c.reorder_first_page.ensures.cause)
 
 pub returns-clause-crash : goal.returns-clause-crash
 returns-clause-crash g c =
     let it = c.args.pager.now in
-    let new = c.order_first.new.pager in
+    let new = c.reorder_first_page.new.pager in
     subst (λ n. LeavesOrdered n (image it) (state it).may_leave (state new).may_leave) c.requires.size
     (leaves_ordered it c.recover.new.self new c.recover.ensures.size c.in_ok-recover.ensures.clean
-    c.in_ok-recover.ensures.found c.order_first.ensures.stays c.recover.ensures.crash c.order_first.ensures.crash)
+    c.in_ok-recover.ensures.found c.reorder_first_page.ensures.stays c.recover.ensures.crash c.reorder_first_page.ensures.crash)
 
 pub returns-clause-none : goal.returns-clause-none
 returns-clause-none g c =
     let it = c.args.pager.now in
-    let new = c.order_first.new.pager in
+    let new = c.reorder_first_page.new.pager in
     subst (λ n. IsUnreadable n (image it) → (left : Image) → (state new).may_leave left → (state it).may_leave left)
     c.requires.size
     (still_readable it c.recover.new.self new c.recover.ensures.size c.in_ok-recover.ensures.clean
-    c.in_ok-recover.ensures.found c.order_first.ensures.stays g.met.D.Disk.seen_may_stay)
+    c.in_ok-recover.ensures.found c.reorder_first_page.ensures.stays g.met.D.Disk.seen_may_stay)

@@ -1,11 +1,11 @@
 use Rattle.std.proofs.Common.{◌∙◌}
-use Rattle.db_file.proofs.JudgeLemmas.{all_taken, told_at}
+use Rattle.db_file.proofs.JudgeLemmas.{all_taken, reported_at}
 use Rattle.db_file.proofs.judging.judge_frames.Goals as goal
 
 pub returns-in-Some-clause-value : goal.returns-in-Some-clause-value
 returns-in-Some-clause-value g c page bytes len same is_head size before =
     let stops = rw c.in-Some.is at (c.in_ok-stop.ensures.value page bytes len same before) in
-    told_at page bytes _ same is_head size c.in-Some.stop _ _ _ stops
+    reported_at page bytes _ same is_head size c.in-Some.stop _ _ _ stops
     (c.judge_rest.ensures.value page bytes (c.follow.auto.frame ∙ len) same stops.next)
 
 pub returns-in-None-clause-value : goal.returns-in-None-clause-value

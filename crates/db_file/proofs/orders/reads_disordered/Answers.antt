@@ -1,6 +1,6 @@
 use Rattle.std.proofs.Common.{◌≡◌, length, refl, rules}
 use Rattle.sqlite_wal.specs.PageSize.{bytes_of}
-use Rattle.db_file.proofs.OrderLemmas.{file_told, header_says, is_sized}
+use Rattle.db_file.proofs.OrderLemmas.{file_reported, header_says, is_sized}
 use Rattle.db_file.proofs.orders.reads_disordered.Goals as goal
 
 pub returns-in-Some-clause-said : goal.returns-in-Some-clause-said
@@ -9,7 +9,7 @@ returns-in-Some-clause-said g c =
     let left = g.R.Read.remaining c.read_exact.new.self in
     let header = c.read_exact.new.buf in
     let short : length header ≡ 24 = search rules in
-    file_told c.reads_page.result known left header (bytes_of c.in-Some.size) c.in_ok-read_exact.ensures.bytes
+    file_reported c.reads_page.result known left header (bytes_of c.in-Some.size) c.in_ok-read_exact.ensures.bytes
     (header_says known left header short c.in_ok-read_exact.ensures.bytes) c.in-Some.ensures.1
     c.reads_page.ensures
 

@@ -9,8 +9,8 @@ returns-in-Ok-clause-copied g c =
     let holdings = c.in-Ok.copies.1.1 in (
       c.in-Ok.ensures.made,
       subst
-          (λ told. IsTextPrinted (copied_line holdings.operators holdings.plans)
-          (ending exit.result told (g.E.Write.contents exit.new.errors))
+          (λ reported. IsTextPrinted (copied_line holdings.operators holdings.plans)
+          (ending exit.result reported (g.E.Write.contents exit.new.errors))
           (g.W.Write.contents c.args.writers.now.output) (g.W.Write.contents exit.new.output))
           c.in-Ok.ensures.quiet exit.ensures,
     )

@@ -1,11 +1,11 @@
 use Rattle.std.proofs.Common.{◌≡◌, inl, inr, rules, string_bytes, subst}
 use Rattle.sqlite_wal.specs.Files.{image_at}
 use Rattle.desk_admin.proofs.KeepLemmas.{copy_fails, made_on, named_if}
-use Rattle.desk_host.proofs.TellLemmas.{tells_both}
+use Rattle.desk_host.proofs.ReportLemmas.{reports_both}
 use Rattle.desk_host.proofs.NameLemmas.{found_own, not_free_failed, not_free_names, not_free_others}
 use Rattle.desk_host.specs.FolderSteps.{steps_of}
 use Rattle.desk_host.specs.Naming.{AreNames, Follows, free_steps}
-use Rattle.desk_admin.specs.FilesTold.{FailsUntried}
+use Rattle.desk_admin.specs.FilesReported.{FailsUntried}
 use Rattle.desk_admin.proofs.keeping.copy_for.Goals as goal
 
 pub returns-in-Err-clause-fault : goal.returns-in-Err-clause-fault
@@ -41,20 +41,20 @@ pub returns-clause-fault : goal.returns-clause-fault
 returns-clause-fault g c =
     let to = string_bytes c.args.words.now.to in
     let are : AreNames to c.in_ok-names.names = search rules in
-    let free : Follows (steps_of g.P.Folder c.args.folder.now c.make_room_or_tell.new.folder) (free_steps to) =
+    let free : Follows (steps_of g.P.Folder c.args.folder.now c.make_room_or_report.new.folder) (free_steps to) =
     search rules in
     copy_fails _ _ _ to free (image_at g.F.Start) (image_at g.N.Start)
     c.args.words.now.database c.copy_closed-copied.result c.keep_copy.result
     c.copy_closed-copied.ensures.fault c.keep_copy.ensures.fault
 
-pub returns-clause-told : goal.returns-clause-told
-returns-clause-told g c = tells_both c.make_room_or_tell.ensures.told c.keep_copy.ensures.told
+pub returns-clause-reported : goal.returns-clause-reported
+returns-clause-reported g c = reports_both c.make_room_or_report.ensures.reported c.keep_copy.ensures.reported
 
 pub returns-clause-named : goal.returns-clause-named
 returns-clause-named g c =
     let to = string_bytes c.args.words.now.to in
     let are : AreNames to c.in_ok-names.names = search rules in
-    let free : Follows (steps_of g.P.Folder c.args.folder.now c.make_room_or_tell.new.folder) (free_steps to) =
+    let free : Follows (steps_of g.P.Folder c.args.folder.now c.make_room_or_report.new.folder) (free_steps to) =
     search rules in
     named_if _ _ _ to free c.keep_copy.result (c.keep_copy.ensures.named to are)
 
@@ -62,6 +62,6 @@ pub returns-clause-own : goal.returns-clause-own
 returns-clause-own g c =
     let to = string_bytes c.args.words.now.to in
     let are : AreNames to c.in_ok-names.names = search rules in
-    let free : Follows (steps_of g.P.Folder c.args.folder.now c.make_room_or_tell.new.folder) (free_steps to) =
+    let free : Follows (steps_of g.P.Folder c.args.folder.now c.make_room_or_report.new.folder) (free_steps to) =
     search rules in
     found_own _ _ _ to free (c.keep_copy.ensures.own to are)

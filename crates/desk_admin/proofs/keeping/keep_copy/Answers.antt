@@ -1,5 +1,5 @@
 use Rattle.std.proofs.Common.{inl, inr, subst}
-use Rattle.desk_admin.specs.FilesTold.{FailsUntried}
+use Rattle.desk_admin.specs.FilesReported.{FailsUntried}
 use Rattle.desk_host.proofs.NameLemmas.{gone_changes, gone_unnamed}
 use Rattle.desk_admin.proofs.keeping.keep_copy.Goals as goal
 

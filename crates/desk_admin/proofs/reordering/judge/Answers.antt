@@ -1,5 +1,5 @@
 use Rattle.std.proofs.Common.{IfOk, refl, subst}
-use Rattle.desk_admin.specs.FilesTold.{IsReadAs}
+use Rattle.desk_admin.specs.FilesReported.{IsReadAs}
 use Rattle.desk_admin.proofs.reordering.judge.Goals as goal
 
 pub returns-then-is_too_old-clause-admitted : goal.returns-then-is_too_old-clause-admitted

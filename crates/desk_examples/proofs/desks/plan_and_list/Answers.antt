@@ -7,5 +7,5 @@ pub returns : goal.returns
 returns g c = λ honest other planned.
     let before : IsHonest (g.S.PlanStore.doubt c.call.new.self.store)
     = was_honest c.call-2.ensures.leaves.remembered.doubt honest in
-    listed_after _ _ _ _ _ _ _ other (c.in_ok-planned.ensures.told before)
-    (rw (c.in_ok-planned.ensures.ok before) at c.in_ok-call.ensures.told honest) planned
+    listed_after _ _ _ _ _ _ _ other (c.in_ok-planned.ensures.reported before)
+    (rw (c.in_ok-planned.ensures.ok before) at c.in_ok-call.ensures.reported honest) planned

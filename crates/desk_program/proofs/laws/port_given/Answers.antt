@@ -10,10 +10,10 @@ returns c = record {
   first = λ doubt count done. port_turns (IsHonest doubt) done count;
   decided = port_alike;
   quiet = port_quiet;
-  served = λ doubt done serve port w after h honest tells.
+  served = λ doubt done serve port w after h honest reports.
       listening_turns port h.listening serve.port h.begun after h.listens
       (port_turns (IsHonest doubt) done serve.connections (course h.listening port.after) h.begun after h.taken
-      honest (subst IsSome (sym h.listens.1.2) tells));
+      honest (subst IsSome (sym h.listens.1.2) reports));
   played = λ doubt done play port w after h.
       port_turns (IsHonest doubt) done max_answered port h.begun after h.taken;
 }

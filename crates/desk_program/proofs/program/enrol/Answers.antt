@@ -16,7 +16,7 @@ returns-in-Err-clause-enrolled g c =
             arith,
             c.enrol.ensures.ceiling.0 (c.in-Err.is ∙ ap Err is),
             c.requires,
-          ))) (c.report_exit-in-Err.ensures.status, c.report_exit-in-Err.ensures.told),
+          ))) (c.report_exit-in-Err.ensures.status, c.report_exit-in-Err.ensures.reported),
       refl,
       c.in-Err.ensures.leaves.same,
     ))
@@ -32,7 +32,7 @@ returns-in-Err-clause-kept g c = λ p settled found may.
       arith,
       c.enrol.ensures.ceiling.0 (c.in-Err.is ∙ ap Err is),
       c.requires,
-    ))) (c.report_exit-in-Err.ensures.status, c.report_exit-in-Err.ensures.told))
+    ))) (c.report_exit-in-Err.ensures.status, c.report_exit-in-Err.ensures.reported))
     (settled found) (c.enrol.ensures.leaves.crash p found may)
 
 -- why the line ends so
@@ -43,7 +43,7 @@ pub returns-in-Err-clause-cause : goal.returns-in-Err-clause-cause
 returns-in-Err-clause-cause g c =
     ends_counted c.in-Err.fault c.from.result _ c.from.ensures
     (λ is. c.in-Err.ensures.leaves.cause (ap Some is))
-    (c.report_exit-in-Err.ensures.status, c.report_exit-in-Err.ensures.told)
+    (c.report_exit-in-Err.ensures.status, c.report_exit-in-Err.ensures.reported)
 
 pub returns-in-Ok-write_whole-clause-cause : goal.returns-in-Ok-write_whole-clause-cause
 returns-in-Ok-write_whole-clause-cause g c = search (rules, ends_well)

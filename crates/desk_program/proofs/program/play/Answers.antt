@@ -21,7 +21,7 @@ returns-in-Err-clause-played g c =
     (g.E.Write.contents c.report_exit.new.errors) in
     inr (not_played honest c.args.line.now end (g.R.Read.remaining c.args.input.now)
     (g.W.Write.contents c.args.output.now) w after c.in-Err.fault c.from.result c.from.ensures
-    c.in-Err.ensures.fault (c.report_exit.ensures.status, c.report_exit.ensures.told)
+    c.in-Err.ensures.fault (c.report_exit.ensures.status, c.report_exit.ensures.reported)
     (subst (λ es. AreListedSoFar honest es (on_terms w c.args.line.now.desk.terms) after)
     c.deref.ensures.value c.in-Err.ensures.listed))
 
@@ -35,7 +35,7 @@ returns-in-Err-clause-kept g c = λ p settled found may.
     inr (
       not_played honest c.args.line.now end (g.R.Read.remaining c.args.input.now)
           (g.W.Write.contents c.args.output.now) w after c.in-Err.fault c.from.result c.from.ensures
-          c.in-Err.ensures.fault (c.report_exit.ensures.status, c.report_exit.ensures.told)
+          c.in-Err.ensures.fault (c.report_exit.ensures.status, c.report_exit.ensures.reported)
           (subst (λ es. AreListedSoFar honest es (on_terms w c.args.line.now.desk.terms) after)
           c.deref.ensures.value c.in-Err.ensures.listed),
       subst (λ es. AreKeptSoFar honest es (on_terms w c.args.line.now.desk.terms) after found)
@@ -56,7 +56,7 @@ returns-clause-played g c =
       answered = played.answered;
       ends = subst (λ d. EndsWith d (ending c.report_exit-2.result (g.E.Write.contents c.args.errors.now)
           (g.E.Write.contents c.report_exit-2.new.errors))) c.done_after.ensures
-          (c.report_exit-2.ensures.status, c.report_exit-2.ensures.told);
+          (c.report_exit-2.ensures.status, c.report_exit-2.ensures.reported);
       played = λ h.
           let listed = c.in_default.ensures.listed (was_honest c.play_all-played.ensures.remembered.doubt h)
           ∙ ap (with_operators begun) c.deref.ensures.value in
@@ -77,7 +77,7 @@ returns-clause-kept g c = λ p settled found may.
     c.args.output.now c.play_all-played.new.output) w (world_of g.S.PlanStore.content c.set_up.new.desk)
     (world_of g.S.PlanStore.content c.play_all-played.new.desk)
     (subst (λ d. EndsWith d end) c.done_after.ensures
-    (c.report_exit-2.ensures.status, c.report_exit-2.ensures.told))
+    (c.report_exit-2.ensures.status, c.report_exit-2.ensures.reported))
     (λ h. c.in_default.ensures.listed (was_honest c.play_all-played.ensures.remembered.doubt h)
     ∙ ap (with_operators (on_terms w c.args.line.now.desk.terms)) c.deref.ensures.value)
     c.play_all-played.ensures.played p found
@@ -86,4 +86,4 @@ returns-clause-kept g c = λ p settled found may.
 pub returns-in-Err-clause-cause : goal.returns-in-Err-clause-cause
 returns-in-Err-clause-cause g c =
     ends_counted c.in-Err.fault c.from.result _ c.from.ensures c.in-Err.ensures.cause
-    (c.report_exit.ensures.status, c.report_exit.ensures.told)
+    (c.report_exit.ensures.status, c.report_exit.ensures.reported)

@@ -12,16 +12,16 @@ returns-clause-listed g c =
     let after = c.enrol_all.new.desk in
     subst (λ d. HasListed (IsHonest (g.S.PlanStore.doubt after.store)) c.enrol_all.result
     c.args.enrolments.now (world_of g.S.PlanStore.content d) (world_of g.S.PlanStore.content after))
-    c.keep_to.ensures c.enrol_all.ensures.listed
+    c.set_terms.ensures c.enrol_all.ensures.listed
 
 pub returns-clause-kept : goal.returns-clause-kept
 returns-clause-kept g c = λ p.
     let after = c.enrol_all.new.desk in
-    let mid = c.keep_to.new.self in
+    let mid = c.set_terms.new.self in
     subst (λ d. IsSettled g.S.PlanStore.content g.S.PlanStore.may_leave d
     → (found : Option World) → g.S.PlanStore.may_leave after.store found
     → FindsListed (IsHonest (g.S.PlanStore.doubt after.store)) c.enrol_all.result c.args.enrolments.now
-    (world_of g.S.PlanStore.content d) (world_of g.S.PlanStore.content after) found) c.keep_to.ensures
+    (world_of g.S.PlanStore.content d) (world_of g.S.PlanStore.content after) found) c.set_terms.ensures
     (settled_news (IsHonest (g.S.PlanStore.doubt after.store)) c.enrol_all.result c.args.enrolments.now
     (world_of g.S.PlanStore.content mid) (world_of g.S.PlanStore.content after)
     (g.S.PlanStore.may_leave mid.store) (g.S.PlanStore.may_leave after.store) c.enrol_all.ensures.listed

@@ -8,7 +8,7 @@ use Rattle.desk_program.specs.Keeping.{FindsNews}
 use Rattle.desk_program.specs.Recorded.{IsOpen}
 use Rattle.desk_program.specs.Serving.{Grows, arrived, parted}
 use Rattle.desk_program.proofs.CauseLemmas.{denied_counted, news_counted, served_counted}
-use Rattle.desk_program.proofs.EndLemmas.{told_breakdown}
+use Rattle.desk_program.proofs.EndLemmas.{reported_breakdown}
 use Rattle.desk_program.proofs.KeepingLemmas.{listed_found, news_kept, none_kept, one_kept, unlisted_found, untaken_found}
 use Rattle.desk_program.proofs.ServedLemmas.{enrolled_then, not_ok, same_noted, stays, stays_noted, stops}
 use Rattle.desk_program.proofs.server.serve_connection.Goals as goal
@@ -44,7 +44,7 @@ returns-in_err-enrol_news-clause-kept g c =
     c.from_residual-in_err-enrol_news.ensures.1 c.in_ok-news.ensures.brings
     (stays (g.P.Port.traffic c.news.new.self))
     (inl (
-      told_breakdown fault (enrolment_failure fault) refl c.in_err-enrol_news.ensures.fault,
+      reported_breakdown fault (enrolment_failure fault) refl c.in_err-enrol_news.ensures.fault,
       subst (λ es. AreListedSoFar honest es w after) c.deref.ensures.value c.in_err-enrol_news.ensures.listed,
     ))
     (λ p found may. unlisted_found c.enrol_news.result news w after before now

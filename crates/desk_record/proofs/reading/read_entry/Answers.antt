@@ -33,7 +33,7 @@ returns-then-not-branch-clause-fault g c =
     let text = c.in_ok-text.text.items in
     let long : length text ≡ 86 =
     omega (arith, c.in_ok-text.ensures.within, c.if-len-lt-LINE.false, c.len.ensures) in
-    let told =
+    let reported =
     (λ i. has_bytes (line_shown c.in-Some.line) (sym c.deref-2.ensures.value i)
     (sym c.deref-3.ensures.value i))
     ∙ sym c.in_ok-is_sound.ensures ∙ c.if-not-branch.true in
@@ -41,7 +41,7 @@ returns-then-not-branch-clause-fault g c =
     (ap line_in (sym c.deref.ensures.value) ∙ sym c.in_ok-line.ensures
     ∙ ap (option_map line_shown) c.in-Some.is)
     _ _ c.in_ok-bytes.bytes.items c.in_ok-last.last.items c.in_ok-bytes.ensures.taken
-    c.in_ok-bytes.ensures.within c.in_ok-last.ensures.taken told
+    c.in_ok-bytes.ensures.within c.in_ok-last.ensures.taken reported
     (some_there c.in_ok-last.last.len (length c.in_ok-last.last.items) c.if-is_empty-2.ensures
     c.in_ok-last.last.ok.0) c.in_ok-last.ensures.within
     c.in_ok-bytes.ensures.end
@@ -51,7 +51,7 @@ returns-clause-entry g c =
     let text = c.in_ok-text.text.items in
     let long : length text ≡ 86 =
     omega (arith, c.in_ok-text.ensures.within, c.if-len-lt-LINE.false, c.len.ensures) in
-    let told =
+    let reported =
     (λ i. has_bytes (line_shown c.in-Some.line) (sym c.deref-2.ensures.value i)
     (sym c.deref-3.ensures.value i))
     ∙ sym c.in_ok-is_sound.ensures ∙ c.if-not-branch.false in
@@ -59,4 +59,4 @@ returns-clause-entry g c =
     (ap line_in (sym c.deref.ensures.value) ∙ sym c.in_ok-line.ensures
     ∙ ap (option_map line_shown) c.in-Some.is)
     _ _ c.in_ok-bytes.bytes.items c.in_ok-last.last.items c.in_ok-bytes.ensures.taken
-    c.in_ok-bytes.ensures.within c.in_ok-last.ensures.taken told
+    c.in_ok-bytes.ensures.within c.in_ok-last.ensures.taken reported

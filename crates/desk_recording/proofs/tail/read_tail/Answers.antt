@@ -1,6 +1,6 @@
 use Rattle.std.proofs.Common.{subst, sym}
 use Rattle.desk_recording.specs.Tail.{HasSaid}
-use Rattle.desk_recording.proofs.TailLemmas.{goes_on, none_said, untold}
+use Rattle.desk_recording.proofs.TailLemmas.{goes_on, none_said, unreported}
 use Rattle.desk_recording.proofs.tail.read_tail.Goals as goal
 
 pub loop-init : goal.loop-init
@@ -12,4 +12,4 @@ loop-preserved g c =
     goes_on c.in-Ok-None.field-0 _ _ _ _ _ c.in-Ok-None.field-0-is c.loop.invariant c.in-Ok-None.ensures
 
 pub returns-in-Err-clause-err : goal.returns-in-Err-clause-err
-returns-in-Err-clause-err g c = untold c.in-Err.fault _ _ _ _ _ c.loop.invariant c.in-Err.ensures
+returns-in-Err-clause-err g c = unreported c.in-Err.fault _ _ _ _ _ c.loop.invariant c.in-Err.ensures

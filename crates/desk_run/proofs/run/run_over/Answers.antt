@@ -4,7 +4,7 @@ use Rattle.std.proofs.lemmas.List.{length-append}
 use Rattle.std.proofs.lemmas.Result.{on_ok_weaker}
 use Rattle.desk_store.specs.Crashes.{LeavesOldOr}
 use Rattle.desk_store.proofs.lemmas.Fault.{was_honest}
-use Rattle.desk_run.specs.Calls.{TellsReply}
+use Rattle.desk_run.specs.Calls.{ReportsReply}
 use Rattle.desk_run.specs.Verdicts.{step}
 use Rattle.desk_run.specs.DeskFrames.{Leaves, fault_in}
 use Rattle.desk_run.specs.DeskWorld.{world_of}
@@ -24,7 +24,7 @@ loop-moment-preserved g c =
     record {
       answered = λ honest.
           let done = answered_is w after call.0 call.1 c.call.result c.in-Ok.outcome
-          (subst (λ m. TellsReply w m call.1 c.call.result) same (c.call.ensures.told honest))
+          (subst (λ m. ReportsReply w m call.1 c.call.result) same (c.call.ensures.reported honest))
           (on_ok_weaker c.call.result (λ e. e ∙ ap (λ m. step w call.1.operator m call.1.call) same)
           (c.call.ensures.ok honest))
           (same_on_err _ c.call.result c.call.ensures.leaves.same) (sym c.outcome_of.ensures ∙ c.in-Ok.is) in
@@ -37,7 +37,7 @@ loop-moment-preserved g c =
           c.loop-moment-test.true c.loop-moment-item.is done.0 done.1);
       settled = λ honest h.
           let done = answered_is w after call.0 call.1 c.call.result c.in-Ok.outcome
-          (subst (λ m. TellsReply w m call.1 c.call.result) same (c.call.ensures.told honest))
+          (subst (λ m. ReportsReply w m call.1 c.call.result) same (c.call.ensures.reported honest))
           (on_ok_weaker c.call.result (λ e. e ∙ ap (λ m. step w call.1.operator m call.1.call) same)
           (c.call.ensures.ok honest))
           (same_on_err _ c.call.result c.call.ensures.leaves.same) (sym c.outcome_of.ensures ∙ c.in-Ok.is) in

@@ -18,7 +18,7 @@ returns-clause-answered g c =
       replied = replied (IsHonest (g.S.PlanStore.doubt new.store)) w (world_of g.S.PlanStore.content new)
           c.args.moment.second c.args.text.now c.in_ok-answer.answer.bytes.items
           (message_read c.read_message.result) why c.read_message.ensures
-          c.in_ok-answer.ensures.told.bytes c.in_ok-answer.ensures.told.failed;
+          c.in_ok-answer.ensures.reported.bytes c.in_ok-answer.ensures.reported.failed;
       leaves = subst (λ left. Leaves g.S.PlanStore c.args.desk.now new left (option_map desk_fault why))
           (left_read w c.args.moment.second c.args.text.now (message_read c.read_message.result)
           c.read_message.ensures) c.in_ok-answer.ensures.leaves;

@@ -28,11 +28,11 @@ returns-in-Ok-clause-made g c =
     c.args.asked.now c.in-Ok.pending (pending honest) c.answer_pending.ensures.bytes
     (on_ok_weaker c.answer_pending.result (λ e. e ∙ ap (λ v. world_committed v c.in-Ok.pending)
     c.prepare.ensures.same) (c.answer_pending.ensures.ok honest)))
-    (λ honest. IfOk-weaker c.answer_pending.result _ _ (λ r told. told
+    (λ honest. IfOk-weaker c.answer_pending.result _ _ (λ r reported. reported
     ∙ status_pending w c.args.moment.second c.args.asked.now c.in-Ok.pending (pending honest))
     c.answer_pending.ensures.status)
     (no_500 c.answer_pending.result c.answer_pending.ensures.status)
-    (λ honest. IfOk-weaker c.answer_pending.result _ _ (λ r told. told ∙ (pending honest).change_is)
+    (λ honest. IfOk-weaker c.answer_pending.result _ _ (λ r reported. reported ∙ (pending honest).change_is)
     c.answer_pending.ensures.change)
 
 pub returns-in-Err-UnknownOperator-clause-made : goal.returns-in-Err-UnknownOperator-clause-made
@@ -47,15 +47,15 @@ returns-in-Err-UnknownOperator-clause-made g c =
     (same_moment c.args.moment.second c.args.moment.in_range)
     (c.in-Err-UnknownOperator.ensures.value honest) in
     made_if H c.refuse.result w c.args.moment.second _ after
-    (λ honest. IfOk-weaker c.refuse.result _ _ (λ r told.
+    (λ honest. IfOk-weaker c.refuse.result _ _ (λ r reported.
     done_unanswered w after c.args.moment.second c.args.asked.now unknown_operator r.bytes.items
-    (rw c.in-Err-UnknownOperator.field-0-is at fault honest) told c.prepare.ensures.same)
+    (rw c.in-Err-UnknownOperator.field-0-is at fault honest) reported c.prepare.ensures.same)
     c.refuse.ensures.bytes)
-    (λ honest. IfOk-weaker c.refuse.result _ _ (λ r told. told
+    (λ honest. IfOk-weaker c.refuse.result _ _ (λ r reported. reported
     ∙ status_unanswered w c.args.moment.second c.args.asked.now unknown_operator
     (rw c.in-Err-UnknownOperator.field-0-is at fault honest)) c.refuse.ensures.status)
     c.refuse.ensures.other
-    (λ honest. IfOk-weaker c.refuse.result _ _ (λ r told. told
+    (λ honest. IfOk-weaker c.refuse.result _ _ (λ r reported. reported
     ∙ change_unanswered w c.args.moment.second c.args.asked.now unknown_operator
     (rw c.in-Err-UnknownOperator.field-0-is at fault honest)) c.refuse.ensures.change)
 
@@ -69,15 +69,15 @@ returns-in-Err-NoSuchPlan-clause-made g c =
     λ honest. subst (λ m. Prepares w m c.args.asked.now (Err c.in-Err-NoSuchPlan.field-0))
     (same_moment c.args.moment.second c.args.moment.in_range) (c.in-Err-NoSuchPlan.ensures.value honest) in
     made_if H c.refuse-in-Err-NoSuchPlan.result w c.args.moment.second _ after
-    (λ honest. IfOk-weaker c.refuse-in-Err-NoSuchPlan.result _ _ (λ r told.
+    (λ honest. IfOk-weaker c.refuse-in-Err-NoSuchPlan.result _ _ (λ r reported.
     done_unanswered w after c.args.moment.second c.args.asked.now no_such_plan r.bytes.items
-    (rw c.in-Err-NoSuchPlan.field-0-is at fault honest) told c.prepare.ensures.same)
+    (rw c.in-Err-NoSuchPlan.field-0-is at fault honest) reported c.prepare.ensures.same)
     c.refuse-in-Err-NoSuchPlan.ensures.bytes)
-    (λ honest. IfOk-weaker c.refuse-in-Err-NoSuchPlan.result _ _ (λ r told. told
+    (λ honest. IfOk-weaker c.refuse-in-Err-NoSuchPlan.result _ _ (λ r reported. reported
     ∙ status_unanswered w c.args.moment.second c.args.asked.now no_such_plan
     (rw c.in-Err-NoSuchPlan.field-0-is at fault honest)) c.refuse-in-Err-NoSuchPlan.ensures.status)
     c.refuse-in-Err-NoSuchPlan.ensures.other
-    (λ honest. IfOk-weaker c.refuse-in-Err-NoSuchPlan.result _ _ (λ r told. told
+    (λ honest. IfOk-weaker c.refuse-in-Err-NoSuchPlan.result _ _ (λ r reported. reported
     ∙ change_unanswered w c.args.moment.second c.args.asked.now no_such_plan
     (rw c.in-Err-NoSuchPlan.field-0-is at fault honest)) c.refuse-in-Err-NoSuchPlan.ensures.change)
 

@@ -29,7 +29,7 @@ loop-moment-preserved g c =
           let done = done_so now after r.0.second c.deref.result.now r.1.items
           (message_read c.read_message.result)
           c.in-Ok.field-0.bytes.items c.in-Ok.field-0.error none c.read_message.ensures
-          c.deref.ensures.value (c.in-Ok.ensures.told.bytes honest) in
+          c.deref.ensures.value (c.in-Ok.ensures.reported.bytes honest) in
           subst (λ xs. HaveAnswers (λ q. (q.0.second, q.1.items)) (λ v. v.items) w requests (n + 1) xs after)
           (sym c.push_reserved.ensures.items)
           (one_answered (λ q. (q.0.second, q.1.items)) (λ v. v.items) w now after requests n
@@ -81,7 +81,7 @@ returns-then-is_some-clause-answers g c = λ honest.
     (failed_so (λ q. (q.0.second, q.1.items)) (λ v. v.items) w
     (world_of g.S.PlanStore.content c.loop-moment.desk) after _ _
     c.args.requests.now c.loop-moment.moment-index c.loop-moment.answers.items c.in-Ok.field-0.bytes
-    c.in-Ok.field-0.error some (c.in-Ok.ensures.told.bytes honest)
+    c.in-Ok.field-0.error some (c.in-Ok.ensures.reported.bytes honest)
     (c.loop-moment.invariant.answered (was_honest c.answer_request-answer.ensures.leaves.remembered.doubt
     honest))
     c.loop-moment-test.true)
@@ -174,7 +174,7 @@ returns-then-is_some-clause-cause g c = λ broken.
     failed_there (IsLastAnswer (map (λ v. v.items) c.push_reserved.new.self.items)) c.in-Ok.field-0.error
     (world_of g.S.PlanStore.content c.loop-moment.desk)
     (world_of g.S.PlanStore.content c.answer_request-answer.new.desk) c.in-Ok.field-0.bytes.items
-    first new (not_none c.in-Ok.field-0.error some) c.in-Ok.ensures.told.failed
+    first new (not_none c.in-Ok.field-0.error some) c.in-Ok.ensures.reported.failed
     (λ store. risen_since first old new c.loop-moment.invariant.counted
     (c.in-Ok.ensures.leaves.cause (ap (option_map desk_fault) store)))
     (subst (λ xs. IsLastAnswer (map (λ v. v.items) xs) c.in-Ok.field-0.bytes.items)

@@ -2,13 +2,13 @@ use Rattle.std.proofs.Common.{◌+◌, ◌∷◌, [], length, length-append, ari
 use Rattle.std.proofs.KnownBytes.{Consumes-trans}
 use Rattle.std.specs.Io.KnownBytes.{Consumes}
 use Rattle.request_parser.specs.Framing.{ends_head}
-use Rattle.desk_wire.proofs.FrontLemmas.{HasNone, told_cut, one_more, some_count}
+use Rattle.desk_wire.proofs.FrontLemmas.{HasNone, reported_cut, one_more, some_count}
 use Rattle.desk_wire.proofs.stream.receive_head.Goals as goal
 
 pub returns-else-is_empty-clause-fault : goal.returns-else-is_empty-clause-fault
 returns-else-is_empty-clause-fault g c =
     let text = c.loop.text.items in
-    told_cut _ _ _ text c.loop.invariant.taken (rw c.in_default.is at c.in_ok-byte.ensures.taken)
+    reported_cut _ _ _ text c.loop.invariant.taken (rw c.in_default.is at c.in_ok-byte.ensures.taken)
     (c.in_ok-byte.ensures.end c.in_default.is)
     (some_count c.loop.text.len (length text) c.if-is_empty.ensures (sym c.loop.text.ok.0))
     c.loop.invariant.none

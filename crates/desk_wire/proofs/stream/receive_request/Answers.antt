@@ -1,6 +1,6 @@
 use Rattle.std.proofs.Common.{◌<◌, ◌++◌, IfSome, refl, sym, ap, subst, ◌∙◌, length}
 use Rattle.desk_wire.specs.Streams.{IsCut, front_read, front_reading, size_said, with_body}
-use Rattle.desk_wire.proofs.FrontLemmas.{some_count, told_cut_body}
+use Rattle.desk_wire.proofs.FrontLemmas.{some_count, reported_cut_body}
 use Rattle.desk_wire.proofs.ServeLemmas.{received, stopped_so, taken_so}
 use Rattle.desk_wire.proofs.stream.receive_request.Goals as goal
 
@@ -15,7 +15,7 @@ returns-in_err-body-clause-fault g c =
     (IfSome (g.R.Read.remaining c.args.input.now) IsCut)
     c.from_residual-in_err-body.result c.in_err-body.field-0.0
     c.from_residual-in_err-body.ensures.1 c.in_err-body.ensures.fault
-    (λ short. told_cut_body (g.R.Read.remaining c.args.input.now)
+    (λ short. reported_cut_body (g.R.Read.remaining c.args.input.now)
     (g.R.Read.remaining c.receive_head.new.input) head c.in_ok-head.ensures.taken some
     (c.in_ok-head.ensures.front some)
     (subst (λ n. IfSome (g.R.Read.remaining c.receive_head.new.input) (λ rest. length rest < n)) size short))

@@ -4,7 +4,7 @@ use Rattle.request_parser.specs.Messages.{message_read}
 use Rattle.desk_store.specs.StoreFaults.{IsHonest}
 use Rattle.desk_run.specs.DeskWorld.{world_of}
 use Rattle.desk_wire.specs.Streams.{front_read, front_reading, size_said, with_body}
-use Rattle.desk_wire.proofs.FrontLemmas.{some_count, told_cut_body}
+use Rattle.desk_wire.proofs.FrontLemmas.{some_count, reported_cut_body}
 use Rattle.desk_wire.specs.RequestsKept.{IsCertain}
 use Rattle.desk_wire.specs.Failing.{desk_fault}
 use Rattle.desk_wire.proofs.KeptLemmas.{if_some_all, kept_answered, kept_failed, left_served, no_failure, uncertain_memory, uncertain_write, unsure_500}
@@ -24,7 +24,7 @@ returns-in_err-body-clause-served g c =
     c.from_residual-in_err-body.result c.in_err-body.field-0.0 (g.R.Read.remaining c.args.input.now) _ _ _
     _
     c.from_residual-in_err-body.ensures.1 c.in_err-body.ensures.fault
-    (λ short. told_cut_body (g.R.Read.remaining c.args.input.now)
+    (λ short. reported_cut_body (g.R.Read.remaining c.args.input.now)
     (g.R.Read.remaining c.receive_head.new.input) text c.in_ok-text.ensures.taken some
     (c.in_ok-text.ensures.front some)
     (subst (λ n. IfSome (g.R.Read.remaining c.receive_head.new.input) (λ rest. length rest < n)) size short))
@@ -47,14 +47,14 @@ returns-in_err-write_whole-clause-served g c =
     let after = world_of g.S.PlanStore.content c.answer_request.new.desk in
     let why = c.in_ok-answer.answer.error in
     let answer = c.in_ok-answer.answer.bytes.items in
-    let told = replied (IsHonest (g.S.PlanStore.doubt c.answer_request.new.desk.store)) w after
+    let reported = replied (IsHonest (g.S.PlanStore.doubt c.answer_request.new.desk.store)) w after
     c.args.moment.second (text ++ body) answer (message_read c.message_of-request.result) why got.read
-    c.in_ok-answer.ensures.told.bytes c.in_ok-answer.ensures.told.failed in
+    c.in_ok-answer.ensures.reported.bytes c.in_ok-answer.ensures.reported.failed in
     let off = rw c.deref-3.ensures.value at c.in_err-write_whole.ensures.err in
     broken (IsHonest (g.S.PlanStore.doubt c.answer_request.new.desk.store))
     c.from_residual-in_err-write_whole.result c.in_err-write_whole.field-0.0.fault _ _ _ _ w after
     c.args.moment.second (text ++ body) answer why
-    c.from_residual-in_err-write_whole.ensures.1 off got.taken told
+    c.from_residual-in_err-write_whole.ensures.1 off got.taken reported
 
 pub returns-clause-served : goal.returns-clause-served
 returns-clause-served g c =
@@ -74,9 +74,9 @@ returns-clause-served g c =
     let after = world_of g.S.PlanStore.content c.answer_request.new.desk in
     let why = c.in_ok-answer.answer.error in
     let answer = c.in_ok-answer.answer.bytes.items in
-    let told = replied (IsHonest (g.S.PlanStore.doubt c.answer_request.new.desk.store)) w after
+    let reported = replied (IsHonest (g.S.PlanStore.doubt c.answer_request.new.desk.store)) w after
     c.args.moment.second (text ++ body) answer (message_read c.message_of-request.result) why got.read
-    c.in_ok-answer.ensures.told.bytes c.in_ok-answer.ensures.told.failed in
+    c.in_ok-answer.ensures.reported.bytes c.in_ok-answer.ensures.reported.failed in
     served_as (IsHonest (g.S.PlanStore.doubt c.answer_request.new.desk.store)) c.answered.result
     c.in_ok-answer.answer.status (is_ok c.message_of-request.result) (g.R.Read.remaining c.args.input.now)
     _ _ _ w after c.args.moment.second
@@ -86,11 +86,11 @@ returns-clause-served g c =
       framed_is = framed_as c.message_of-request.result (text ++ body) _ refl got.read;
       answer = answer;
       why = why;
-      replied = told;
+      replied = reported;
       status_is = status_as (IsHonest (g.S.PlanStore.doubt c.answer_request.new.desk.store)) w
           c.args.moment.second (text ++ body) (message_read c.message_of-request.result) why
-          c.in_ok-answer.answer.status got.read c.in_ok-answer.ensures.told.status;
-      gave_up = c.in_ok-answer.ensures.told.gave_up;
+          c.in_ok-answer.answer.status got.read c.in_ok-answer.ensures.reported.status;
+      gave_up = c.in_ok-answer.ensures.reported.gave_up;
       written = rw c.deref-3.ensures.value at c.in_ok-write_whole.ensures.ok;
     }
 
@@ -138,7 +138,7 @@ returns-in_err-write_whole-clause-kept g c =
     c.in_err-write_whole.field-0.0.fault c.from_residual-in_err-write_whole.ensures.1 in
     kept_answered g.S.PlanStore c.args.desk.now c.answer_request.new.desk
     c.from_residual-in_err-write_whole.result _ c.args.moment.second _ c.in_ok-answer.answer.error _
-    c.in_ok-answer.ensures.leaves c.in_ok-answer.ensures.told.failed
+    c.in_ok-answer.ensures.leaves c.in_ok-answer.ensures.reported.failed
     (λ honest. if_some_all c.in_ok-answer.answer.error unsure)
     (λ honest certain. absurd (unsure certain))
     (λ honest. left_served (g.S.PlanStore.may_leave c.args.desk.now.store)
@@ -164,10 +164,10 @@ returns-clause-kept g c =
     (c.in_ok-body.ensures.size ∙ c.size_of.ensures) message in
     kept_answered g.S.PlanStore c.args.desk.now c.answer_request.new.desk (Ok c.answered.result) _
     c.args.moment.second _ c.in_ok-answer.answer.error _ c.in_ok-answer.ensures.leaves
-    c.in_ok-answer.ensures.told.failed
+    c.in_ok-answer.ensures.reported.failed
     (λ honest. unsure_500 _ _ _ _ _ _ c.in_ok-answer.answer.error c.answered.ensures
-    (c.in_ok-answer.ensures.told.status honest))
-    (λ honest certain. no_failure _ _ _ _ _ (c.in_ok-answer.ensures.told.status honest)
+    (c.in_ok-answer.ensures.reported.status honest))
+    (λ honest certain. no_failure _ _ _ _ _ (c.in_ok-answer.ensures.reported.status honest)
     (subst (λ s. IsCertain (Ok s)) c.answered.ensures certain))
     (λ honest. left_served (g.S.PlanStore.may_leave c.args.desk.now.store)
     (g.S.PlanStore.may_leave c.answer_request.new.desk.store) (g.R.Read.remaining c.args.input.now)
@@ -188,6 +188,6 @@ returns-clause-cause g c =
     (λ is. failed_there (Appends out now) c.in_ok-answer.answer.error
     (world_of g.S.PlanStore.content c.args.desk.now)
     (world_of g.S.PlanStore.content c.answer_request.new.desk) c.in_ok-answer.answer.bytes.items
-    old new (c.in_ok-answer.ensures.told.gave_up is) c.in_ok-answer.ensures.told.failed
+    old new (c.in_ok-answer.ensures.reported.gave_up is) c.in_ok-answer.ensures.reported.failed
     (λ is. c.in_ok-answer.ensures.leaves.cause (ap (option_map desk_fault) is))
     (rw c.deref-3.ensures.value at c.in_ok-write_whole.ensures.ok))

@@ -14,8 +14,8 @@ unwrap-requires c =
 pub returns : goal.returns
 returns c =
     let id = id_from c.args.first c.largest_place-place.result in
-    let told = at_some c.from_raw.result
+    let reported = at_some c.from_raw.result
     (IsCellId id) id c.unwrap.result c.from_raw.ensures c.unwrap.ensures in
-    subst (IsLargestFrom c.args.first c.args.last) (sym told.1)
+    subst (IsLargestFrom c.args.first c.args.last) (sym reported.1)
     (largest_of c.args.first c.args.last c.largest_place-place.result c.requires.below
     c.largest_place-place.ensures)

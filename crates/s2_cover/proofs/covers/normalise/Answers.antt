@@ -15,31 +15,31 @@ of_sorted-requires c =
 
 pub invariant_of-result : goal.invariant_of-result
 invariant_of-result c =
-    let told = c.in_ok-cells.ensures in
+    let reported = c.in_ok-cells.ensures in
     let ids = c.in_ok-cells.cells.items in
-    canonical_same (spans_have c.spans.result.now) (leaves_of ids) ids (λ p. sym (told.leaves p))
-    told.canonical
+    canonical_same (spans_have c.spans.result.now) (leaves_of ids) ids (λ p. sym (reported.leaves p))
+    reported.canonical
 
 pub returns-clause-canonical : goal.returns-clause-canonical
 returns-clause-canonical c =
-    let told = c.in_ok-cells.ensures in
+    let reported = c.in_ok-cells.ensures in
     let given =
     given_leaves c.args.cells.now c.in_ok-sorted.sorted.items
     c.sort_unstable_by_key.new.self.items c.deref.result.now c.spans.result.now
     c.in_ok-ranges.ranges c.in_ok-sorted.ensures.items c.sort_unstable_by_key.ensures.permutation
     c.deref.ensures.value c.in_ok-ranges.ensures.ranges c.spans.ensures.value in
     canonical_same (spans_have c.spans.result.now) (leaves_of c.args.cells.now)
-    c.in_ok-cells.cells.items given told.canonical
+    c.in_ok-cells.cells.items given reported.canonical
 
 pub returns-clause-leaves : goal.returns-clause-leaves
 returns-clause-leaves c p =
-    let told = c.in_ok-cells.ensures in
+    let reported = c.in_ok-cells.ensures in
     let given =
     given_leaves c.args.cells.now c.in_ok-sorted.sorted.items
     c.sort_unstable_by_key.new.self.items c.deref.result.now c.spans.result.now
     c.in_ok-ranges.ranges c.in_ok-sorted.ensures.items c.sort_unstable_by_key.ensures.permutation
     c.deref.ensures.value c.in_ok-ranges.ensures.ranges c.spans.ensures.value in
-    told.leaves p ∙ given p
+    reported.leaves p ∙ given p
 
 pub returns-clause-some : goal.returns-clause-some
 returns-clause-some c given =

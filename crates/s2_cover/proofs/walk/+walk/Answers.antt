@@ -42,14 +42,14 @@ walk-requires t c =
     let set = wide_set c.args.wide.now in
     let square = c.args.square.now in
     let child = c.child.result in
-    let told = c.child.ensures in
+    let reported = c.child.ensures in
     let walking = c.loop-k.invariant in
     let above = c.in-Across.ensures.saw.above refl in
     let levels : c.args.wide.now.level - child.level ≡ c.args.wide.now.level - square.level - 1 =
-    omega (arith, told.level) in
+    omega (arith, reported.level) in
     let first : first_position child ≡ first_position square + c.loop-k.k * leaf_count
     (square.level + 1) =
-    told.first ∙ ap (λ l. first_position square + c.loop-k.k * leaf_count l) told.level in
+    reported.first ∙ ap (λ l. first_position square + c.loop-k.k * leaf_count l) reported.level in
     let inner : square.level < 30 = omega (arith, above, c.requires.wide.level) in
     let most =
     child_most set (c.args.wide.now.level - square.level - 1) (c.args.wide.now.level - square.level)
@@ -62,15 +62,15 @@ walk-requires t c =
     subst (λ n. c.loop-k.looked + looks_for n (c.args.limit + 1 - length c.loop-k.cells.items) < 2 ^ 64)
     (sym levels)
     (omega (arith, most, c.requires.room)) in (
-      omega (arith, c.decreases, told.level, above),
+      omega (arith, c.decreases, reported.level, above),
       (
         c.requires.wide,
         (
-          told.square,
+          reported.square,
           (
-            told.face ∙ c.requires.face,
+            reported.face ∙ c.requires.face,
             (
-              omega (arith, told.level, above),
+              omega (arith, reported.level, above),
               (
                 subst (IsLaid set c.loop-k.cells.items) (sym first) walking.laid,
                 (
@@ -80,7 +80,7 @@ walk-requires t c =
                         (first_position square)
                         c.loop-k.k
                         (square_block square c.requires.square) c.loop-k-test.true inner
-                        (child_block child square c.loop-k.k told.square told.level told.first)
+                        (child_block child square c.loop-k.k reported.square reported.level reported.first)
                         c.in-Across.ensures.saw.saw.1,
                     (walking.counted, room),
                   ),
@@ -124,22 +124,22 @@ loop-k-preserved t c =
     let set = wide_set c.args.wide.now in
     let square = c.args.square.now in
     let child = c.child.result in
-    let told = c.child.ensures in
+    let reported = c.child.ensures in
     let levels : c.args.wide.now.level - child.level ≡ c.args.wide.now.level - square.level - 1 =
-    omega (arith, told.level) in
+    omega (arith, reported.level) in
     let first : first_position child ≡ first_position square + c.loop-k.k * leaf_count
     (square.level + 1) =
-    told.first ∙ ap (λ l. first_position square + c.loop-k.k * leaf_count l) told.level in
+    reported.first ∙ ap (λ l. first_position square + c.loop-k.k * leaf_count l) reported.level in
     let P : ℕ → ℕ → Type 0 = λ n from. HasWalked set n c.args.limit from (last_position child + 1)
     c.loop-k.cells.items c.walk.new.cells.items c.loop-k.looked c.walk.new.looked in
     walking_goes_on set (c.args.wide.now.level - square.level - 1) c.args.limit square.level
     (first_position square)
     c.loop-k.k (last_position child + 1) (square_id child) c.args.cells.now.items c.loop-k.cells.items
     c.walk.new.cells.items c.args.looked.now c.loop-k.looked c.walk.new.looked
-    (child_block child square c.loop-k.k told.square told.level told.first) c.loop-k.invariant
+    (child_block child square c.loop-k.k reported.square reported.level reported.first) c.loop-k.invariant
     (subst (P (c.args.wide.now.level - square.level - 1)) first
     (subst (λ n. P n (first_position child)) levels c.in_ok-walk-in-Across.ensures.ok))
-    (child_upto child square c.loop-k.k told.level told.first)
+    (child_upto child square c.loop-k.k reported.level reported.first)
 
 pub returns-in-Outside-clause-ok : goal.returns-in-Outside-clause-ok
 returns-in-Outside-clause-ok t c =
@@ -166,15 +166,15 @@ returns-in_ok-keep-in-Inside-clause-ok t c =
     let largest =
     block_largest set (square_id square) square.level (first_position square) block c.requires.opened
     c.in-Inside.ensures.saw.saw in
-    let told = c.in_ok-keep-in-Inside.ensures in
+    let reported = c.in_ok-keep-in-Inside.ensures in
     let P : List ℕ → ℕ → Type 0 = λ after new.
     HasWalked set levels c.args.limit (first_position square) (last_position square + 1) cells after
     c.args.looked.now new in
     subst (λ new. P c.keep.new.cells.items new) (sym c.compare.ensures.counted)
-    (subst (λ after. P after (c.args.looked.now + 1)) (sym told.kept)
+    (subst (λ after. P after (c.args.looked.now + 1)) (sym reported.kept)
     (walked_inside set levels c.args.limit square.level (first_position square) (square_id square)
     c.args.looked.now
-    cells c.requires.laid block largest c.in-Inside.ensures.saw.saw told.room c.requires.counted))
+    cells c.requires.laid block largest c.in-Inside.ensures.saw.saw reported.room c.requires.counted))
 
 pub returns-after-loop-k-clause-ok : goal.returns-after-loop-k-clause-ok
 returns-after-loop-k-clause-ok t c =

@@ -31,13 +31,13 @@ pub returns-in_err-walk-clause-refused : goal.returns-in_err-walk-clause-refused
 returns-in_err-walk-clause-refused c =
     let wide = c.of_rect-wide.result in
     let fault = c.in_err-walk.field-0.0 in
-    let told =
+    let reported =
     refused wide c.args.limit (wide.level - c.of_face-face.result.level)
     (c.args.limit + 1 - length c.new-cells.result.items) fault c.of_rect-wide.ensures.is.face
     (omega (arith, c.of_rect-wide.ensures.is.level)) (omega arith) c.in_err-walk.ensures.err in
     if_err c.from_residual.result fault (IsRefused (rect_leaves c.args.rect.now) c.args.limit)
     c.from_residual.ensures.1
-    (subst (λ w. IsRefused (wide_set w) c.args.limit fault) c.of_rect-wide.ensures.value told)
+    (subst (λ w. IsRefused (wide_set w) c.args.limit fault) c.of_rect-wide.ensures.value reported)
 
 -- what the walk over the face has found, of the rectangle itself
 found : (c : goal.In_ok-walk)
@@ -56,13 +56,13 @@ returns-in_err-walk-clause-longer c =
     let wide = c.of_rect-wide.result in
     let fault = c.in_err-walk.field-0.0 in
     let set = rect_leaves c.args.rect.now in
-    let told =
+    let reported =
     refused wide c.args.limit (wide.level - c.of_face-face.result.level)
     (c.args.limit + 1 - length c.new-cells.result.items) fault c.of_rect-wide.ensures.is.face
     (omega (arith, c.of_rect-wide.ensures.is.level)) (omega arith) c.in_err-walk.ensures.err in
     if_err c.from_residual.result fault (IsLonger set c.args.limit) c.from_residual.ensures.1
     (longer set c.args.limit fault
-    (subst (λ w. IsRefused (wide_set w) c.args.limit fault) c.of_rect-wide.ensures.value told))
+    (subst (λ w. IsRefused (wide_set w) c.args.limit fault) c.of_rect-wide.ensures.value reported))
 
 pub of_canonical-requires : goal.of_canonical-requires
 of_canonical-requires c = (found c).own
@@ -92,10 +92,10 @@ returns-clause-few c = omega (arith, ap length c.of_canonical.ensures.ids, (foun
 
 pub returns-clause-looked : goal.returns-clause-looked
 returns-clause-looked c =
-    let told = (found c.before).looks in
+    let reported = (found c.before).looks in
     let long = ap length c.of_canonical.ensures.ids in
     let looks = c.of_canonical.ensures.looked
-    in (omega (arith, told, long, looks), omega (arith, told, looks))
+    in (omega (arith, reported, long, looks), omega (arith, reported, looks))
 
 pub returns-clause-exact : goal.returns-clause-exact
 returns-clause-exact c =

@@ -1,6 +1,6 @@
 use Rattle.std.proofs.Common.{Some, subst, true}
 use Rattle.desk_program.specs.Serving.{Denies, TakesArrival, arrived}
-use Rattle.desk_recording.specs.Telling.{told_by}
+use Rattle.desk_recording.specs.Reporting.{reported_by}
 use Rattle.desk_recording.proofs.StepLemmas.{none_taken, takes_one}
 use Rattle.desk_recording.proofs.port.RecordedPortPort.take.Goals as goal
 
@@ -11,7 +11,7 @@ returns-in-Ok-keep_request-clause-taken g c =
     let moment = c.in-Ok.taken.moment in
     let request = c.in-Ok-request_of.received.request.items in
     rw (c.new.ensures.position, c.new.ensures.inner)
-    (subst (λ b. TakesArrival (told_by g.R.Record old b) (told_by g.R.Record new b)
+    (subst (λ b. TakesArrival (reported_by g.R.Record old b) (reported_by g.R.Record new b)
     (arrived moment.second (Some request))) c.if-is_some.ensures
     (takes_one (g.R.Record.steps old) (g.R.Record.steps new) (g.R.Record.noted old) (g.R.Record.noted new)
     moment.second request (rw c.deref.ensures.value at c.in-Ok-keep_request.ensures.steps)
@@ -23,7 +23,7 @@ pub returns-in-Err-keep_request-clause-same : goal.returns-in-Err-keep_request-c
 returns-in-Err-keep_request-clause-same g c =
     let old = c.args.self.now.journal in
     let new = c.keep_request.new.self in
-    subst (λ b. Denies (told_by g.R.Record old b) (told_by g.R.Record new true)) c.if-is_some.ensures
+    subst (λ b. Denies (reported_by g.R.Record old b) (reported_by g.R.Record new true)) c.if-is_some.ensures
     (none_taken (g.R.Record.steps old) (g.R.Record.steps new) (g.R.Record.noted old) (g.R.Record.noted new)
     c.in-Ok.taken.moment.second c.deref.result.now c.in-Err-keep_request.ensures.steps
     c.in-Err-keep_request.ensures.noted)

@@ -21,7 +21,7 @@ returns-in_err-statement-clause-answers g c =
     let old = c.args.connection.now in
     let new = c.prepare.new.self in
     let kept : StaysShown g.S.Store old new = λ clean live.
-    (if_either g.S.Store old new (c.settled_and_sound.ensures.settled c.requires.ready.settled)
+    (if_either g.S.Store old new (c.committed_and_sound.ensures.settled c.requires.ready.settled)
     live (unprepared _ _ _ _ _ (c.in_err-statement.ensures.err clean (params_of c.args.query)))) in
     let reads : OnlyReads g.S.Store old new =
     reads_unprepared g.S.Store old new kept (c.prepare.ensures.mode c.requires.ready.settled)
@@ -53,7 +53,7 @@ returns-clause-answers g c =
     let kept : StaysShown g.S.Store old new = λ clean live.
     (let it = c.in_ok-statement.ensures.ok (early clean) in
     kept_by_query g.S.Store old mid new sql text params (start clean) (plain (start clean)) it.1 it.0
-    (c.settled_and_sound.ensures.settled c.requires.ready.settled)
+    (c.committed_and_sound.ensures.settled c.requires.ready.settled)
     (λ v. v.items) c.query_all.result (c.query_all.ensures.ok clean) (c.query_all.ensures.err clean) live) in
     let spared : Spares g.S.Store old new =
     spared_after g.S.Store old mid new sql text params plain

@@ -14,10 +14,10 @@ returns-clause-answers g c =
     (filter (is_others_from c.args.operator.now c.args.reach c.args.low)
     (tables_of (state g.S.Store c.args.connection.now).now.trees).spans) in record {
       value = λ clean. handed_as (Lists (0 ∷ []) wanted) (IsPermutation wanted)
-          (g.T.RowSink.has_taken c.for_each_row.new.taker) (λ rows lists. lists.same) c.for_each_row.result
+          (g.T.RowVisitor.has_taken c.for_each_row.new.taker) (λ rows lists. lists.same) c.for_each_row.result
           (rw same at (c.for_each_row.ensures.answers.value clean));
       cause = λ clean live. cut_short_of g.S.Store c.args.connection.now c.for_each_row.new.connection
-          (Lists (0 ∷ []) wanted) (IsPermutation wanted) g.T.RowSink.refuses (λ rows lists. lists.same)
+          (Lists (0 ∷ []) wanted) (IsPermutation wanted) g.T.RowVisitor.refuses (λ rows lists. lists.same)
           c.for_each_row.result (rw same at (c.for_each_row.ensures.answers.cause clean live));
       reads = c.for_each_row.ensures.answers.reads;
     }

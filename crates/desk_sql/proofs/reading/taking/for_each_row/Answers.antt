@@ -33,11 +33,11 @@ returns-clause-answers g c =
     let start : HasCleanDisk (state g.S.Store new) → HasCleanDisk (state g.S.Store old) = λ clean.
     omega (arith, clean, c.hand_rows.ensures.answers.reads.doubt) in record {
       value = λ clean. if_handed g.S.Store old new sql params IsDesk IsAnswer
-          (g.T.RowSink.has_taken c.hand_rows.new.taker) c.requires.ready.shown (start clean)
+          (g.T.RowVisitor.has_taken c.hand_rows.new.taker) c.requires.ready.shown (start clean)
           (selected _ _ _ _ known (state g.S.Store old) (state g.S.Store new)) c.hand_rows.result
           (c.hand_rows.ensures.answers.value clean);
       cause = λ clean live. cut_short_of g.S.Store old new
-          (Shown sql params (state g.S.Store old) (state g.S.Store new)) IsAnswer g.T.RowSink.refuses
+          (Shown sql params (state g.S.Store old) (state g.S.Store new)) IsAnswer g.T.RowVisitor.refuses
           (λ rows shown. selected _ _ _ _ known (state g.S.Store old) (state g.S.Store new) rows
           (c.requires.ready.shown (start clean)
           (was_open _ _ (state g.S.Store old) (state g.S.Store new) rows shown)) shown)

@@ -14,7 +14,7 @@ loop-init g c = (
   λ e. e,
   remembers_itself g.S.Store c.args.rows.now.conn.now,
   begins g.S.Store c.args.rows.now.conn.now
-      (g.T.RowSink.has_taken c.args.taker.now) c.requires,
+      (g.T.RowVisitor.has_taken c.args.taker.now) c.requires,
   λ some. some,
   λ first k. k,
 )
@@ -28,13 +28,13 @@ returns-in_err-hand_next-clause-handed g c =
     let early : HasCleanDisk (state g.S.Store new) → HasCleanDisk (state g.S.Store mid) = λ clean.
     omega (arith, clean, step.remembered.doubt) in
     let left : HasCleanDisk (state g.S.Store new) → IsLeft g.S.Store old new =
-    is_left g.S.Store old mid new _ _ (g.T.RowSink.has_taken c.hand_next.new.taker) c.loop.counter
+    is_left g.S.Store old mid new _ _ (g.T.RowVisitor.has_taken c.hand_next.new.taker) c.loop.counter
     c.loop.invariant.3 early step.left in
     let cause : HasCleanDisk (state g.S.Store new) → IfErr c.from_residual.result
-    (FailsToHandAll g.S.Store old new (g.T.RowSink.has_taken c.args.taker.now) g.T.RowSink.refuses) = λ clean.
+    (FailsToHandAll g.S.Store old new (g.T.RowVisitor.has_taken c.args.taker.now) g.T.RowVisitor.refuses) = λ clean.
     on_err c.from_residual.result c.in_err-hand_next.field-0.0 _ c.from_residual.ensures.1
-    (fails_now g.S.Store old mid new _ _ (g.T.RowSink.has_taken c.hand_next.new.taker) c.loop.counter
-    c.loop.invariant.3 early g.T.RowSink.refuses c.loop.invariant.2.faults c.loop.invariant.2.limit _
+    (fails_now g.S.Store old mid new _ _ (g.T.RowVisitor.has_taken c.hand_next.new.taker) c.loop.counter
+    c.loop.invariant.3 early g.T.RowVisitor.refuses c.loop.invariant.2.faults c.loop.invariant.2.limit _
     (step.cause clean) clean) in
     search (rules, left, cause)
 
@@ -44,13 +44,13 @@ returns-then-not-branch-clause-handed g c =
     let mid = c.loop.rows.conn.now in
     let new = c.hand_next.new.rows.conn.now in
     let step = c.in_ok-hand_next.ensures.handed in
-    let has = g.T.RowSink.has_taken c.hand_next.new.taker in
+    let has = g.T.RowVisitor.has_taken c.hand_next.new.taker in
     let early : HasCleanDisk (state g.S.Store new) → HasCleanDisk (state g.S.Store mid) = λ clean.
     omega (arith, clean, step.remembered.doubt) in
     let left : HasCleanDisk (state g.S.Store new) → IsLeft g.S.Store old new =
     is_left g.S.Store old mid new _ _ has c.loop.counter c.loop.invariant.3 early step.left in
     let handed : HasCleanDisk (state g.S.Store new)
-    → HandsAll g.S.Store old new (g.T.RowSink.has_taken c.args.taker.now) has =
+    → HandsAll g.S.Store old new (g.T.RowVisitor.has_taken c.args.taker.now) has =
     ends g.S.Store old mid new _ _ has c.loop.counter c.loop.invariant.3 early c.in_ok-hand_next.field-0
     c.if-not-branch.true step.handed in
     search (rules, left, handed)
@@ -62,7 +62,7 @@ loop-preserved g c = (
   remembers_then g.S.Store c.args.rows.now.conn.now c.loop.rows.conn.now c.hand_next.new.rows.conn.now
       c.loop.invariant.2 c.hand_next.ensures.handed.remembered,
   goes_on g.S.Store c.args.rows.now.conn.now c.loop.rows.conn.now c.hand_next.new.rows.conn.now _ _
-      (g.T.RowSink.has_taken c.hand_next.new.taker) c.loop.counter c.loop.invariant.3
+      (g.T.RowVisitor.has_taken c.hand_next.new.taker) c.loop.counter c.loop.invariant.3
       (λ clean. omega (arith, clean, c.hand_next.ensures.handed.remembered.doubt))
       c.in_ok-hand_next.ensures.same c.in_ok-hand_next.field-0 c.if-not-branch.false
       c.in_ok-hand_next.ensures.handed.handed,
@@ -77,7 +77,7 @@ returns-clause-handed g c =
     let left : HasCleanDisk (state g.S.Store new) → IsLeft g.S.Store old new = λ clean.
     inl (c.loop.invariant.3.same clean) in
     let cause : HasCleanDisk (state g.S.Store new) → FailsToHandAll g.S.Store old new
-    (g.T.RowSink.has_taken c.args.taker.now) g.T.RowSink.refuses (SqliteFailure TooBig) = λ clean.
-    too_many g.S.Store old new _ _ c.loop.counter g.T.RowSink.refuses c.loop.invariant.3
+    (g.T.RowVisitor.has_taken c.args.taker.now) g.T.RowVisitor.refuses (SqliteFailure TooBig) = λ clean.
+    too_many g.S.Store old new _ _ c.loop.counter g.T.RowVisitor.refuses c.loop.invariant.3
     (omega (arith, c.loop-test.false)) clean in
     search (rules, left, cause)

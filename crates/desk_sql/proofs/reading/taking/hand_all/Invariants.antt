@@ -10,7 +10,7 @@ invariant-loop g l =
     (l.rows.conn.ghost_name ≡ l.fn.rows.conn.ghost_name)
     × (l.fn.rows.conn.now.in_transaction ≡ false → l.rows.conn.now.in_transaction ≡ false)
     × Remembers g.S.Store l.fn.rows.conn.now l.rows.conn.now
-    × IsUnderWay g.S.Store l.fn.rows.conn.now l.rows.conn.now (g.T.RowSink.has_taken l.fn.taker)
-    (g.T.RowSink.has_taken l.taker) l.counter
-    × TakesOn (g.T.RowSink.has_taken l.fn.taker) (g.T.RowSink.has_taken l.taker)
-    × KeepsOn g.T.RowSink.keeps l.fn.taker l.taker
+    × IsUnderWay g.S.Store l.fn.rows.conn.now l.rows.conn.now (g.T.RowVisitor.has_taken l.fn.taker)
+    (g.T.RowVisitor.has_taken l.taker) l.counter
+    × TakesOn (g.T.RowVisitor.has_taken l.fn.taker) (g.T.RowVisitor.has_taken l.taker)
+    × KeepsOn g.T.RowVisitor.keeps l.fn.taker l.taker

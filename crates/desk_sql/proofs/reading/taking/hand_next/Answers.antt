@@ -11,7 +11,7 @@ returns-in_err-take-in-Some-clause-handed g c =
     let old = c.args.rows.now.conn.now in
     let new = c.advance.new.self.conn.now in
     let refuses : Row → _ → Type 0 = λ row e. (taken : List Row)
-    → g.T.RowSink.has_taken c.args.taker.now taken → g.T.RowSink.refuses taken row e in
+    → g.T.RowVisitor.has_taken c.args.taker.now taken → g.T.RowVisitor.refuses taken row e in
     let cause : HasCleanDisk (state g.S.Store new)
     → IfErr c.from_residual-in_err-take-in-Some.result (FailsNext g.S.Store old new refuses) = λ clean.
     on_err c.from_residual-in_err-take-in-Some.result c.in_err-take-in-Some.field-0.0 _

@@ -20,7 +20,7 @@ returns-in_err-statement-clause-answers g c =
     let old = c.args.connection.now in
     let new = c.prepare.new.self in
     let kept : StaysShown g.S.Store old new = λ clean live.
-    (if_either g.S.Store old new (c.settled_and_sound.ensures.settled c.requires.ready.settled)
+    (if_either g.S.Store old new (c.committed_and_sound.ensures.settled c.requires.ready.settled)
     live (unprepared _ _ _ _ _ (c.in_err-statement.ensures.err clean (bound c.args.params.now)))) in
     let reads : OnlyReads g.S.Store old new =
     reads_unprepared g.S.Store old new kept (c.prepare.ensures.mode c.requires.ready.settled)
@@ -40,7 +40,7 @@ returns-in_err-rows-clause-answers g c =
     let sql = c.args.text.now in
     let text = c.in_ok-statement.statement.text in
     let params = bound c.args.params.now in
-    let settled = c.settled_and_sound.ensures.settled c.requires.ready.settled in
+    let settled = c.committed_and_sound.ensures.settled c.requires.ready.settled in
     let begins = rw c.in_err-rows.was at c.query_prepared.follows.holds-at-none in
     let plain = plain_if g.S.Store old sql params c.requires.ready.shown in
     let kept : StaysShown g.S.Store old new = λ clean live.
@@ -79,10 +79,10 @@ returns-clause-answers g c =
     let sql = c.args.text.now in
     let text = c.in_ok-statement.statement.text in
     let params = bound c.args.params.now in
-    let has = g.T.RowSink.has_taken c.hand_all.new.taker in
+    let has = g.T.RowVisitor.has_taken c.hand_all.new.taker in
     let begins = c.in_ok-rows.ensures in
     let survives = begins.survives in
-    let settled = c.settled_and_sound.ensures.settled c.requires.ready.settled in
+    let settled = c.committed_and_sound.ensures.settled c.requires.ready.settled in
     let plain = plain_if g.S.Store old sql params c.requires.ready.shown in
     let early : HasCleanDisk (state g.S.Store new) → HasCleanDisk (state g.S.Store first) = λ clean.
     omega (arith, clean, c.hand_all.ensures.handed.remembered.doubt) in
@@ -92,11 +92,11 @@ returns-clause-answers g c =
     × Shown sql params (state g.S.Store old) (state g.S.Store new) all × has all) = λ clean.
     (handed_after g.S.Store sql text params old mid plain c.in_ok-statement.ensures.ok
     c.prepare.ensures.survives first (early clean) survives (begins.begun (early clean)) new
-    (g.T.RowSink.has_taken c.args.taker.now) has c.requires.fresh c.hand_all.result
+    (g.T.RowVisitor.has_taken c.args.taker.now) has c.requires.fresh c.hand_all.result
     (c.hand_all.ensures.handed.handed clean)) in
     let cause : HasCleanDisk (state g.S.Store new) → IsTrue (state g.S.Store new).is_open
     → IfErr c.hand_all.result (IsTakenInPart g.S.Store old new
-    (Shown sql params (state g.S.Store old) (state g.S.Store new)) g.T.RowSink.refuses) = λ clean live.
+    (Shown sql params (state g.S.Store old) (state g.S.Store new)) g.T.RowVisitor.refuses) = λ clean live.
     (let here : HasCleanDisk (state g.S.Store mid) = omega (arith, early clean, survives.clean) in
     let prepared = c.in_ok-statement.ensures.ok here in
     let given = begun g.S.Store text params mid
@@ -104,7 +104,7 @@ returns-clause-answers g c =
     c.prepare.ensures.survives here) first (begins.begun (early clean)) in
     cut_short g.S.Store sql params old c.requires.ready.shown mid text prepared.0 prepared.1
     c.prepare.ensures.survives (start clean) first new given.0 given.1 survives.counts survives.limit
-    g.T.RowSink.refuses live (g.T.RowSink.has_taken c.args.taker.now) c.requires.fresh c.hand_all.result
+    g.T.RowVisitor.refuses live (g.T.RowVisitor.has_taken c.args.taker.now) c.requires.fresh c.hand_all.result
     (c.hand_all.ensures.handed.cause clean)) in
     let kept : StaysShown g.S.Store old new = λ clean live.
     (kept_after g.S.Store sql text params old mid plain c.in_ok-statement.ensures.ok
@@ -146,7 +146,7 @@ returns-clause-live g c =
     let new = c.hand_all.new.rows.conn.now in
     let sql = c.args.text.now in
     let params = bound c.args.params.now in
-    let has = g.T.RowSink.has_taken c.hand_all.new.taker in
+    let has = g.T.RowVisitor.has_taken c.hand_all.new.taker in
     let begins = c.in_ok-rows.ensures in
     let plain = plain_if g.S.Store old sql params c.requires.ready.shown in
     let it : OnOk c.hand_all.result (HasCleanDisk (state g.S.Store new)
@@ -156,12 +156,12 @@ returns-clause-live g c =
     omega (arith, clean, c.hand_all.ensures.handed.remembered.doubt) in
     handed_after g.S.Store sql c.in_ok-statement.statement.text params old mid plain
     c.in_ok-statement.ensures.ok c.prepare.ensures.survives first early begins.survives
-    (begins.begun early) new (g.T.RowSink.has_taken c.args.taker.now) has c.requires.fresh c.hand_all.result
+    (begins.begun early) new (g.T.RowVisitor.has_taken c.args.taker.now) has c.requires.fresh c.hand_all.result
     (c.hand_all.ensures.handed.handed clean))) in
     search (rules, it)
 
 -- and the taker has taken some rows, whatever the disk did
 pub returns-clause-taken : goal.returns-clause-taken
 returns-clause-taken g c =
-    taken_fresh (g.T.RowSink.has_taken c.args.taker.now) (g.T.RowSink.has_taken c.hand_all.new.taker)
+    taken_fresh (g.T.RowVisitor.has_taken c.args.taker.now) (g.T.RowVisitor.has_taken c.hand_all.new.taker)
     c.requires.fresh c.hand_all.result c.hand_all.ensures.taken

@@ -52,10 +52,10 @@ returns-then-has-clause-answers g c =
     has_made c.args.made table (state g.S.Store old).now there (c.requires.ready.shown clean live).schema in
     record {
       value = λ clean. if_handed g.S.Store old new sql [] (HasTable table) IsAnswer
-          (g.T.RowSink.has_taken c.hand_rows.new.taker) holds (start clean) are c.hand_rows.result
+          (g.T.RowVisitor.has_taken c.hand_rows.new.taker) holds (start clean) are c.hand_rows.result
           (c.hand_rows.ensures.answers.value clean);
       cause = λ clean live. cut_short_of g.S.Store old new
-          (Shown sql [] (state g.S.Store old) (state g.S.Store new)) IsAnswer g.T.RowSink.refuses
+          (Shown sql [] (state g.S.Store old) (state g.S.Store new)) IsAnswer g.T.RowVisitor.refuses
           (λ rows shown. are rows
           (holds (start clean) (was_open _ _ (state g.S.Store old) (state g.S.Store new) rows shown)) shown)
           c.hand_rows.result (c.hand_rows.ensures.answers.cause clean live);

@@ -13,7 +13,7 @@ pub write_world-requires : goal.write_world-requires
 write_world-requires g c = record {
   under_way = subst (IsUnderWay g.S.Store) (sym c.transaction-tx.ensures.begun) (λ clean.
       let live = c.requires.live clean in
-      (live, refl, c.requires.ready.shown clean live, (c.settled_and_sound.ensures.sound live).0));
+      (live, refl, c.requires.ready.shown clean live, (c.committed_and_sound.ensures.sound live).0));
 }
 
 pub returns-in_err-write_world-clause-cause : goal.returns-in_err-write_world-clause-cause

@@ -7,7 +7,7 @@ use Rattle.desk_tables.specs.Writable.{CanBeFilled}
 use Rattle.desk_sql.specs.Finding.{Holds}
 use Rattle.desk_tables.proofs.CopyLemmas.{written_stands}
 use Rattle.desk_tables.proofs.FillLemmas.{blames_later, can_fill}
-use Rattle.desk_tables.proofs.OpeningLemmas.{told_as}
+use Rattle.desk_tables.proofs.OpeningLemmas.{reported_as}
 use Rattle.desk_tables.proofs.opening.copying.make_world.Goals as goal
 
 pub returns-clause-made : goal.returns-clause-made
@@ -33,7 +33,7 @@ returns-in_err-create_tables-clause-cause g c =
     let mid = c.find_blank.new.connection in
     let new = c.create_tables.new.connection in
     let reads = c.find_blank.ensures.reads in
-    told_as (BlamesNew g.S.Store old new) c.from_residual-in_err-create_tables.result _
+    reported_as (BlamesNew g.S.Store old new) c.from_residual-in_err-create_tables.result _
     c.from_residual-in_err-create_tables.ensures.1
     (blames_later g.S.Store old new mid reads.faults reads.limit _ c.requires.rest.unlimited
     c.in_err-create_tables.ensures.set_up.cause)
@@ -59,7 +59,7 @@ returns-in_err-fill-clause-cause g c =
     can_fill g.S.Store mid content (subst (Stands g.S.Store mid) tables.begins tables.stands)
     c.requires.content (subst (λ (w : World). length w.operators < 2 ^ 63) c.content.view_is few)
     (subst (λ (w : World). length w.plans < 2 ^ 63) c.content.view_is thin) c.requires.few in
-    told_as (BlamesNew g.S.Store old new) c.from_residual-in_err-fill.result _
+    reported_as (BlamesNew g.S.Store old new) c.from_residual-in_err-fill.result _
     c.from_residual-in_err-fill.ensures.1
     (blames_later g.S.Store old new mid (omega (arith, reads.faults, c.create_tables.ensures.faults))
     (tables.limit ∙ reads.limit) _ c.requires.rest.unlimited

@@ -6,7 +6,7 @@ use Rattle.desk_store.specs.World.{Filed}
 use Rattle.desk_tables.specs.Opening.{BlamesReading}
 use Rattle.desk_tables.specs.Tables.{aircraft_number, id_text, row_of_plan, usage_number}
 use Rattle.desk_tables.proofs.FillLemmas.{head_fits, heads_left}
-use Rattle.desk_tables.proofs.OpeningLemmas.{blames_reading, told_as}
+use Rattle.desk_tables.proofs.OpeningLemmas.{blames_reading, reported_as}
 use Rattle.desk_tables.proofs.opening.copying.write_head.Goals as goal
 
 pub returns-in_err-insert_plan-clause-cause : goal.returns-in_err-insert_plan-clause-cause
@@ -27,7 +27,7 @@ returns-in_err-insert_plan-clause-cause g c later all =
     let row : sql.plan_row c.as_str.result.now c.encode.result.now c.plan.inside.row.priority
     c.usage_number.result c.aircraft_number.result ≡ row_of_plan p =
     λ i. sql.plan_row (name i) (text i) (priority i) (usage i) (aircraft i) in
-    told_as (BlamesReading g.S.Store old new) c.from_residual.result _ c.from_residual.ensures.1
+    reported_as (BlamesReading g.S.Store old new) c.from_residual.result _ c.from_residual.ensures.1
     (blames_reading g.S.Store old old new c.in_err-insert_plan.field-0.0 (omega arith) refl
     (λ clean live. c.in_err-insert_plan.ensures.changed.cause c.requires.under_way
     (head_fits p later (state g.S.Store old).now all _ _ _ name text row) clean))

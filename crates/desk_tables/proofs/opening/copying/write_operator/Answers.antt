@@ -6,7 +6,7 @@ use Rattle.desk_store.specs.World.{Listed}
 use Rattle.desk_tables.specs.Opening.{BlamesReading}
 use Rattle.desk_tables.specs.Tables.{row_of_operator}
 use Rattle.desk_tables.proofs.FillLemmas.{operator_fits, operators_left}
-use Rattle.desk_tables.proofs.OpeningLemmas.{blames_reading, told_as}
+use Rattle.desk_tables.proofs.OpeningLemmas.{blames_reading, reported_as}
 use Rattle.desk_tables.proofs.opening.copying.write_operator.Goals as goal
 
 pub returns-in_err-insert_operator-clause-cause : goal.returns-in_err-insert_operator-clause-cause
@@ -16,7 +16,7 @@ returns-in_err-insert_operator-clause-cause g c later all =
     let ceiling = c.listed.inside.ceiling in
     let is : (record { name = c.as_str.result.now; ceiling = ceiling }) ≡ c.args.listed.now =
     ap (λ n. record { name = n; ceiling = ceiling }) c.as_str.ensures.value ∙ c.listed.view_is in
-    told_as (BlamesReading g.S.Store old new) c.from_residual.result _ c.from_residual.ensures.1
+    reported_as (BlamesReading g.S.Store old new) c.from_residual.result _ c.from_residual.ensures.1
     (blames_reading g.S.Store old old new c.in_err-insert_operator.field-0.0 (omega arith) refl
     (λ clean live. c.in_err-insert_operator.ensures.changed.cause c.requires.under_way
     (subst (λ (l : Listed). FitsOperator l.name (row_of_operator l) (state g.S.Store old).now) (sym is)

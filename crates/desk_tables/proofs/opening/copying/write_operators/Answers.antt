@@ -9,7 +9,7 @@ use Rattle.desk_tables.specs.Tables.{row_of_operator}
 use Rattle.desk_tables.specs.Writable.{AreNewOperators}
 use Rattle.desk_tables.proofs.CopyLemmas.{no_operators, more_operators}
 use Rattle.desk_tables.proofs.MovingLemmas.{begins, goes_on, way_on}
-use Rattle.desk_tables.proofs.OpeningLemmas.{blames_since, told_as}
+use Rattle.desk_tables.proofs.OpeningLemmas.{blames_since, reported_as}
 use Rattle.desk_tables.proofs.opening.copying.write_operators.Goals as goal
 
 pub operators-init : goal.operators-init
@@ -63,11 +63,11 @@ returns-in_err-write_operator-clause-cause g c can =
     let so_far = c.operators.invariant.1.remembered in
     let parted : drop at all ≡ one ∷ drop (at + 1) all =
     drop_more all at one c.operators-test.true ∙ ap (λ p. p ∷ drop (at + 1) all) (sym c.listed-item.is) in
-    told_as (BlamesReading g.S.Store old new) c.from_residual.result _ c.from_residual.ensures.1
-    (λ clean live told.
+    reported_as (BlamesReading g.S.Store old new) c.from_residual.result _ c.from_residual.ensures.1
+    (λ clean live reported.
     let early : HasCleanDisk (state g.S.Store mid) =
     omega (arith, c.write_operator.ensures.remembered.doubt, clean) in
     blames_since g.S.Store old mid new so_far.faults so_far.limit c.in_err-write_operator.field-0.0
     (c.in_err-write_operator.ensures.cause (drop (at + 1) all)
     (subst (λ ps. AreNewOperators ps (state g.S.Store mid).now) parted (c.operators.invariant.2 can early)))
-    clean live told)
+    clean live reported)

@@ -13,8 +13,8 @@ returns-in_err-operators-clause-read g c =
     let heads = c.in_ok-heads.ensures in
     refused_in_hand g.S.Store c.args.made c.args.connection.now c.heads_in.new.connection
     c.from_residual-in_err-operators.result _ c.from_residual-in_err-operators.ensures.1 heads.reads
-    (λ told clean. none_of_heads (tables_at c.args.made (state g.S.Store c.args.connection.now).now.trees)
-    c.in_ok-heads.heads c.in_ok-heads.covered (heads.value clean) (c.in_err-operators.ensures.none told))
+    (λ reported clean. none_of_heads (tables_at c.args.made (state g.S.Store c.args.connection.now).now.trees)
+    c.in_ok-heads.heads c.in_ok-heads.covered (heads.value clean) (c.in_err-operators.ensures.none reported))
     c.in_err-operators.ensures.fault
 
 pub returns-clause-read : goal.returns-clause-read

@@ -2,14 +2,14 @@ use Rattle.std.proofs.Common.{◌≡◌, Err}
 use Rattle.desk_tables.specs.declared.opening.open.OpenFault.TheVariants.{NotADesk}
 use Rattle.desk_tables.specs.Copying.{ShowsNone}
 use Rattle.desk_tables.proofs.LookLemmas.{none_later_shown, none_shown}
-use Rattle.desk_tables.proofs.OpeningLemmas.{told_as}
+use Rattle.desk_tables.proofs.OpeningLemmas.{reported_as}
 use Rattle.desk_tables.proofs.opening.looking.read_content.Goals as goal
 
 pub returns-in_err-made-clause-none : goal.returns-in_err-made-clause-none
 returns-in_err-made-clause-none g c =
     let old = c.args.connection.now in
     let new = c.tables_found.new.connection in
-    told_as (λ e. e ≡ NotADesk → ShowsNone g.S.Store old new) c.from_residual.result _
+    reported_as (λ e. e ≡ NotADesk → ShowsNone g.S.Store old new) c.from_residual.result _
     c.from_residual.ensures.1
     (λ n. none_shown g.S.Store old new (c.in_err-made.ensures.none n))
 
@@ -18,7 +18,7 @@ returns-in_err-content-clause-none g c =
     let a = c.args.connection.now in
     let b = c.tables_found.new.connection in
     let d = c.content_at.new.connection in
-    told_as (λ e. e ≡ NotADesk → ShowsNone g.S.Store a d) c.from_residual-in_err-content.result _
+    reported_as (λ e. e ≡ NotADesk → ShowsNone g.S.Store a d) c.from_residual-in_err-content.result _
     c.from_residual-in_err-content.ensures.1
     (none_later_shown g.S.Store a b d c.in_ok-made.made c.in_ok-made.old c.in_ok-made.ensures.reads
     c.in_ok-made.ensures.part c.in_ok-made.ensures.rows c.in_err-content.ensures.read.reads {V = Unit {0}}

@@ -13,15 +13,15 @@ returns-in_err-heads-clause-read g c =
     let heads = c.in_err-heads.ensures in
     refused_on g.S.Store c.args.made c.args.connection.now c.old_heads_alone.new.connection
     c.from_residual.result _ c.from_residual.ensures.1 heads.reads
-    (λ told clean w old are. heads.none told clean are.new) heads.newer heads.cause
+    (λ reported clean w old are. heads.none reported clean are.new) heads.newer heads.cause
 
 pub returns-in_err-operators-clause-read : goal.returns-in_err-operators-clause-read
 returns-in_err-operators-clause-read g c =
     let heads = c.in_ok-heads.ensures in
     refused_in_hand g.S.Store c.args.made c.args.connection.now c.old_heads_alone.new.connection
     c.from_residual-in_err-operators.result _ c.from_residual-in_err-operators.ensures.1 heads.reads
-    (λ told clean. none_of_old_heads (tables_at c.args.made (state g.S.Store c.args.connection.now).now.trees)
-    c.in_ok-heads.heads (heads.value clean).1 (c.in_err-operators.ensures.none told))
+    (λ reported clean. none_of_old_heads (tables_at c.args.made (state g.S.Store c.args.connection.now).now.trees)
+    c.in_ok-heads.heads (heads.value clean).1 (c.in_err-operators.ensures.none reported))
     c.in_err-operators.ensures.fault
 
 pub returns-clause-read : goal.returns-clause-read

@@ -6,7 +6,7 @@ use Rattle.sqlite.specs.Held.{state}
 use Rattle.desk_store.specs.World.{World}
 use Rattle.desk_tables.specs.Moving.{KeepsRows}
 use Rattle.desk_tables.specs.Opening.{BlamesReading}
-use Rattle.desk_tables.proofs.OpeningLemmas.{blames_since, kept_on_err, part_on, told_as, unread_as}
+use Rattle.desk_tables.proofs.OpeningLemmas.{blames_since, kept_on_err, part_on, reported_as, unread_as}
 use Rattle.desk_tables.proofs.MovingLemmas.{keeps_since, keeps_whole}
 use Rattle.desk_tables.proofs.OrderingLemmas.{old_to_index, whole_awaited}
 use Rattle.desk_tables.proofs.opening.moving.move_tables.Goals as goal
@@ -24,7 +24,7 @@ returns-in_err-make_whole-clause-set_up g c =
     let new = c.make_whole.new.connection in
     let found = c.in_ok-content.ensures.read in
     let blames : IfErr c.from_residual-in_err-make_whole.result (BlamesReading g.S.Store a new) =
-    told_as (BlamesReading g.S.Store a new) c.from_residual-in_err-make_whole.result _
+    reported_as (BlamesReading g.S.Store a new) c.from_residual-in_err-make_whole.result _
     c.from_residual-in_err-make_whole.ensures.1
     (blames_since g.S.Store a b new found.reads.faults found.reads.limit c.in_err-make_whole.field-0.0
     (c.in_err-make_whole.ensures.cause
@@ -51,7 +51,7 @@ returns-in_err-rewrite-clause-set_up g c =
     (part_on g.S.Store c.args.made a b c.requires.part.part found.reads) first second
     c.in_ok-make_whole.ensures.done c.in_err-rewrite.ensures.kept)) in
     let blames : IfErr c.from_residual-in_err-rewrite.result (BlamesReading g.S.Store a new) =
-    told_as (BlamesReading g.S.Store a new) c.from_residual-in_err-rewrite.result _
+    reported_as (BlamesReading g.S.Store a new) c.from_residual-in_err-rewrite.result _
     c.from_residual-in_err-rewrite.ensures.1
     (blames_since g.S.Store a d new (omega (arith, found.reads.faults, whole.over.faults))
     (whole.over.limit ∙ found.reads.limit) c.in_err-rewrite.field-0.0

@@ -7,7 +7,7 @@ use Rattle.desk_sql.specs.Putting.{TakesRoom}
 use Rattle.desk_store.specs.Changes.{filed_by}
 use Rattle.desk_tables.specs.Opening.{BlamesReading}
 use Rattle.desk_tables.specs.Tables.{area_covers, area_rows, ArePlanSpanRows}
-use Rattle.desk_tables.proofs.OpeningLemmas.{blames_reading, kept_on_err, told_as}
+use Rattle.desk_tables.proofs.OpeningLemmas.{blames_reading, kept_on_err, reported_as}
 use Rattle.desk_tables.proofs.WritingLemmas.{rest_writable, spans_fit, volumes_fit}
 use Rattle.desk_tables.proofs.opening.moving.write_plan.Goals as goal
 
@@ -31,7 +31,7 @@ returns-in_err-insert_volumes-clause-cause g c later all =
     (volumes_fit p later (state g.S.Store old).now all (map volume_row_in records) (map cover_of records)
     rows_are
     covers_are) clean) in
-    told_as (BlamesReading g.S.Store old c.insert_volumes.new.tx.conn.now)
+    reported_as (BlamesReading g.S.Store old c.insert_volumes.new.tx.conn.now)
     c.from_residual-in_err-insert_volumes.result _ c.from_residual-in_err-insert_volumes.ensures.1 blames
 
 pub returns-in_err-insert_spans-clause-cause : goal.returns-in_err-insert_spans-clause-cause
@@ -59,7 +59,7 @@ returns-in_err-insert_spans-clause-cause g c later all =
     (spans_fit p later (state g.S.Store old).now all c.one_list_of_ranges.ensures (state g.S.Store mid).now
     (map volume_row_in records) (map cover_of records) _ (map span_row_in spans) own
     (goes.done early).changed (goes.room early)) clean) in
-    told_as (BlamesReading g.S.Store old new) c.from_residual-in_err-insert_spans.result _
+    reported_as (BlamesReading g.S.Store old new) c.from_residual-in_err-insert_spans.result _
     c.from_residual-in_err-insert_spans.ensures.1 blames
 
 pub returns-clause-left : goal.returns-clause-left

@@ -6,7 +6,7 @@ use Rattle.desk_tables.specs.Moving.{AddsPlanRows, AddsPlansRows}
 use Rattle.desk_tables.specs.Opening.{BlamesReading}
 use Rattle.desk_tables.specs.Writable.{AreWritable}
 use Rattle.desk_tables.proofs.MovingLemmas.{begins, goes_on, no_plans, more_plans, way_on}
-use Rattle.desk_tables.proofs.OpeningLemmas.{blames_since, told_as}
+use Rattle.desk_tables.proofs.OpeningLemmas.{blames_since, reported_as}
 use Rattle.desk_tables.proofs.opening.moving.write_plans.Goals as goal
 
 pub plans-init : goal.plans-init
@@ -58,11 +58,11 @@ returns-in_err-write_plan-clause-cause g c all =
     let so_far = c.plans.invariant.1.remembered in
     let parted : drop at plans ≡ plan ∷ drop (at + 1) plans =
     drop_more plans at plan c.plans-test.true ∙ ap (λ p. p ∷ drop (at + 1) plans) (sym c.plan-item.is) in
-    told_as (BlamesReading g.S.Store old new) c.from_residual.result _ c.from_residual.ensures.1
-    (λ clean live told.
+    reported_as (BlamesReading g.S.Store old new) c.from_residual.result _ c.from_residual.ensures.1
+    (λ clean live reported.
     let early : HasCleanDisk (state g.S.Store mid) =
     omega (arith, c.write_plan.ensures.added.remembered.doubt, clean) in
     blames_since g.S.Store old mid new so_far.faults so_far.limit c.in_err-write_plan.field-0.0
     (c.in_err-write_plan.ensures.cause (drop (at + 1) plans)
     (subst (λ ps. AreWritable ps (state g.S.Store mid).now) parted (c.plans.invariant.2 all early)))
-    clean live told)
+    clean live reported)

@@ -3,7 +3,7 @@ use Rattle.desk_tables.specs.CutShort.{IsCompletedAs}
 use Rattle.std.proofs.Common.{IfErr, ap, ◌∙◌, rules}
 use Rattle.desk_store.specs.World.{World}
 use Rattle.desk_tables.specs.Opening.{BlamesReading}
-use Rattle.desk_tables.proofs.OpeningLemmas.{blames_since, told_as}
+use Rattle.desk_tables.proofs.OpeningLemmas.{blames_since, reported_as}
 use Rattle.desk_tables.proofs.OrderingLemmas.{still_to_order}
 use Rattle.desk_tables.proofs.opening.ordering.ordered_in.Goals as goal
 
@@ -15,7 +15,7 @@ returns-in_err-put_in_order-clause-set_up g c =
     let found = c.in_ok-content.ensures in
     let plans = c.deref.ensures.value ∙ ap (λ (w : World). w.plans) c.content.view_is in
     let blames : IfErr c.from_residual-in_err-put_in_order.result (BlamesReading g.S.Store old new) =
-    told_as (BlamesReading g.S.Store old new) c.from_residual-in_err-put_in_order.result _
+    reported_as (BlamesReading g.S.Store old new) c.from_residual-in_err-put_in_order.result _
     c.from_residual-in_err-put_in_order.ensures.1
     (blames_since g.S.Store old mid new found.read.reads.faults found.read.reads.limit
     c.in_err-put_in_order.field-0.0

@@ -35,8 +35,8 @@ returns-in-Err-clause-refused g c =
     let mid = c.set_step_limit.new.self in
     let new = c.load_world.new.connection in
     record {
-      none = λ told. none_lifted g.S.Store old mid new is (opened.none told);
-      older = λ told. older_lifted g.S.Store old mid new is (opened.older told);
+      none = λ reported. none_lifted g.S.Store old mid new is (opened.none reported);
+      older = λ reported. older_lifted g.S.Store old mid new is (opened.older reported);
       cause = blames_lifted g.S.Store old mid new is _ opened.cause;
       kept = kept_lifted g.S.Store old mid new is opened.kept;
       unlimited = none_then g.S.Store old mid new is opened.limit;
@@ -48,12 +48,12 @@ returns-in-Ok-clause-cut g c =
     let old = c.args.connection in
     subst (λ s. LeavesShownOr g.S.Store old s.held IsCompletedAs) (sym c.with.ensures.value)
     (shown_leaves g.S.Store IsCompletedAs old c.set_step_limit.new.self c.load_world.new.connection
-    c.set_step_limit.ensures (c.settled_and_sound.ensures.settled c.requires.settled)
+    c.set_step_limit.ensures (c.committed_and_sound.ensures.settled c.requires.settled)
     (λ live db may. g.met.S.Store.settled old.store db live may) c.load_world.ensures.crash)
 
 pub returns-in-Err-clause-cut : goal.returns-in-Err-clause-cut
 returns-in-Err-clause-cut g c =
     let old = c.args.connection in
     shown_leaves g.S.Store IsCompletedAs old c.set_step_limit.new.self c.load_world.new.connection
-    c.set_step_limit.ensures (c.settled_and_sound.ensures.settled c.requires.settled)
+    c.set_step_limit.ensures (c.committed_and_sound.ensures.settled c.requires.settled)
     (λ live db may. g.met.S.Store.settled old.store db live may) c.load_world.ensures.crash

@@ -36,7 +36,7 @@ returns-in-Err-clause-refused g c =
     let mid = c.set_step_limit.new.self in
     let new = c.moved_world_in.new.connection in
     record {
-      none = λ told. unmoved_lifted g.S.Store old mid new is (opened.none told);
+      none = λ reported. unmoved_lifted g.S.Store old mid new is (opened.none reported);
       older = opened.older;
       cause = blames_lifted g.S.Store old mid new is _ opened.cause;
       kept = keeps_lifted g.S.Store old mid new is opened.kept;
@@ -49,12 +49,12 @@ returns-in-Ok-clause-cut g c =
     let old = c.args.connection in
     subst (λ s. LeavesShownOr g.S.Store old s.held IsMovedOn) (sym c.with-store.ensures.value)
     (shown_leaves g.S.Store IsMovedOn old c.set_step_limit.new.self c.moved_world_in.new.connection
-    c.set_step_limit.ensures (c.settled_and_sound.ensures.settled c.requires.settled)
+    c.set_step_limit.ensures (c.committed_and_sound.ensures.settled c.requires.settled)
     (λ live db may. g.met.S.Store.settled old.store db live may) c.moved_world_in.ensures.crash)
 
 pub returns-in-Err-clause-cut : goal.returns-in-Err-clause-cut
 returns-in-Err-clause-cut g c =
     let old = c.args.connection in
     shown_leaves g.S.Store IsMovedOn old c.set_step_limit.new.self c.moved_world_in.new.connection
-    c.set_step_limit.ensures (c.settled_and_sound.ensures.settled c.requires.settled)
+    c.set_step_limit.ensures (c.committed_and_sound.ensures.settled c.requires.settled)
     (λ live db may. g.met.S.Store.settled old.store db live may) c.moved_world_in.ensures.crash

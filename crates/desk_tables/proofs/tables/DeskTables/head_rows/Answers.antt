@@ -5,7 +5,7 @@ use Rattle.desk_sql.specs.Rows.{is_of, tables_of, Lists}
 use Rattle.desk_store.proofs.lemmas.Parse.{parsed_id}
 use Rattle.desk_tables.proofs.AskingLemmas.{both_ok}
 use Rattle.desk_tables.proofs.ListingLemmas.{heads_are}
-use Rattle.desk_tables.proofs.CauseLemmas.{told_cause, told_value}
+use Rattle.desk_tables.proofs.CauseLemmas.{reported_cause, reported_value}
 use Rattle.desk_tables.proofs.tables.DeskTables.head_rows.Goals as goal
 
 pub returns : goal.returns
@@ -20,7 +20,7 @@ returns g c =
     let text = c.encode-text.result.now in
     rw (← c.self.view_is) (record {
       value = λ clean.
-          told_value _ answer c.or_fault.result c.or_fault.ensures
+          reported_value _ answer c.or_fault.result c.or_fault.ensures
           (both_ok answer (c.plan_of-answer.ensures.open clean) (answers.value clean) (λ rows live lists.
           (let standing = c.self.invariant.standing (omega (arith, answers.reads.doubt, clean)) live in
           let by_name = subst (λ name. Lists [] (filter (is_of name text) tables.plans) rows.items)
@@ -31,7 +31,7 @@ returns g c =
             heads_are tables c.self.inside.kept.world operator id rows.items
                 (parsed_id text id c.encode-text.ensures.parsed) standing.content standing.tables mine,
           ))));
-      cause = told_cause g.S.Store old new answer c.or_fault.result c.self.invariant.unlimited
+      cause = reported_cause g.S.Store old new answer c.or_fault.result c.self.invariant.unlimited
           c.or_fault.ensures answers.cause;
       same = refl;
       reads = answers.reads;

@@ -9,6 +9,6 @@ returns-clause-left g c =
     subst (λ t. IsSettledAt g.S.Store t.held t.world) c.self.view_is (λ clean live.
     leaves_what_stands c.one_content.ensures g.S.Store connection c.self.inside.kept.world c.self.invariant
     clean live
-    (c.settled_and_sound.ensures.settled c.self.invariant.settled live)
-    (c.settled_and_sound.ensures.sound live).0
+    (c.committed_and_sound.ensures.settled c.self.invariant.settled live)
+    (c.committed_and_sound.ensures.sound live).0
     (λ db may. g.met.S.Store.settled connection.store db live may))

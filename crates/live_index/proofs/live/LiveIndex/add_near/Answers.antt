@@ -12,8 +12,8 @@ returns c =
     let inside = sought_has c.args.sought.now in
     let kept = c.args.self.now in
     let mid = c.add_near_in.new.near in
-    on_ok_weaker c.add_young.result (λ added hedged.
-    adds_both s inside (volumes_under kept.groups.items) kept.young.items c.args.near.now mid
-    c.add_young.new.near
+    on_ok_weaker c.add_unindexed.result (λ added hedged.
+    adds_both s inside (volumes_under kept.groups.items) kept.unindexed.items c.args.near.now mid
+    c.add_unindexed.new.near
     (subst (λ gs. AreHedged gs → AddsPlans s inside (volumes_under gs) c.args.near.now mid)
-    c.deref.ensures.value c.in_ok-add_near_in.ensures hedged) added) c.add_young.ensures
+    c.deref.ensures.value c.in_ok-add_near_in.ensures hedged) added) c.add_unindexed.ensures

@@ -8,7 +8,7 @@ use Rattle.live_index.proofs.live.LiveIndex.follow.Goals as goal
 pub returns-clause-same : goal.returns-clause-same
 returns-clause-same c = λ placed.
     followed (stays_at c.args.change.now) (volumes_of c.args.self.now)
-    (volumes_under c.take_out.new.self.groups.items) c.take_out.new.self.young.items
+    (volumes_under c.take_out.new.self.groups.items) c.take_out.new.self.unindexed.items
     c.push_all.new.volumes.items c.args.fresh.now (c.take_out.ensures.same placed) c.push_all.ensures
 
 pub returns-clause-kept : goal.returns-clause-kept
@@ -17,7 +17,7 @@ returns-clause-kept c = λ w was.
     let old = c.args.self.now in record {
       live = subst (AreLive (changed_by change w))
           (sym (followed (stays_at change) (volumes_of old)
-          (volumes_under c.take_out.new.self.groups.items) c.take_out.new.self.young.items
+          (volumes_under c.take_out.new.self.groups.items) c.take_out.new.self.unindexed.items
           c.push_all.new.volumes.items c.args.fresh.now (c.take_out.ensures.same was.placed)
           c.push_all.ensures))
           (changed_live change w (volumes_of old) c.args.fresh.now was.live c.requires.brought);

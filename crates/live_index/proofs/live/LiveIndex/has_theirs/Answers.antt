@@ -17,4 +17,4 @@ returns-else-any c =
     any_from_yields_List test _ _ c.any-else-any.result c.any-else-any.ensures.ran
     (YieldsList-from_slice c.deref-else-any.result.now (cc)) (λ x b q k. search (rules, tests))
     ∙ ap (list_any test) c.deref-else-any.ensures.value
-    ∙ ap (λ b. b || list_any test kept.young.items) (sym none)
+    ∙ ap (λ b. b || list_any test kept.unindexed.items) (sym none)

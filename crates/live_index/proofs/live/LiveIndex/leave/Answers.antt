@@ -13,7 +13,7 @@ returns c =
     let key : PlanKey = record { operator = o; id = id } in
     let all = volumes_under old.groups.items in record {
       same = λ placed.
-          left_of_both o id all (volumes_under c.leave_all.new.groups.items) old.young.items
+          left_of_both o id all (volumes_under c.leave_all.new.groups.items) old.unindexed.items
           c.leave.new.volumes.items
           (c.leave_all.ensures.same (subst (λ n. count_of o id all ≤ n) (sym c.of.ensures) (placed o id)))
           c.leave.ensures.items;

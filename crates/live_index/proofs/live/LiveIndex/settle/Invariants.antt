@@ -7,4 +7,4 @@ abbrev pub invariant-loop-alloc : goal.invariant-loop-alloc
 invariant-loop-alloc l = (w : World) → AreKeptOnce l.fn.self w → AreKeptOnce l.self w
 
 abbrev pub decreases-loop-alloc : goal.decreases-loop-alloc
-decreases-loop-alloc l = length l.self.young.items
+decreases-loop-alloc l = length l.self.unindexed.items

@@ -6,10 +6,10 @@ use Rattle.s2_cover.proofs.covers.Cover.of_ranges.Goals as goal
 
 pub invariant_of-result : goal.invariant_of-result
 invariant_of-result c =
-    let told = c.in_ok-cells.ensures in
+    let reported = c.in_ok-cells.ensures in
     let ids = c.in_ok-cells.cells.items in
-    canonical_same (spans_have c.spans.result.now) (leaves_of ids) ids (λ p. sym (told.leaves p))
-    told.canonical
+    canonical_same (spans_have c.spans.result.now) (leaves_of ids) ids (λ p. sym (reported.leaves p))
+    reported.canonical
 
 pub returns-clause-canonical : goal.returns-clause-canonical
 returns-clause-canonical c set ranges =

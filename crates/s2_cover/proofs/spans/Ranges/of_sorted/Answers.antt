@@ -12,11 +12,11 @@ loop-cell-preserved c =
     let spans = c.loop-cell.spans.items in
     let current = c.loop-cell.current in
     let span = c.span_of-span.result in
-    let told = c.span_of-span.ensures in
+    let reported = c.span_of-span.ensures in
     let next : IsSpanOf cells count span =
     span_of_rest cells c.in-Some.rest.now c.in-Some.first.now c.cell-item.result
     c.loop-cell.cell-index span c.in-Some.ensures.cases.0 c.loop-cell-test.true c.cell-item.is
-    told.is told.first told.leaves in
+    reported.is reported.first reported.leaves in
     elim c.if-span-current.branch [
       | then-span-current w ↦
           rw (w.current-is, w.spans-is, w.max.ensures)

@@ -1,8 +1,0 @@
-use Rattle.desk_admin.proofs.keeping.tell_unread.Goals as goal
-
-pub returns : goal.returns
-returns g c = record {
-  between = _;
-  cause = c.tell_database.ensures;
-  fails = (c.report_exit.ensures.status, c.report_exit.ensures.told);
-}

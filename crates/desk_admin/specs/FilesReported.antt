@@ -1,0 +1,178 @@
+-- FilesReported: what an administrator is reported of a file, and what is copied of it.
+use Rattle.std.specs.Prelude.{◌≡◌, ℕ, List, [], length, Option, Result, Ok, Err, ◌⊎◌, None}
+use Rattle.std.specs.Option.{IsSomeAnd}
+use Rattle.sqlite_disk.specs.declared.Disk as disk
+use Rattle.sqlite_disk.specs.declared.Files.{Files}
+use Rattle.sqlite_wal.specs.Reads.{AreClean}
+use Rattle.sqlite_wal.specs.Recovery.{Image}
+use Rattle.sqlite_store.specs.declared.store.FileStore.{FileStore}
+use Rattle.sqlite.specs.Closing.{IsCopied as IsClosedInto}
+use Rattle.sqlite.specs.Files.{over_files}
+use Rattle.sqlite.specs.Held.{Held}
+use Rattle.desk_store.specs.World.{World}
+use Rattle.desk_wire.specs.Passage.{Course, course}
+use Rattle.desk_cli.specs.declared.failure.ErrorCode.{ErrorCode}
+use Rattle.desk_cli.specs.declared.failure.ErrorCode.TheVariants as failure
+use Rattle.desk_cli.specs.declared.line.Database.{Database}
+use Rattle.desk_cli.specs.Exits.{Ending, FailsWith}
+use Rattle.desk_program.specs.Looking.{IsTextPrinted, checked_line, copied_line}
+use Rattle.desk_program.specs.declared.looking.CheckedFile.{CheckedFile}
+use Rattle.desk_tables.specs.Counting.{HaveSpanRows, IsMostCells, IsMostSpans}
+use Rattle.desk_tables.specs.Closing.{IsLeftUnclosed}
+use Rattle.desk_tables.specs.Copying.{AreHoldingsOf, AreNotCopied, AreNotRead, IsMadeIn, LooksIn, live_count}
+use Rattle.desk_tables.specs.declared.closing.CheckpointError.{CheckpointError}
+use Rattle.desk_tables.specs.declared.opening.files.CopyFault.{CopyFault}
+use Rattle.desk_tables.specs.declared.opening.files.CopyFault.TheVariants as copy
+use Rattle.desk_tables.specs.declared.opening.files.FilesFault.{FilesFault}
+use Rattle.desk_tables.specs.declared.opening.open.OpenFault.TheVariants as opening
+use Rattle.desk_tables.specs.Leaving.{IsSettledAt}
+use Rattle.desk_tables.specs.declared.opening.looking.DbStats.{DbStats}
+use Rattle.desk_admin.specs.declared.keeping.CopyError.{CopyError}
+use Rattle.desk_admin.specs.declared.unopened.OpenError.{OpenError}
+use Rattle.desk_admin.specs.AdminOutside.{AdminOutside}
+use Rattle.desk_host.specs.Naming.{Follows, HasFailedStep, IsNamed, IsUnnamed, Steps, Synced, free_steps, named_steps}
+use Rattle.desk_host.specs.Reporting.{Reports}
+use Rattle.desk_admin.specs.Unopened.{open_failure, FailsOver, IsInMemory, IsUnreadFor}
+
+-- why is reported, and then the line of the failure, with which it ends
+pub record FailsReporting (f : ErrorCode) (end : Ending) : Type 0 where
+  pub between : Option (List ℕ)
+  pub cause : Reports (course end.before between)
+  pub fails : FailsWith f (record end { before = between })
+
+-- the numbers of operators, plans, rows of spans and cells are those of the content
+pub record ReportsHoldings (file : CheckedFile) (w : World) : Type 0 where
+  pub operators : file.operators ≡ length w.operators
+  pub plans : file.plans ≡ length w.plans
+  pub live : file.live ≡ live_count w.plans
+  pub spans : HaveSpanRows w.plans file.spans
+  pub most_spans : IsMostSpans w.plans file.most_spans
+  pub most_cells : IsMostCells w.plans file.most_cells
+
+module _ {D : Type 0} {g : disk.Ghosts D} (image : Image) where
+  -- what is reported of files that held this, as a connection read it, which leaves their rows
+  pub record IsReadAs (left : Held (FileStore D g)) (file : CheckedFile) : Type 0 where
+    pub w : World
+    pub reported : ReportsHoldings file w
+    pub looks : LooksIn image left file.is_old w
+
+  -- why files are not read: memory ran out; or what the connection showed that read them, or that they were
+  -- not opened
+  abbrev pub FailsToRead : OpenError D g → Type 0
+  FailsToRead it = IsUnreadFor it opening.OutOfMemory
+      ⊎ FailsOver (λ files. AreNotRead image files.fault files.connection) it
+
+  -- why no content is reported of a database: it is in memory, or its files are not read
+  abbrev pub FailsToLook : Database → OpenError D g → Type 0
+  FailsToLook database it = (IsInMemory database × IsUnreadFor it opening.Store) ⊎ FailsToRead it
+
+  -- a failure is reported, and nothing is printed
+  pub record IsUnreported (database : Database) (end : Ending) (it : OpenError D g)
+      (writes : Course (Option (List ℕ))) : Type 0 where
+    pub look : FailsToLook database it
+    pub reported : FailsReporting it.failure end
+    pub unprinted : writes.after ≡ writes.before
+
+  -- what they hold is reported
+  pub record IsFileReported (end : Ending) (left : Held (FileStore D g)) (writes : Course (Option (List ℕ)))
+      : Type 0 where
+    pub file : CheckedFile
+    pub read : IsReadAs left file
+    pub printed : IsTextPrinted (checked_line file) end writes.before writes.after
+
+  -- what they hold is reported, or a failure is
+  abbrev pub IsChecked :
+      Database → Ending → Result (Held (FileStore D g)) (OpenError D g) → Course (Option (List ℕ)) → Type 0
+  IsChecked database end (Ok left) writes = IsFileReported end left writes
+  IsChecked database end (Err it) writes = IsUnreported database end it writes
+
+-- ---- a copy
+
+-- nothing was asked of files, or they were not refused, and this is the failure
+pub record FailsUntried {R M U : Type 0} (f : ErrorCode) (it : CopyError R M U) : Type 0 where
+  pub failure : it.failure ≡ f
+  pub unread : it.unread ≡ None
+  pub unmade : it.unmade ≡ None
+  pub unclosed : it.unclosed ≡ None
+
+-- why files were not copied
+abbrev pub CopyEnd : {D E : Type 0} → disk.Ghosts D → disk.Ghosts E → Type 0
+CopyEnd {D} {E} g k = CopyError (FilesFault D g) (FilesFault E k) (CheckpointError E k)
+
+-- this fault of files is the failure
+abbrev pub FailsBy :
+    {D E U : Type 0} {g : disk.Ghosts D} {k : disk.Ghosts E} → CopyFault D E g k
+    → CopyError (FilesFault D g) (FilesFault E k) U → Type 0
+FailsBy (copy.Unread files) it =
+    (it.failure ≡ open_failure files.fault) × IsSomeAnd it.unread (λ s. s.value ≡ files)
+FailsBy (copy.Unmade files source) it =
+    (it.failure ≡ open_failure files.fault) × IsSomeAnd it.unmade (λ s. s.value ≡ files)
+
+module _ {D E : Type 0} {g : disk.Ghosts D} {k : disk.Ghosts E} (image other : Image) where
+  -- the files refuse it
+  pub record FailsRefused (it : CopyEnd g k) : Type 0 where
+    pub fault : CopyFault D E g k
+    pub by : FailsBy fault it
+    pub are : AreNotCopied image other fault
+
+  -- a store was made in the new files, and can't be closed
+  pub record FailsUnclosed (it : CopyEnd g k) : Type 0 where
+    pub held : Held (FileStore E k)
+    pub failure : it.failure ≡ failure.Store
+    pub made : IsMadeIn other held
+    pub left : IsSomeAnd it.unclosed (IsLeftUnclosed held)
+
+  abbrev pub FailsAtFiles : CopyEnd g k → Type 0
+  FailsAtFiles it = FailsRefused it ⊎ FailsUnclosed it
+
+  -- a database in memory is not copied; memory ran out; a step of its folders failed; or the files refuse it
+  abbrev pub FailsToCopy : Database → Steps → CopyEnd g k → Type 0
+  FailsToCopy database steps it = (IsInMemory database × FailsUntried failure.Store it)
+      ⊎ (FailsUntried failure.Memory it
+      ⊎ ((HasFailedStep steps × FailsUntried failure.Store it) ⊎ FailsAtFiles it))
+
+  -- a failure is reported, and nothing is printed
+  pub record IsUncopied (database : Database) (o : AdminOutside) (it : CopyEnd g k) : Type 0 where
+    pub why : FailsToCopy database o.steps it
+    pub reported : FailsReporting it.failure o.end
+    pub unprinted : o.writes.after ≡ o.writes.before
+
+module _ {D E : Type 0} {g : disk.Ghosts D} (k : disk.Ghosts E) (image other : Image) where
+  -- a connection to files that held this leaves them, and new files, whose log is empty, have their content:
+  -- a store of it was made there and closed
+  pub record IsCopyMade (copies : Held (FileStore D g) × (Files E × DbStats)) : Type 0 where
+    pub w : World
+    pub held : Held (FileStore E k)
+    pub counted : AreHoldingsOf copies.1.1 w
+    pub looks : LooksIn image copies.0 copies.1.1.is_old w
+    pub made : IsMadeIn other held
+    pub settled : IsSettledAt over_files held w
+    pub closed : AreClean k copies.1.0.log copies.1.0.db → IsClosedInto held copies.1.0
+
+-- the connection to files that were copied, the new files and what was counted; or why they were not copied
+abbrev pub CopyOutcome : {D E : Type 0} → disk.Ghosts D → disk.Ghosts E → Type 0
+CopyOutcome {D} {E} g k = Result (Held (FileStore D g) × (Files E × DbStats)) (CopyEnd g k)
+
+module _ {D E : Type 0} {g : disk.Ghosts D} {k : disk.Ghosts E} (image other : Image) where
+  -- how much was copied is reported; or a failure is
+  abbrev pub IsCopied : Database → AdminOutside → CopyOutcome g k → Type 0
+  IsCopied database o (Ok copies) = IsCopyMade k image other copies
+      × IsTextPrinted (copied_line copies.1.1.operators copies.1.1.plans) o.end o.writes.before o.writes.after
+  IsCopied database o (Err it) = IsUncopied image other database o it
+
+-- why nothing is copied, once the files were asked for: they refused it; or a step failed, and alone is
+-- reported
+abbrev pub IsAsCopied : {A R M U : Type 0} → Result A (CopyError R M U) → Steps → CopyError R M U → Type 0
+IsAsCopied copied steps it = (copied ≡ Err it) ⊎ (HasFailedStep steps × FailsUntried failure.Store it)
+
+-- what is copied gets its name; or no file gets one, or the file gets its own, whole, and its folder can't be
+-- synced
+abbrev pub IsNamedNow : {A B : Type 0} → Result A B → List ℕ → Steps → Type 0
+IsNamedNow (Ok copies) to steps = Follows steps (named_steps to (Synced to))
+IsNamedNow (Err it) to steps = IsUnnamed [] to steps
+
+-- what is copied has got its name, and there was nothing at its names; or no file got a name, or the file got
+-- its own, whole, and its folder can't be synced
+abbrev pub IsNamedIf : {A B : Type 0} → Result A B → List ℕ → Steps → Type 0
+IsNamedIf (Ok copies) to steps = IsNamed to steps
+IsNamedIf (Err it) to steps = IsUnnamed (free_steps to) to steps

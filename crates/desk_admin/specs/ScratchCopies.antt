@@ -1,0 +1,161 @@
+-- Scratch copies: files that are read by a copy beside them, which is removed afterwards.
+use Rattle.std.specs.Prelude.{◌≡◌, ◌≢◌, ◌⊎◌, ℕ, Bool, List, ◌++◌, codes, decimal, string_bytes}
+use Rattle.std.specs.Prelude.{MatchOption, Option, None, Some, Result, Ok, Err}
+use Rattle.sqlite_disk.specs.declared.Disk as disk
+use Rattle.sqlite_wal.specs.Recovery.{Image}
+use Rattle.sqlite_store.specs.declared.store.FileStore.{FileStore}
+use Rattle.sqlite.specs.Held.{Held}
+use Rattle.desk_wire.specs.Passage.{Course, course}
+use Rattle.desk_cli.specs.declared.failure.ErrorCode.{ErrorCode}
+use Rattle.desk_cli.specs.declared.failure.ErrorCode.TheVariants as failure
+use Rattle.desk_cli.specs.declared.line.CopyArgs.{CopyArgs as CopyWords}
+use Rattle.desk_cli.specs.declared.line.Database.{Database}
+use Rattle.desk_cli.specs.Exits.{Ending, FailsWith, IsLineBreakdown}
+use Rattle.desk_cli.specs.Lines.{file_of}
+use Rattle.desk_program.specs.Looking.{IsTextPrinted, checked_line}
+use Rattle.desk_program.specs.declared.looking.CheckedFile.{CheckedFile}
+use Rattle.desk_admin.specs.declared.unopened.OpenError.{OpenError}
+use Rattle.desk_admin.specs.declared.scratch_copies.Rows.{Rows}
+use Rattle.desk_admin.specs.declared.scratch_copies.Rows.TheVariants as rows
+use Rattle.desk_host.specs.declared.ways.ReadMode.{ReadMode}
+use Rattle.desk_host.specs.declared.ways.ReadMode.TheVariants as way
+use Rattle.desk_admin.specs.FilesReported.{CopyOutcome, FailsReporting, FailsToRead, IsCopied, IsNamedIf, IsReadAs}
+use Rattle.desk_admin.specs.AdminOutside.{AdminOutside}
+use Rattle.desk_host.specs.Naming.{Follows, LeavesOthers, Step, Steps}
+use Rattle.desk_host.specs.Scratch.{AreRemoved, IsUntwinned, making, scratch_of}
+use Rattle.desk_host.specs.Reporting.{IsWrittenIfRoom, line_of}
+use Rattle.desk_admin.specs.Unopened.{IsInMemory}
+use Rattle.db_file.specs.Orders.{order_text}
+use Rattle.desk_host.specs.Ways.{is_mended, untested}
+
+-- ---- what is reported
+
+abbrev pub rows_text : Rows → List ℕ
+rows_text rows.OfADesk = codes "are a desk's"
+rows_text rows.OfNoDesk = codes "are no desk's"
+rows_text rows.TestedAlone = codes "alone were tested"
+
+-- the line that reports of pages without their sums, and what their rows are
+unfoldable pub unsummed_line : List ℕ → ℕ → List ℕ → List ℕ
+unsummed_line path pages text =
+    codes "uss_desk: " ++ (path ++ (codes ": " ++ (decimal pages
+    ++ (codes " pages without their sums, as sqlite3 leaves them; the rows " ++ (text ++ codes "\n")))))
+
+abbrev pub rows_line : List ℕ → ℕ → Rows → List ℕ
+rows_line path pages it = unsummed_line path pages (rows_text it)
+
+abbrev pub order_line : List ℕ → List ℕ
+order_line path = line_of path order_text
+
+-- what is reported of a file that is read in a way, by a scratch copy whose rows are a desk's
+abbrev pub taken_line : List ℕ → ReadMode → Option (List ℕ)
+taken_line path way.Itself = None
+taken_line path way.Damaged = None
+taken_line path (way.BadChecksums pages) = Some (rows_line path pages rows.OfADesk)
+taken_line path way.OtherOrder = Some (order_line path)
+
+-- so, if there is a line
+abbrev pub IsNotedIf : Option (List ℕ) → Course (Option (List ℕ)) → Type 0
+IsNotedIf None writes = writes.after ≡ writes.before
+IsNotedIf (Some line) writes = IsWrittenIfRoom line writes
+
+-- there is no scratch copy, which is reported, and nothing is printed
+pub record FailsUntwinned (scratch : List ℕ) (o : AdminOutside) : Type 0 where
+  pub failure : ErrorCode
+  pub is : IsLineBreakdown failure
+  pub untwinned : IsUntwinned scratch o.steps failure
+  pub reported : FailsReporting failure o.end
+  pub unprinted : o.writes.after ≡ o.writes.before
+
+-- the rows of a file are no desk's, which is reported
+pub record FailsNoted (path : List ℕ) (pages : ℕ) (end : Ending) : Type 0 where
+  pub between : Option (List ℕ)
+  pub noted : IsWrittenIfRoom (rows_line path pages rows.OfNoDesk) (course end.before between)
+  pub fails : FailsWith failure.Store (record end { before = between })
+
+-- by why they could not be read: want of memory says nothing of them
+abbrev pub AreRowsRefused : List ℕ → ℕ → ErrorCode → Ending → Type 0
+AreRowsRefused path pages f end = ((f ≡ failure.Memory) × FailsWith failure.Memory end)
+    ⊎ ((f ≢ failure.Memory) × FailsNoted path pages end)
+
+-- so, if its pages lack their sums; else why is reported, and then this failure
+abbrev pub IsScratchRefused : List ℕ → ReadMode → ErrorCode → Ending → Type 0
+IsScratchRefused path way.Itself f end = FailsReporting f end
+IsScratchRefused path way.Damaged f end = FailsReporting f end
+IsScratchRefused path (way.BadChecksums pages) f end = AreRowsRefused path pages f end
+IsScratchRefused path way.OtherOrder f end = FailsReporting f end
+
+-- ---- a look
+
+module _ {D : Type 0} {g : disk.Ghosts D} (image : Image) (path : List ℕ) (way : ReadMode) where
+  -- the rows of a file are a desk's, and what is reported of its way is reported, and what they are
+  pub record IsTakenByRows (left : Held (FileStore D g)) (end : Ending) (writes : Course (Option (List ℕ)))
+      : Type 0 where
+    pub between : Option (List ℕ)
+    pub file : CheckedFile
+    pub noted : IsNotedIf (taken_line path way) (course end.before between)
+    pub read : IsReadAs image left file
+    pub printed : IsTextPrinted (checked_line file) (record end { before = between })
+        writes.before writes.after
+
+  -- they can't be read as a desk's, and nothing is printed
+  pub record IsRefusedByRows (it : OpenError D g) (end : Ending) (writes : Course (Option (List ℕ)))
+      : Type 0 where
+    pub look : FailsToRead image it
+    pub reported : IsScratchRefused path way it.failure end
+    pub unprinted : writes.after ≡ writes.before
+
+  -- the one or the other, by what the scratch copy showed
+  abbrev pub IsJudged :
+      Result (Held (FileStore D g)) (OpenError D g) → Ending → Course (Option (List ℕ)) → Type 0
+  IsJudged (Ok left) end writes = IsTakenByRows left end writes
+  IsJudged (Err it) end writes = IsRefusedByRows it end writes
+
+  abbrev pub IsJudgedIf : Option (Result (Held (FileStore D g)) (OpenError D g)) → AdminOutside → Type 0
+  IsJudgedIf None o = FailsUntwinned (scratch_of path) o
+  IsJudgedIf (Some judged) o = IsJudged judged o.end o.writes
+
+-- a scratch copy is made of a file, and removed once it was read
+pub record WasScratch (source scratch : List ℕ) (mended : Bool) (steps : Steps) : Type 0 where
+  pub from : Option (List Step)
+  pub made : Follows (course steps.before from) (making source scratch mended)
+  pub removed : AreRemoved scratch (course from steps.after)
+
+-- ---- a copy
+
+-- that the sums were not tested is reported, if the copy of such a file was made
+abbrev pub IsTestReported : List ℕ → ReadMode → ℕ → Course (Option (List ℕ)) → Type 0
+IsTestReported path way status writes = MatchOption (untested way status) (writes.after ≡ writes.before)
+    (λ pages. IsWrittenIfRoom (rows_line path pages rows.TestedAlone) writes)
+
+-- a database in memory has no file
+pub record HasNoFile (database : Database) (o : AdminOutside) : Type 0 where
+  pub is : IsInMemory database
+  pub fails : FailsWith failure.Store o.end
+  pub undone : o.steps.after ≡ o.steps.before
+  pub unprinted : o.writes.after ≡ o.writes.before
+
+module _ {D E : Type 0} {g : disk.Ghosts D} {k : disk.Ghosts E} (image other : Image) (words : CopyWords)
+    (way : ReadMode)
+  where
+    -- a scratch copy is made of the file that the words name; it is copied, as a file is; and it is removed
+    pub record IsCopiedByScratch (copied : CopyOutcome g k) (o : AdminOutside) : Type 0 where
+      pub source : List ℕ
+      pub from : Option (List Step)
+      pub until : Option (List Step)
+      pub reported : Option (List ℕ)
+      pub file : file_of words.database ≡ Some source
+      pub made : Follows (course o.steps.before from)
+          (making source (scratch_of (string_bytes words.to)) (is_mended way))
+      pub copies : IsCopied image other words.database
+          (record o { steps = course from until; end = record o.end { now = reported } }) copied
+      pub named : IsNamedIf copied (string_bytes words.to) (course from until)
+      pub own : LeavesOthers (string_bytes words.to) (course from until)
+      pub removed : AreRemoved (scratch_of (string_bytes words.to)) (course until o.steps.after)
+      pub noted : IsTestReported source way o.end.status (course reported o.end.now)
+
+    -- so; or there is no scratch copy, or no file, which is reported, and nothing is printed or copied
+    abbrev pub IsCopiedByScratchIf : Option (CopyOutcome g k) → AdminOutside → Type 0
+    IsCopiedByScratchIf None o =
+        FailsUntwinned (scratch_of (string_bytes words.to)) o ⊎ HasNoFile words.database o
+    IsCopiedByScratchIf (Some copied) o = IsCopiedByScratch copied o

@@ -1,0 +1,285 @@
+//! A look at a file, and a copy of it, by a scratch copy: a copy beside it, or beside the new file, that is
+//! read in its place and is removed afterwards. The file itself is not opened as a desk's, and so is left as
+//! it is.
+
+ghost use Rattle.std.specs.Prelude.{◌≡◌, IfErr, IfOk, IfSome, string_bytes};
+ghost use Rattle.sqlite_wal.specs.Files.{image_at};
+ghost use Rattle.sqlite_wal.specs.Recovery.{Image};
+ghost use Rattle.desk_program.specs.Outside.{bytes_written, ended};
+ghost use Rattle.desk_admin.specs.FilesReported.{FailsReporting, FailsToRead, IsReadAs};
+ghost use Rattle.desk_admin.specs.AdminOutside.{admin_outside};
+ghost use Rattle.desk_host.specs.FolderSteps.{steps_of};
+ghost use Rattle.desk_host.specs.Scratch.{scratch_of};
+ghost use Rattle.desk_admin.specs.ScratchCopies as spec;
+ghost use Rattle.desk_admin.specs.ScratchCopies.{AreRowsRefused, IsCopiedByScratchIf, IsJudged, IsJudgedIf, IsNotedIf};
+ghost use Rattle.desk_admin.specs.ScratchCopies.{IsTestReported, IsScratchRefused, WasScratch};
+ghost use Rattle.desk_host.specs.Reporting.{IsWrittenIfRoom};
+ghost use Rattle.desk_host.specs.Ways.{is_mended};
+
+use crate::causes::report_cause;
+use crate::keeping::{Copies, CopyEnd, ReadConnection, Starts, Writers, copy_file, look_in};
+use crate::unopened::{FileOpenError, OpenError};
+use db_file::order_text;
+use desk_cli::{CopyArgs, Database, ErrorCode, ExitReport, report_exit};
+use desk_host::naming::Folder;
+use desk_host::reporting::{report_line, report_of};
+use desk_host::scratch::{make_scratch, remove_scratch};
+use desk_host::ways::ReadMode;
+use desk_program::{CheckedFile, print_checked};
+use sqlite::{Connection, FileFrom, FileStore, Start};
+use sqlite_disk::Disk;
+use std::alloc::{AllocError, Global};
+use std::io::Write;
+
+/// What is reported of the rows of a file whose pages lack their sums.
+#[derive(Clone, Copy, Debug, PartialEq, Eq)]
+pub enum Rows {
+    /// They are a desk's.
+    OfADesk,
+    /// They are no desk's, or can't be read.
+    OfNoDesk,
+    /// They were copied, and nothing else was tested.
+    TestedAlone,
+}
+
+impl Rows {
+    fn text(self) -> &'static str
+        ensures { result.now ≡ spec.rows_text self }
+    {
+        match self {
+            Rows::OfADesk => "are a desk's",
+            Rows::OfNoDesk => "are no desk's",
+            Rows::TestedAlone => "alone were tested",
+        }
+    }
+}
+
+/// A connection with which the files of a disk `D` were looked at, or what refused them.
+pub type Judged<D> = Result<Connection<FileStore<D>>, OpenError<D>>;
+
+/// So, with what the files hold.
+pub type CheckResult<D> = Result<(Connection<FileStore<D>>, CheckedFile), OpenError<D>>;
+
+/// Prints what a file holds, read in its way by a scratch copy beside it, and answers how that ended and the
+/// connection to the scratch copy, or why it can't be read; nothing if there is no scratch copy. What its
+/// rows are, if its pages lack their sums, that its tables stand in another order, or why there is no scratch
+/// copy, and the word of the failure, go to `errors`; a fault there is passed over.
+pub fn check_by_scratch<F: Start, P: Folder, W: Write + Drop, E: Write + Drop>(
+    rt: &HostRuntime,
+    folder: &mut P,
+    path: &str,
+    way: ReadMode,
+    start: F,
+    writers: &mut Writers<W, E>,
+) -> (
+    ExitReport<E>,
+    Option<Result<ReadConnection<F>, FileOpenError<F>>>,
+)
+    ensures judged { IsJudgedIf (image_at F.Start) path.now way result.1 (admin_outside W.Write E.Write
+        writers.old writers.new (steps_of P.Folder folder.old folder.new) result.0) }
+    ensures scratch { IfSome result.1 (λ _. WasScratch path.now (scratch_of path.now) (is_mended way)
+        (steps_of P.Folder folder.old folder.new)) }
+{
+    let scratch = match make_scratch(
+        rt.alloc(),
+        folder,
+        path,
+        path,
+        way.is_mended(),
+        &mut writers.errors,
+    ) {
+        Ok(scratch) => scratch,
+        Err(failure) => return (report_exit(&mut writers.errors, Err(failure)), None),
+    };
+    let found = look_in(rt, &scratch.path, start);
+    let (exit, judged) = report_found(rt, path, &scratch.path, way, found, writers);
+    remove_scratch(folder, &scratch);
+    (exit, Some(judged))
+}
+
+/// The exit status of a look by a scratch copy. What was looked at, on whatever disk it is, is closed.
+pub fn status_judged<D: Disk + Drop, E>(judged: (ExitReport<E>, Option<Judged<D>>)) -> u8
+    ensures { result ≡ judged.0.status }
+{
+    let (exit, _) = judged;
+    exit.status
+}
+
+// Reports what the scratch copy of a file showed, and prints what its rows are. The scratch copy is still
+// there.
+fn report_found<D: Disk + Drop, W: Write + Drop, E: Write + Drop>(
+    rt: &HostRuntime,
+    path: &str,
+    scratch: &str,
+    way: ReadMode,
+    found: CheckResult<D>,
+    writers: &mut Writers<W, E>,
+) -> (ExitReport<E>, Judged<D>)
+    ensures { (image : Image) → IfOk found (λ it. IsReadAs image it.0 it.1) → IfErr found (FailsToRead image)
+        → IsJudged image path.now way result.1 (ended E.Write result.0 writers.old.errors writers.new.errors)
+        (bytes_written W.Write writers.old.output writers.new.output) }
+{
+    match found {
+        Ok((connection, file)) => {
+            report_taken(rt.alloc(), path, way, &mut writers.errors);
+            let exit = print_checked(rt.alloc(), &file, &mut writers.output, &mut writers.errors);
+            (exit, Ok(connection))
+        }
+        Err(unread) => {
+            let exit = refuse(rt, path, scratch, way, unread.failure, &mut writers.errors);
+            (exit, Err(unread))
+        }
+    }
+}
+
+// Reports of a file whose scratch copy is a desk's what is reported of its way.
+fn report_taken<E: Write>(alloc: Global, path: &str, way: ReadMode, errors: &mut E)
+    ensures { IsNotedIf (spec.taken_line path.now way) (bytes_written E.Write errors.old errors.new) }
+{
+    match way {
+        ReadMode::BadChecksums(pages) => report_rows(alloc, path, pages, Rows::OfADesk, errors),
+        ReadMode::OtherOrder => report_order(alloc, path, errors),
+        ReadMode::Itself | ReadMode::Damaged => {}
+    }
+}
+
+// Reports why a file whose scratch copy is refused is refused, and the word of the failure.
+fn refuse<E: Write>(
+    rt: &HostRuntime,
+    path: &str,
+    scratch: &str,
+    way: ReadMode,
+    failure: ErrorCode,
+    errors: &mut E,
+) -> ExitReport<E>
+    ensures { IsScratchRefused path.now way failure (ended E.Write result errors.old errors.new) }
+{
+    match way {
+        ReadMode::BadChecksums(pages) => refuse_rows(rt.alloc(), path, pages, failure, errors),
+        ReadMode::Itself | ReadMode::Damaged | ReadMode::OtherOrder => {
+            refuse_as(rt, path, scratch, failure, errors)
+        }
+    }
+}
+
+// Reports what the scratch copy of a file is refused for, as of the file, and the word of the failure.
+fn refuse_as<E: Write>(
+    rt: &HostRuntime,
+    path: &str,
+    scratch: &str,
+    failure: ErrorCode,
+    errors: &mut E,
+) -> ExitReport<E>
+    ensures { FailsReporting failure (ended E.Write result errors.old errors.new) }
+{
+    report_cause(rt, scratch, path, failure, errors);
+    report_exit(errors, Err(failure))
+}
+
+// Reports that the rows of a scratch copy are no desk's, if it wasn't memory that ran out, and the word of
+// the failure.
+fn refuse_rows<E: Write>(
+    alloc: Global,
+    path: &str,
+    pages: u64,
+    failure: ErrorCode,
+    errors: &mut E,
+) -> ExitReport<E>
+    ensures { AreRowsRefused path.now pages failure (ended E.Write result errors.old errors.new) }
+{
+    match failure {
+        ErrorCode::Memory => report_exit(errors, Err(ErrorCode::Memory)),
+        _ => {
+            report_rows(alloc, path, pages, Rows::OfNoDesk, errors);
+            report_exit(errors, Err(ErrorCode::Store))
+        }
+    }
+}
+
+/// Copies what a file holds, read by a scratch copy beside the new file, as `copy_file` does, and answers the
+/// same; nothing if there is no scratch copy. Why there is none, and the word of the failure, go to `errors`;
+/// and if its pages lack their sums and it was copied, that its rows alone were tested.
+pub fn copy_by_scratch<F: Start, N: Start, P: Folder, W: Write + Drop, E: Write + Drop>(
+    rt: &HostRuntime,
+    folder: &mut P,
+    words: &CopyArgs,
+    way: ReadMode,
+    starts: Starts<F, N>,
+    writers: &mut Writers<W, E>,
+) -> (
+    ExitReport<E>,
+    Option<Result<Copies<FileFrom<F>, FileFrom<N>>, CopyEnd<FileFrom<F>, FileFrom<N>>>>,
+)
+    ensures { IsCopiedByScratchIf (image_at F.Start) (image_at N.Start) words.now way result.1 (admin_outside
+        W.Write E.Write writers.old writers.new (steps_of P.Folder folder.old folder.new) result.0) }
+{
+    let Database::File(path) = &words.database else {
+        return (
+            report_exit(&mut writers.errors, Err(ErrorCode::Store)),
+            None,
+        );
+    };
+    let scratch = match make_scratch(
+        rt.alloc(),
+        folder,
+        path,
+        &words.to,
+        way.is_mended(),
+        &mut writers.errors,
+    ) {
+        Ok(scratch) => scratch,
+        Err(failure) => return (report_exit(&mut writers.errors, Err(failure)), None),
+    };
+    let (exit, copied) = copy_file(rt, folder, words, Some(&scratch.path), starts, writers);
+    remove_scratch(folder, &scratch);
+    report_tested(rt.alloc(), path, way, exit.status, &mut writers.errors);
+    (exit, Some(copied))
+}
+
+/// The exit status of a copy by a scratch copy. What was copied, on whatever disk it is, is closed.
+pub fn status_twinned<D: Disk + Drop, N: Disk + Drop, E>(
+    copied: (ExitReport<E>, Option<Result<Copies<D, N>, CopyEnd<D, N>>>),
+) -> u8
+    ensures { result ≡ copied.0.status }
+{
+    let (exit, _) = copied;
+    exit.status
+}
+
+// Reports that the rows alone were tested of a file that was copied with this status.
+fn report_tested<E: Write>(alloc: Global, path: &str, way: ReadMode, status: u8, errors: &mut E)
+    ensures { IsTestReported path.now way status (bytes_written E.Write errors.old errors.new) }
+{
+    if let Some(pages) = way.untested(status) {
+        report_rows(alloc, path, pages, Rows::TestedAlone, errors);
+    }
+}
+
+// Reports of a file how many of its pages lack their sums, and what its rows are. A fault of the writer is
+// passed over, and so is want of memory.
+fn report_rows<E: Write>(alloc: Global, path: &str, pages: u64, rows: Rows, errors: &mut E)
+    ensures { IsWrittenIfRoom (spec.rows_line path.now pages rows)
+        (bytes_written E.Write errors.old errors.new) }
+{
+    if let Ok(line) = unsummed_line(alloc, path, pages, rows.text()) {
+        report_line(&line, errors);
+    }
+}
+
+// Reports that the tables of a file stand in another order. A fault of the writer is passed over, and so is
+// want of memory.
+fn report_order<E: Write>(alloc: Global, path: &str, errors: &mut E)
+    ensures { IsWrittenIfRoom (spec.order_line path.now) (bytes_written E.Write errors.old errors.new) }
+{
+    report_of(alloc, path, order_text(), errors);
+}
+
+// The line that reports of pages without their sums, and what their rows are.
+#[tactic(auto, unfolding(crate::specs::ScratchCopies::unsummed_line))]
+fn unsummed_line(alloc: Global, path: &str, pages: u64, text: &str) -> Result<String, AllocError>
+    ensures { IfOk result (λ line. string_bytes line ≡ spec.unsummed_line path.now pages text.now) }
+{
+    format!(in alloc;
+        "uss_desk: {path}: {pages} pages without their sums, as sqlite3 leaves them; the rows {text}\n"
+    )
+}

@@ -1,0 +1,119 @@
+-- ReplayReported: what a line reports of a replay, and how it ends.
+use Rattle.std.specs.Prelude.{◌≡◌, ◌≤◌, ◌⊎◌, ⊤, ℕ, Bool, List, [], ◌++◌, codes, decimal, Option, Some, None, Result, Ok, Err}
+use Rattle.std.specs.Option.{IsSomeAnd}
+use Rattle.std.specs.Io.KnownBytes.{Appends}
+use Rattle.desk_record.specs.declared.reading.ReadFault.TheVariants as unread
+use Rattle.desk_store.specs.declared.store.PlanStore.{Ghosts}
+use Rattle.desk_store.specs.StoreFaults.{IsHonest}
+use Rattle.desk_run.specs.DeskWorld.{DeskWorld, Parts, world_of}
+use Rattle.desk_wire.specs.Passage.{Course, Passage}
+use Rattle.desk_cli.specs.Exits.{EndsWith, Ending, FailsWith}
+use Rattle.desk_cli.specs.Written.{HasBegun, HasWritten}
+use Rattle.desk_cli.specs.declared.failure.ErrorCode.{ErrorCode}
+use Rattle.desk_cli.specs.declared.failure.ErrorCode.TheVariants as failure
+use Rattle.desk_replay.specs.declared.fault.ReplayFault.TheVariants as fault
+use Rattle.desk_replay.specs.declared.stream.ReplayEnd.{ReplayEnd}
+use Rattle.desk_replay.specs.declared.stream.ReplayEnd.TheVariants.{End, Until, Unread, Unplayed}
+use Rattle.desk_replay.specs.Replaying.{State}
+use Rattle.desk_replay.specs.Running.{HasReplayed}
+
+-- what the end of a replay means; none if all was played that was to be
+abbrev pub failure_of_end : ReplayEnd → Option ErrorCode
+failure_of_end End = None
+failure_of_end Until = None
+failure_of_end (Unread unread.Read) = Some failure.Read
+failure_of_end (Unread unread.OutOfMemory) = Some failure.Memory
+failure_of_end (Unread unread.CutShort) = Some failure.CutShort
+failure_of_end (Unread unread.NoRecord) = Some failure.NoRecord
+failure_of_end (Unplayed fault.OutOfMemory) = Some failure.Memory
+failure_of_end (Unplayed fault.Store) = Some failure.Store
+failure_of_end (Unplayed fault.NoRecord) = Some failure.NoRecord
+failure_of_end (Unplayed fault.NotNext) = Some failure.NoRecord
+failure_of_end (Unplayed fault.Differs) = Some failure.Differs
+
+-- the same in words
+abbrev pub cause_of_end : ReplayEnd → List ℕ
+cause_of_end End = codes "all is played"
+cause_of_end Until = codes "all is played"
+cause_of_end (Unread unread.Read) = codes "a read failed"
+cause_of_end (Unread unread.OutOfMemory) = codes "memory ran out"
+cause_of_end (Unread unread.CutShort) = codes "an entry that is cut short"
+cause_of_end (Unread unread.NoRecord) = codes "no entry of a record"
+cause_of_end (Unplayed fault.OutOfMemory) = codes "memory ran out"
+cause_of_end (Unplayed fault.Store) = codes "the store failed"
+cause_of_end (Unplayed fault.NoRecord) = codes "an entry that no record has there"
+cause_of_end (Unplayed fault.NotNext) = codes "a record that is not the next one"
+cause_of_end (Unplayed fault.Differs) = codes "another answer than the recorded one"
+
+-- the line that reports why a replay ended, after how many requests, and before which byte of the input
+unfoldable pub place_line : ℕ → ℕ → List ℕ → List ℕ
+place_line requests place cause =
+    codes "uss_desk: request " ++ (decimal requests ++ (codes ", at byte " ++ (decimal place ++ (codes ": "
+    ++ (cause ++ codes "\n")))))
+
+-- the line that reports that all was played, how many requests, and how many of them made a change
+unfoldable pub replayed_line : ℕ → ℕ → List ℕ
+replayed_line requests changes =
+    codes "replayed " ++ (decimal requests ++ (codes " requests, " ++ (decimal changes
+    ++ codes " changes, all answers alike\n")))
+
+-- a line is printed; or a write of it failed, or memory ran out for it
+abbrev pub IsLinePrinted : Result ⊤ ErrorCode → List ℕ → Option (List ℕ) → Option (List ℕ) → Type 0
+IsLinePrinted (Ok done) line out now = Appends out now line
+IsLinePrinted (Err f) line out now =
+    ((f ≡ failure.Write) × HasBegun line out now) ⊎ ((f ≡ failure.Memory) × (now ≡ out))
+
+-- all was played, and the line that reports it is printed
+pub record IsAllPlayed (line : List ℕ) (end : Ending) (writes : Course (Option (List ℕ))) : Type 0 where
+  pub done : Result ⊤ ErrorCode
+  pub ends : EndsWith done end
+  pub printed : IsLinePrinted done line writes.before writes.after
+
+-- a line is written, or a beginning of it if a write broke off
+pub record IsLineWritten (line : List ℕ) (out now : Option (List ℕ)) : Type 0 where
+  pub is_cut : Bool
+  pub written : HasWritten is_cut line out now
+
+-- nothing is printed, and why is reported before the word of the failure, up to a write that fails; or not,
+-- if memory ran out for it
+pub record IsFailed (f : ErrorCode) (line : List ℕ) (end : Ending) (writes : Course (Option (List ℕ))) :
+    Type 0 where
+  pub mid : Option (List ℕ)
+  pub reported : IsLineWritten line end.before mid ⊎ (mid ≡ end.before)
+  pub fails : FailsWith f (record end { before = mid })
+  pub unwritten : writes.after ≡ writes.before
+
+-- what is reported of a replay, by the failure that its end means
+abbrev pub IsReportedBy :
+    Option ErrorCode → List ℕ → List ℕ → Ending → Course (Option (List ℕ)) → Type 0
+IsReportedBy None line cause end writes = IsAllPlayed line end writes
+IsReportedBy (Some f) line cause end writes = IsFailed f cause end writes
+
+abbrev pub IsReplayReported : ReplayEnd → ℕ → ℕ → ℕ → Ending → Course (Option (List ℕ)) → Type 0
+IsReplayReported ended requests changes place end writes =
+    IsReportedBy (failure_of_end ended) (replayed_line requests changes)
+    (place_line requests place (cause_of_end ended)) end writes
+
+-- the record of an input is played at a desk, up to where it ends, and what came of it is reported
+pub record IsReplayed (H : Type 0) (until : Option ℕ) (p : Passage) (end : Ending) (w after : DeskWorld) :
+    Type 0 where
+  pub ended : ReplayEnd
+  pub place : ℕ
+  pub state : State
+  pub replayed : HasReplayed H until ended place p.reads w state
+  pub left : state.world ≡ after
+  pub reported : IsReplayReported ended state.requests state.changes place end p.writes
+
+-- so it is at the desk that was opened, which is there then: it was in no more doubt than it is now, and if
+-- each later read was tested then, each is
+abbrev pub Replays :
+    {S : Type 0} → Ghosts S → Option ℕ → Passage → Ending → Option (Parts S) → Parts S → Type 0
+Replays g until p end left desk = IsSomeAnd left (λ left.
+    IsReplayed (IsHonest (g.doubt left.store)) until p end (world_of g.content desk) (world_of g.content left)
+    × (g.doubt desk.store ≤ g.doubt left.store)
+    × (g.is_shielded desk.store → g.is_shielded left.store))
+
+-- no desk was opened: the line ends with that failure, nothing is read, and nothing is written
+abbrev pub IsUnplayed : {S : Type 0} → Passage → Ending → Option S → ErrorCode → Type 0
+IsUnplayed p end left failure = FailsWith failure end × (left ≡ None)
+    × (p.reads.after ≡ p.reads.before) × (p.writes.after ≡ p.writes.before)
