@@ -1,6 +1,6 @@
 -- The commits of a log, counted frame by frame.
 use Rattle.std.proofs.Common.{◌≡◌, inl, inr, ℕ, suc, ◌+◌, ◌<◌, ◌≤◌, ◌&&◌, if◌then◌else◌, Bool, true, false, List, refl, sym, ap, ap₂, ◌∙◌, subst, arith, add-one, add-zero, Option}
-use Rattle.std.proofs.lemmas.Bool.Decides.{leb_reports}
+use Rattle.std.proofs.lemmas.Bool.Decides.{leb_tells}
 use Rattle.sqlite_wal.specs.Recovery.{frame, header}
 use Rattle.db_file.specs.Damage.{ends_commit, ends_in, has_salts, is_frame_whole, is_salted}
 use Rattle.db_file.specs.Walks.{HasFrame, IsBefore, LosesCommits}
@@ -61,7 +61,7 @@ module _ (page stop n count : ℕ) (log head room : List ℕ) (left : Option (Li
   module _ (one : ℕ) (is : one ≡ one_if (ends_commit room)) (salts : has_salts head room ≡ true) where
     salted_on : (i : ℕ) → i < n + 1 → is_salted page log (stop + i) ≡ true
     salted_on i low =
-        elim (leb_reports (suc i) n) [
+        elim (leb_tells (suc i) n) [
           | inl h ↦ here.salted i h.1
           | inr h ↦
               let last : n ≡ i = omega (arith, h.1, low) in

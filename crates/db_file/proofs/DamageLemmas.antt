@@ -1,7 +1,7 @@
 -- What a damaged log is, and what is none.
 use Rattle.std.proofs.Common.{◌≡◌, inl, inr, ℕ, zero, suc, ◌+◌, ◌-◌, ◌<◌, ◌≤◌, true, false, List, [], length, refl, sym, ap, ap₂, ◌∙◌, subst, arith, add-zero}
 use Rattle.std.proofs.lemmas.Bool.{leb-true, le-leb, true≢false, and_parts, and_from}
-use Rattle.std.proofs.lemmas.Bool.Decides.{leb_reports}
+use Rattle.std.proofs.lemmas.Bool.Decides.{leb_tells}
 use Rattle.std.proofs.lemmas.Slice.Eq.{bytes_eq-Decides}
 use Rattle.sqlite_wal.specs.Recovery.{Passes, frame, frame_at}
 use Rattle.sqlite_wal.proofs.PartLemmas.{frames_len-le, frames_len-suc, frames_len-zero}
@@ -38,9 +38,9 @@ module _ (page : ℕ) (log : List ℕ) where
   -- a run has one length
   pub one_run : (stop n m : ℕ) → IsRunOfFrames page log stop n → IsRunOfFrames page log stop m → n ≡ m
   one_run stop n m run other =
-      elim (leb_reports (suc n) m) [
+      elim (leb_tells (suc n) m) [
         | inl h ↦ absurd (true≢false (sym (other.salted n h.1) ∙ run.ended))
-        | inr h ↦ elim (leb_reports (suc m) n) [
+        | inr h ↦ elim (leb_tells (suc m) n) [
           | inl k ↦ absurd (true≢false (sym (run.salted m k.1) ∙ other.ended))
           | inr k ↦ omega (arith, h.1, k.1)
         ]
@@ -51,7 +51,7 @@ module _ (page : ℕ) (log : List ℕ) where
       ≡ false
       → stop + n ≤ last
   run_within stop last n run before unsalted =
-      elim (leb_reports (stop + n) last) [
+      elim (leb_tells (stop + n) last) [
         | inl h ↦ h.1
         | inr h ↦
             let place : stop + (last - stop) ≡ last = omega (arith, before) in
@@ -64,9 +64,9 @@ module _ (page : ℕ) (log : List ℕ) where
       → ((i : ℕ) → i < n → Passes page log i)
       → ¬ Passes page log n → stop ≡ n
   is_at_stop stop n commits damaged taken refused =
-      elim (leb_reports (suc stop) n) [
+      elim (leb_tells (suc stop) n) [
         | inl h ↦ absurd (damaged.refused (taken stop h.1))
-        | inr h ↦ elim (leb_reports (suc n) stop) [
+        | inr h ↦ elim (leb_tells (suc n) stop) [
           | inl k ↦ absurd (refused (damaged.taken n k.1))
           | inr k ↦ omega (arith, h.1, k.1)
         ]
@@ -77,7 +77,7 @@ module _ (page : ℕ) (log : List ℕ) where
       → ((i : ℕ) → i < first → Passes page log i)
       → first ≤ stop
   behind_taken stop first commits damaged taken =
-      elim (leb_reports first stop) [
+      elim (leb_tells first stop) [
         | inl h ↦ h.1
         | inr h ↦ absurd (damaged.refused (taken stop h.1))
       ]
@@ -86,9 +86,9 @@ module _ (page : ℕ) (log : List ℕ) where
   before_unsalted : (stop last commits : ℕ) → IsDamagedAt page log stop commits
       → is_salted page log last ≡ false → stop < last
   before_unsalted stop last commits damaged unsalted =
-      elim (leb_reports (suc stop) last) [
+      elim (leb_tells (suc stop) last) [
         | inl h ↦ h.1
-        | inr h ↦ elim (leb_reports (suc last) stop) [
+        | inr h ↦ elim (leb_tells (suc last) stop) [
           | inl k ↦ absurd (true≢false (sym (salted_if_taken last (damaged.taken last k.1)) ∙ unsalted))
           | inr k ↦
               let same : last ≡ stop = omega (arith, h.1, k.1) in

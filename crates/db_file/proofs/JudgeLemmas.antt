@@ -1,7 +1,7 @@
 -- What is reported of a whole log.
 use Rattle.std.proofs.Common.{◌≡◌, inl, inr, ℕ, suc, ◌<◌, List, ◌++◌, length, drop, Option, None, Some, Result, Ok, Err, IfOk, IfSome, sym, ap, ◌∙◌, subst, arith, drop_at}
 use Rattle.std.proofs.lemmas.Bool.{leb-true, true≢false}
-use Rattle.std.proofs.lemmas.Bool.Decides.{leb_reports}
+use Rattle.std.proofs.lemmas.Bool.Decides.{leb_tells}
 use Rattle.std.proofs.lemmas.List.{take_at}
 use Rattle.std.specs.Io.KnownBytes.{Consumes}
 use Rattle.sqlite_wal.specs.Format.{part, be32, IsHeader}
@@ -66,7 +66,7 @@ module _ (page : ℕ) (log head : List ℕ) (same : header log ≡ head) (is_hea
   pub all_taken : IsAllTaken page log → IsVerdict log Sound
   all_taken taken stop commits damaged =
       let whole = first_whole page log stop commits (with_page stop commits damaged) in
-      elim (leb_reports (suc stop) taken.0) [
+      elim (leb_tells (suc stop) taken.0) [
         | inl h ↦ (with_page stop commits damaged).refused (taken.2 stop h.1)
         | inr h ↦ true≢false (sym (whole_before page log taken.0 stop (omega (arith, h.1)) whole) ∙ taken.1)
       ]

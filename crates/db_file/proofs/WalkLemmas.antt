@@ -1,7 +1,7 @@
 -- Steps from one frame of a log to the next.
 use Rattle.std.proofs.Common.{◌≡◌, ℕ, suc, ◌+◌, ◌-◌, ◌<◌, inl, inr, Bool, true, false, List, ◌++◌, length, take, drop, Option, Some, None, Result, Ok, Err, IfOk, IfSome, refl, sym, ap, ◌∙◌, subst, arith, length-append, length-drop, drop_at, drop-drop, add-one}
 use Rattle.std.proofs.lemmas.Bool.{le-leb, leb-true}
-use Rattle.std.proofs.lemmas.Bool.Decides.{leb_reports}
+use Rattle.std.proofs.lemmas.Bool.Decides.{leb_tells}
 use Rattle.std.proofs.lemmas.List.{take_at}
 use Rattle.std.specs.Io.KnownBytes.{Consumes}
 use Rattle.sqlite_wal.specs.Format.{part, stored_sum, IsFrame}
@@ -42,7 +42,7 @@ module _ (page n : ℕ) (log room : List ℕ) (len : length room ≡ 24 + page) 
   too_short : length (drop (frame_at page n) log) < length room → is_frame_whole page log n ≡ false
   too_short short =
       let left = length-drop (frame_at page n) log in
-      elim (leb_reports (frame_at page n + (24 + page)) (length log)) [
+      elim (leb_tells (frame_at page n + (24 + page)) (length log)) [
         | inl h ↦ absurd (omega (arith, left, h.1, short, len))
         | inr h ↦ h.0
       ]
@@ -74,7 +74,7 @@ module _ (page n : ℕ) (log head room : List ℕ) (sum : ℕ × ℕ) (left : Op
 
   follows : IsFrame head sum room → IsFollowed page log (suc n) (stored_sum room 16)
   follows taken = record {
-    taken = λ i low. elim (leb_reports (suc i) n) [
+    taken = λ i low. elim (leb_tells (suc i) n) [
       | inl h ↦ so_far.taken i h.1
       | inr h ↦ subst (Passes page log) (same_place i low h.1) (passes taken)
     ];
