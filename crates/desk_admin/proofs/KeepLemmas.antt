@@ -13,10 +13,11 @@ use Rattle.desk_store.specs.World.{World}
 use Rattle.desk_wire.specs.Passage.{course}
 use Rattle.desk_cli.specs.Exits.{Ending, FailsWith}
 use Rattle.desk_program.specs.declared.looking.CheckedFile.{CheckedFile}
-use Rattle.desk_tables.specs.Copying.{AreHoldingsOf, IsMadeIn, LooksIn}
-use Rattle.desk_tables.specs.Leaving.{IsSettledAt}
+use Rattle.table_load.specs.HeldContent.{AreHoldingsOf}
+use Rattle.desk_tables.specs.Copying.{IsMadeIn, LooksIn}
+use Rattle.table_load.specs.Leaving.{IsSettledAt}
 use Rattle.desk_tables.specs.Store.{Shown}
-use Rattle.desk_tables.specs.declared.opening.looking.DbStats.{DbStats}
+use Rattle.table_load.specs.declared.looking.DbStats.{DbStats}
 use Rattle.desk_cli.specs.declared.failure.ErrorCode.TheVariants as failure
 use Rattle.desk_cli.specs.declared.line.Database.{Database}
 use Rattle.desk_tables.specs.Closing.{IsLeftUnclosed}

@@ -1,7 +1,7 @@
 -- Causes: what an administrator is reported of a file that can't be opened.
 use Rattle.std.specs.Prelude.{ℕ, List, codes, Option, None, Some}
-use Rattle.desk_tables.specs.declared.opening.naming.InvalidPart.{InvalidPart}
-use Rattle.desk_tables.specs.declared.opening.naming.InvalidPart.TheVariants as part
+use Rattle.table_load.specs.declared.naming.InvalidPart.{InvalidPart}
+use Rattle.table_load.specs.declared.naming.InvalidPart.TheVariants as part
 
 -- what is reported of the part of a file that is that of no desk
 abbrev pub part_text : InvalidPart → List ℕ

@@ -17,16 +17,17 @@ use Rattle.desk_cli.specs.declared.line.Database.{Database}
 use Rattle.desk_cli.specs.Exits.{Ending, FailsWith}
 use Rattle.desk_program.specs.Looking.{IsTextPrinted, checked_line, copied_line}
 use Rattle.desk_program.specs.declared.looking.CheckedFile.{CheckedFile}
-use Rattle.desk_tables.specs.Counting.{HaveSpanRows, IsMostCells, IsMostSpans}
+use Rattle.row_codec.specs.Counting.{HaveSpanRows, IsMostCells, IsMostSpans}
 use Rattle.desk_tables.specs.Closing.{IsLeftUnclosed}
-use Rattle.desk_tables.specs.Copying.{AreHoldingsOf, AreNotCopied, AreNotRead, IsMadeIn, LooksIn, live_count}
+use Rattle.table_load.specs.HeldContent.{AreHoldingsOf, live_count}
+use Rattle.desk_tables.specs.Copying.{AreNotCopied, AreNotRead, IsMadeIn, LooksIn}
 use Rattle.desk_tables.specs.declared.closing.CheckpointError.{CheckpointError}
 use Rattle.desk_tables.specs.declared.opening.files.CopyFault.{CopyFault}
 use Rattle.desk_tables.specs.declared.opening.files.CopyFault.TheVariants as copy
 use Rattle.desk_tables.specs.declared.opening.files.FilesFault.{FilesFault}
-use Rattle.desk_tables.specs.declared.opening.open.OpenFault.TheVariants as opening
-use Rattle.desk_tables.specs.Leaving.{IsSettledAt}
-use Rattle.desk_tables.specs.declared.opening.looking.DbStats.{DbStats}
+use Rattle.table_load.specs.declared.fault.OpenFault.TheVariants as opening
+use Rattle.table_load.specs.Leaving.{IsSettledAt}
+use Rattle.table_load.specs.declared.looking.DbStats.{DbStats}
 use Rattle.desk_admin.specs.declared.keeping.CopyError.{CopyError}
 use Rattle.desk_admin.specs.declared.unopened.OpenError.{OpenError}
 use Rattle.desk_admin.specs.AdminOutside.{AdminOutside}

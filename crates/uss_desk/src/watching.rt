@@ -152,7 +152,7 @@ fn apply_at<S: PlanStore, N: OpenPaths>(
 impl<S: Alter, N: OpenPaths + Drop> PlanStore for PathChecked<S, N> {
     ghost use Rattle.sqlite_trees.specs.View.{doubt};
     ghost use Rattle.sqlite.specs.Held.{state};
-    ghost use Rattle.desk_tables.specs.Leaving.{MayLeave};
+    ghost use Rattle.table_load.specs.Leaving.{MayLeave};
 
     ghost content = { λ w. w.world };
 
