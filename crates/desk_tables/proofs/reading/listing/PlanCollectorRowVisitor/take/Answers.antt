@@ -2,7 +2,7 @@ use Rattle.std.proofs.Common.{◌∷◌}
 use Rattle.desk_tables.specs.Gathering.{BeginNoListing}
 use Rattle.desk_tables.proofs.CollectorLemmas.{never_ungathered}
 use Rattle.desk_tables.proofs.UnreadLemmas.{refused_by}
-use Rattle.desk_tables.proofs.reading.listing.PlanCollectorRowSink.take.Goals as goal
+use Rattle.desk_tables.proofs.reading.listing.PlanCollectorRowVisitor.take.Goals as goal
 
 pub returns-in-Err-clause-refused : goal.returns-in-Err-clause-refused
 returns-in-Err-clause-refused c = λ rows collected.
