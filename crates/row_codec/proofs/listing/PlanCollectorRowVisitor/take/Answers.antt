@@ -2,7 +2,7 @@ use Rattle.std.proofs.Common.{◌∷◌}
 use Rattle.row_codec.specs.Gathering.{BeginNoListing}
 use Rattle.row_codec.proofs.lemmas.Collector.{never_ungathered}
 use Rattle.row_codec.proofs.lemmas.Unread.{refused_by}
-use Rattle.row_codec.proofs.listing.PlanCollectorRowSink.take.Goals as goal
+use Rattle.row_codec.proofs.listing.PlanCollectorRowVisitor.take.Goals as goal
 
 pub returns-in-Err-clause-refused : goal.returns-in-Err-clause-refused
 returns-in-Err-clause-refused c = λ rows collected.

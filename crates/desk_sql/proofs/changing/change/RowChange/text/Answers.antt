@@ -1,6 +1,6 @@
 use Rattle.std.proofs.Common.{sym, subst}
 use Rattle.desk_sql.specs.RowChanges.{IsTextOf}
-use Rattle.desk_sql.proofs.changing.change.Change.text.Goals as goal
+use Rattle.desk_sql.proofs.changing.change.RowChange.text.Goals as goal
 
 pub returns-in-AddOperator : goal.returns-in-AddOperator
 returns-in-AddOperator c = subst (λ change. IsTextOf change c.add_operator_text.result.now) (sym c.in-AddOperator.is)
