@@ -10,7 +10,7 @@ use Rattle.desk_tables.specs.Copying.{AreHoldingsOf, IsMadeIn, LooksIn}
 use Rattle.desk_tables.specs.Leaving.{IsSettledAt}
 use Rattle.desk_tables.specs.Store.{Shown}
 use Rattle.desk_tables.specs.declared.opening.looking.DbStats.{DbStats}
-use Rattle.desk_host.specs.declared.files.Found.{Found}
+use Rattle.host_files.specs.declared.files.Found.{Found}
 
 -- how many bytes were found at a path; none if nothing is reached
 abbrev pub found_size : Result Found ErrorKind → ℕ

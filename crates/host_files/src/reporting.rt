@@ -2,8 +2,8 @@
 
 ghost use Rattle.std.specs.Prelude.{◌≡◌, IfOk, option_map, string_bytes};
 ghost use Rattle.desk_program.specs.Outside.{bytes_written};
-ghost use Rattle.desk_host.specs.Reporting as spec;
-ghost use Rattle.desk_host.specs.Reporting.{IsWrittenIfRoom, IsWrittenUpTo, Reports};
+ghost use Rattle.host_files.specs.Reporting as spec;
+ghost use Rattle.host_files.specs.Reporting.{IsWrittenIfRoom, IsWrittenUpTo, Reports};
 
 use desk_cli::bad_argument;
 use io_ends::{WriteError, write_whole};
@@ -14,7 +14,7 @@ use std::io::Write;
 const UNENROLLED: &str = "no operator is enrolled, so each request is answered 403";
 
 /// Prints `uss_desk: PATH: TEXT`. A fault of the writer is passed over, and so is want of memory.
-#[tactic(auto, using(crate::proofs::ReportLemmas::reports_noted))]
+#[tactic(auto, using(crate::proofs::lemmas::Reporting::reports_noted))]
 pub fn report_of<E: Write>(alloc: Global, path: &str, text: &str, errors: &mut E)
     ensures line { IsWrittenIfRoom (spec.line_of path.now text.now)
         (bytes_written E.Write errors.old errors.new) }
@@ -38,7 +38,7 @@ pub fn line_of(alloc: Global, path: &str, text: &str) -> Result<String, AllocErr
 }
 
 /// Prints a line, and answers where it was broken off, if it was.
-#[tactic(auto, using(crate::proofs::ReportLemmas::noted))]
+#[tactic(auto, using(crate::proofs::lemmas::Reporting::noted))]
 pub fn report_line<E: Write>(line: &str, errors: &mut E) -> Option<WriteError<E>>
     ensures cut { IsWrittenUpTo line.now result (bytes_written E.Write errors.old errors.new) }
     ensures line { IsWrittenIfRoom line.now (bytes_written E.Write errors.old errors.new) }
@@ -50,7 +50,7 @@ pub fn report_line<E: Write>(line: &str, errors: &mut E) -> Option<WriteError<E>
 }
 
 /// Reports which word of a line is malformed: `uss_desk: WORD: CAUSE`. A fault of the writer is passed over.
-#[tactic(auto, using(crate::proofs::ReportLemmas::reports_nothing))]
+#[tactic(auto, using(crate::proofs::lemmas::Reporting::reports_nothing))]
 pub fn report_malformed<E: Write>(alloc: Global, words: &[String], errors: &mut E)
     ensures { Reports (bytes_written E.Write errors.old errors.new) }
 {

@@ -1,5 +1,5 @@
 -- Access: what a look at the path of a file that can't be had finds, and what is reported of it.
-use Rattle.std.specs.Prelude.{◌≡◌, ◌≢◌, ⊤, ℕ, ◌==◌, Bool, true, false, if◌then◌else◌}
+use Rattle.std.specs.Prelude.{◌≡◌, ◌≢◌, ◌⊎◌, ⊤, ℕ, ◌==◌, Bool, true, false, if◌then◌else◌}
 use Rattle.std.specs.Prelude.{List, [], ◌∷◌, ◌++◌, codes}
 use Rattle.std.specs.Prelude.{bytes_eq, nat_eq, Option, None, Some, option_map, Result, Ok, Err, is_ok}
 use Rattle.std.specs.List.{starts_with}
@@ -7,20 +7,21 @@ use Rattle.std.specs.declared.io.ErrorKind.{ErrorKind}
 use Rattle.std.specs.declared.io.ErrorKind.TheVariants as kind
 use Rattle.sqlite_std_file.specs.declared.pair.OpenError.{OpenError}
 use Rattle.sqlite_std_file.specs.declared.pair.OpenError.TheVariants as opening
-use Rattle.desk_host.specs.Answers.{Answers}
-use Rattle.desk_host.specs.declared.files.Found.{Found}
-use Rattle.desk_host.specs.declared.state.FileState.{FileState}
-use Rattle.desk_host.specs.declared.state.FileState.TheVariants as state
-use Rattle.desk_host.specs.declared.state.Missing.{Missing}
-use Rattle.desk_host.specs.declared.state.Missing.TheVariants as missing
-use Rattle.desk_host.specs.declared.state.Denial.{Denial}
-use Rattle.desk_host.specs.declared.state.Denial.TheVariants as denial
-use Rattle.desk_host.specs.declared.state.Start.{Start}
-use Rattle.desk_host.specs.declared.state.Start.TheVariants as start
-use Rattle.desk_host.specs.declared.state.Place.{Place}
-use Rattle.desk_host.specs.declared.state.Place.TheVariants as place
-use Rattle.desk_host.specs.declared.state.Next.{Next}
-use Rattle.desk_host.specs.declared.state.Next.TheVariants as next
+use Rattle.host_files.specs.Answers.{Answers}
+use Rattle.host_files.specs.Naming.{Failed, Follows, Steps, Tried}
+use Rattle.host_files.specs.declared.files.Found.{Found}
+use Rattle.host_files.specs.declared.state.FileState.{FileState}
+use Rattle.host_files.specs.declared.state.FileState.TheVariants as state
+use Rattle.host_files.specs.declared.state.Missing.{Missing}
+use Rattle.host_files.specs.declared.state.Missing.TheVariants as missing
+use Rattle.host_files.specs.declared.state.Denial.{Denial}
+use Rattle.host_files.specs.declared.state.Denial.TheVariants as denial
+use Rattle.host_files.specs.declared.state.Start.{Start}
+use Rattle.host_files.specs.declared.state.Start.TheVariants as start
+use Rattle.host_files.specs.declared.state.Place.{Place}
+use Rattle.host_files.specs.declared.state.Place.TheVariants as place
+use Rattle.host_files.specs.declared.state.Next.{Next}
+use Rattle.host_files.specs.declared.state.Next.TheVariants as next
 
 -- ---- what the answers of the operating system say
 
@@ -214,3 +215,10 @@ if_any (Some count) = if count == 0 then None else Some count
 
 abbrev pub pages_of : Answers → List ℕ → FileState → Option ℕ
 pages_of it path found = if may_be_damaged found then if_any (it.unsummed path) else None
+
+-- why SQLite refuses a file, by whether there is none, and what is reported of what was found: where there is
+-- none, one is made for a trial, and if it can't be, that is reported; else no folder is asked
+abbrev pub IsCauseBy : Bool → List ℕ → List ℕ → Steps → List ℕ → Type 0
+IsCauseBy true found path steps text =
+    (Follows steps (Tried path ∷ []) × (text ≡ found)) ⊎ Follows steps (Failed ∷ [])
+IsCauseBy false found path steps text = (text ≡ found) × (steps.after ≡ steps.before)

@@ -3,9 +3,9 @@ use Rattle.std.specs.Prelude.{ℕ, ◌==◌, Bool, true, false, not, if◌then�
 use Rattle.std.specs.Prelude.{Result, Ok, Err}
 use Rattle.std.specs.declared.io.ErrorKind.{ErrorKind}
 use Rattle.std.specs.declared.io.ErrorKind.TheVariants as kind
-use Rattle.desk_host.specs.Answers.{Answers}
-use Rattle.desk_host.specs.declared.files.Found.{Found}
-use Rattle.desk_host.specs.declared.files.Identity.{Identity}
+use Rattle.host_files.specs.Answers.{Answers}
+use Rattle.host_files.specs.declared.files.Found.{Found}
+use Rattle.host_files.specs.declared.files.Identity.{Identity}
 
 -- nothing stands at a path
 abbrev pub is_unfound : Result Found ErrorKind → Bool

@@ -2,7 +2,7 @@
 use Rattle.std.specs.Prelude.{◌≡◌, ◌⊎◌, ⊤, ℕ, Bool, true, false, List, [], ◌∷◌, ◌++◌, All, codes, Option, None, Some, string_bytes}
 use Rattle.desk_wire.specs.Passage.{Course}
 use Rattle.desk_program.specs.Serving.{Grows}
-use Rattle.desk_host.specs.declared.naming.NewFile.{NewFile}
+use Rattle.host_files.specs.declared.naming.NewFile.{NewFile}
 
 -- a step: a path is looked at, and there is nothing; what a copy that was cut off left at two paths, a file
 -- and its log, is gone; a file is made there for a trial, and is gone again; a file is read, and its scratch

@@ -3,7 +3,7 @@ use Rattle.std.proofs.Common.{◌≡◌, ℕ, Bool, true, false, List, [], ◌�
 use Rattle.std.proofs.lemmas.List.Elements.{All-append, All-cons, All-nil, All-weaker}
 use Rattle.std.specs.Prelude.{All, Result, Ok, Err, is_ok}
 use Rattle.desk_wire.specs.Passage.{course}
-use Rattle.desk_host.specs.Naming.{ChangesOwn, Cleared, ClearsOwn, Failed, Follows, Free, GivesNoName, GivesUp, HasFailedStep, IsNotFree, IsUnnamed, LeavesNames, LeavesOthers, Ordered, Removed, Renamed, Step, Synced, Takes, TakesAll, Tried, Twinned, clearing, free_steps, log_of, named_steps, part_of}
+use Rattle.host_files.specs.Naming.{ChangesOwn, Cleared, ClearsOwn, Failed, Follows, Free, GivesNoName, GivesUp, HasFailedStep, IsNotFree, IsUnnamed, LeavesNames, LeavesOthers, Ordered, Removed, Renamed, Step, Synced, Takes, TakesAll, Tried, Twinned, clearing, free_steps, log_of, named_steps, part_of}
 
 -- steps after steps
 pub follows_both : (old mid new : Option (List Step)) (xs ys : List Step) → Follows (course old mid) xs

@@ -3,8 +3,8 @@ use Rattle.std.specs.Prelude.{◌≡◌, ◌↔◌, ℕ, Bool, IsTrue, List, Opt
 use Rattle.std.specs.declared.io.ErrorKind.{ErrorKind}
 use Rattle.std.specs.Fs.{IsFile, file_type, metadata_len}
 use Rattle.std.specs.declared.fs.attrs.Metadata.{Metadata}
-use Rattle.desk_host.specs.declared.files.Found.{Found}
-use Rattle.desk_host.specs.declared.state.Denial.{Denial}
+use Rattle.host_files.specs.declared.files.Found.{Found}
+use Rattle.host_files.specs.declared.state.Denial.{Denial}
 
 -- The answers, by the path that is asked about: what it leads to, and what stands there, be it a link; the
 -- path to which its links lead; why its file can't be opened for reading, for writing, and as SQLite does;

@@ -2,8 +2,8 @@
 //! here.
 
 ghost use Rattle.std.specs.Prelude.{◌≡◌};
-ghost use Rattle.desk_host.specs.Access as spec;
-ghost use Rattle.desk_host.specs.Access.{MayAsk};
+ghost use Rattle.host_files.specs.Access as spec;
+ghost use Rattle.host_files.specs.Access.{MayAsk};
 
 use crate::files::Found;
 use std::io::ErrorKind;

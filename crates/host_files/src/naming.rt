@@ -3,12 +3,12 @@
 ghost use Rattle.std.specs.Prelude.{◌≡◌, ℕ, ◌++◌, [], List, Option, None, false, true, IfOk, IfSome};
 ghost use Rattle.std.specs.Prelude.{string_bytes};
 ghost use Rattle.desk_wire.specs.Passage.{course};
-ghost use Rattle.desk_host.specs.Access as access;
-ghost use Rattle.desk_host.specs.LeftFiles as left;
-ghost use Rattle.desk_host.specs.Naming.{AreNames, ChangesOwn, Cleared, Follows, Free, HasFailedStep, IsUnnamed, Ordered};
-ghost use Rattle.desk_host.specs.Unmade as unmade;
-ghost use Rattle.desk_host.specs.Naming.{Removed, Renamed, Step, Synced, Takes, TakesAll, TakesIfNone, Tried, Twinned};
-ghost use Rattle.desk_host.specs.Naming.{named_steps};
+ghost use Rattle.host_files.specs.Access as access;
+ghost use Rattle.host_files.specs.LeftFiles as left;
+ghost use Rattle.host_files.specs.Naming.{AreNames, ChangesOwn, Cleared, Follows, Free, HasFailedStep, IsUnnamed, Ordered};
+ghost use Rattle.host_files.specs.Unmade as unmade;
+ghost use Rattle.host_files.specs.Naming.{Removed, Renamed, Step, Synced, Takes, TakesAll, TakesIfNone, Tried, Twinned};
+ghost use Rattle.host_files.specs.Naming.{named_steps};
 
 use crate::files::{HostFiles, LocalHost};
 use crate::pairs::{ScratchFault, write_scratch};
@@ -249,7 +249,7 @@ pub fn name_with(alloc: Global, path: &str, end: &str) -> Result<String, AllocEr
 
 /// Gives a file that is whole its name, and syncs its folder. Its log, which is empty, goes. Whether all of
 /// that was done.
-#[tactic(auto, using(crate::proofs::NameLemmas::fails_after))]
+#[tactic(auto, using(crate::proofs::lemmas::Naming::fails_after))]
 pub fn publish<N: Folder>(folder: &mut N, names: &NewFile) -> bool
     ensures named { (to : List ℕ) → AreNames to names.now → result ≡ true
         → Follows (course (N.steps folder.old) (N.steps folder.new)) (named_steps to (Synced to)) }

@@ -4,10 +4,10 @@
 
 ghost use Rattle.std.specs.Prelude.{◌≡◌, Err, IfOk, IfSome, MatchResult, Option, List, ℕ};
 ghost use Rattle.std.specs.Io.KnownBytes.{Consumes};
-ghost use Rattle.desk_host.specs.Access as spec;
-ghost use Rattle.desk_host.specs.Access.{IsStartAt, IsStateAt, MayFind};
-ghost use Rattle.desk_host.specs.Answers.{error_of};
-ghost use Rattle.desk_host.specs.Openings.{OpensAtMost};
+ghost use Rattle.host_files.specs.Access as spec;
+ghost use Rattle.host_files.specs.Access.{IsStartAt, IsStateAt, MayFind};
+ghost use Rattle.host_files.specs.Answers.{error_of};
+ghost use Rattle.host_files.specs.Openings.{OpensAtMost};
 
 use crate::files::{HostFiles, LocalHost};
 use crate::naming::is_no_path;

@@ -3,13 +3,12 @@
 
 ghost use Rattle.std.specs.Prelude.{◌≡◌, IfSome, option_map};
 ghost use Rattle.desk_program.specs.Outside.{bytes_written};
-ghost use Rattle.desk_host.specs.Access as spec;
-ghost use Rattle.desk_host.specs.Access.{IsDenialText};
-ghost use Rattle.desk_host.specs.Causes.{IsCauseBy};
-ghost use Rattle.desk_host.specs.Openings.{OpensAtMost};
-ghost use Rattle.desk_host.specs.Reporting.{Reports};
-ghost use Rattle.desk_host.specs.Naming.{Free, TakesIfNone};
-ghost use Rattle.desk_host.specs.FolderSteps.{steps_of};
+ghost use Rattle.host_files.specs.Access as spec;
+ghost use Rattle.host_files.specs.Access.{IsCauseBy, IsDenialText};
+ghost use Rattle.host_files.specs.Openings.{OpensAtMost};
+ghost use Rattle.host_files.specs.Reporting.{Reports};
+ghost use Rattle.host_files.specs.Naming.{Free, TakesIfNone};
+ghost use Rattle.host_files.specs.FolderSteps.{steps_of};
 
 use crate::files::{HostFiles, LocalHost};
 use crate::naming::{Folder, IN_USE, READ_ONLY, TAKEN, is_no_path};
@@ -43,7 +42,7 @@ fn taken_text(is_no_path: bool) -> &'static str
 
 /// Reports why SQLite refuses the file at a path, by what a look at it found: of one that may be damaged, how
 /// many pages, if their sums report.
-#[tactic(auto, using(crate::proofs::ReportLemmas::reports_nothing))]
+#[tactic(auto, using(crate::proofs::lemmas::Reporting::reports_nothing))]
 pub fn report_store<E: Write>(
     rt: &HostRuntime,
     path: &str,
@@ -83,7 +82,7 @@ fn may_be_damaged(state: FileState) -> bool
 }
 
 // Reports that so many pages have another sum than theirs.
-#[tactic(auto, using(crate::proofs::ReportLemmas::reports_nothing))]
+#[tactic(auto, using(crate::proofs::lemmas::Reporting::reports_nothing))]
 fn report_pages<E: Write>(alloc: Global, path: &str, count: u64, errors: &mut E)
     ensures { Reports (bytes_written E.Write errors.old errors.new) }
 {

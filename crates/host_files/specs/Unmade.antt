@@ -2,8 +2,8 @@
 use Rattle.std.specs.Prelude.{◌≡◌, ◌⊎◌, ℕ, Bool, true, false, List, codes, Option, None, Some}
 use Rattle.std.specs.declared.io.ErrorKind.{ErrorKind}
 use Rattle.std.specs.declared.io.ErrorKind.TheVariants as kind
-use Rattle.desk_host.specs.declared.pairs.ScratchFault.{ScratchFault}
-use Rattle.desk_host.specs.declared.pairs.ScratchFault.TheVariants as fault
+use Rattle.host_files.specs.declared.pairs.ScratchFault.{ScratchFault}
+use Rattle.host_files.specs.declared.pairs.ScratchFault.TheVariants as fault
 
 -- why a file can't be made where there is none, by the kind of the error
 abbrev pub unmade_text : ErrorKind → List ℕ

@@ -5,8 +5,8 @@ ghost use Rattle.std.specs.Prelude.{◌≡◌, ◌∷◌, [], ℕ, Err, IfOk, If
 ghost use Rattle.std.specs.Prelude.{string_bytes};
 ghost use Rattle.std.specs.IoError.{error_kind};
 ghost use Rattle.desk_program.specs.Serving.{Grows};
-ghost use Rattle.desk_host.specs.Access as spec;
-ghost use Rattle.desk_host.specs.Answers.{Answers, IsFoundAs, by_ok, error_of};
+ghost use Rattle.host_files.specs.Access as spec;
+ghost use Rattle.host_files.specs.Answers.{Answers, IsFoundAs, by_ok, error_of};
 
 use crate::state::Denial;
 use db_file::{count_bad_checksums, has_other_order, takes_commit};
@@ -108,7 +108,8 @@ pub trait HostFiles {
 /// The machine on which the program runs, of which nothing is known.
 #[derive(Drop)]
 pub struct LocalHost<'s> {
-    pub(crate) rt: &'s HostRuntime,
+    /// The runtime of this run.
+    pub rt: &'s HostRuntime,
 }
 
 impl<'s> LocalHost<'s> {

@@ -1,9 +1,9 @@
 //! The scratch copies of files of the operating system.
 
 ghost use Rattle.std.specs.Prelude.{◌≡◌, IfErr, IfSome};
-ghost use Rattle.desk_host.specs.LeftFiles as left;
-ghost use Rattle.desk_host.specs.Unmade as spec;
-ghost use Rattle.desk_host.specs.Unmade.{IsCopyFault, IsScratchFaultBy};
+ghost use Rattle.host_files.specs.LeftFiles as left;
+ghost use Rattle.host_files.specs.Unmade as spec;
+ghost use Rattle.host_files.specs.Unmade.{IsCopyFault, IsScratchFaultBy};
 
 use crate::access::access_cause;
 use crate::files::{HostFiles, LocalHost};
@@ -29,7 +29,7 @@ pub enum ScratchFault {
 
 impl From<AllocError> for ScratchFault {
     ghost use Rattle.std.specs.Prelude.{◌≡◌, IfSome};
-    ghost use Rattle.desk_host.specs.declared.pairs.ScratchFault.TheVariants.{OutOfMemory};
+    ghost use Rattle.host_files.specs.declared.pairs.ScratchFault.TheVariants.{OutOfMemory};
 
     ghost from_gives = { λ _ fault. fault ≡ OutOfMemory };
 

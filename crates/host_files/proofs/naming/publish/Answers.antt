@@ -1,8 +1,8 @@
 use Rattle.std.proofs.Common.{◌≡◌, ◌∙◌, false, inr, rules, true}
 use Rattle.std.specs.Prelude.{string_bytes}
-use Rattle.desk_host.specs.Naming.{ChangesOwn}
-use Rattle.desk_host.proofs.NameLemmas.{failed_after, failed_if, made_if, takes_both, takes_one}
-use Rattle.desk_host.proofs.naming.publish.Goals as goal
+use Rattle.host_files.specs.Naming.{ChangesOwn}
+use Rattle.host_files.proofs.lemmas.Naming.{failed_after, failed_if, made_if, takes_both, takes_one}
+use Rattle.host_files.proofs.naming.publish.Goals as goal
 
 pub returns-then-not-remove-clause-own : goal.returns-then-not-remove-clause-own
 returns-then-not-remove-clause-own g c to are =

@@ -4,10 +4,10 @@ ghost use Rattle.std.specs.Prelude.{◌≡◌, [], ◌∷◌, IfErr, IfOk, IfSom
 ghost use Rattle.std.specs.Prelude.{unwrap_or};
 ghost use Rattle.desk_cli.specs.Lines.{file_of};
 ghost use Rattle.desk_cli.specs.declared.failure.ErrorCode.TheVariants.{Memory};
-ghost use Rattle.desk_host.specs.LeftFiles as left;
+ghost use Rattle.host_files.specs.LeftFiles as left;
 ghost use Rattle.desk_program.specs.Serving.{Grows};
-ghost use Rattle.desk_host.specs.Paths as spec;
-ghost use Rattle.desk_host.specs.Paths.{File, IsUnheldAt, Log, Look};
+ghost use Rattle.host_files.specs.Paths as spec;
+ghost use Rattle.host_files.specs.Paths.{File, IsUnheldAt, Log, Look};
 
 use crate::files::{HostFiles, Identity, LocalHost};
 use crate::naming::name_with;

@@ -3,11 +3,11 @@ use Rattle.std.specs.Prelude.{◌≡◌, ◌⊎◌, ℕ, Bool, true, false, List
 use Rattle.std.specs.declared.io.ErrorKind.{ErrorKind}
 use Rattle.desk_wire.specs.Passage.{Course}
 use Rattle.desk_program.specs.Serving.{Grows}
-use Rattle.desk_host.specs.Answers.{Answers}
-use Rattle.desk_host.specs.Naming.{log_of}
-use Rattle.desk_host.specs.declared.files.Found.{Found}
-use Rattle.desk_host.specs.declared.files.Identity.{Identity}
-use Rattle.desk_host.specs.declared.paths.LocalOpenPaths.{LocalOpenPaths}
+use Rattle.host_files.specs.Answers.{Answers}
+use Rattle.host_files.specs.Naming.{log_of}
+use Rattle.host_files.specs.declared.files.Found.{Found}
+use Rattle.host_files.specs.declared.files.Identity.{Identity}
+use Rattle.host_files.specs.declared.paths.LocalOpenPaths.{LocalOpenPaths}
 
 -- a look at a path: whether that of the database file, or that of its log, leads to the file that is open
 pub data Look : Type 0 where

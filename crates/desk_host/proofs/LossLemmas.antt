@@ -1,44 +1,14 @@
--- What is reported, one line after the other.
-use Rattle.std.proofs.Common.{◌≡◌, refl, Bool, true, false, if◌then◌else◌, Result, Ok, Err, ℕ, List, [], ◌++◌, take, Option, None, Some, inl, inr, subst, sym}
-use Rattle.std.proofs.KnownBytes.{Appends-nil, Appends-trans}
-use Rattle.std.specs.Io.KnownBytes.{Appends}
+-- What is reported of the damage of a log.
+use Rattle.std.proofs.Common.{◌≡◌, refl, Bool, true, false, if◌then◌else◌, Result, Ok, Err, ℕ, List, Option, None, Some, inl, inr, subst, sym}
 use Rattle.io_ends.specs.declared.writing.WriteError.{WriteError}
-use Rattle.desk_wire.specs.Passage.{Course, course}
+use Rattle.desk_wire.specs.Passage.{Course}
 use Rattle.desk_cli.specs.declared.failure.ErrorCode.{ErrorCode}
 use Rattle.desk_cli.specs.declared.failure.ErrorCode.TheVariants as failure
 use Rattle.desk_host.specs.DamageReported.{IsBegun, IsLogCheckReported, ReportsLoss, admission_of, damage_line}
-use Rattle.desk_host.specs.Reporting.{IsWrittenIfRoom, IsWrittenOnce, IsWrittenUpTo, Reports}
+use Rattle.host_files.specs.Reporting.{IsWrittenUpTo}
 use Rattle.desk_host.specs.declared.damage.LogCheck.{LogCheck}
 use Rattle.desk_host.specs.declared.damage.LogCheckError.{LogCheckError}
 use Rattle.desk_host.specs.declared.damage.LogCheckError.TheVariants.{OutOfMemory, Unread}
-
--- nothing is reported
-pub reports_nothing : (now : Option (List ℕ)) → Reports (course now now)
-reports_nothing now = record { text = []; reported = Appends-nil now }
-
--- one text after the other
-pub reports_both : {old between now : Option (List ℕ)} → Reports (course old between)
-    → Reports (course between now) → Reports (course old now)
-reports_both {old} {between} {now} first next = record {
-  text = first.text ++ next.text;
-  reported = Appends-trans old between now first.text next.text first.reported next.reported;
-}
-
--- a line is written, or broken off
-pub noted : {E : Type 0} (line : List ℕ) (cut : Option (WriteError E)) (writes : Course (Option (List ℕ)))
-    → IsWrittenUpTo line cut writes → IsWrittenIfRoom line writes
-noted line None writes whole = inr (inl whole)
-noted line (Some cut) writes off = inr (inr (cut.fault, off))
-
--- a line that is written, whole or in part, is reported
-pub reports_noted : (line : List ℕ) (writes : Course (Option (List ℕ))) → IsWrittenIfRoom line writes
-    → Reports writes
-reports_noted line writes (inl same) =
-    subst (λ now. Reports (course writes.before now)) (sym same) (reports_nothing writes.before)
-reports_noted line writes (inr (inl whole)) = record { text = line; reported = whole }
-reports_noted line writes (inr (inr (fault, off))) = record { text = take fault.sent line; reported = off.written }
-
--- ---- a log
 
 -- the line that reports damage is written, whole or in part
 pub loss_reported : {E : Type 0} (path : List ℕ) (frame commits : ℕ) (cut : Option (WriteError E))
