@@ -27,7 +27,7 @@ use Rattle.desk_rules.specs.Plan.{is_live}
 use Rattle.desk_sql.specs.Rows as sql
 use Rattle.desk_sql.specs.Rows.{by_cells, is_of, is_same, tables_of}
 use Rattle.desk_sql.specs.Changing.{HasKey, IsShort, has_same_key}
-use Rattle.desk_sql.specs.Putting.{AreOfPlan, AreShort, HasRoomFor, HaveOwnKeys, IsPuttable}
+use Rattle.desk_changes.specs.Putting.{AreOfPlan, AreShort, HasRoomFor, HaveOwnKeys, IsPuttable}
 use Rattle.desk_store.specs.Changes.{filed_by}
 use Rattle.desk_store.specs.StoreChange.{IsFitting}
 use Rattle.desk_store.specs.declared.change.Change.TheVariants.{Put}

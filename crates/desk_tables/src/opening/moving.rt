@@ -6,9 +6,8 @@ ghost use Rattle.sqlite.specs.State.{HasCleanDisk, KeepsCommit};
 ghost use Rattle.sqlite.specs.Held.{state};
 ghost use Rattle.sqlite_value.specs.Order.{Row as Values};
 ghost use Rattle.desk_sql.specs.Rows.{IsDesk, tables_at, tables_of};
-ghost use Rattle.desk_sql.specs.Batches.{IsUnderWay};
 ghost use Rattle.desk_sql.specs.QueryEnds.{WasOpen};
-ghost use Rattle.desk_sql.specs.Effects.{IsReady, StaysShown, IsOpenIfClean, Makes, Commits, MayMake};
+ghost use Rattle.desk_sql.specs.Effects.{IsReady, StaysShown, IsOpenIfClean, Makes, Commits, MayMake, IsUnderWay};
 ghost use Rattle.desk_sql.specs.Making.{MayComplete};
 ghost use Rattle.desk_sql.specs.Frames.{IsOver, OnlyReads, Remembers};
 ghost use Rattle.desk_sql.specs.Finding.{Holds};
@@ -39,11 +38,9 @@ use crate::opening::finding::{content_with, tables_found, uncovered_parts, world
 use crate::opening::open::OpenFault;
 use crate::opening::ordering::unpack;
 use crate::opening::spans::{SpanCheck, take_spans};
+use desk_changes::{empty_old_spans, empty_old_volumes, insert_spans, insert_volumes};
 use desk_sql::laws::committed_and_sound;
-use desk_sql::{
-    TablesPresent, WholeTable, all_rows, complete_tables, empty_old_spans, empty_old_volumes,
-    has_new_rows, insert_spans, insert_volumes,
-};
+use desk_sql::{TablesPresent, WholeTable, all_rows, complete_tables, has_new_rows};
 use operator_index::ListedOperator;
 use s2_cover::laws::{canonical_list_is, one_canonical_list, one_list_of_ranges};
 use sqlite::{Connection, Error, Transaction};

@@ -1,5 +1,5 @@
 use Rattle.std.proofs.Common.{drop}
-use Rattle.desk_sql.specs.Batches.{span_row_in}
+use Rattle.desk_changes.specs.Batches.{span_row_in}
 use Rattle.desk_tables.specs.SpanBounds.{IsKnownRow, Keeps}
 use Rattle.desk_tables.proofs.SpanBoundLemmas.{AreLeft}
 use Rattle.desk_tables.proofs.changing.records.lengths_with.Given as goal
