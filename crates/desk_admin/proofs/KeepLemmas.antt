@@ -26,12 +26,12 @@ use Rattle.desk_tables.specs.declared.opening.files.CopyFault.{CopyFault}
 use Rattle.desk_tables.specs.declared.opening.files.FilesFault.{FilesFault}
 use Rattle.desk_admin.specs.declared.unopened.OpenError.{OpenError}
 use Rattle.desk_admin.specs.FilesReported.{CopyEnd, FailsAtFiles, FailsBy, FailsToCopy, FailsToLook, FailsToRead, IsAsCopied, IsCopyMade, IsNamedIf, IsNamedNow, IsReadAs, IsUncopied, IsUnreported, ReportsHoldings}
-use Rattle.desk_host.specs.Reporting.{Reports}
-use Rattle.desk_host.specs.Naming.{Follows, Step, Steps, Synced, free_steps, named_steps}
+use Rattle.host_files.specs.Reporting.{Reports}
+use Rattle.host_files.specs.Naming.{Follows, Step, Steps, Synced, free_steps, named_steps}
 use Rattle.desk_admin.specs.Unopened.{open_failure}
 use Rattle.desk_admin.specs.Stored.{IsStoredAs}
 use Rattle.desk_tables.specs.Copying.{AreNotCopied, AreNotRead}
-use Rattle.desk_host.proofs.NameLemmas.{failed_after, follows_both, unnamed_after}
+use Rattle.host_files.proofs.lemmas.Naming.{failed_after, follows_both, unnamed_after}
 use Rattle.desk_admin.proofs.UnopenedLemmas.{fails_over}
 
 -- what refused the files refuses them in the program

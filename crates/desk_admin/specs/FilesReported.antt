@@ -31,8 +31,8 @@ use Rattle.table_load.specs.declared.looking.DbStats.{DbStats}
 use Rattle.desk_admin.specs.declared.keeping.CopyError.{CopyError}
 use Rattle.desk_admin.specs.declared.unopened.OpenError.{OpenError}
 use Rattle.desk_admin.specs.AdminOutside.{AdminOutside}
-use Rattle.desk_host.specs.Naming.{Follows, HasFailedStep, IsNamed, IsUnnamed, Steps, Synced, free_steps, named_steps}
-use Rattle.desk_host.specs.Reporting.{Reports}
+use Rattle.host_files.specs.Naming.{Follows, HasFailedStep, IsNamed, IsUnnamed, Steps, Synced, free_steps, named_steps}
+use Rattle.host_files.specs.Reporting.{Reports}
 use Rattle.desk_admin.specs.Unopened.{open_failure, FailsOver, IsInMemory, IsUnreadFor}
 
 -- why is reported, and then the line of the failure, with which it ends

@@ -21,9 +21,9 @@ use Rattle.desk_host.specs.declared.ways.ReadMode.{ReadMode}
 use Rattle.desk_host.specs.declared.ways.ReadMode.TheVariants as way
 use Rattle.desk_admin.specs.FilesReported.{CopyOutcome, FailsReporting, FailsToRead, IsCopied, IsNamedIf, IsReadAs}
 use Rattle.desk_admin.specs.AdminOutside.{AdminOutside}
-use Rattle.desk_host.specs.Naming.{Follows, LeavesOthers, Step, Steps}
+use Rattle.host_files.specs.Naming.{Follows, LeavesOthers, Step, Steps}
 use Rattle.desk_host.specs.Scratch.{AreRemoved, IsUntwinned, making, scratch_of}
-use Rattle.desk_host.specs.Reporting.{IsWrittenIfRoom, line_of}
+use Rattle.host_files.specs.Reporting.{IsWrittenIfRoom, line_of}
 use Rattle.desk_admin.specs.Unopened.{IsInMemory}
 use Rattle.db_file.specs.Orders.{order_text}
 use Rattle.desk_host.specs.Ways.{is_mended, untested}

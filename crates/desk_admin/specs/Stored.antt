@@ -11,7 +11,7 @@ use Rattle.desk_tables.specs.Copying.{IsMadeIn, LooksIn}
 use Rattle.table_load.specs.Leaving.{IsSettledAt}
 use Rattle.desk_tables.specs.Store.{Shown}
 use Rattle.table_load.specs.declared.looking.DbStats.{DbStats}
-use Rattle.desk_host.specs.declared.files.Found.{Found}
+use Rattle.host_files.specs.declared.files.Found.{Found}
 
 -- how many bytes were found at a path; none if nothing is reached
 abbrev pub found_size : Result Found ErrorKind → ℕ

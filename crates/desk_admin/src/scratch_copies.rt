@@ -8,12 +8,12 @@ ghost use Rattle.sqlite_wal.specs.Recovery.{Image};
 ghost use Rattle.desk_program.specs.Outside.{bytes_written, ended};
 ghost use Rattle.desk_admin.specs.FilesReported.{FailsReporting, FailsToRead, IsReadAs};
 ghost use Rattle.desk_admin.specs.AdminOutside.{admin_outside};
-ghost use Rattle.desk_host.specs.FolderSteps.{steps_of};
+ghost use Rattle.host_files.specs.FolderSteps.{steps_of};
 ghost use Rattle.desk_host.specs.Scratch.{scratch_of};
 ghost use Rattle.desk_admin.specs.ScratchCopies as spec;
 ghost use Rattle.desk_admin.specs.ScratchCopies.{AreRowsRefused, IsCopiedByScratchIf, IsJudged, IsJudgedIf, IsNotedIf};
 ghost use Rattle.desk_admin.specs.ScratchCopies.{IsTestReported, IsScratchRefused, WasScratch};
-ghost use Rattle.desk_host.specs.Reporting.{IsWrittenIfRoom};
+ghost use Rattle.host_files.specs.Reporting.{IsWrittenIfRoom};
 ghost use Rattle.desk_host.specs.Ways.{is_mended};
 
 use crate::causes::report_cause;
@@ -21,11 +21,11 @@ use crate::keeping::{Copies, CopyEnd, ReadConnection, Starts, Writers, copy_file
 use crate::unopened::{FileOpenError, OpenError};
 use db_file::order_text;
 use desk_cli::{CopyArgs, Database, ErrorCode, ExitReport, report_exit};
-use desk_host::naming::Folder;
-use desk_host::reporting::{report_line, report_of};
 use desk_host::scratch::{make_scratch, remove_scratch};
 use desk_host::ways::ReadMode;
 use desk_program::{CheckedFile, print_checked};
+use host_files::naming::Folder;
+use host_files::reporting::{report_line, report_of};
 use sqlite::{Connection, FileFrom, FileStore, Start};
 use sqlite_disk::Disk;
 use std::alloc::{AllocError, Global};

@@ -2,10 +2,10 @@
 use Rattle.std.proofs.Common.{◌≡◌, ◌<◌, ◌+◌, ℕ, Bor, List, [], ◌∷◌, ◌++◌, Option, ap, drop, get_or, length, map, refl, subst, sym}
 use Rattle.std.proofs.lemmas.List.{drop_more}
 use Rattle.desk_wire.specs.Passage.{course}
-use Rattle.desk_host.specs.Reporting.{IsWrittenIfRoom, Reports}
+use Rattle.host_files.specs.Reporting.{IsWrittenIfRoom, Reports}
 use Rattle.desk_host.specs.ReportedLines.{AreReported, counted_with, line_reported, lines_reported, lines_reported_after}
 use Rattle.desk_host.specs.declared.operators.LineCounts.{LineCounts}
-use Rattle.desk_host.proofs.ReportLemmas.{reports_both}
+use Rattle.host_files.proofs.lemmas.Reporting.{reports_both}
 
 -- one line is reported
 pub reported_one : (line : List ℕ) (old now : Option (List ℕ)) → IsWrittenIfRoom line (course old now)

@@ -10,7 +10,7 @@ use Rattle.desk_cli.specs.declared.failure.ErrorCode.{ErrorCode}
 use Rattle.desk_cli.specs.declared.failure.ErrorCode.TheVariants as failure
 use Rattle.db_file.specs.Damage.{IsDamaged}
 use Rattle.db_file.specs.Reads.{IsUnjudged}
-use Rattle.desk_host.specs.Reporting.{IsWrittenIfRoom, IsWrittenOnce, IsWrittenUpTo, line_of}
+use Rattle.host_files.specs.Reporting.{IsWrittenIfRoom, IsWrittenOnce, IsWrittenUpTo, line_of}
 use Rattle.desk_host.specs.declared.logs.FoundLog.{FoundLog}
 use Rattle.desk_host.specs.declared.logs.FoundLog.TheVariants as found
 use Rattle.desk_host.specs.declared.damage.LogCheck.{LogCheck}

@@ -3,7 +3,7 @@ use Rattle.std.specs.Prelude.{◌≡◌, ℕ, ◌+◌, ◌-◌, ◌^◌, min, na
 use Rattle.std.specs.Prelude.{Option}
 use Rattle.desk_wire.specs.Passage.{course}
 use Rattle.desk_host.specs.Operators.{is_unread, more_lines, unread_line}
-use Rattle.desk_host.specs.Reporting.{IsWrittenIfRoom, line_of}
+use Rattle.host_files.specs.Reporting.{IsWrittenIfRoom, line_of}
 use Rattle.desk_host.specs.declared.operators.LineCounts.{LineCounts}
 
 -- lines are written, each once, in their order

@@ -10,7 +10,7 @@ use Rattle.sqlite.specs.Held.{Held, state}
 use Rattle.sqlite_value.specs.declared.value.Value.TheVariants.{Int}
 use Rattle.sqlite_value.specs.Order.{Row, column}
 use Rattle.desk_sql.specs.Rows.{Tables, PutsOperator, ClosesPlan, tables_of}
-use Rattle.desk_sql.specs.Batches.{PutsPlan, RemovesPlans}
+use Rattle.desk_changes.specs.Batches.{PutsPlan, RemovesPlans}
 use Rattle.desk_sql.specs.Effects.{Commits, MayMake, IsMadeOf}
 use Rattle.desk_sql.specs.Frames.{OnlyReads}
 use Rattle.desk_sql.specs.QueryEnds.{IsCommitted}

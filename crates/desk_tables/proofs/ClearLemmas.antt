@@ -8,7 +8,7 @@ use Rattle.s2_cover.specs.declared.spans.Span.{Span}
 use Rattle.volume4d.specs.Volume.{Block}
 use Rattle.desk_rules.specs.Plan.{is_live}
 use Rattle.desk_sql.specs.Rows.{Tables, is_of}
-use Rattle.desk_sql.specs.Batches.{RemovesPlans, is_of_none}
+use Rattle.desk_changes.specs.Batches.{RemovesPlans, is_of_none}
 use Rattle.desk_store.specs.World.{Filed, World}
 use Rattle.desk_store.proofs.lemmas.Order.{all_weaker}
 use Rattle.row_codec.specs.Tables.{id_text, row_of_plan, plan_rows, row_of_volume, rows_from, volume_rows, row_of_cover, cover_rows, row_of_span, AreSpanRowsFrom, ArePlanSpanRows, AreSpanRows, AreTables}

@@ -14,7 +14,7 @@ use Rattle.desk_sql.specs.Changing.{HasKey, IsNewRow, IsShort, FitsOperator, Fit
 use Rattle.desk_rules.specs.Name.{is_operator_name}
 use Rattle.desk_sql.specs.Effects.{IsOpenIfClean}
 use Rattle.desk_sql.specs.Finding.{Holds}
-use Rattle.desk_sql.specs.Putting.{HasRoomFor, HaveOwnKeys, TakesOperators, TakesRoom}
+use Rattle.desk_changes.specs.Putting.{HasRoomFor, HaveOwnKeys, TakesOperators, TakesRoom}
 use Rattle.desk_sql.specs.Rows.{AddsOperator, AddsPlan, Tables, by_cells, tables_of}
 use Rattle.desk_store.specs.World.{Filed, IsListed, Listed, World, filed_cmp, listed_cmp}
 use Rattle.desk_store.proofs.lemmas.Order.{all_weaker}

@@ -6,7 +6,7 @@ use Rattle.std.proofs.lemmas.List.Sorted.{IsPermutation-refl, IsPermutation-sym,
 use Rattle.sqlite_value.specs.Order.{Row}
 use Rattle.sqlite_keyed.proofs.ListLemmas.{IsPermutation-filter, IsPermutation-same, filter_all, none_from_any}
 use Rattle.desk_sql.specs.Rows.{Tables, is_of, is_not_of, left_without, plan_row}
-use Rattle.desk_sql.specs.Batches.{PlanPut, PutsPlan}
+use Rattle.desk_changes.specs.Batches.{PlanPut, PutsPlan}
 use Rattle.desk_store.specs.World.{Filed, World}
 use Rattle.desk_store.specs.OwnRows.{is_own}
 use Rattle.row_codec.specs.PlanRows.{filed_put}

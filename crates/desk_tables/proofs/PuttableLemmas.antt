@@ -20,7 +20,7 @@ use Rattle.desk_rules.specs.Name.{is_operator_name}
 use Rattle.desk_sql.specs.Rows as sql
 use Rattle.desk_sql.specs.Rows.{is_of, tables_of}
 use Rattle.desk_sql.specs.Changing.{HasKey, IsShort, has_same_key}
-use Rattle.desk_sql.specs.Putting.{AreOfPlan, AreShort, HasRoomFor, IsPuttable}
+use Rattle.desk_changes.specs.Putting.{AreOfPlan, AreShort, HasRoomFor, IsPuttable}
 use Rattle.desk_store.specs.Changes.{filed_by}
 use Rattle.desk_store.specs.StoreChange.{IsFitting}
 use Rattle.desk_store.specs.declared.change.Change.TheVariants.{Put}

@@ -7,7 +7,7 @@ use Rattle.sqlite.specs.Held.{Held, state}
 use Rattle.sqlite.specs.Effect.{Database}
 use Rattle.desk_sql.specs.Rows.{tables_of}
 use Rattle.desk_sql.specs.Changing.{AreLow, HasRowids}
-use Rattle.desk_sql.specs.Putting.{HasRoomFor}
+use Rattle.desk_changes.specs.Putting.{HasRoomFor}
 use Rattle.desk_sql.specs.Refusals.{HasDiskFailed}
 use Rattle.desk_store.specs.Changes.{filed_by}
 use Rattle.desk_store.specs.World.{Filed}

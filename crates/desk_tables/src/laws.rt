@@ -10,7 +10,7 @@ ghost use Rattle.sqlite.specs.Files.{over_files, AreFoundIn, HoldsDatabase, IsNo
 ghost use Rattle.sqlite.specs.Tree.{Trees};
 ghost use Rattle.sqlite.specs.declared.file.Leftover.{Leftover};
 ghost use Rattle.desk_sql.specs.Rows.{Tables, PutsOperator, ClosesPlan};
-ghost use Rattle.desk_sql.specs.Batches.{PutsPlan, RemovesPlans};
+ghost use Rattle.desk_changes.specs.Batches.{PutsPlan, RemovesPlans};
 ghost use Rattle.desk_store.specs.World.{Filed, World, text_cmp};
 ghost use Rattle.desk_store.specs.StoreChange.{changed_by, IsFitting};
 ghost use Rattle.desk_store.specs.declared.change.Change.{Change};

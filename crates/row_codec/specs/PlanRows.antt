@@ -2,7 +2,7 @@
 use Rattle.std.specs.Prelude.{◌≡◌, ℕ, pos, List, map}
 use Rattle.sqlite_value.specs.Order.{Row}
 use Rattle.desk_sql.specs.Rows as sql
-use Rattle.desk_sql.specs.Batches.{PlanPut}
+use Rattle.desk_changes.specs.Batches.{PlanPut}
 use Rattle.volume4d.specs.FootprintBytes.{footprint_bytes}
 use Rattle.volume4d.specs.Volume.{Block}
 use Rattle.volume4d.specs.Windows.{WindowParts}

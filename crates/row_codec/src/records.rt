@@ -5,7 +5,7 @@ ghost use Rattle.std.specs.List.{AllByRecursion};
 ghost use Rattle.std.specs.String.{string_bytes};
 ghost use Rattle.volume4d.specs.FootprintBytes.{footprint_bytes};
 ghost use Rattle.desk_sql.specs.Rows.{cover_row};
-ghost use Rattle.desk_sql.specs.Batches.{volume_row_in, cover_of, span_row_in};
+ghost use Rattle.desk_changes.specs.Batches.{volume_row_in, cover_of, span_row_in};
 ghost use Rattle.desk_store.specs.Changes.{filed_by};
 ghost use Rattle.row_codec.specs.Tables as spec;
 ghost use Rattle.row_codec.specs.Tables.{id_text, area_rows, area_covers, ArePlanSpanRows, AreSpanRowsFrom};
@@ -14,10 +14,10 @@ ghost use Rattle.row_codec.specs.SpanBounds.{IsKnownRow, Keeps};
 ghost use Rattle.row_codec.specs.PlanRows.{volume_record, slab_record, AreAskedOf, AreCanonOf};
 
 use crate::span_bounds::SpanBounds;
+use desk_changes::{SpanRecord, VolumeRecord};
 use desk_rules::plan::PlanRow;
 use desk_rules::plan_id::PlanId;
 use desk_rules::words::{Aircraft, Usage};
-use desk_sql::{SpanRecord, VolumeRecord};
 use std::alloc::{AllocError, Global};
 use volume4d::{Slab, Volume};
 

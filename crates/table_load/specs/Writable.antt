@@ -5,7 +5,7 @@ use Rattle.std.specs.List.Sorted.{IsStrictlySortedBy}
 use Rattle.sqlite_value.specs.Order.{Row}
 use Rattle.sqlite.specs.Effect.{Database}
 use Rattle.desk_sql.specs.Changing.{HasKey, IsShort, LacksKey}
-use Rattle.desk_sql.specs.Putting.{AreNewSpans, AreNewVolumes, HasRoomFor, HaveOwnKeys}
+use Rattle.desk_changes.specs.Putting.{AreNewSpans, AreNewVolumes, HasRoomFor, HaveOwnKeys}
 use Rattle.desk_sql.specs.Rows.{Tables, tables_at, tables_of}
 use Rattle.desk_sql.specs.Making.{HasSmallSpans}
 use Rattle.desk_sql.specs.declared.opening.finding.TablesPresent.{TablesPresent}

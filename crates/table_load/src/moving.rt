@@ -6,9 +6,8 @@ ghost use Rattle.sqlite.specs.State.{HasCleanDisk, KeepsCommit};
 ghost use Rattle.sqlite.specs.Held.{state};
 ghost use Rattle.sqlite_value.specs.Order.{Row as Values};
 ghost use Rattle.desk_sql.specs.Rows.{IsDesk, tables_at, tables_of};
-ghost use Rattle.desk_sql.specs.Batches.{IsUnderWay};
 ghost use Rattle.desk_sql.specs.QueryEnds.{WasOpen};
-ghost use Rattle.desk_sql.specs.Effects.{IsReady, StaysShown, IsOpenIfClean, Makes, Commits, MayMake};
+ghost use Rattle.desk_sql.specs.Effects.{IsReady, StaysShown, IsOpenIfClean, Makes, Commits, MayMake, IsUnderWay};
 ghost use Rattle.desk_sql.specs.Making.{MayComplete};
 ghost use Rattle.desk_sql.specs.Frames.{IsOver, OnlyReads, Remembers};
 ghost use Rattle.desk_sql.specs.Finding.{Holds};
@@ -33,11 +32,9 @@ use crate::fault::OpenFault;
 use crate::finding::{content_with, tables_found, uncovered_parts, world_of};
 use crate::ordering::unpack;
 use crate::spans::{SpanCheck, take_spans};
+use desk_changes::{empty_old_spans, empty_old_volumes, insert_spans, insert_volumes};
 use desk_sql::laws::committed_and_sound;
-use desk_sql::{
-    TablesPresent, WholeTable, all_rows, complete_tables, empty_old_spans, empty_old_volumes,
-    has_new_rows, insert_spans, insert_volumes,
-};
+use desk_sql::{TablesPresent, WholeTable, all_rows, complete_tables, has_new_rows};
 use operator_index::ListedOperator;
 use row_codec::canon::canons_of;
 use row_codec::content::{Content, TableRows};

@@ -16,10 +16,10 @@ ghost use Rattle.row_codec.specs.SpanBounds.{IsKnownPlan, BringsKnown, Keeps};
 ghost use Rattle.desk_tables.specs.ChangesMade.{HasFollowed, IsMade, IsNext};
 
 use crate::tables::DeskTables;
+use desk_changes::{PlanRecord, clear_plans, close_plan, put_operator, put_plan};
 use desk_rules::operator::Operator;
 use desk_rules::plan::PlanRow;
 use desk_rules::plan_id::PlanId;
-use desk_sql::{PlanRecord, clear_plans, close_plan, put_operator, put_plan};
 use desk_store::{Change, StoreFault};
 use row_codec::canon::canons_of;
 use row_codec::kept::GhostState;

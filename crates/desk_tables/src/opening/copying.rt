@@ -3,8 +3,7 @@
 ghost use Rattle.std.specs.Prelude.{◌≡◌, List, ◌∷◌, false, IfOk, IfErr, OnOk, None};
 ghost use Rattle.sqlite.specs.State.{HasCleanDisk};
 ghost use Rattle.sqlite.specs.Held.{state};
-ghost use Rattle.desk_sql.specs.Batches.{IsUnderWay};
-ghost use Rattle.desk_sql.specs.Effects.{IsReady, IsOpenIfClean, Makes, Commits};
+ghost use Rattle.desk_sql.specs.Effects.{IsReady, IsOpenIfClean, Makes, Commits, IsUnderWay};
 ghost use Rattle.desk_sql.specs.Finding.{Holds};
 ghost use Rattle.desk_sql.specs.Frames.{IsOver, OnlyReads, Remembers};
 ghost use Rattle.desk_sql.specs.Rows.{IsDesk, AddsOperator, AddsPlan, IsMadeTo};
@@ -21,8 +20,9 @@ ghost use Rattle.table_load.specs.Writable.{AreNewHeads, AreNewOperators, CanBeF
 
 use crate::opening::open::AdoptFault;
 use crate::store::SqliteStore;
+use desk_changes::{insert_operator, insert_plan};
 use desk_sql::laws::committed_and_sound;
-use desk_sql::{TablesPresent, find_tables, insert_operator, insert_plan};
+use desk_sql::{TablesPresent, find_tables};
 use desk_store::StoreFault;
 use operator_index::ListedOperator;
 use row_codec::content::Content;

@@ -17,9 +17,8 @@ use Rattle.volume4d.specs.Shape.{Shape, rectangle, shape_positions}
 use Rattle.desk_sql.specs.declared.opening.finding.TablesPresent.{TablesPresent}
 use Rattle.desk_sql.specs.declared.opening.finding.TablesPresent.TheVariants.{All}
 use Rattle.desk_sql.specs.Rows.{IsMadeTo, Tables, tables_of, tables_at, has_old_rows}
-use Rattle.desk_sql.specs.Effects.{StaysShown, ShowsAsBefore, Makes}
+use Rattle.desk_sql.specs.Effects.{StaysShown, ShowsAsBefore, Makes, IsUnderWay}
 use Rattle.desk_sql.specs.Frames.{OnlyReads, Remembers}
-use Rattle.desk_sql.specs.Batches.{IsUnderWay}
 use Rattle.desk_sql.specs.Finding.{Holds, HasOthers}
 use Rattle.desk_store.specs.World.{Filed, World}
 use Rattle.row_codec.specs.Tables.{area_rows, area_covers, volume_rows, cover_rows, ArePlanSpanRows, AreSpanRows}

@@ -22,9 +22,9 @@ use Rattle.volume4d.specs.VolumeLimits.{max_cover}
 use Rattle.volume4d.specs.Shape.{Shape, is_footprint, shape_positions}
 use Rattle.volume4d.specs.Volume.{Block}
 use Rattle.desk_rules.specs.Plan.{is_live}
-use Rattle.desk_sql.specs.Batches.{AddsSpans, AddsVolumes}
+use Rattle.desk_changes.specs.Batches.{AddsSpans, AddsVolumes}
 use Rattle.desk_sql.specs.Changing.{HasKey, LacksKey, has_same_key}
-use Rattle.desk_sql.specs.Putting.{AreNewRows, AreNewSpans, AreNewVolumes, AreShort, HasRoomFor, IsShortValue, TakesRoom}
+use Rattle.desk_changes.specs.Putting.{AreNewRows, AreNewSpans, AreNewVolumes, AreShort, HasRoomFor, IsShortValue, TakesRoom}
 use Rattle.desk_sql.specs.Rows.{Tables, tables_of}
 use Rattle.desk_store.specs.World.{Filed}
 use Rattle.desk_store.proofs.lemmas.Order.{all_append, all_weaker}

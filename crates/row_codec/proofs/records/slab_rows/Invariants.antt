@@ -1,5 +1,5 @@
 use Rattle.std.proofs.Common.{◌≡◌, map, take}
-use Rattle.desk_sql.specs.Batches.{span_row_in}
+use Rattle.desk_changes.specs.Batches.{span_row_in}
 use Rattle.row_codec.specs.PlanRows.{slab_record}
 use Rattle.row_codec.proofs.records.slab_rows.Given as goal
 

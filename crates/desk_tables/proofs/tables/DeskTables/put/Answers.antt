@@ -2,8 +2,8 @@ use Rattle.std.proofs.Common.{ap, arith, sym, subst, ◌∙◌, map}
 use Rattle.std.specs.List.{AllByRecursion}
 use Rattle.sqlite.specs.State.{HasCleanDisk}
 use Rattle.sqlite.specs.Held.{state}
-use Rattle.desk_sql.specs.Putting.{IsPuttable}
-use Rattle.desk_sql.specs.Batches.{PutsPlan, volume_row_in, cover_of, span_row_in}
+use Rattle.desk_changes.specs.Putting.{IsPuttable}
+use Rattle.desk_changes.specs.Batches.{PutsPlan, volume_row_in, cover_of, span_row_in}
 use Rattle.desk_store.specs.Changes.{filed_by}
 use Rattle.desk_store.specs.declared.change.Change.TheVariants.{Put}
 use Rattle.desk_tables.specs.ChangesMade.{IsNext}

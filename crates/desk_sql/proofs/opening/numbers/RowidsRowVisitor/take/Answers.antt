@@ -1,4 +1,4 @@
-use Rattle.desk_sql.proofs.RowidLemmas.{one_taken}
+use Rattle.desk_sql.proofs.lemmas.Rowid.{one_taken}
 use Rattle.desk_sql.proofs.opening.numbers.RowidsRowVisitor.take.Goals as goal
 
 pub returns-clause-taken : goal.returns-clause-taken
