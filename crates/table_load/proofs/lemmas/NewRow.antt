@@ -21,7 +21,7 @@ use Rattle.volume4d.specs.Shape.{Shape, cells, rectangle, is_footprint, shape_po
 use Rattle.volume4d.specs.Volume.{Block}
 use Rattle.desk_rules.specs.Plan.{is_live}
 use Rattle.desk_sql.specs.Rows.{by_cells, is_same}
-use Rattle.desk_sql.specs.Putting.{AreShort, HaveOwnKeys}
+use Rattle.desk_changes.specs.Putting.{AreShort, HaveOwnKeys}
 use Rattle.desk_store.specs.World.{Filed}
 use Rattle.desk_store.proofs.lemmas.Order.{all_append}
 use Rattle.row_codec.specs.Tables.{id_text, rows_from, volume_rows_from, row_of_cover, row_of_span, AreSpanRowsFrom, ArePlanSpanRows}
