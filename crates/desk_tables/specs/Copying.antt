@@ -112,7 +112,7 @@ module _ {D : Type 0} {g : disk.Ghosts D} (image : Image) where
     pub blank : HasCleanDisk (file_state h) → (file_state found).now.schema ≡ blank_schema
     pub guarded : HasCleanDisk (file_state found) → (file_state h).IsShielded
     pub summed : HasCleanDisk (file_state found) → IsBlankAs true image
-        → (view found.store).has_checksums ≡ true
+        → (view found.store).has_sums ≡ true
     pub live : IsOpenIfClean (over_files {D = D} {g = g}) h
 
 module _ {D : Type 0} {g : disk.Ghosts D} (image : Image) (e : OpenFault) where

@@ -38,13 +38,13 @@ module _ {D : Type 0} {g : disk.Ghosts D} where
     pub first : HasCleanDisk (file_state found) → FindsFirst image found
     pub guarded : IsGuarded found
     pub summed : HasCleanDisk (file_state found) → IsBlankAs true image
-        → (view found.store).has_checksums ≡ true
+        → (view found.store).has_sums ≡ true
 
   -- if the disk has returned what was written so far, and the files were new, the connection that opened them
   -- puts the sums of SQLite's cksumvfs on pages
   abbrev pub IsSummed : Image → Held (FileStore D g) → Type 0
   IsSummed image h = HasCleanDisk (file_state h) → IsBlankAs true image
-      → (found : Held (FileStore D g)) × FindsFirst image found × ((view found.store).has_checksums ≡ true)
+      → (found : Held (FileStore D g)) × FindsFirst image found × ((view found.store).has_sums ≡ true)
 
   -- a connection finds the database of the files, and is open; the store begins with what that connection
   -- shows
@@ -57,7 +57,7 @@ module _ {D : Type 0} {g : disk.Ghosts D} where
     pub guarded : HasCleanDisk (file_state found) → (file_state h).IsShielded
     -- new files get the sums of SQLite's cksumvfs
     pub summed : HasCleanDisk (file_state found) → IsBlankAs true image
-        → (view found.store).has_checksums ≡ true
+        → (view found.store).has_sums ≡ true
     pub live : IsOpenIfClean (over_files {D = D} {g = g}) h
     pub begins : BeginsWith (over_files {D = D} {g = g}) found h w
 
