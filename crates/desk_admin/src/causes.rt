@@ -11,6 +11,7 @@ use desk_cli::{Database, ErrorCode};
 use desk_host::ways::{ReadMode, read_mode};
 use desk_tables::{InvalidPart, Named, NotOpened, part_at};
 use host_files::access::report_store;
+use host_files::files::LocalHost;
 use host_files::probing::probe;
 use host_files::reporting::report_of;
 use sqlite::Unknown;
@@ -20,7 +21,7 @@ use std::io::Write;
 /// Reports why a database can't be opened by a line that makes its file where there is none.
 #[tactic(auto, using(host_files::proofs::lemmas::Reporting::reports_nothing))]
 pub fn report_made<E: Write>(
-    rt: &HostRuntime,
+    host: LocalHost<'_>,
     database: &Database,
     failure: ErrorCode,
     errors: &mut E,
@@ -29,16 +30,16 @@ pub fn report_made<E: Write>(
 {
     match (database, failure) {
         (Database::File(path), ErrorCode::Store) => {
-            report_store(rt, path, path, probe(rt, path, true), errors);
+            report_store(host.rt, path, path, probe(host.rt, path, true), errors);
         }
-        _ => report_database(rt, database, failure, errors),
+        _ => report_database(host, database, failure, errors),
     }
 }
 
 /// Reports why a database can't be opened, if it is in a file that has to be there.
 #[tactic(auto, using(host_files::proofs::lemmas::Reporting::reports_nothing))]
 pub fn report_database<E: Write>(
-    rt: &HostRuntime,
+    host: LocalHost<'_>,
     database: &Database,
     failure: ErrorCode,
     errors: &mut E,
@@ -46,7 +47,7 @@ pub fn report_database<E: Write>(
     ensures { Reports (bytes_written E.Write errors.old errors.new) }
 {
     match database {
-        Database::File(path) => report_cause(rt, path, path, failure, errors),
+        Database::File(path) => report_cause(host, path, path, failure, errors),
         Database::InMemory => {}
     }
 }
@@ -55,7 +56,7 @@ pub fn report_database<E: Write>(
 /// over.
 #[tactic(auto, using(host_files::proofs::lemmas::Reporting::reports_nothing))]
 pub fn report_cause<E: Write>(
-    rt: &HostRuntime,
+    host: LocalHost<'_>,
     path: &str,
     name: &str,
     failure: ErrorCode,
@@ -64,20 +65,26 @@ pub fn report_cause<E: Write>(
     ensures { Reports (bytes_written E.Write errors.old errors.new) }
 {
     let cause = match failure {
-        ErrorCode::Store => return report_store(rt, path, name, probe(rt, path, false), errors),
-        ErrorCode::NotADesk => desk_cause(rt, path),
+        ErrorCode::Store => return report_store(
+            host.rt,
+            path,
+            name,
+            probe(host.rt, path, false),
+            errors,
+        ),
+        ErrorCode::NotADesk => desk_cause(host, path),
         ErrorCode::OldSchema => "rows of schema 1: migrate it",
         _ => return,
     };
-    report_of(rt.alloc(), name, cause, errors);
+    report_of(host.alloc(), name, cause, errors);
 }
 
 // Why a file holds no desk, if that is found once more.
-fn desk_cause(rt: &HostRuntime, path: &str) -> &'static str {
-    if read_mode(rt, path, false) == ReadMode::OtherOrder {
+fn desk_cause(host: LocalHost<'_>, path: &str) -> &'static str {
+    if read_mode(host.rt, path, false) == ReadMode::OtherOrder {
         return order_text();
     }
-    named_cause(part_of(part_at(rt, path, Unknown)))
+    named_cause(part_of(part_at(host.rt, path, Unknown)))
 }
 
 // The part that was named of files, on whatever disk they are. They are closed.

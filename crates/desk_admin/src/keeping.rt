@@ -137,7 +137,7 @@ struct FileStats {
 /// it was not. It is left as it is. Why it can't be read, and the word of the failure, go to `errors`; a
 /// fault there is passed over.
 pub fn check_file<F: Start, W: Write + Drop, E: Write + Drop>(
-    rt: &HostRuntime,
+    host: LocalHost<'_>,
     database: &Database,
     start: F,
     writers: &mut Writers<W, E>,
@@ -146,13 +146,18 @@ pub fn check_file<F: Start, W: Write + Drop, E: Write + Drop>(
         (ended E.Write result.0 writers.old.errors writers.new.errors) result.1
         (bytes_written W.Write writers.old.output writers.new.output) }
 {
-    match look_for(rt, database, start) {
+    match look_for(host, database, start) {
         Ok((connection, file)) => {
-            let exit = print_checked(rt.alloc(), &file, &mut writers.output, &mut writers.errors);
+            let exit = print_checked(
+                host.alloc(),
+                &file,
+                &mut writers.output,
+                &mut writers.errors,
+            );
             (exit, Ok(connection))
         }
         Err(unread) => {
-            let exit = report_unread(rt, database, unread.failure, &mut writers.errors);
+            let exit = report_unread(host, database, unread.failure, &mut writers.errors);
             (exit, Err(unread))
         }
     }
@@ -173,21 +178,21 @@ pub fn status_checked<D: Disk + Drop, E>(
 
 // Reports why a database can't be read, and the word of the failure.
 fn report_unread<E: Write>(
-    rt: &HostRuntime,
+    host: LocalHost<'_>,
     database: &Database,
     failure: ErrorCode,
     errors: &mut E,
 ) -> ExitReport<E>
     ensures { FailsReporting failure (ended E.Write result errors.old errors.new) }
 {
-    report_database(rt, database, failure, errors);
+    report_database(host, database, failure, errors);
     report_exit(errors, Err(failure))
 }
 
 // What a database holds, with the connection with which it was read.
 #[tactic(auto, using(crate::proofs::KeepLemmas::look_fails))]
 fn look_for<F: Start>(
-    rt: &HostRuntime,
+    host: LocalHost<'_>,
     database: &Database,
     start: F,
 ) -> Result<(ReadConnection<F>, CheckedFile), FileOpenError<F>>
@@ -195,7 +200,7 @@ fn look_for<F: Start>(
     ensures fault { IfErr result (FailsToLook (image_at F.Start) database.now) }
 {
     match database {
-        Database::File(path) => look_in(rt, path, start),
+        Database::File(path) => look_in(host, path, start),
         Database::InMemory => Err(OpenError::unread(OpenFault::Store)),
     }
 }
@@ -207,15 +212,15 @@ fn look_for<F: Start>(
 /// What refused it; `Memory` if memory runs out.
 #[tactic(auto, using(crate::proofs::KeepLemmas::read_as, crate::proofs::KeepLemmas::refused_fails))]
 pub fn look_in<F: Start>(
-    rt: &HostRuntime,
+    host: LocalHost<'_>,
     path: &str,
     start: F,
 ) -> Result<(ReadConnection<F>, CheckedFile), FileOpenError<F>>
     ensures looks { IfOk result (λ found. IsReadAs (image_at F.Start) found.0 found.1) }
     ensures fault { IfErr result (FailsToRead (image_at F.Start)) }
 {
-    let bulk = bulk_of(rt, path)?;
-    match look_at(rt, path, start) {
+    let bulk = bulk_of(host, path)?;
+    match look_at(host.rt, path, start) {
         Ok((connection, holdings)) => Ok((connection, reported_of(&holdings, bulk))),
         Err(refused) => Err(OpenError::of(refused)),
     }
@@ -244,10 +249,10 @@ fn reported_of(holdings: &DbStats, bulk: FileStats) -> CheckedFile
 
 // How large a file and its log are, and whether its pages have sums; nothing if it can't be looked at. To be
 // called while no connection has it: that this closes the file would take the connection's lock away.
-fn bulk_of(rt: &HostRuntime, path: &str) -> Result<FileStats, AllocError> {
-    let log = name_with(rt.alloc(), path, "-wal")?;
-    let has_checksums = has_checksums(rt, path);
-    Ok(bulk_at(&LocalHost::new(rt), path, &log, has_checksums))
+fn bulk_of(host: LocalHost<'_>, path: &str) -> Result<FileStats, AllocError> {
+    let log = name_with(host.alloc(), path, "-wal")?;
+    let has_checksums = has_checksums(host.rt, path);
+    Ok(bulk_at(&host, path, &log, has_checksums))
 }
 
 // The same, of the files of any machine, if it is known whether its pages have sums.
@@ -279,7 +284,7 @@ fn size_of(found: Result<Found, ErrorKind>) -> u64
 /// file is read at that path, and reported of as itself.
 #[tactic(auto, using(crate::proofs::KeepLemmas::uncopied))]
 pub fn copy_file<F: Start, N: Start, P: Folder, W: Write + Drop, E: Write + Drop>(
-    rt: &HostRuntime,
+    host: LocalHost<'_>,
     folder: &mut P,
     words: &CopyArgs,
     scratch: Option<&str>,
@@ -294,10 +299,10 @@ pub fn copy_file<F: Start, N: Start, P: Folder, W: Write + Drop, E: Write + Drop
     ensures named { IsNamedIf result.1 (string_bytes words.now.to) (steps_of P.Folder folder.old folder.new) }
     ensures own { LeavesOthers (string_bytes words.now.to) (steps_of P.Folder folder.old folder.new) }
 {
-    match copy_for(rt, folder, words, scratch, starts, &mut writers.errors) {
+    match copy_for(host, folder, words, scratch, starts, &mut writers.errors) {
         Ok(copies) => {
             let exit = print_holdings(
-                rt.alloc(),
+                host.alloc(),
                 &copies.1.1,
                 &mut writers.output,
                 &mut writers.errors,
@@ -338,7 +343,7 @@ fn print_holdings<W: Write, E: Write>(
 // the disk: a copy that is cut off leaves nothing of the new name.
 #[tactic(auto, using(host_files::proofs::lemmas::Naming::leaves_none, host_files::proofs::lemmas::Naming::leaves_all))]
 fn copy_for<F: Start, N: Start, P: Folder, E: Write>(
-    rt: &HostRuntime,
+    host: LocalHost<'_>,
     folder: &mut P,
     words: &CopyArgs,
     scratch: Option<&str>,
@@ -357,13 +362,13 @@ fn copy_for<F: Start, N: Start, P: Folder, E: Write>(
     let Database::File(path) = &words.database else {
         return Err(CopyError::untried(ErrorCode::Store));
     };
-    let names = names_of(rt.alloc(), &words.to)?;
-    if let Err(failure) = make_room_or_report(rt.alloc(), folder, path, &names, errors) {
+    let names = names_of(host.alloc(), &words.to)?;
+    if let Err(failure) = make_room_or_report(host.alloc(), folder, path, &names, errors) {
         return Err(CopyError::untried(failure));
     }
     let source = CopySource::of(path, scratch);
-    let copied = copy_closed(rt, source.path, &names.part, starts);
-    keep_copy(rt, folder, source, &names, copied, errors)
+    let copied = copy_closed(host, source.path, &names.part, starts);
+    keep_copy(host, folder, source, &names, copied, errors)
 }
 
 // A file that is copied: how it is reported of, and where it is read.
@@ -389,7 +394,7 @@ impl<'s> CopySource<'s> {
 // Gives new files their names, if they were made, or removes what was made, on whatever disks the files are.
 // Why they were not made, or have no names, is reported.
 fn keep_copy<D: Disk + Drop, N: Disk + Drop, P: Folder, E: Write>(
-    rt: &HostRuntime,
+    host: LocalHost<'_>,
     folder: &mut P,
     source: CopySource<'_>,
     names: &NewFile,
@@ -408,11 +413,11 @@ fn keep_copy<D: Disk + Drop, N: Disk + Drop, P: Folder, E: Write>(
     let copies = match copied {
         Ok(copies) => copies,
         Err(uncopied) => {
-            give_up(rt, folder, source, names, uncopied.failure, errors);
+            give_up(host, folder, source, names, uncopied.failure, errors);
             return Err(uncopied);
         }
     };
-    if let Err(failure) = publish_copy(rt.alloc(), folder, names, errors) {
+    if let Err(failure) = publish_copy(host.alloc(), folder, names, errors) {
         return Err(CopyError::untried(failure));
     }
     Ok(copies)
@@ -447,7 +452,7 @@ fn publish_copy<P: Folder, E: Write>(
 
 // Copies what the file at a path holds to new files at another, and closes these.
 fn copy_closed<F: Start, N: Start>(
-    rt: &HostRuntime,
+    host: LocalHost<'_>,
     path: &str,
     to: &str,
     starts: Starts<F, N>,
@@ -456,7 +461,7 @@ fn copy_closed<F: Start, N: Start>(
         (IsCopyMade ⟦<FileFrom<N> as Disk>⟧ (image_at F.Start) (image_at N.Start)) }
     ensures fault { IfErr result (FailsAtFiles (image_at F.Start) (image_at N.Start)) }
 {
-    close_copied(copy_from(rt, path, starts.source, to, starts.copy))
+    close_copied(copy_from(host.rt, path, starts.source, to, starts.copy))
 }
 
 // Closes the store of a copy, if it was made, or answers why it was not, on whatever disks the files are.
@@ -526,7 +531,7 @@ fn make_room_or_report<P: Folder, E: Write>(
 // Reports why nothing is copied, and removes what was made.
 #[tactic(auto, using(host_files::proofs::lemmas::Reporting::reports_nothing))]
 fn give_up<P: Folder, E: Write>(
-    rt: &HostRuntime,
+    host: LocalHost<'_>,
     folder: &mut P,
     source: CopySource<'_>,
     names: &NewFile,
@@ -538,12 +543,12 @@ fn give_up<P: Folder, E: Write>(
         → GivesUp to (steps_of P.Folder folder.old folder.new) }
 {
     if folder.is_free(&names.part) {
-        report_cause(rt, source.path, source.name, failure, errors);
+        report_cause(host, source.path, source.name, failure, errors);
         return;
     }
     if let ErrorCode::Store = failure {
         let cause = "it can't be written: a full disk, or one that fails";
-        report_of(rt.alloc(), &names.to, cause, errors);
+        report_of(host.alloc(), &names.to, cause, errors);
     }
     folder.remove(&names.part);
     folder.remove(&names.part_log);

@@ -16,12 +16,11 @@ ghost use Rattle.host_files.specs.Reporting.{IsWrittenIfRoom, Reports};
 use crate::causes::report_cause;
 use crate::keeping::look_in;
 use crate::scratch_copies::{CheckResult, Judged};
-use db_file::has_other_order;
 use desk_cli::{Database, ErrorCode};
 use desk_host::scratch::{ScratchCopy, make_scratch, remove_scratch};
 use desk_host::ways::{ReadMode, read_mode};
 use host_files::access::access_cause;
-use host_files::files::LocalHost;
+use host_files::files::{HostFiles, LocalHost};
 use host_files::naming::Folder;
 use host_files::reporting::report_of;
 use sqlite::{FileFrom, Start, Unknown};
@@ -50,23 +49,23 @@ pub struct ReorderTarget<'p> {
 ///
 /// Why it can't be put in order, which is reported.
 pub fn reorder_for(
-    rt: &HostRuntime,
+    host: LocalHost<'_>,
     database: &Database,
     takes_old: bool,
 ) -> Result<(), ErrorCode> {
     let Some(path) = database.path() else {
         return Ok(());
     };
-    if !has_other_order(rt, path) {
+    if !host.is_disordered(path) {
         return Ok(());
     }
     let file = ReorderTarget {
         path,
-        way: read_mode(rt, path, false),
+        way: read_mode(host.rt, path, false),
         takes_old,
     };
-    let mut folder = LocalHost::new(rt);
-    done_of(reorder(rt, &mut folder, file, Unknown, &mut rt.stderr()))
+    let mut folder = host;
+    done_of(reorder(host, &mut folder, file, Unknown, &mut host.errors()))
 }
 
 /// What came of it. The scratch copy that was read, on whatever disk it is, is closed.
@@ -88,7 +87,7 @@ pub fn done_of<D: Disk + Drop>(
 ///
 /// Why the file can't be put in order. Nothing is asked of it then, but if it was that which failed.
 pub fn reorder<F: Start, P: Folder, E: Write>(
-    rt: &HostRuntime,
+    host: LocalHost<'_>,
     folder: &mut P,
     file: ReorderTarget<'_>,
     start: F,
@@ -100,14 +99,14 @@ pub fn reorder<F: Start, P: Folder, E: Write>(
         (bytes_written E.Write errors.old errors.new) }
 {
     match file.way {
-        ReadMode::OtherOrder => reorder_by_scratch(rt, folder, file, start, errors),
+        ReadMode::OtherOrder => reorder_by_scratch(host, folder, file, start, errors),
         ReadMode::Itself | ReadMode::Damaged | ReadMode::BadChecksums(_) => (Ok(()), None),
     }
 }
 
 // Makes the scratch copy of a file that is disordered, and puts the file in order by what that shows.
 fn reorder_by_scratch<F: Start, P: Folder, E: Write>(
-    rt: &HostRuntime,
+    host: LocalHost<'_>,
     folder: &mut P,
     file: ReorderTarget<'_>,
     start: F,
@@ -118,19 +117,19 @@ fn reorder_by_scratch<F: Start, P: Folder, E: Write>(
     ensures reported { IsReorderReported file.entry.path.now result.0 result.1
         (bytes_written E.Write errors.old errors.new) }
 {
-    let scratch = match make_scratch(rt.alloc(), folder, file.path, file.path, true, errors) {
+    let scratch = match make_scratch(host.alloc(), folder, file.path, file.path, true, errors) {
         Ok(scratch) => scratch,
         Err(failure) => return (Err(failure), None),
     };
-    let found = look_in(rt, &scratch.path, start);
-    let (done, judged) = order_by_scratch(rt, folder, file, &scratch, found, errors);
+    let found = look_in(host, &scratch.path, start);
+    let (done, judged) = order_by_scratch(host, folder, file, &scratch, found, errors);
     (done, Some(judged))
 }
 
 // Removes the scratch copy of a file, and puts the file in order, if the scratch copy was read as a desk's
 // that the line takes.
 fn order_by_scratch<D: Disk + Drop, P: Folder, E: Write>(
-    rt: &HostRuntime,
+    host: LocalHost<'_>,
     folder: &mut P,
     file: ReorderTarget<'_>,
     scratch: &ScratchCopy,
@@ -145,10 +144,10 @@ fn order_by_scratch<D: Disk + Drop, P: Folder, E: Write>(
         (bytes_written E.Write errors.old errors.new)) }
     ensures reported { OnErr result.0 (Reports (bytes_written E.Write errors.old errors.new)) }
 {
-    let (admitted, judged) = judge(rt, file, &scratch.path, found, errors);
+    let (admitted, judged) = judge(host, file, &scratch.path, found, errors);
     remove_scratch(folder, scratch);
     match admitted {
-        Ok(()) => (order(rt, folder, file.path, errors), judged),
+        Ok(()) => (order(host, folder, file.path, errors), judged),
         Err(failure) => (Err(failure), judged),
     }
 }
@@ -156,7 +155,7 @@ fn order_by_scratch<D: Disk + Drop, P: Folder, E: Write>(
 // Whether the scratch copy of a file, at another path, was read as a desk's that the line takes; or reports
 // why not. The scratch copy is still there.
 fn judge<D: Disk + Drop, E: Write>(
-    rt: &HostRuntime,
+    host: LocalHost<'_>,
     file: ReorderTarget<'_>,
     scratch: &str,
     found: CheckResult<D>,
@@ -170,13 +169,13 @@ fn judge<D: Disk + Drop, E: Write>(
     match found {
         Ok((connection, read)) => {
             if is_too_old(file.takes_old, read.is_old) {
-                report_cause(rt, scratch, file.path, ErrorCode::OldSchema, errors);
+                report_cause(host, scratch, file.path, ErrorCode::OldSchema, errors);
                 return (Err(ErrorCode::OldSchema), Ok(connection));
             }
             (Ok(()), Ok(connection))
         }
         Err(unread) => {
-            report_cause(rt, scratch, file.path, unread.failure, errors);
+            report_cause(host, scratch, file.path, unread.failure, errors);
             (Err(unread.failure), Err(unread))
         }
     }
@@ -184,7 +183,7 @@ fn judge<D: Disk + Drop, E: Write>(
 
 // Puts a file in order, and reports that; or reports why not.
 fn order<P: Folder, E: Write>(
-    rt: &HostRuntime,
+    host: LocalHost<'_>,
     folder: &mut P,
     path: &str,
     errors: &mut E,
@@ -195,11 +194,11 @@ fn order<P: Folder, E: Write>(
     ensures reported { OnErr result (Reports (bytes_written E.Write errors.old errors.new)) }
 {
     if !folder.order(path) {
-        let cause = access_cause(rt, path).unwrap_or(UNWRITTEN);
-        report_of(rt.alloc(), path, cause, errors);
+        let cause = access_cause(host.rt, path).unwrap_or(UNWRITTEN);
+        report_of(host.alloc(), path, cause, errors);
         return Err(ErrorCode::Store);
     }
-    report_reordered(rt.alloc(), path, errors);
+    report_reordered(host.alloc(), path, errors);
     Ok(())
 }
 

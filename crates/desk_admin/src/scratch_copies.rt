@@ -24,6 +24,7 @@ use desk_cli::{CopyArgs, Database, ErrorCode, ExitReport, report_exit};
 use desk_host::scratch::{make_scratch, remove_scratch};
 use desk_host::ways::ReadMode;
 use desk_program::{CheckedFile, print_checked};
+use host_files::files::LocalHost;
 use host_files::naming::Folder;
 use host_files::reporting::{report_line, report_of};
 use sqlite::{Connection, FileFrom, FileStore, Start};
@@ -65,7 +66,7 @@ pub type CheckResult<D> = Result<(Connection<FileStore<D>>, CheckedFile), OpenEr
 /// rows are, if its pages lack their sums, that its tables stand in another order, or why there is no scratch
 /// copy, and the word of the failure, go to `errors`; a fault there is passed over.
 pub fn check_by_scratch<F: Start, P: Folder, W: Write + Drop, E: Write + Drop>(
-    rt: &HostRuntime,
+    host: LocalHost<'_>,
     folder: &mut P,
     path: &str,
     way: ReadMode,
@@ -81,7 +82,7 @@ pub fn check_by_scratch<F: Start, P: Folder, W: Write + Drop, E: Write + Drop>(
         (steps_of P.Folder folder.old folder.new)) }
 {
     let scratch = match make_scratch(
-        rt.alloc(),
+        host.alloc(),
         folder,
         path,
         path,
@@ -91,8 +92,8 @@ pub fn check_by_scratch<F: Start, P: Folder, W: Write + Drop, E: Write + Drop>(
         Ok(scratch) => scratch,
         Err(failure) => return (report_exit(&mut writers.errors, Err(failure)), None),
     };
-    let found = look_in(rt, &scratch.path, start);
-    let (exit, judged) = report_found(rt, path, &scratch.path, way, found, writers);
+    let found = look_in(host, &scratch.path, start);
+    let (exit, judged) = report_found(host, path, &scratch.path, way, found, writers);
     remove_scratch(folder, &scratch);
     (exit, Some(judged))
 }
@@ -108,7 +109,7 @@ pub fn status_judged<D: Disk + Drop, E>(judged: (ExitReport<E>, Option<Judged<D>
 // Reports what the scratch copy of a file showed, and prints what its rows are. The scratch copy is still
 // there.
 fn report_found<D: Disk + Drop, W: Write + Drop, E: Write + Drop>(
-    rt: &HostRuntime,
+    host: LocalHost<'_>,
     path: &str,
     scratch: &str,
     way: ReadMode,
@@ -121,12 +122,24 @@ fn report_found<D: Disk + Drop, W: Write + Drop, E: Write + Drop>(
 {
     match found {
         Ok((connection, file)) => {
-            report_taken(rt.alloc(), path, way, &mut writers.errors);
-            let exit = print_checked(rt.alloc(), &file, &mut writers.output, &mut writers.errors);
+            report_taken(host.alloc(), path, way, &mut writers.errors);
+            let exit = print_checked(
+                host.alloc(),
+                &file,
+                &mut writers.output,
+                &mut writers.errors,
+            );
             (exit, Ok(connection))
         }
         Err(unread) => {
-            let exit = refuse(rt, path, scratch, way, unread.failure, &mut writers.errors);
+            let exit = refuse(
+                host,
+                path,
+                scratch,
+                way,
+                unread.failure,
+                &mut writers.errors,
+            );
             (exit, Err(unread))
         }
     }
@@ -145,7 +158,7 @@ fn report_taken<E: Write>(alloc: Global, path: &str, way: ReadMode, errors: &mut
 
 // Reports why a file whose scratch copy is refused is refused, and the word of the failure.
 fn refuse<E: Write>(
-    rt: &HostRuntime,
+    host: LocalHost<'_>,
     path: &str,
     scratch: &str,
     way: ReadMode,
@@ -155,16 +168,16 @@ fn refuse<E: Write>(
     ensures { IsScratchRefused path.now way failure (ended E.Write result errors.old errors.new) }
 {
     match way {
-        ReadMode::BadChecksums(pages) => refuse_rows(rt.alloc(), path, pages, failure, errors),
+        ReadMode::BadChecksums(pages) => refuse_rows(host.alloc(), path, pages, failure, errors),
         ReadMode::Itself | ReadMode::Damaged | ReadMode::OtherOrder => {
-            refuse_as(rt, path, scratch, failure, errors)
+            refuse_as(host, path, scratch, failure, errors)
         }
     }
 }
 
 // Reports what the scratch copy of a file is refused for, as of the file, and the word of the failure.
 fn refuse_as<E: Write>(
-    rt: &HostRuntime,
+    host: LocalHost<'_>,
     path: &str,
     scratch: &str,
     failure: ErrorCode,
@@ -172,7 +185,7 @@ fn refuse_as<E: Write>(
 ) -> ExitReport<E>
     ensures { FailsReporting failure (ended E.Write result errors.old errors.new) }
 {
-    report_cause(rt, scratch, path, failure, errors);
+    report_cause(host, scratch, path, failure, errors);
     report_exit(errors, Err(failure))
 }
 
@@ -200,7 +213,7 @@ fn refuse_rows<E: Write>(
 /// same; nothing if there is no scratch copy. Why there is none, and the word of the failure, go to `errors`;
 /// and if its pages lack their sums and it was copied, that its rows alone were tested.
 pub fn copy_by_scratch<F: Start, N: Start, P: Folder, W: Write + Drop, E: Write + Drop>(
-    rt: &HostRuntime,
+    host: LocalHost<'_>,
     folder: &mut P,
     words: &CopyArgs,
     way: ReadMode,
@@ -220,7 +233,7 @@ pub fn copy_by_scratch<F: Start, N: Start, P: Folder, W: Write + Drop, E: Write 
         );
     };
     let scratch = match make_scratch(
-        rt.alloc(),
+        host.alloc(),
         folder,
         path,
         &words.to,
@@ -230,9 +243,9 @@ pub fn copy_by_scratch<F: Start, N: Start, P: Folder, W: Write + Drop, E: Write 
         Ok(scratch) => scratch,
         Err(failure) => return (report_exit(&mut writers.errors, Err(failure)), None),
     };
-    let (exit, copied) = copy_file(rt, folder, words, Some(&scratch.path), starts, writers);
+    let (exit, copied) = copy_file(host, folder, words, Some(&scratch.path), starts, writers);
     remove_scratch(folder, &scratch);
-    report_tested(rt.alloc(), path, way, exit.status, &mut writers.errors);
+    report_tested(host.alloc(), path, way, exit.status, &mut writers.errors);
     (exit, Some(copied))
 }
 

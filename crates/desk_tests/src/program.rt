@@ -3,7 +3,7 @@
 ghost use Rattle.std.specs.Prelude.{◌≡◌, IfOk};
 ghost use Rattle.desk_program.specs.CarryingOut.{IsPortless};
 
-use desk_cli::{Database, DeskArgs, EnrolArgs, Enrolment, Line, Play};
+use desk_cli::{Database, DeskArgs, EnrolArgs, Enrolment, Line, PlayArgs};
 use desk_program::with_desk;
 use desk_rules::operator::Operator;
 use desk_rules::terms::Terms;

@@ -12,8 +12,9 @@ use crate::state::Denial;
 use db_file::{count_bad_checksums, has_other_order, takes_commit};
 use sqlite::Unknown;
 use sqlite_std_file::OpenError;
+use std::alloc::Global;
 use std::fs::{self, File, Metadata, OpenOptions};
-use std::io::{self, ErrorKind, Read};
+use std::io::{self, ErrorKind, Read, Stderr, Stdin, Stdout};
 use std::os::unix::fs::MetadataExt;
 
 /// What stands at a path.
@@ -106,9 +107,9 @@ pub trait HostFiles {
 }
 
 /// The machine on which the program runs, of which nothing is known.
-#[derive(Drop)]
+#[derive(Clone, Copy)]
 pub struct LocalHost<'s> {
-    /// The runtime of this run.
+    /// The runtime, which is handed on to what asks the operating system.
     pub rt: &'s HostRuntime,
 }
 
@@ -116,6 +117,26 @@ impl<'s> LocalHost<'s> {
     /// The machine of this run.
     pub fn new(rt: &'s HostRuntime) -> LocalHost<'s> {
         LocalHost { rt }
+    }
+
+    /// The allocator of this run.
+    pub fn alloc(&self) -> Global {
+        self.rt.alloc()
+    }
+
+    /// The standard input.
+    pub fn input(&self) -> Stdin {
+        self.rt.stdin()
+    }
+
+    /// The standard output.
+    pub fn output(&self) -> Stdout {
+        self.rt.stdout()
+    }
+
+    /// The standard error.
+    pub fn errors(&self) -> Stderr {
+        self.rt.stderr()
     }
 }
 

@@ -12,6 +12,7 @@ use desk_admin::reordering::reorder_for;
 use desk_cli::{Database, ErrorCode, ExitReport, report_exit};
 use desk_host::damage::check_before;
 use desk_program::print_migrated;
+use host_files::files::LocalHost;
 use host_files::paths::{OpenPaths, paths_at};
 use sqlite::{Start, Unknown};
 use std::alloc::Global;
@@ -24,14 +25,14 @@ use std::io::Write;
 ///
 /// Why its log refuses it; `Memory` if memory runs out before the database is opened; why its file can't be
 /// put in order.
-pub fn migrate_here(rt: &HostRuntime, database: &Database) -> Result<u8, ErrorCode> {
-    let mut errors = rt.stderr();
-    check_before(rt, database, false, &mut errors)?;
-    let paths = paths_at(rt, database)?;
-    reorder_for(rt, database, true)?;
-    let moved = open_old(rt, database, Unknown, paths);
-    report_refusal(rt, database, false, &moved, &mut errors);
-    let (exit, desk) = report_moved(rt.alloc(), moved, &mut rt.stdout(), &mut errors);
+pub fn migrate_here(host: LocalHost<'_>, database: &Database) -> Result<u8, ErrorCode> {
+    let mut errors = host.errors();
+    check_before(host.rt, database, false, &mut errors)?;
+    let paths = paths_at(host.rt, database)?;
+    reorder_for(host, database, true)?;
+    let moved = open_old(host, database, Unknown, paths);
+    report_refusal(host, database, false, &moved, &mut errors);
+    let (exit, desk) = report_moved(host.alloc(), moved, &mut host.output(), &mut errors);
     Ok(status_closed(close_after(exit.status, desk, &mut errors)))
 }
 

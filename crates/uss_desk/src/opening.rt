@@ -13,6 +13,7 @@ use desk_admin::unopened::{FileOpenError, OpenError, open_failure};
 use desk_cli::{Database, ErrorCode};
 use desk_run::Desk;
 use desk_tables::{OpenFault, SqliteStore};
+use host_files::files::LocalHost;
 use host_files::naming::make_private;
 use host_files::paths::{NoPaths, OpenPaths};
 use sqlite::{FileFrom, FileStore, Start};
@@ -49,7 +50,7 @@ pub type MovedDesk<F, N> = Result<(FileDesk<F, N>, u32), FileOpenError<F>>;
 /// Opens the desk over a database; `start` stands for what its files held, and `paths` are theirs. The
 /// operators that a desk over files has then are noted in `roll`.
 pub fn open_database<F: Start, N: OpenPaths + Drop>(
-    rt: &HostRuntime,
+    host: LocalHost<'_>,
     database: &Database,
     start: F,
     paths: N,
@@ -59,8 +60,8 @@ pub fn open_database<F: Start, N: OpenPaths + Drop>(
     ensures noted { HasNotedAt result roll.new }
 {
     match database {
-        Database::InMemory => Opened::Memory(open_in_memory(rt.alloc())),
-        Database::File(path) => Opened::Files(open_file(rt, path, start, paths, roll)),
+        Database::InMemory => Opened::Memory(open_in_memory(host.alloc())),
+        Database::File(path) => Opened::Files(open_file(host, path, start, paths, roll)),
     }
 }
 
@@ -87,7 +88,7 @@ pub fn open_in_memory(alloc: Global) -> Result<MemoryDesk, ErrorCode>
 ///
 /// The failure is that of `open_failure`.
 pub fn open_file<F: Start, N: OpenPaths + Drop>(
-    rt: &HostRuntime,
+    host: LocalHost<'_>,
     path: &str,
     start: F,
     mut paths: N,
@@ -96,9 +97,9 @@ pub fn open_file<F: Start, N: OpenPaths + Drop>(
     ensures opened { IsOpenedIn (image_at F.Start) result }
     ensures noted { HasNotedDesk result roll.new }
 {
-    make_private(rt, path);
+    make_private(host.rt, path);
     paths.hold();
-    match SqliteStore::open_from(rt, path, start) {
+    match SqliteStore::open_from(host.rt, path, start) {
         Ok(store) => {
             roll.note(&store);
             paths.hold();
@@ -130,7 +131,7 @@ pub fn opened_anew<D: Disk + Drop, N: OpenPaths + Drop>(
 /// The failure is that of `open_failure`, and `Store` of a database in memory, which can't have plans of
 /// schema 1.
 pub fn open_old<F: Start, N: OpenPaths + Drop>(
-    rt: &HostRuntime,
+    host: LocalHost<'_>,
     database: &Database,
     start: F,
     paths: N,
@@ -139,13 +140,13 @@ pub fn open_old<F: Start, N: OpenPaths + Drop>(
 {
     match database {
         Database::InMemory => Err(OpenError::unread(OpenFault::Store)),
-        Database::File(path) => open_old_file(rt, path, start, paths),
+        Database::File(path) => open_old_file(host, path, start, paths),
     }
 }
 
 // The desk over the files at a path, to which the plans of schema 1 in them were moved.
 fn open_old_file<F: Start, N: OpenPaths + Drop>(
-    rt: &HostRuntime,
+    host: LocalHost<'_>,
     path: &str,
     start: F,
     mut paths: N,
@@ -153,7 +154,7 @@ fn open_old_file<F: Start, N: OpenPaths + Drop>(
     ensures { IsMovedIn (image_at F.Start) result }
 {
     paths.hold();
-    match SqliteStore::migrate_from(rt, path, start) {
+    match SqliteStore::migrate_from(host.rt, path, start) {
         Ok((store, count)) => {
             paths.hold();
             Ok((Desk::new(PathChecked::over(store, paths)), count))

@@ -8,7 +8,7 @@ ghost use Rattle.uss_desk.specs.OpenedLines.{AreReadsTested, StaysGuarded};
 ghost use Rattle.uss_desk.specs.RecordedPlays.{IsInputRun};
 
 use crate::opening::DeskAt;
-use desk_cli::{ErrorCode, ExitReport, Play};
+use desk_cli::{ErrorCode, ExitReport, PlayArgs};
 use desk_recording::{InputPort, Record, RecordedPort, play_opened};
 use host_files::paths::OpenPaths;
 use sqlite_disk::Disk;

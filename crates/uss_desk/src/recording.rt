@@ -24,6 +24,7 @@ use desk_recording::{
     Exchange, Journal, Record, Tail, TailEnd, WrittenRecord, begin_record, missing_of, recover,
 };
 use desk_rules::terms::Terms;
+use host_files::files::LocalHost;
 use host_files::naming::IN_USE;
 use host_files::paths::OpenPaths;
 use host_files::reporting::report_of;
@@ -37,7 +38,7 @@ use std::time::SystemTime;
 /// The file of a record. That it can't be written is reported on the standard error, once.
 #[derive(Drop)]
 pub struct LocalJournal<'s> {
-    rt: &'s HostRuntime,
+    host: LocalHost<'s>,
     folder: &'s str,
     file: File,
     is_reported: bool,
@@ -60,7 +61,12 @@ impl LocalJournal<'_> {
         if !self.is_reported {
             self.is_reported = true;
             let text = "the record can't be written";
-            report_of(self.rt.alloc(), self.folder, text, &mut self.rt.stderr());
+            report_of(
+                self.host.alloc(),
+                self.folder,
+                text,
+                &mut self.host.errors(),
+            );
         }
         Err(FileError { error })
     }
@@ -86,7 +92,7 @@ pub type LocalRecord<'s> = WrittenRecord<LocalJournal<'s>>;
 /// The folder of a desk's records, as it is found before the desk is opened.
 #[derive(Drop)]
 pub struct RecordFolder<'s> {
-    rt: &'s HostRuntime,
+    host: LocalHost<'s>,
     path: &'s str,
     // the number of its last record, or 0, and how many bytes that has
     number: u64,
@@ -114,7 +120,7 @@ struct PendingRecovery<'s> {
 /// `Store` if the database is in memory, or its file is gone; `Write` if the folder can't be read, or nothing
 /// goes on from its last record; `Memory`. Why is reported.
 pub fn folder_for<'s>(
-    rt: &'s HostRuntime,
+    host: LocalHost<'s>,
     words: &'s DeskArgs,
     action: DeskCommand<'_>,
 ) -> Result<Option<RecordFolder<'s>>, ErrorCode>
@@ -126,14 +132,14 @@ pub fn folder_for<'s>(
     let Some(path) = words.folder.as_deref() else {
         return Ok(None);
     };
-    let last = reported(rt, path, last_record(rt, path))?;
+    let last = reported(host, path, last_record(host.rt, path))?;
     let (number, len) = extent_of(&last);
     let undone = match words.database.path() {
-        Some(file) => undone_at(rt, path, file, last)?,
-        None => alone(rt, path, action, last.is_some())?,
+        Some(file) => undone_at(host, path, file, last)?,
+        None => alone(host, path, action, last.is_some())?,
     };
     Ok(Some(RecordFolder {
-        rt,
+        host,
         path,
         number,
         len,
@@ -154,7 +160,7 @@ fn extent_of(last: &Option<JournalFile>) -> (u64, u64)
 
 // What is undone at a desk in memory, which goes on from no record: nothing.
 fn alone<'s>(
-    rt: &HostRuntime,
+    host: LocalHost<'_>,
     folder: &str,
     action: DeskCommand<'_>,
     has_records: bool,
@@ -164,20 +170,20 @@ fn alone<'s>(
     match action {
         DeskCommand::Play(_) if has_records => {
             reported(
-                rt,
+                host,
                 folder,
                 Err(JournalError::Cause("records of another desk")),
             )
         }
         DeskCommand::Play(_) => Ok(None),
-        _ => Err(store_failure(rt, folder, "a record needs a database in a file")),
+        _ => Err(store_failure(host, folder, "a record needs a database in a file")),
     }
 }
 
 // What the last record of a folder left undone at the desk's file, if there is a record, and it left
 // something.
 fn undone_at<'s>(
-    rt: &HostRuntime,
+    host: LocalHost<'_>,
     folder: &str,
     file: &'s str,
     last: Option<JournalFile>,
@@ -190,10 +196,10 @@ fn undone_at<'s>(
     let Some(record) = last else {
         return Ok(None);
     };
-    if !matches!(fs::exists(rt, file), Ok(true)) {
-        return Err(store_failure(rt, file, "no such file, and there are records of it"));
+    if !matches!(fs::exists(host.rt, file), Ok(true)) {
+        return Err(store_failure(host, file, "no such file, and there are records of it"));
     }
-    let (tail, ended) = reported(rt, folder, read_last(rt, &record))?;
+    let (tail, ended) = reported(host, folder, read_last(host, &record))?;
     Ok(undone_by(PendingRecovery {
         file,
         record,
@@ -214,10 +220,10 @@ fn undone_by(left: PendingRecovery<'_>) -> Option<PendingRecovery<'_>>
 }
 
 // What the last record of a folder says as it ends.
-fn read_last(rt: &HostRuntime, last: &JournalFile) -> Result<(Tail, TailEnd), JournalError>
+fn read_last(host: LocalHost<'_>, last: &JournalFile) -> Result<(Tail, TailEnd), JournalError>
     ensures { IfOk result (λ read. MayGoOn last.now.number read.0 read.1) }
 {
-    let (tail, ended) = tail_of(rt, last)?;
+    let (tail, ended) = tail_of(host.rt, last)?;
     going_on(last.number, tail, ended)
 }
 
@@ -254,7 +260,7 @@ fn leaves_nothing(tail: &Tail, ended: TailEnd) -> bool
 
 // The value, or the failure once its cause is reported.
 fn reported<T: Drop>(
-    rt: &HostRuntime,
+    host: LocalHost<'_>,
     folder: &str,
     done: Result<T, JournalError>,
 ) -> Result<T, ErrorCode>
@@ -265,17 +271,17 @@ fn reported<T: Drop>(
         Ok(value) => Ok(value),
         Err(JournalError::Memory) => Err(ErrorCode::Memory),
         Err(JournalError::Cause(cause)) => {
-            report_of(rt.alloc(), folder, cause, &mut rt.stderr());
+            report_of(host.alloc(), folder, cause, &mut host.errors());
             Err(ErrorCode::Write)
         }
     }
 }
 
 // The failure of a database, once its cause is reported.
-fn store_failure(rt: &HostRuntime, path: &str, cause: &str) -> ErrorCode
+fn store_failure(host: LocalHost<'_>, path: &str, cause: &str) -> ErrorCode
     ensures { result ≡ ErrorCode.Store }
 {
-    report_of(rt.alloc(), path, cause, &mut rt.stderr());
+    report_of(host.alloc(), path, cause, &mut host.errors());
     ErrorCode::Store
 }
 
@@ -309,7 +315,7 @@ impl<'s> RecordFolder<'s> {
         let file = undone.file;
         match self.recover(undone, &mut desk, roll) {
             Ok(()) => Ok(opened_anew(desk, roll)),
-            Err(failure) => Err(failure_closed(self.rt, file, desk, failure)),
+            Err(failure) => Err(failure_closed(self.host, file, desk, failure)),
         }
     }
 
@@ -323,7 +329,7 @@ impl<'s> RecordFolder<'s> {
         ensures { RemembersDesk over_files desk.old desk.new }
     {
         self.hold()?;
-        let (rt, path) = (self.rt, self.path);
+        let (host, path) = (self.host, self.path);
         let PendingRecovery {
             record,
             tail,
@@ -331,15 +337,15 @@ impl<'s> RecordFolder<'s> {
             ..
         } = undone;
         if ended == TailEnd::Short {
-            reported(rt, path, move_rest(rt, &record, tail.size))?;
+            reported(host, path, move_rest(host.rt, &record, tail.size))?;
         }
         let Some(operators) = roll.take() else {
             return Err(ErrorCode::Memory);
         };
-        let missing = missing_of(rt.alloc(), &operators, &tail.operators)?;
-        let number = next_number(rt, path, self.number)?;
+        let missing = missing_of(host.alloc(), &operators, &tail.operators)?;
+        let number = next_number(host, path, self.number)?;
         let mut keeper = AskedRecord {
-            rt,
+            host,
             folder: path,
             number,
             terms: tail.terms,
@@ -348,7 +354,7 @@ impl<'s> RecordFolder<'s> {
         };
         let (terms, asked) = (tail.terms, tail.asked);
         let is_asked = asked.is_some();
-        recover(rt.alloc(), desk, &terms, &missing, asked, &mut keeper)?;
+        recover(host.alloc(), desk, &terms, &missing, asked, &mut keeper)?;
         if is_asked {
             self.number = number;
         }
@@ -366,10 +372,10 @@ impl<'s> RecordFolder<'s> {
         if self.is_held {
             return Ok(());
         }
-        let (rt, path) = (self.rt, self.path);
-        let (number, len) = extent_of(&reported(rt, path, last_record(rt, path))?);
+        let (host, path) = (self.host, self.path);
+        let (number, len) = extent_of(&reported(host, path, last_record(host.rt, path))?);
         if number != self.number || len != self.len {
-            report_of(rt.alloc(), path, IN_USE, &mut rt.stderr());
+            report_of(host.alloc(), path, IN_USE, &mut host.errors());
             return Err(ErrorCode::Write);
         }
         self.is_held = true;
@@ -414,30 +420,30 @@ impl<'s> RecordFolder<'s> {
         ensures { IfErr result IsUnbegun }
     {
         self.hold()?;
-        let (rt, path) = (self.rt, self.path);
+        let (host, path) = (self.host, self.path);
         let Some(operators) = roll.take() else {
             return Err(ErrorCode::Memory);
         };
-        let number = next_number(rt, path, self.number)?;
+        let number = next_number(host, path, self.number)?;
         let operators = joined(operators, enrolments)?;
-        let journal = begin_part(rt, path, number, terms, &operators)?;
-        let second = second_now(rt)?;
-        reported(rt, path, name_part(rt, path, number, second))?;
-        Ok(WrittenRecord::new(rt.alloc(), journal))
+        let journal = begin_part(host, path, number, terms, &operators)?;
+        let second = second_now(host)?;
+        reported(host, path, name_part(host.rt, path, number, second))?;
+        Ok(WrittenRecord::new(host.alloc(), journal))
     }
 }
 
 // A failure at a desk over the file at a path, once the desk is closed; or that this can't be done.
 fn failure_closed<D: Disk + Drop, N: OpenPaths + Drop>(
-    rt: &HostRuntime,
+    host: LocalHost<'_>,
     file: &str,
     desk: DeskAt<D, N>,
     failure: ErrorCode,
 ) -> ErrorCode {
-    if is_closed(close_after(1, Some(desk), &mut rt.stderr())) {
+    if is_closed(close_after(1, Some(desk), &mut host.errors())) {
         return failure;
     }
-    store_failure(rt, file, "it can't be closed")
+    store_failure(host, file, "it can't be closed")
 }
 
 // Whether a desk was closed, on whatever disk it was.
@@ -449,12 +455,12 @@ fn is_closed<D: Disk + Drop, E>(ended: (ExitReport<E>, Option<CloseReport<D>>)) 
 }
 
 // The number of the record after this one.
-fn next_number(rt: &HostRuntime, folder: &str, number: u64) -> Result<u64, ErrorCode>
+fn next_number(host: LocalHost<'_>, folder: &str, number: u64) -> Result<u64, ErrorCode>
     ensures { result ≡ spec.next_number number }
 {
     match number.checked_add(1) {
         Some(next) => Ok(next),
-        None => reported(rt, folder, Err(JournalError::Cause("no number is left"))),
+        None => reported(host, folder, Err(JournalError::Cause("no number is left"))),
     }
 }
 
@@ -468,7 +474,7 @@ fn joined(mut operators: Vec<Enrolment>, others: &[Enrolment]) -> Result<Vec<Enr
 
 // Makes the file of a new record, with its beginning.
 fn begin_part<'s>(
-    rt: &'s HostRuntime,
+    host: LocalHost<'s>,
     folder: &'s str,
     number: u64,
     terms: &Terms,
@@ -477,22 +483,22 @@ fn begin_part<'s>(
     ensures { IfErr result IsKeptOut }
 {
     let mut journal = LocalJournal {
-        rt,
+        host,
         folder,
-        file: reported(rt, folder, make_part(rt, folder, number))?,
+        file: reported(host, folder, make_part(host.rt, folder, number))?,
         is_reported: false,
     };
-    match begin_record(rt.alloc(), &mut journal, number, terms, operators) {
+    match begin_record(host.alloc(), &mut journal, number, terms, operators) {
         Ok(()) => Ok(journal),
         Err(_) => Err(ErrorCode::Write),
     }
 }
 
 // The Unix second that the clock gives.
-fn second_now(rt: &HostRuntime) -> Result<u64, ErrorCode>
+fn second_now(host: LocalHost<'_>) -> Result<u64, ErrorCode>
     ensures { IfErr result (λ f. f ≡ ErrorCode.Clock) }
 {
-    let Ok(now) = SystemTime::now(rt) else {
+    let Ok(now) = SystemTime::now(host.rt) else {
         return Err(ErrorCode::Clock);
     };
     match now.duration_since(SystemTime::UNIX_EPOCH) {
@@ -508,7 +514,7 @@ struct Unrecorded;
 // The record of a request that is asked again: it gets its name once the request is in it.
 #[derive(Drop)]
 struct AskedRecord<'s> {
-    rt: &'s HostRuntime,
+    host: LocalHost<'s>,
     folder: &'s str,
     number: u64,
     terms: Terms,
@@ -523,21 +529,21 @@ impl<'s> AskedRecord<'s> {
         ensures fault { IfErr result IsUnbegun }
     {
         let journal = begin_part(
-            self.rt,
+            self.host,
             self.folder,
             self.number,
             &self.terms,
             &self.operators,
         )?;
-        let mut record = WrittenRecord::new(self.rt.alloc(), journal);
+        let mut record = WrittenRecord::new(self.host.alloc(), journal);
         if record.keep_request(moment, bytes).is_err() {
             return Err(ErrorCode::Write);
         }
-        let second = second_now(self.rt)?;
+        let second = second_now(self.host)?;
         reported(
-            self.rt,
+            self.host,
             self.folder,
-            name_part(self.rt, self.folder, self.number, second),
+            name_part(self.host.rt, self.folder, self.number, second),
         )?;
         Ok(record)
     }

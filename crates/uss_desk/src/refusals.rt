@@ -7,6 +7,7 @@ ghost use Rattle.host_files.specs.Reporting.{Reports};
 use desk_admin::causes::{report_database, report_made};
 use desk_admin::unopened::FileOpenError;
 use desk_cli::Database;
+use host_files::files::LocalHost;
 use sqlite::Start;
 use std::io::Write;
 
@@ -14,7 +15,7 @@ use std::io::Write;
 /// none (`is_made`), or that have to be there.
 #[tactic(auto, using(host_files::proofs::lemmas::Reporting::reports_nothing))]
 pub fn report_refusal<T, F: Start, E: Write>(
-    rt: &HostRuntime,
+    host: LocalHost<'_>,
     database: &Database,
     is_made: bool,
     opened: &Result<T, FileOpenError<F>>,
@@ -25,7 +26,7 @@ pub fn report_refusal<T, F: Start, E: Write>(
 {
     match opened {
         Ok(_) => {}
-        Err(unread) if is_made => report_made(rt, database, unread.failure, errors),
-        Err(unread) => report_database(rt, database, unread.failure, errors),
+        Err(unread) if is_made => report_made(host, database, unread.failure, errors),
+        Err(unread) => report_database(host, database, unread.failure, errors),
     }
 }

@@ -15,6 +15,7 @@ use desk_admin::unopened::or_failure;
 use desk_cli::{ErrorCode, ExitReport, ReplayArgs};
 use desk_host::damage::check_before;
 use desk_replay::replay_opened;
+use host_files::files::LocalHost;
 use host_files::paths::{OpenPaths, paths_at};
 use sqlite::Unknown;
 use sqlite_disk::Disk;
@@ -27,22 +28,22 @@ use std::io::{BufReader, Read, Write};
 /// # Errors
 ///
 /// Why the log of its file refuses that; `Memory` if memory runs out before the database is opened.
-pub fn replay_here(rt: &HostRuntime, words: &ReplayArgs) -> Result<u8, ErrorCode> {
-    let (mut output, mut errors) = (rt.stdout(), rt.stderr());
-    check_before(rt, &words.database, false, &mut errors)?;
-    let Ok(mut input) = BufReader::new(rt.alloc(), rt.stdin()) else {
+pub fn replay_here(host: LocalHost<'_>, words: &ReplayArgs) -> Result<u8, ErrorCode> {
+    let (mut output, mut errors) = (host.output(), host.errors());
+    check_before(host.rt, &words.database, false, &mut errors)?;
+    let Ok(mut input) = BufReader::new(host.alloc(), host.input()) else {
         return Err(ErrorCode::Memory);
     };
-    let paths = paths_at(rt, &words.database)?;
-    let (alloc, until) = (rt.alloc(), words.until);
+    let paths = paths_at(host.rt, &words.database)?;
+    let (alloc, until) = (host.alloc(), words.until);
     let mut roll = NotedOperators::new(alloc, &words.database, false);
-    match open_database(rt, &words.database, Unknown, paths, &mut roll) {
+    match open_database(host, &words.database, Unknown, paths, &mut roll) {
         Opened::Memory(desk) => {
             let (exit, _) = replay_line(alloc, until, desk, &mut input, &mut output, &mut errors);
             Ok(exit.status)
         }
         Opened::Files(found) => {
-            report_refusal(rt, &words.database, true, &found, &mut errors);
+            report_refusal(host, &words.database, true, &found, &mut errors);
             let desk = or_failure(found);
             let (exit, desk) = replay_line(
                 alloc,

@@ -34,7 +34,7 @@ use std::io::{BufReader, Stderr, Stdin, Stdout, Write};
 /// What a command needs beside its desk and the paths of that.
 #[derive(Drop)]
 struct Session<'s> {
-    rt: &'s HostRuntime,
+    host: LocalHost<'s>,
     words: &'s DeskArgs,
     // the operators that it enrols first
     enrolments: &'s [Enrolment],
@@ -48,30 +48,30 @@ struct Session<'s> {
 impl<'s> Session<'s> {
     // Gets ready what a command needs, with the paths of its desk. Nothing is opened yet.
     fn prepare(
-        rt: &'s HostRuntime,
+        host: LocalHost<'s>,
         words: &'s DeskArgs,
         enrolments: &'s [Enrolment],
         action: DeskCommand<'_>,
     ) -> Result<(Session<'s>, LocalOpenPaths<'s>), ErrorCode>
         ensures { IfOk result (λ it. IsPrepared words.entry.now enrolments.entry.now it.0 it.1) }
     {
-        check_before(rt, &words.database, false, &mut rt.stderr())?;
-        let Ok(input) = BufReader::new(rt.alloc(), rt.stdin()) else {
+        check_before(host.rt, &words.database, false, &mut host.errors())?;
+        let Ok(input) = BufReader::new(host.alloc(), host.input()) else {
             return Err(ErrorCode::Memory);
         };
-        let register = operators_of(rt, LocalHost::new(rt), words.operators.as_deref())?;
-        let paths = paths_at(rt, &words.database)?;
-        reorder_for(rt, &words.database, false)?;
-        let folder = folder_for(rt, words, action)?;
-        let roll = NotedOperators::new(rt.alloc(), &words.database, folder.is_some());
+        let register = operators_of(host.rt, host, words.operators.as_deref())?;
+        let paths = paths_at(host.rt, &words.database)?;
+        reorder_for(host, &words.database, false)?;
+        let folder = folder_for(host, words, action)?;
+        let roll = NotedOperators::new(host.alloc(), &words.database, folder.is_some());
         let session = Session {
-            rt,
+            host,
             words,
             enrolments,
             streams: Streams {
                 input,
-                output: rt.stdout(),
-                errors: rt.stderr(),
+                output: host.output(),
+                errors: host.errors(),
             },
             register,
             folder,
@@ -122,7 +122,7 @@ impl<'s> Session<'s> {
     {
         if self.is_unenrolled() {
             let path = self.words.database.path();
-            report_unenrolled(self.rt.alloc(), path, errors);
+            report_unenrolled(self.host.alloc(), path, errors);
         }
     }
 
@@ -136,7 +136,7 @@ impl<'s> Session<'s> {
         requires { IsLine (line_of action) }
     {
         let Session {
-            rt,
+            host,
             words,
             enrolments,
             mut streams,
@@ -144,16 +144,16 @@ impl<'s> Session<'s> {
             folder,
             roll,
         } = self;
-        let (alloc, terms) = (rt.alloc(), words.terms);
+        let (alloc, terms) = (host.alloc(), words.terms);
         let begun = match folder {
             Some(folder) => folder.begin_if(opened.is_ok(), &terms, enrolments, roll),
             None => Ok(None),
         };
         let record = match begun {
             Ok(record) => record,
-            Err(failure) => return (fail(rt, failure), opened.ok()),
+            Err(failure) => return (fail(host, failure), opened.ok()),
         };
-        let mut port = LocalPort::new(rt, rt, register, alloc, rt.stderr());
+        let mut port = LocalPort::new(host.rt, host.rt, register, alloc, host.errors());
         let (exit, desk) = match (record, action) {
             (Some(record), DeskCommand::Play(words)) => {
                 let Streams {
@@ -191,28 +191,28 @@ fn enrols_none(words: &DeskArgs, enrolments: &[Enrolment]) -> bool
 /// Why the desk is not opened: its log, its file of enrolments, its tables or the folder of its records,
 /// which is reported; or memory ran out.
 pub fn at_desk(
-    rt: &HostRuntime,
+    host: LocalHost<'_>,
     words: &DeskArgs,
     enrolments: &[Enrolment],
     action: DeskCommand<'_>,
 ) -> Result<u8, ErrorCode>
     requires { IsLine (line_of action) }
 {
-    let (mut session, paths) = Session::prepare(rt, words, enrolments, action)?;
-    match open_database(rt, &words.database, Unknown, paths, &mut session.roll) {
+    let (mut session, paths) = Session::prepare(host, words, enrolments, action)?;
+    match open_database(host, &words.database, Unknown, paths, &mut session.roll) {
         Opened::Memory(desk) => {
-            session.report_if_unenrolled(&mut rt.stderr());
+            session.report_if_unenrolled(&mut host.errors());
             Ok(session.run(action, desk).0)
         }
         Opened::Files(found) => {
             let is_made = !session.has_undone();
-            report_refusal(rt, &words.database, is_made, &found, &mut rt.stderr());
+            report_refusal(host, &words.database, is_made, &found, &mut host.errors());
             let desk = session.recover(or_failure(found));
             if desk.is_ok() {
-                session.report_if_unenrolled(&mut rt.stderr());
+                session.report_if_unenrolled(&mut host.errors());
             }
             let (status, desk) = session.run(action, desk);
-            Ok(status_closed(close_after(status, desk, &mut rt.stderr())))
+            Ok(status_closed(close_after(status, desk, &mut host.errors())))
         }
     }
 }
