@@ -2,8 +2,8 @@
 use Rattle.std.specs.Prelude.{ℕ, ◌+◌, ◌-◌, ◌*◌, ◌/◌, ◌^◌, min}
 use Rattle.s2_hilbert.specs.Curve.{grid_leaf_at}
 use Rattle.s2_cellid.specs.Cell.{first_leaf, level_of}
-use Rattle.desk_cli.specs.declared.picture.Frame.{Frame}
-use Rattle.desk_cli.specs.declared.picture.GridSquare.{GridSquare}
+use Rattle.cell_picture.specs.declared.picture.Frame.{Frame}
+use Rattle.cell_picture.specs.declared.picture.GridSquare.{GridSquare}
 
 -- a sum of numbers of 64 bits, up to the last of them
 abbrev pub sum64 : ℕ → ℕ → ℕ

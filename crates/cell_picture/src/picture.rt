@@ -2,8 +2,8 @@
 //! which the curve goes through them, and below what the lines mean.
 
 ghost use Rattle.std.specs.Prelude.{◌≡◌, ◌<◌, ◌≤◌, ◌+◌, ◌-◌, ◌*◌, ◌/◌, ◌^◌, max, min};
-ghost use Rattle.desk_cli.specs.Picture as spec;
-ghost use Rattle.desk_cli.specs.Picture.{floor_of, sum64};
+ghost use Rattle.cell_picture.specs.Picture as spec;
+ghost use Rattle.cell_picture.specs.Picture.{floor_of, sum64};
 
 use s2_cellid::CellId;
 use s2_cover::Rect;
@@ -29,7 +29,7 @@ const STYLE: &str = "<style>\
 /// What the lines mean, below the squares.
 const LEGEND: &str = "\
     <path class=\"cell\" d=\"M12 18H48\"/>\
-    <text x=\"60\" y=\"23\">a cell of the cover, which reports its token when it is pointed at</text>\n\
+    <text x=\"60\" y=\"23\">a cell of the cover, which tells its token when it is pointed at</text>\n\
     <path class=\"asked\" d=\"M12 38H48\"/>\
     <text x=\"60\" y=\"43\">the rectangle that was asked for</text>\n\
     <path class=\"way\" d=\"M12 58H48\"/>\
