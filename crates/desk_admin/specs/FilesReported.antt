@@ -1,4 +1,4 @@
--- FilesReported: what an administrator is reported of a file, and what is copied of it.
+-- FilesReported: what an administrator is shown of a file, and what is copied of it.
 use Rattle.std.specs.Prelude.{◌≡◌, ℕ, List, [], length, Option, Result, Ok, Err, ◌⊎◌, None}
 use Rattle.std.specs.Option.{IsSomeAnd}
 use Rattle.sqlite_disk.specs.declared.Disk as disk
@@ -51,7 +51,7 @@ pub record ReportsHoldings (file : CheckedFile) (w : World) : Type 0 where
   pub most_cells : IsMostCells w.plans file.most_cells
 
 module _ {D : Type 0} {g : disk.Ghosts D} (image : Image) where
-  -- what is reported of files that held this, as a connection read it, which leaves their rows
+  -- what is said of files that held this, as a connection read it, which leaves their rows
   pub record IsReadAs (left : Held (FileStore D g)) (file : CheckedFile) : Type 0 where
     pub w : World
     pub reported : ReportsHoldings file w
@@ -63,7 +63,7 @@ module _ {D : Type 0} {g : disk.Ghosts D} (image : Image) where
   FailsToRead it = IsUnreadFor it opening.OutOfMemory
       ⊎ FailsOver (λ files. AreNotRead image files.fault files.connection) it
 
-  -- why no content is reported of a database: it is in memory, or its files are not read
+  -- why no content is said of a database: it is in memory, or its files are not read
   abbrev pub FailsToLook : Database → OpenError D g → Type 0
   FailsToLook database it = (IsInMemory database × IsUnreadFor it opening.Store) ⊎ FailsToRead it
 

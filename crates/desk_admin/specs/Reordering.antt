@@ -20,7 +20,7 @@ use Rattle.host_files.specs.Reporting.{IsWrittenIfRoom, Reports, line_of}
 use Rattle.host_files.specs.Naming.{Failed, Follows, Ordered, Step, Steps}
 use Rattle.desk_host.specs.Scratch.{AreRemoved, IsUntwinned, making, scratch_of}
 
--- what is reported of a file that is put in order
+-- what is said of a file that is put in order
 abbrev pub reordered_text : List ℕ
 reordered_text = codes "its tables are put in a desk's own order"
 

@@ -226,7 +226,7 @@ pub fn look_in<F: Start>(
     }
 }
 
-// What is reported of a file.
+// What is said of a file.
 fn reported_of(holdings: &DbStats, bulk: FileStats) -> CheckedFile
     ensures counted { (w : World) → AreHoldingsOf holdings.now w → ReportsHoldings result w }
     ensures schema { result.is_old ≡ holdings.now.is_old }
@@ -371,7 +371,7 @@ fn copy_for<F: Start, N: Start, P: Folder, E: Write>(
     keep_copy(host, folder, source, &names, copied, errors)
 }
 
-// A file that is copied: how it is reported of, and where it is read.
+// A file that is copied: how it is named, and where it is read.
 #[derive(Clone, Copy)]
 struct CopySource<'s> {
     name: &'s str,

@@ -28,7 +28,7 @@ use sqlite_disk::Disk;
 use std::alloc::Global;
 use std::io::Write;
 
-// What is reported of a file that can't be put in order, though it can be had.
+// What is said of a file that can't be put in order, though it can be had.
 const UNWRITTEN: &str = "it can't be written: a full disk, or one that fails";
 
 /// A file that a line is about to open.
@@ -220,7 +220,7 @@ fn report_reordered<E: Write>(alloc: Global, path: &str, errors: &mut E)
     report_of(alloc, path, reordered_text(), errors);
 }
 
-// What is reported of a file that was put in order.
+// What is said of a file that was put in order.
 fn reordered_text() -> &'static str
     ensures { result.now ≡ spec.reordered_text }
 {

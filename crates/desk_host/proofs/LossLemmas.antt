@@ -1,4 +1,4 @@
--- What is reported of the damage of a log.
+-- What is said of the damage of a log.
 use Rattle.std.proofs.Common.{◌≡◌, refl, Bool, true, false, if◌then◌else◌, Result, Ok, Err, ℕ, List, Option, None, Some, inl, inr, subst, sym}
 use Rattle.io_ends.specs.declared.writing.WriteError.{WriteError}
 use Rattle.desk_wire.specs.Passage.{Course}

@@ -1,4 +1,4 @@
--- Causes: what is reported of an error of the operating system at a file of operators, or at a folder of
+-- Causes: what is said of an error of the operating system at a file of operators, or at a folder of
 -- records.
 use Rattle.std.specs.Prelude.{◌≡◌, ◌⊎◌, ℕ, List, codes, Option, None, Some}
 use Rattle.std.specs.declared.io.ErrorKind.{ErrorKind}
@@ -11,7 +11,7 @@ use Rattle.desk_host.specs.declared.folders.JournalError.TheVariants as unkept
 use Rattle.desk_host.specs.declared.operators.FileReadError.{FileReadError}
 use Rattle.desk_host.specs.declared.operators.FileReadError.TheVariants as unread
 
--- the text that is reported of a file that can't be read; none where memory ran out
+-- the text that is said of a file that can't be read; none where memory ran out
 abbrev pub unread_text : FileReadError → Option (List ℕ)
 unread_text unread.Memory = None
 unread_text (unread.Cause cause) = Some cause.now
@@ -23,7 +23,7 @@ unread_by kind.NotFound = Some (codes "no such file")
 unread_by kind.PermissionDenied = Some (codes "no right to read it")
 unread_by _ = Some (codes "it can't be read")
 
--- the text that is reported of a record that can't be read or kept; none where memory ran out
+-- the text that is said of a record that can't be read or kept; none where memory ran out
 abbrev pub unkept_text : JournalError → Option (List ℕ)
 unkept_text unkept.Memory = None
 unkept_text (unkept.Cause cause) = Some cause.now

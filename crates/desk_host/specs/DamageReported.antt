@@ -1,4 +1,4 @@
--- DamageReported: what is reported of a damaged log, and which files are opened.
+-- DamageReported: what is said of a damaged log, and which files are opened.
 use Rattle.std.specs.Prelude.{◌≡◌, ◌⊎◌, ℕ, Bool, true, false, if◌then◌else◌, List, ◌++◌, codes, decimal}
 use Rattle.std.specs.Prelude.{Option, IfSome, Result, Ok, Err}
 use Rattle.std.specs.declared.io.Read as read
@@ -59,7 +59,7 @@ admission_of (Ok look) = if look.is_admitted then Ok look.is_damaged else Err fa
 admission_of (Err unlooked.OutOfMemory) = Err failure.Memory
 admission_of (Err (unlooked.Unread fault)) = Err failure.Store
 
--- what is reported of a log that is there without its file
+-- what is said of a log that is there without its file
 abbrev pub alone_text : List ℕ
 alone_text = codes "its log is there without it: was it moved or removed while a desk ran?"
 

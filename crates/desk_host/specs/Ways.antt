@@ -27,7 +27,7 @@ is_mended way.Damaged = false
 is_mended (way.BadChecksums count) = true
 is_mended way.OtherOrder = true
 
--- how many pages are reported of, if it was copied well: their sums were not tested
+-- how many pages are said of, if it was copied well: their sums were not tested
 abbrev pub untested : ReadMode → ℕ → Option ℕ
 untested way.Itself status = None
 untested way.Damaged status = None

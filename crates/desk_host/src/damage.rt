@@ -27,7 +27,7 @@ const LEAST_DAMAGED: u64 = 1_104;
 // How many a log with a commit has at least.
 const LEAST_WITH_A_COMMIT: u64 = 568;
 
-// What is reported of a file that isn't there, and its log is.
+// What is said of a file that isn't there, and its log is.
 const LOG_ALONE: &str = "its log is there without it: was it moved or removed while a desk ran?";
 
 /// What came of a look at a log that reports its damage to a writer of this type.

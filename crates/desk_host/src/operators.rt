@@ -30,10 +30,10 @@ use std::time::SystemTime;
 /// The most bytes of the file: 1 MiB.
 const MAX_BYTES: u64 = 1_048_576;
 
-// What is reported of a file that is longer.
+// What is said of a file that is longer.
 const TOO_LONG: &str = "longer than 1,048,576 bytes";
 
-/// How many lines are reported of each time that the file is read.
+/// How many lines are said of each time that the file is read.
 const TOLD_LINES: u32 = 20;
 
 /// When a file was changed last, and how long it is.
@@ -127,15 +127,15 @@ pub struct EnrolmentFile<'r, F: Drop> {
     rt: &'r HostRuntime,
     files: F,
     path: Option<&'r str>,
-    // The file whose operators were reported.
+    // The file whose operators were answered.
     seen: Option<Stamp>,
-    // The file of whose lines it was reported which can't be read.
+    // The file of whose lines it was said which can't be read.
     checked: Option<Stamp>,
     // Why the file could not be read, as it was reported last.
     reported: Option<&'static str>,
 }
 
-/// The file of enrolments at a path, if there is one, read once, so that the administrator is reported which
+/// The file of enrolments at a path, if there is one, read once, so that the administrator is shown which
 /// lines can't be read.
 ///
 /// # Errors

@@ -36,7 +36,7 @@ impl ReadMode {
         }
     }
 
-    /// How many pages are reported of after a copy that ended with this status: their sums were not tested.
+    /// How many pages are said of after a copy that ended with this status: their sums were not tested.
     pub fn untested(self, status: u8) -> Option<u64>
         ensures { result ≡ spec.untested self status }
     {

@@ -74,7 +74,7 @@ pub on_refused : {V E A : Type 0} (P : E → Type 0) (r : Result V E) → OnErr 
 on_refused P (Ok v) holds gives = tt
 on_refused P (Err e) holds gives = gives holds
 
--- what is reported of an answer of SQLite
+-- what is said of an answer of SQLite
 pub reported_value : {V : Type 0} (P : V → Type 0) (answer : Result V Error) (result : Result V StoreFault)
     → IsReportedAs answer result → IfOk answer P → IfOk result P
 reported_value P (Ok v) result is holds = subst (λ r. IfOk r P) (sym is) holds
@@ -157,7 +157,7 @@ closed_stored operator id w fits none = none_there (stored_of id (plans_of opera
     none_there None some e = absurd (true≢false (sym some))
     none_there (Some p) some e = cc
 
--- what takes rows and refuses one that a reading reports of
+-- what takes rows and refuses one that a reading says of
 abbrev Or : (List Row → Row → Type 0) → List Row → Row → Error → Type 0
 Or P taken row e = (e ≡ SqliteFailure code.OutOfMemory) ⊎ P taken row
 

@@ -205,7 +205,7 @@ pub fn a_close_leaves_the_content<D: Disk, E: Disk>()
         → IsStanding over_files found other → other ≡ w }
 {}
 
-/// What is reported of files in which a connection left one content is never that they hold no desk, or rows
+/// What is said of files in which a connection left one content is never that they hold no desk, or rows
 /// of schema 1: `refused` is what an opening of them reported, with its connection open and its disk clean,
 /// if it had one.
 pub fn a_desk_is_not_reported_as_none<D: Disk, E: Disk>(refused: &FilesFault<E>)

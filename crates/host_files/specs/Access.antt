@@ -1,4 +1,4 @@
--- Access: what a look at the path of a file that can't be had finds, and what is reported of it.
+-- Access: what a look at the path of a file that can't be had finds, and what is said of it.
 use Rattle.std.specs.Prelude.{◌≡◌, ◌≢◌, ◌⊎◌, ⊤, ℕ, ◌==◌, Bool, true, false, if◌then◌else◌}
 use Rattle.std.specs.Prelude.{List, [], ◌∷◌, ◌++◌, codes}
 use Rattle.std.specs.Prelude.{bytes_eq, nat_eq, Option, None, Some, option_map, Result, Ok, Err, is_ok}
@@ -169,7 +169,7 @@ denial_text denial.Unopened = codes "no right to its log or folder, a second nam
 abbrev pub access_cause : Answers → List ℕ → Option (List ℕ)
 access_cause it path = option_map denial_text (access_denial it path)
 
--- a text is reported of a file that can't be had, whatever it holds
+-- a text is said of a file that can't be had, whatever it holds
 abbrev pub IsDenialText : List ℕ → Type 0
 IsDenialText text = (denial : Denial) × (text ≡ denial_text denial)
 
@@ -216,7 +216,7 @@ if_any (Some count) = if count == 0 then None else Some count
 abbrev pub pages_of : Answers → List ℕ → FileState → Option ℕ
 pages_of it path found = if may_be_damaged found then if_any (it.unsummed path) else None
 
--- why SQLite refuses a file, by whether there is none, and what is reported of what was found: where there is
+-- why SQLite refuses a file, by whether there is none, and what is said of what was found: where there is
 -- none, one is made for a trial, and if it can't be, that is reported; else no folder is asked
 abbrev pub IsCauseBy : Bool → List ℕ → List ℕ → Steps → List ℕ → Type 0
 IsCauseBy true found path steps text =

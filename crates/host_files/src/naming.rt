@@ -21,13 +21,13 @@ use std::fs::{self, File, OpenOptions, Permissions};
 use std::io::{self, ErrorKind};
 use std::os::unix::fs::{OpenOptionsExt, PermissionsExt};
 
-/// What is reported of a path at which there is something.
+/// What is said of a path at which there is something.
 pub const TAKEN: &str = "it is there already";
 
-/// What is reported of a file that another program has locked.
+/// What is said of a file that another program has locked.
 pub const IN_USE: &str = "in use by another program";
 
-/// What is reported of a path whose file system takes no writing.
+/// What is said of a path whose file system takes no writing.
 pub const READ_ONLY: &str = "a read-only file system";
 
 /// The mode of a file that its owner alone reads and writes.

@@ -38,7 +38,7 @@ impl From<AllocError> for ScratchFault {
     }
 }
 
-// What is reported of a file that can't be read.
+// What is said of a file that can't be read.
 const UNREAD: &str = "it can't be read";
 
 /// Makes the scratch copy of a file, which no other program has meanwhile, where there is nothing: mended,

@@ -10,7 +10,7 @@ use io_ends::{WriteError, write_whole};
 use std::alloc::{AllocError, Global};
 use std::io::Write;
 
-// What is reported of a desk without an operator.
+// What is said of a desk without an operator.
 const UNENROLLED: &str = "no operator is enrolled, so each request is answered 403";
 
 /// Prints `uss_desk: PATH: TEXT`. A fault of the writer is passed over, and so is want of memory.

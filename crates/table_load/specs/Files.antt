@@ -61,7 +61,7 @@ module _ {D : Type 0} {g : disk.Ghosts D} where
     pub live : IsOpenIfClean (over_files {D = D} {g = g}) h
     pub begins : BeginsWith (over_files {D = D} {g = g}) found h w
 
--- what is reported of files in which nothing was read: neither what tables nor what rows they have
+-- what is said of files in which nothing was read: neither what tables nor what rows they have
 abbrev pub IsUnread : OpenFault → Type 0
 IsUnread e = (e ≢ NotADesk) × (e ≢ OldSchema)
 

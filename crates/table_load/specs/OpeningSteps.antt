@@ -98,7 +98,7 @@ module _ {S : Type 0} (g : Ghosts S) (old new : Held S) {V : Type 0} (result : R
 
   module _ (world : V → World) (Begins : V → Type 0) where
     -- tables without a row of schema 1, or with those alone, come to have the rows of a world: how it begins,
-    -- what is reported of them if they are no desk's, why it fails, and what is kept then
+    -- what is said of them if they are no desk's, why it fails, and what is kept then
     pub record IsSetUp (Refuses Keeps : Type 0) : Type 0 where
       pub begins : IfOk result Begins
       pub stands : IfOk result (λ v. Stands g new (world v))
@@ -137,7 +137,7 @@ module _ {S : Type 0} (g : Ghosts S) (old new : Held S) where
     pub doubt : doubt_of (state g old).is_clean ≤ doubt_of (state g new).is_clean
     pub shield : (state g old).IsShielded → (state g new).IsShielded
 
-  -- the connection is given back, without a limit on steps, for this fault: what is reported of it, and what
+  -- the connection is given back, without a limit on steps, for this fault: what is said of it, and what
   -- is kept
   pub record IsNotAdopted (e : OpenFault) (Refuses Older Keeps : Type 0) : Type 0 where
     pub none : e ≡ NotADesk → Refuses

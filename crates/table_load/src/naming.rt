@@ -1,4 +1,4 @@
-//! Which part of a database is that of no desk: what an administrator is reported of files that were refused.
+//! Which part of a database is that of no desk: what an administrator is shown of files that were refused.
 //! It is found afterwards, by the tests that refuse a database, in their order. Nothing is changed.
 
 ghost use Rattle.std.specs.Prelude.{◌≡◌, ◌≢◌, ◌⊎◌, List, true, false, IfErr, IfOk, IfSome, OnOk};
