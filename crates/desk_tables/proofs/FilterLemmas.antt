@@ -21,7 +21,7 @@ use Rattle.desk_store.specs.Content.{IsId, IsPlan}
 use Rattle.desk_tables.specs.TableChanges.{is_left}
 use Rattle.row_codec.proofs.lemmas.Id.{text_order}
 use Rattle.row_codec.proofs.lemmas.Order.{after_key, after_place, placed, placed_rows}
-use Rattle.row_codec.proofs.OrderLemmas.{ArePlans, turned}
+use Rattle.row_codec.proofs.lemmas.Order.{ArePlans, turned}
 
 -- a row with the key of a plan is of the operator and the id if the plan is
 pub own_row : (o id : List ℕ) (q : Filed) (r : Row) → IsId id → IsId q.row.id

@@ -21,7 +21,7 @@ use Rattle.row_codec.specs.RowsRead.{IsVolumeAt, IsHead}
 use Rattle.desk_tables.specs.Lookups.{one_or_none, own_of}
 use Rattle.row_codec.proofs.lemmas.Order.{ArePlans}
 use Rattle.desk_tables.proofs.FilterLemmas.{own_row, plans_filtered, volumes_filtered}
-use Rattle.row_codec.proofs.OrderLemmas.{filed_total, in_order, own_at, places_less}
+use Rattle.row_codec.proofs.lemmas.Order.{filed_total, in_order, own_at, places_less}
 
 area_after : (p : Filed) (n m : ℕ) (v : Block) (us : List Block) → n < m
     → AllByRecursion (λ r. by_cells (2 ∷ []) (row_of_volume p n v) r ≡ Less) (volume_rows_from p m us)

@@ -36,7 +36,7 @@ use Rattle.row_codec.proofs.lemmas.Plan.{HasKey as BeginsAs, area_keyed}
 use Rattle.row_codec.proofs.lemmas.Share.{has_name, if_listed}
 use Rattle.table_load.proofs.lemmas.Span.{spans_keyed}
 use Rattle.desk_tables.proofs.PutLemmas.{put_as}
-use Rattle.table_load.proofs.NewRowLemmas.{covers_short, spans_apart, spans_short, volumes_apart, volumes_short}
+use Rattle.table_load.proofs.lemmas.NewRow.{covers_short, spans_apart, spans_short, volumes_apart, volumes_short}
 
 -- ---- keys
 

@@ -17,7 +17,7 @@ use Rattle.desk_store.specs.World.{Filed, Listed, text_cmp, listed_cmp, filed_cm
 use Rattle.row_codec.specs.Tables.{id_text, row_of_operator, row_of_plan, plan_rows, row_of_volume, volume_rows_from, area_rows, volume_rows}
 use Rattle.desk_store.specs.Content.{IsPlan}
 use Rattle.row_codec.proofs.lemmas.Id.{text_order, then_then}
-use Rattle.row_codec.proofs.OrderLemmas.{after_key}
+use Rattle.row_codec.proofs.lemmas.Order.{after_key}
 
 -- a row comes before another
 abbrev pub Below : Row → Row → Type 0
