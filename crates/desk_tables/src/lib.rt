@@ -1,4 +1,4 @@
-//! The tables of a desk: the rows that its operators and plans have in SQLite, and what rows stand for.
+//! The store of a desk over tables in SQLite: how it is opened, read, changed, copied and closed.
 #![tactic(auto)]
 
 mod changing;

@@ -1,4 +1,4 @@
-//! Opening a database: what tables it has, and the content whose rows they are.
+//! Opening a store: over a connection, over files, and as a copy.
 
 pub(crate) mod copying;
 pub(crate) mod files;

@@ -1,4 +1,4 @@
-//! Reading: rows as values, and what the store answers of them.
+//! Reading: what the store answers of its rows.
 
 pub(crate) mod asking;
 pub(crate) mod others;
