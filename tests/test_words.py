@@ -17,7 +17,7 @@ from harness.rows import named
 
 AT = ["play", "--at", "1780315000"]
 STATUS = b"GET /status HTTP/1.1\r\nx-operator: alfa\r\n\r\n"
-VERSION = b"uss_desk 1.0.0\nRattle logic dac8208d650f15bf\n"
+VERSION = b"uss_desk 2.0.0\nRattle logic dac8208d650f15bf\n"
 COVER = ["cover", "0", "0", "0", "0", "65535", "24"]
 # the last leaf along a side of a face, and the last of its first half
 LAST, HALF = str(2**30 - 1), str(2**29 - 1)

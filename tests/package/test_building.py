@@ -25,7 +25,7 @@ BY_HAND = (b"/srv/desk_proxy", b"/usr/local")
 
 def test_packages(debs: Debs) -> None:
     """There are two."""
-    names = ["uss-desk-client_1.0.0_all.deb", "uss-desk_1.0.0_amd64.deb"]
+    names = ["uss-desk-client_2.0.0_all.deb", "uss-desk_2.0.0_amd64.deb"]
     assert sorted(path.name for path in debs.values()) == names
 
 

@@ -191,7 +191,7 @@ def upgrade(rows: Rows, machine: Machine) -> None:
     rows.equal("a plan since the backup", STORED, put(machine, 4))
     *rehearse, look = commands("upgrade.md", "Rehearse the upgrade")
     told = run(machine, *rehearse)
-    rows.has("the new program", "uss_desk 1.0.0\n", told)
+    rows.has("the new program", "uss_desk 2.0.0\n", told)
     wanted = "copied 1 operators, 3 plans\nreplayed N requests, 1 changes, all answers alike\n"
     rows.has("it answers alike", wanted, uncounted(told))
     told = run(machine, look)

@@ -57,8 +57,8 @@ def install(rows: Rows, machine: Machine, debs: Debs) -> None:
     """The first two steps: install, enrol."""
     put_in(machine, debs["uss-desk"])
     told = machine.sh(printed("1. Install"))
-    rows.equal("installed", (True, False), (is_installed(machine, "1.0.0"), "status" in told))
-    rows.equal("the program's version", True, machine.sh("uss_desk --version").startswith("uss_desk 1.0.0\n"))
+    rows.equal("installed", (True, False), (is_installed(machine, "2.0.0"), "status" in told))
+    rows.equal("the program's version", True, machine.sh("uss_desk --version").startswith("uss_desk 2.0.0\n"))
     rows.equal("nothing of it runs", "", running(machine))
     rows.equal(
         "the desk's folder", "750 uss_desk uss_desk", machine.sh("stat -c '%a %U %G' /var/lib/uss_desk").strip()
@@ -244,10 +244,10 @@ def process(machine: Machine) -> tuple[str, list[str]]:
 
 def upgrade(rows: Rows, machine: Machine, word: str, debs: Debs, folder: pathlib.Path) -> None:
     """A later version over a desk that runs starts it again."""
-    put_in(machine, repacked(debs["uss-desk"], folder / "later", "1.0.1"))
+    put_in(machine, repacked(debs["uss-desk"], folder / "later", "2.0.1"))
     before, _ = process(machine)
-    told = machine.sh("apt-get install -y ./later_1.0.1.deb")
-    rows.equal("upgraded", (True, False), (is_installed(machine, "1.0.1"), "status" in told))
+    told = machine.sh("apt-get install -y ./later_2.0.1.deb")
+    rows.equal("upgraded", (True, False), (is_installed(machine, "2.0.1"), "status" in told))
     after, program = process(machine)
     rows.equal("another process runs the new program", (False, ["/usr/bin/uss_desk"]), (before == after, program))
     rows.equal("it answers", '{"status":"Ready"}', listens(machine, word))
@@ -257,18 +257,18 @@ def upgrade(rows: Rows, machine: Machine, word: str, debs: Debs, folder: pathlib
 
 def downgrade(machine: Machine) -> str:
     """What apt prints when the first version is to be put back."""
-    return machine.sh("apt-get install -y --allow-downgrades ./uss-desk_1.0.0_amd64.deb")
+    return machine.sh("apt-get install -y --allow-downgrades ./uss-desk_2.0.0_amd64.deb")
 
 
 def downgrades(rows: Rows, machine: Machine, debs: Debs, folder: pathlib.Path) -> None:
     """Refused while the desk runs, taken over tables that are known, and refused over later ones."""
     before = process(machine)
     told = downgrade(machine)
-    rows.has("a downgrade under a running desk", "1.0.0 is not put in the place of 1.0.1: uss_desk: ", told)
-    rows.equal("it leaves all", (True, before), (is_installed(machine, "1.0.1"), process(machine)))
+    rows.has("a downgrade under a running desk", "2.0.0 is not put in the place of 2.0.1: uss_desk: ", told)
+    rows.equal("it leaves all", (True, before), (is_installed(machine, "2.0.1"), process(machine)))
     machine.sh("systemctl stop uss_desk")
     downgrade(machine)
-    rows.equal("a downgrade over these tables", True, is_installed(machine, "1.0.0"))
+    rows.equal("a downgrade over these tables", True, is_installed(machine, "2.0.0"))
     put_in(machine, repacked(debs["uss-desk"], folder / "last", "9.0.0", later_program))
     machine.sh("apt-get install -y ./last_9.0.0.deb")
     rows.equal("a version of other tables", True, is_installed(machine, "9.0.0"))
@@ -282,7 +282,7 @@ def downgrades(rows: Rows, machine: Machine, debs: Debs, folder: pathlib.Path) -
         rows.equal("it is refused", (True, True), (is_installed(machine, "9.0.0"), told.endswith("status 100\n")))
     machine.sh("echo 'schema 2, sums yes' > /run/told")
     downgrade(machine)
-    rows.equal("a downgrade over schema 2", True, is_installed(machine, "1.0.0"))
+    rows.equal("a downgrade over schema 2", True, is_installed(machine, "2.0.0"))
 
 
 def later_program(folder: pathlib.Path) -> None:
@@ -302,7 +302,7 @@ def remove(rows: Rows, machine: Machine, word: str, before: set[str]) -> None:
     kept = ("var/lib/uss_desk/desk.db", "etc/uss_desk/operators.htpasswd", "etc/default/uss_desk")
     rows.equal("what a removal keeps", [True] * 3, [(machine.folder / name).exists() for name in kept])
     machine.sh(
-        "apt-get install -y ./uss-desk_1.0.0_amd64.deb && systemctl enable --now uss_desk uss_desk@8090 uss_desk_proxy"
+        "apt-get install -y ./uss-desk_2.0.0_amd64.deb && systemctl enable --now uss_desk uss_desk@8090 uss_desk_proxy"
     )
     listens(machine, word)
     rows.has(

@@ -66,7 +66,7 @@ def clear(run: Run, operator: str, field: str) -> None:
 def test_the_version_is_that_of_the_program(capsys: pytest.CaptureFixture[str]) -> None:
     with pytest.raises(SystemExit):
         command.main(["--version"])
-    assert capsys.readouterr().out == "uss-plan 1.0.0\n"
+    assert capsys.readouterr().out == "uss-plan 2.0.0\n"
 
 
 def test_the_help_begins_with_a_flight_and_has_the_statuses(capsys: pytest.CaptureFixture[str]) -> None:

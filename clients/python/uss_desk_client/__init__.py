@@ -20,7 +20,7 @@ from uss_desk_client.units import UnitError
 from uss_desk_client.watching import Change, Watch
 from uss_desk_client.why import Blocked, Look, Reasons, looks, why
 
-__version__ = "1.0.0"
+__version__ = "2.0.0"
 """That of the program too."""
 
 __all__ = [

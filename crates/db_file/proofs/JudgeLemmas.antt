@@ -1,4 +1,4 @@
--- What is reported of a whole log.
+-- What is said of a whole log.
 use Rattle.std.proofs.Common.{◌≡◌, inl, inr, ℕ, suc, ◌<◌, List, ◌++◌, length, drop, Option, None, Some, Result, Ok, Err, IfOk, IfSome, sym, ap, ◌∙◌, subst, arith, drop_at}
 use Rattle.std.proofs.lemmas.Bool.{leb-true, true≢false}
 use Rattle.std.proofs.lemmas.Bool.Decides.{leb_tells}
@@ -24,7 +24,7 @@ first_of page head rest len =
     let at : frame_at page 0 ≡ 32 = omega (arith, frames_len-zero page) in
     ap Some (sym (ap (λ n. drop n (head ++ rest)) at ∙ drop_at head rest 32 len))
 
--- what is reported of the bytes behind the header is reported of all
+-- what is said of the bytes behind the header is said of all
 pub reported_of_all : {E : Type 0} (page : ℕ) (head : List ℕ) (old new : Option (List ℕ)) (r : Result WalState E)
     → length head ≡ 32 → Consumes old new head
     → ((bytes : List ℕ) → header bytes ≡ head → IsBefore page bytes 0 new → IfOk r (IsVerdict bytes))
@@ -77,7 +77,7 @@ module _ (page : ℕ) (log head : List ℕ) (same : header log ≡ head) (is_hea
       let run = one_run page log n damaged.frames counted.frames damaged.run counted.run in
       damaged.lost ∙ ap (ends_in page log n) run ∙ sym counted.lost
 
-  -- what is reported of a log in which recovery stops at frame n
+  -- what is said of a log in which recovery stops at frame n
   pub reported_at : {E : Type 0} (n : ℕ) (room : List ℕ) (left : Option (List ℕ)) (r : Result WalState E)
       → IsStop page log n room left
       → IfOk r (IsVerdictAt page log n) → IfOk r (IsVerdict log)

@@ -147,7 +147,7 @@ page_read (Ok u) (Some rest) whole after header page is read =
     first_of after (header ++ rest) page (header ++ rest) (length page) refl
     (subst (λ w. Consumes w after page) is read) refl
 
--- whether it lists a desk's tables so is reported of it
+-- whether it lists a desk's tables so is said of it
 pub page_reported : (left : Option (List ℕ)) (reported : Bool) (header page : List ℕ) (size : ℕ)
     → IfSome left (λ rest. page ≡ take (length page) (header ++ rest)) → length page ≡ size
     → reported ≡ is_some (ordered page)

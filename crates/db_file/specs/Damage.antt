@@ -59,7 +59,7 @@ IsDamaged log = IsDamagedAt (be32 (header log) 8) log
 abbrev pub least_damaged : ℕ
 least_damaged = 1_104
 
--- what is reported of a log
+-- what is said of a log
 abbrev pub IsVerdict : List ℕ → WalState → Type 0
 IsVerdict log Sound = (stop commits : ℕ) → ¬ IsDamaged log stop commits
 IsVerdict log (Damaged stop commits) = IsDamaged log stop commits

@@ -25,7 +25,7 @@ packed_place place =
 abbrev pub name_at : Bool → ℕ → List ℕ
 name_at packed place = slice_index_or own_names (if packed then packed_place place else place) []
 
--- what is reported of a file that lists them in another order than the desk takes
+-- what is said of a file that lists them in another order than the desk takes
 abbrev pub order_text : List ℕ
 order_text = codes "its tables stand in another order than a desk's: copy makes a desk of it"
 

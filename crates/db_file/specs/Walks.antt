@@ -46,7 +46,7 @@ pub record LosesCommits (page : ℕ) (log : List ℕ) (n commits : ℕ) : Type 0
   pub run : IsRunOfFrames page log n frames
   pub lost : commits ≡ ends_in page log n frames
 
--- what is reported of a log in which recovery stops at frame n
+-- what is said of a log in which recovery stops at frame n
 abbrev pub IsVerdictAt : ℕ → List ℕ → ℕ → WalState → Type 0
 IsVerdictAt page log n Sound = (commits : ℕ) × LosesCommits page log n commits × (commits < 2)
 IsVerdictAt page log n (Damaged stop commits) = (stop ≡ n) × LosesCommits page log n commits × (2 ≤ commits)

@@ -21,7 +21,7 @@ const LEAF: u8 = 13;
 // How many tables and indexes a desk has.
 const ALL: u16 = 14;
 
-/// What is reported of a file that lists the tables and indexes of a desk in another order than the desk
+/// What is said of a file that lists the tables and indexes of a desk in another order than the desk
 /// takes.
 pub fn order_text() -> &'static str
     ensures { result.now ≡ spec.order_text }

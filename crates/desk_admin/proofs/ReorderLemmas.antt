@@ -7,8 +7,8 @@ use Rattle.sqlite.specs.Held.{Held}
 use Rattle.desk_wire.specs.Passage.{course}
 use Rattle.desk_cli.specs.Exits.{IsLineBreakdown}
 use Rattle.desk_cli.specs.declared.failure.ErrorCode.{ErrorCode}
-use Rattle.desk_tables.specs.declared.opening.open.OpenFault.TheVariants as opening
-use Rattle.desk_host.specs.Naming.{Steps}
+use Rattle.table_load.specs.declared.fault.OpenFault.TheVariants as opening
+use Rattle.host_files.specs.Naming.{Steps}
 use Rattle.desk_host.specs.declared.ways.ReadMode.{ReadMode}
 use Rattle.desk_host.specs.declared.ways.ReadMode.TheVariants as way
 use Rattle.desk_admin.specs.FilesReported.{FailsToRead}

@@ -7,7 +7,7 @@ use Rattle.desk_cli.specs.declared.line.Database.{Database}
 use Rattle.desk_cli.specs.Exits.{ending}
 use Rattle.desk_cli.specs.declared.failure.ExitReport.{ExitReport}
 use Rattle.desk_admin.specs.FilesReported.{CopyOutcome, IsCopied}
-use Rattle.desk_host.specs.Naming.{Steps}
+use Rattle.host_files.specs.Naming.{Steps}
 
 -- what was reported before a copy is as it was before its scratch copy was made
 pub copied_from : {D E X : Type 0} {g : disk.Ghosts D} {k : disk.Ghosts E} (image other : Image)

@@ -7,7 +7,7 @@ use Rattle.desk_cli.specs.declared.failure.ExitReport.{ExitReport}
 use Rattle.desk_cli.specs.Exits.{Ending}
 use Rattle.desk_program.specs.Outside.{bytes_written, ended}
 use Rattle.desk_admin.specs.declared.keeping.Writers.{Writers}
-use Rattle.desk_host.specs.Naming.{Steps}
+use Rattle.host_files.specs.Naming.{Steps}
 
 -- the steps of the folders; the bytes that are printed; the end
 pub record AdminOutside : Type 0 where

@@ -1,10 +1,10 @@
--- Causes: what an administrator is reported of a file that can't be opened.
+-- Causes: what an administrator is shown of a file that can't be opened.
 use Rattle.std.specs.Prelude.{◌≡◌, ◌⊎◌, ℕ, List, codes, Option, None, Some}
 use Rattle.db_file.specs.Orders.{order_text}
-use Rattle.desk_tables.specs.declared.opening.naming.InvalidPart.{InvalidPart}
-use Rattle.desk_tables.specs.declared.opening.naming.InvalidPart.TheVariants as part
+use Rattle.table_load.specs.declared.naming.InvalidPart.{InvalidPart}
+use Rattle.table_load.specs.declared.naming.InvalidPart.TheVariants as part
 
--- what is reported of the part of a file that is that of no desk
+-- what is said of the part of a file that is that of no desk
 abbrev pub part_text : InvalidPart → List ℕ
 part_text part.NoTable = codes "no table"
 part_text part.OtherTables = codes "other tables than a desk's"

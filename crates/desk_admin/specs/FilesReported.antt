@@ -1,4 +1,4 @@
--- FilesReported: what an administrator is reported of a file, and what is copied of it.
+-- FilesReported: what an administrator is shown of a file, and what is copied of it.
 use Rattle.std.specs.Prelude.{◌≡◌, ℕ, List, [], length, Option, Result, Ok, Err, ◌⊎◌, None}
 use Rattle.std.specs.Option.{IsSomeAnd}
 use Rattle.sqlite_disk.specs.declared.Disk as disk
@@ -17,21 +17,22 @@ use Rattle.desk_cli.specs.declared.line.Database.{Database}
 use Rattle.desk_cli.specs.Exits.{Ending, FailsWith}
 use Rattle.desk_program.specs.Looking.{IsTextPrinted, checked_line, copied_line}
 use Rattle.desk_program.specs.declared.looking.CheckedFile.{CheckedFile}
-use Rattle.desk_tables.specs.Counting.{HaveSpanRows, IsMostCells, IsMostSpans}
+use Rattle.row_codec.specs.Counting.{HaveSpanRows, IsMostCells, IsMostSpans}
 use Rattle.desk_tables.specs.Closing.{IsLeftUnclosed}
-use Rattle.desk_tables.specs.Copying.{AreHoldingsOf, AreNotCopied, AreNotRead, IsMadeIn, LooksIn, live_count}
+use Rattle.table_load.specs.HeldContent.{AreHoldingsOf, live_count}
+use Rattle.desk_tables.specs.Copying.{AreNotCopied, AreNotRead, IsMadeIn, LooksIn}
 use Rattle.desk_tables.specs.declared.closing.CheckpointError.{CheckpointError}
 use Rattle.desk_tables.specs.declared.opening.files.CopyFault.{CopyFault}
 use Rattle.desk_tables.specs.declared.opening.files.CopyFault.TheVariants as copy
 use Rattle.desk_tables.specs.declared.opening.files.FilesFault.{FilesFault}
-use Rattle.desk_tables.specs.declared.opening.open.OpenFault.TheVariants as opening
-use Rattle.desk_tables.specs.Leaving.{IsSettledAt}
-use Rattle.desk_tables.specs.declared.opening.looking.DbStats.{DbStats}
+use Rattle.table_load.specs.declared.fault.OpenFault.TheVariants as opening
+use Rattle.table_load.specs.Leaving.{IsSettledAt}
+use Rattle.table_load.specs.declared.looking.DbStats.{DbStats}
 use Rattle.desk_admin.specs.declared.keeping.CopyError.{CopyError}
 use Rattle.desk_admin.specs.declared.unopened.OpenError.{OpenError}
 use Rattle.desk_admin.specs.AdminOutside.{AdminOutside}
-use Rattle.desk_host.specs.Naming.{Follows, HasFailedStep, IsNamed, IsUnnamed, Steps, Synced, free_steps, named_steps}
-use Rattle.desk_host.specs.Reporting.{Reports}
+use Rattle.host_files.specs.Naming.{Follows, HasFailedStep, IsNamed, IsUnnamed, Steps, Synced, free_steps, named_steps}
+use Rattle.host_files.specs.Reporting.{Reports}
 use Rattle.desk_admin.specs.Unopened.{open_failure, FailsOver, IsInMemory, IsUnreadFor}
 
 -- why is reported, and then the line of the failure, with which it ends
@@ -50,7 +51,7 @@ pub record ReportsHoldings (file : CheckedFile) (w : World) : Type 0 where
   pub most_cells : IsMostCells w.plans file.most_cells
 
 module _ {D : Type 0} {g : disk.Ghosts D} (image : Image) where
-  -- what is reported of files that held this, as a connection read it, which leaves their rows
+  -- what is said of files that held this, as a connection read it, which leaves their rows
   pub record IsReadAs (left : Held (FileStore D g)) (file : CheckedFile) : Type 0 where
     pub w : World
     pub reported : ReportsHoldings file w
@@ -62,7 +63,7 @@ module _ {D : Type 0} {g : disk.Ghosts D} (image : Image) where
   FailsToRead it = IsUnreadFor it opening.OutOfMemory
       ⊎ FailsOver (λ files. AreNotRead image files.fault files.connection) it
 
-  -- why no content is reported of a database: it is in memory, or its files are not read
+  -- why no content is said of a database: it is in memory, or its files are not read
   abbrev pub FailsToLook : Database → OpenError D g → Type 0
   FailsToLook database it = (IsInMemory database × IsUnreadFor it opening.Store) ⊎ FailsToRead it
 

@@ -16,11 +16,11 @@ use Rattle.desk_admin.specs.declared.unopened.OpenError.{OpenError}
 use Rattle.desk_host.specs.declared.ways.ReadMode.{ReadMode}
 use Rattle.desk_host.specs.declared.ways.ReadMode.TheVariants as way
 use Rattle.desk_admin.specs.FilesReported.{FailsToRead, IsReadAs}
-use Rattle.desk_host.specs.Reporting.{IsWrittenIfRoom, Reports, line_of}
-use Rattle.desk_host.specs.Naming.{Failed, Follows, Ordered, Step, Steps}
+use Rattle.host_files.specs.Reporting.{IsWrittenIfRoom, Reports, line_of}
+use Rattle.host_files.specs.Naming.{Failed, Follows, Ordered, Step, Steps}
 use Rattle.desk_host.specs.Scratch.{AreRemoved, IsUntwinned, making, scratch_of}
 
--- what is reported of a file that is put in order
+-- what is said of a file that is put in order
 abbrev pub reordered_text : List ℕ
 reordered_text = codes "its tables are put in a desk's own order"
 

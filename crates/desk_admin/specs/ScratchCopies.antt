@@ -21,9 +21,9 @@ use Rattle.desk_host.specs.declared.ways.ReadMode.{ReadMode}
 use Rattle.desk_host.specs.declared.ways.ReadMode.TheVariants as way
 use Rattle.desk_admin.specs.FilesReported.{CopyOutcome, FailsReporting, FailsToRead, IsCopied, IsNamedIf, IsReadAs}
 use Rattle.desk_admin.specs.AdminOutside.{AdminOutside}
-use Rattle.desk_host.specs.Naming.{Follows, LeavesOthers, Step, Steps}
+use Rattle.host_files.specs.Naming.{Follows, LeavesOthers, Step, Steps}
 use Rattle.desk_host.specs.Scratch.{AreRemoved, IsUntwinned, making, scratch_of}
-use Rattle.desk_host.specs.Reporting.{IsWrittenIfRoom, line_of}
+use Rattle.host_files.specs.Reporting.{IsWrittenIfRoom, line_of}
 use Rattle.desk_admin.specs.Unopened.{IsInMemory}
 use Rattle.db_file.specs.Orders.{order_text}
 use Rattle.desk_host.specs.Ways.{is_mended, untested}
@@ -35,7 +35,7 @@ rows_text rows.OfADesk = codes "are a desk's"
 rows_text rows.OfNoDesk = codes "are no desk's"
 rows_text rows.TestedAlone = codes "alone were tested"
 
--- the line that reports of pages without their sums, and what their rows are
+-- the line that says of pages without their sums, and what their rows are
 unfoldable pub unsummed_line : List ℕ → ℕ → List ℕ → List ℕ
 unsummed_line path pages text =
     codes "uss_desk: " ++ (path ++ (codes ": " ++ (decimal pages
@@ -47,7 +47,7 @@ rows_line path pages it = unsummed_line path pages (rows_text it)
 abbrev pub order_line : List ℕ → List ℕ
 order_line path = line_of path order_text
 
--- what is reported of a file that is read in a way, by a scratch copy whose rows are a desk's
+-- what is said of a file that is read in a way, by a scratch copy whose rows are a desk's
 abbrev pub taken_line : List ℕ → ReadMode → Option (List ℕ)
 taken_line path way.Itself = None
 taken_line path way.Damaged = None
@@ -88,7 +88,7 @@ IsScratchRefused path way.OtherOrder f end = FailsReporting f end
 -- ---- a look
 
 module _ {D : Type 0} {g : disk.Ghosts D} (image : Image) (path : List ℕ) (way : ReadMode) where
-  -- the rows of a file are a desk's, and what is reported of its way is reported, and what they are
+  -- the rows of a file are a desk's, and what is said of its way is reported, and what they are
   pub record IsTakenByRows (left : Held (FileStore D g)) (end : Ending) (writes : Course (Option (List ℕ)))
       : Type 0 where
     pub between : Option (List ℕ)

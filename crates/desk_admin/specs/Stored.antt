@@ -6,11 +6,12 @@ use Rattle.sqlite_wal.specs.Recovery.{Image}
 use Rattle.sqlite_store.specs.declared.store.FileStore.{FileStore}
 use Rattle.sqlite.specs.Files.{over_files}
 use Rattle.sqlite.specs.Held.{Held}
-use Rattle.desk_tables.specs.Copying.{AreHoldingsOf, IsMadeIn, LooksIn}
-use Rattle.desk_tables.specs.Leaving.{IsSettledAt}
+use Rattle.table_load.specs.HeldContent.{AreHoldingsOf}
+use Rattle.desk_tables.specs.Copying.{IsMadeIn, LooksIn}
+use Rattle.table_load.specs.Leaving.{IsSettledAt}
 use Rattle.desk_tables.specs.Store.{Shown}
-use Rattle.desk_tables.specs.declared.opening.looking.DbStats.{DbStats}
-use Rattle.desk_host.specs.declared.files.Found.{Found}
+use Rattle.table_load.specs.declared.looking.DbStats.{DbStats}
+use Rattle.host_files.specs.declared.files.Found.{Found}
 
 -- how many bytes were found at a path; none if nothing is reached
 abbrev pub found_size : Result Found ErrorKind → ℕ

@@ -7,8 +7,8 @@ use Rattle.desk_cli.specs.declared.failure.ErrorCode.TheVariants as failure
 use Rattle.desk_cli.specs.Lines.{file_of}
 use Rattle.desk_cli.specs.declared.line.Database.{Database}
 use Rattle.desk_tables.specs.declared.opening.files.FilesFault.{FilesFault}
-use Rattle.desk_tables.specs.declared.opening.open.OpenFault.{OpenFault}
-use Rattle.desk_tables.specs.declared.opening.open.OpenFault.TheVariants as opening
+use Rattle.table_load.specs.declared.fault.OpenFault.{OpenFault}
+use Rattle.table_load.specs.declared.fault.OpenFault.TheVariants as opening
 use Rattle.desk_admin.specs.declared.unopened.OpenError.{OpenError}
 
 -- why a program ends at a database that can't be opened

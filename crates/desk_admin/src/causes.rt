@@ -3,24 +3,24 @@
 
 ghost use Rattle.std.specs.Prelude.{◌≡◌, IfErr, IfOk, None};
 ghost use Rattle.desk_program.specs.Outside.{bytes_written};
-ghost use Rattle.desk_host.specs.Reporting.{Reports};
+ghost use Rattle.host_files.specs.Reporting.{Reports};
 ghost use Rattle.desk_admin.specs.Causes as spec;
 ghost use Rattle.desk_admin.specs.Causes.{IsNoDeskText};
 
 use db_file::order_text;
 use desk_cli::{Database, ErrorCode};
-use desk_host::access::report_store;
-use desk_host::files::LocalHost;
-use desk_host::probing::probe;
-use desk_host::reporting::report_of;
 use desk_host::ways::{ReadMode, read_mode};
 use desk_tables::{InvalidPart, Named, NotOpened, part_at};
+use host_files::access::report_store;
+use host_files::files::LocalHost;
+use host_files::probing::probe;
+use host_files::reporting::report_of;
 use sqlite::Unknown;
 use sqlite_disk::Disk;
 use std::io::Write;
 
 /// Reports why a database can't be opened by a line that makes its file where there is none.
-#[tactic(auto, using(desk_host::proofs::ReportLemmas::reports_nothing))]
+#[tactic(auto, using(host_files::proofs::lemmas::Reporting::reports_nothing))]
 pub fn report_made<E: Write>(
     host: LocalHost<'_>,
     database: &Database,
@@ -38,7 +38,7 @@ pub fn report_made<E: Write>(
 }
 
 /// Reports why a database can't be opened, if it is in a file that has to be there.
-#[tactic(auto, using(desk_host::proofs::ReportLemmas::reports_nothing))]
+#[tactic(auto, using(host_files::proofs::lemmas::Reporting::reports_nothing))]
 pub fn report_database<E: Write>(
     host: LocalHost<'_>,
     database: &Database,
@@ -55,7 +55,7 @@ pub fn report_database<E: Write>(
 
 /// Reports why the file at a path can't be opened: `uss_desk: NAME: CAUSE`. A fault of the writer is passed
 /// over.
-#[tactic(auto, using(desk_host::proofs::ReportLemmas::reports_nothing))]
+#[tactic(auto, using(host_files::proofs::lemmas::Reporting::reports_nothing))]
 pub fn report_cause<E: Write>(
     host: LocalHost<'_>,
     path: &str,

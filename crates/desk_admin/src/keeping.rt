@@ -7,30 +7,31 @@ ghost use Rattle.sqlite_wal.specs.Recovery.{Image};
 ghost use Rattle.desk_store.specs.World.{World};
 ghost use Rattle.desk_program.specs.Looking.{IsTextPrinted, copied_line};
 ghost use Rattle.desk_program.specs.Outside.{bytes_written, ended};
-ghost use Rattle.desk_tables.specs.Copying.{AreHoldingsOf, AreNotCopied};
+ghost use Rattle.table_load.specs.HeldContent.{AreHoldingsOf};
+ghost use Rattle.desk_tables.specs.Copying.{AreNotCopied};
 ghost use Rattle.desk_admin.specs.FilesReported.{FailsAtFiles, FailsBy, FailsReporting, FailsToCopy, FailsToLook};
 ghost use Rattle.desk_admin.specs.FilesReported.{FailsToRead};
 ghost use Rattle.desk_admin.specs.FilesReported.{FailsUntried, IsChecked, IsCopied, IsCopyMade, IsNamedIf, IsReadAs};
 ghost use Rattle.desk_admin.specs.FilesReported.{IsAsCopied, IsNamedNow, ReportsHoldings};
-ghost use Rattle.desk_host.specs.Reporting.{Reports};
+ghost use Rattle.host_files.specs.Reporting.{Reports};
 ghost use Rattle.desk_admin.specs.Stored.{IsStoredAs, found_size};
 ghost use Rattle.desk_admin.specs.AdminOutside.{admin_outside};
-ghost use Rattle.desk_host.specs.Naming.{AreNames, ChangesOwn, Follows, GivesUp, HasFailedStep, IsNotFree};
-ghost use Rattle.desk_host.specs.Naming.{IsUnnamed, LeavesOthers, Synced, TakesAll, free_steps, named_steps};
-ghost use Rattle.desk_host.specs.FolderSteps.{steps_of};
+ghost use Rattle.host_files.specs.Naming.{AreNames, ChangesOwn, Follows, GivesUp, HasFailedStep, IsNotFree};
+ghost use Rattle.host_files.specs.Naming.{IsUnnamed, LeavesOthers, Synced, TakesAll, free_steps, named_steps};
+ghost use Rattle.host_files.specs.FolderSteps.{steps_of};
 
 use crate::causes::{report_cause, report_database};
 use crate::unopened::{FileOpenError, OpenError, open_failure};
 use db_file::has_checksums;
 use desk_cli::{CopyArgs, Database, ErrorCode, ExitReport, report_exit};
-use desk_host::files::{Found, HostFiles, LocalHost};
-use desk_host::naming::{Folder, NewFile, name_with, names_of, publish};
-use desk_host::reporting::report_of;
 use desk_host::room::make_room;
 use desk_program::{CheckedFile, print_checked, print_copied};
 use desk_tables::{
     CheckpointError, Copied, CopyFault, DbStats, FilesFault, OpenFault, copy_from, look_at,
 };
+use host_files::files::{Found, HostFiles, LocalHost};
+use host_files::naming::{Folder, NewFile, name_with, names_of, publish};
+use host_files::reporting::report_of;
 use sqlite::{Connection, FileFrom, FileStore, Files, Start};
 use sqlite_disk::Disk;
 use std::alloc::{AllocError, Global};
@@ -227,7 +228,7 @@ pub fn look_in<F: Start>(
     }
 }
 
-// What is reported of a file.
+// What is said of a file.
 fn reported_of(holdings: &DbStats, bulk: FileStats) -> CheckedFile
     ensures counted { (w : World) → AreHoldingsOf holdings.now w → ReportsHoldings result w }
     ensures schema { result.is_old ≡ holdings.now.is_old }
@@ -334,7 +335,7 @@ fn print_holdings<W: Write, E: Write>(
 
 // Copies what a database holds to a new file. It is written under another name, which it loses once all is on
 // the disk: a copy that is cut off leaves nothing of the new name.
-#[tactic(auto, using(desk_host::proofs::NameLemmas::leaves_none, desk_host::proofs::NameLemmas::leaves_all))]
+#[tactic(auto, using(host_files::proofs::lemmas::Naming::leaves_none, host_files::proofs::lemmas::Naming::leaves_all))]
 fn copy_for<F: Start, N: Start, P: Folder, E: Write>(
     host: LocalHost<'_>,
     folder: &mut P,
@@ -364,7 +365,7 @@ fn copy_for<F: Start, N: Start, P: Folder, E: Write>(
     keep_copy(host, folder, source, &names, copied, errors)
 }
 
-// A file that is copied: how it is reported of, and where it is read.
+// A file that is copied: how it is named, and where it is read.
 #[derive(Clone, Copy)]
 struct CopySource<'s> {
     name: &'s str,
@@ -417,7 +418,7 @@ fn keep_copy<D: Disk + Drop, N: Disk + Drop, P: Folder, E: Write>(
 }
 
 // Gives a new file that is whole its name, or reports that it can't be given it.
-#[tactic(auto, using(desk_host::proofs::ReportLemmas::reports_nothing))]
+#[tactic(auto, using(host_files::proofs::lemmas::Reporting::reports_nothing))]
 fn publish_copy<P: Folder, E: Write>(
     alloc: Global,
     folder: &mut P,
@@ -496,7 +497,7 @@ fn close_copy<D: Disk + Drop, N: Disk + Drop>(
 
 // Makes room for a new file, or reports what stands in the way. Nothing of what is copied (`source`) is
 // removed.
-#[tactic(auto, using(desk_host::proofs::ReportLemmas::reports_nothing))]
+#[tactic(auto, using(host_files::proofs::lemmas::Reporting::reports_nothing))]
 fn make_room_or_report<P: Folder, E: Write>(
     alloc: Global,
     folder: &mut P,
@@ -522,7 +523,7 @@ fn make_room_or_report<P: Folder, E: Write>(
 }
 
 // Reports why nothing is copied, and removes what was made.
-#[tactic(auto, using(desk_host::proofs::ReportLemmas::reports_nothing))]
+#[tactic(auto, using(host_files::proofs::lemmas::Reporting::reports_nothing))]
 fn give_up<P: Folder, E: Write>(
     host: LocalHost<'_>,
     folder: &mut P,

@@ -7,30 +7,30 @@ ghost use Rattle.sqlite_wal.specs.Recovery.{Image};
 ghost use Rattle.desk_cli.specs.Lines.{file_of};
 ghost use Rattle.desk_program.specs.Outside.{bytes_written};
 ghost use Rattle.desk_admin.specs.FilesReported.{FailsToRead, IsReadAs};
-ghost use Rattle.desk_host.specs.FolderSteps.{steps_of};
+ghost use Rattle.host_files.specs.FolderSteps.{steps_of};
 ghost use Rattle.desk_admin.specs.Reordering as spec;
 ghost use Rattle.desk_admin.specs.Reordering.{IsAdmitted, IsOrderedByScratch, IsOrderedOr, IsReorderReported, IsReordered};
 ghost use Rattle.desk_admin.specs.Reordering.{IsReorderedIf};
 ghost use Rattle.desk_admin.specs.Unopened.{IsOpenFailure};
 ghost use Rattle.desk_host.specs.Scratch.{AreTwins};
-ghost use Rattle.desk_host.specs.Reporting.{IsWrittenIfRoom, Reports};
+ghost use Rattle.host_files.specs.Reporting.{IsWrittenIfRoom, Reports};
 
 use crate::causes::report_cause;
 use crate::keeping::look_in;
 use crate::scratch_copies::{CheckResult, Judged};
 use desk_cli::{Database, ErrorCode};
-use desk_host::access::access_cause;
-use desk_host::files::{HostFiles, LocalHost};
-use desk_host::naming::Folder;
-use desk_host::reporting::report_of;
 use desk_host::scratch::{ScratchCopy, make_scratch, remove_scratch};
 use desk_host::ways::{ReadMode, read_mode};
+use host_files::access::access_cause;
+use host_files::files::{HostFiles, LocalHost};
+use host_files::naming::Folder;
+use host_files::reporting::report_of;
 use sqlite::{FileFrom, Start, Unknown};
 use sqlite_disk::Disk;
 use std::alloc::Global;
 use std::io::Write;
 
-// What is reported of a file that can't be put in order, though it can be had.
+// What is said of a file that can't be put in order, though it can be had.
 const UNWRITTEN: &str = "it can't be written: a full disk, or one that fails";
 
 /// A file that a line is about to open.
@@ -226,7 +226,7 @@ fn report_reordered<E: Write>(alloc: Global, path: &str, errors: &mut E)
     report_of(alloc, path, reordered_text(), errors);
 }
 
-// What is reported of a file that was put in order.
+// What is said of a file that was put in order.
 fn reordered_text() -> &'static str
     ensures { result.now ≡ spec.reordered_text }
 {

@@ -8,12 +8,12 @@ ghost use Rattle.sqlite_wal.specs.Recovery.{Image};
 ghost use Rattle.desk_program.specs.Outside.{bytes_written, ended};
 ghost use Rattle.desk_admin.specs.FilesReported.{FailsReporting, FailsToRead, IsReadAs};
 ghost use Rattle.desk_admin.specs.AdminOutside.{admin_outside};
-ghost use Rattle.desk_host.specs.FolderSteps.{steps_of};
+ghost use Rattle.host_files.specs.FolderSteps.{steps_of};
 ghost use Rattle.desk_host.specs.Scratch.{scratch_of};
 ghost use Rattle.desk_admin.specs.ScratchCopies as spec;
 ghost use Rattle.desk_admin.specs.ScratchCopies.{AreRowsRefused, IsCopiedByScratchIf, IsJudged, IsJudgedIf, IsNotedIf};
 ghost use Rattle.desk_admin.specs.ScratchCopies.{IsTestReported, IsScratchRefused, WasScratch};
-ghost use Rattle.desk_host.specs.Reporting.{IsWrittenIfRoom};
+ghost use Rattle.host_files.specs.Reporting.{IsWrittenIfRoom};
 ghost use Rattle.desk_host.specs.Ways.{is_mended};
 
 use crate::causes::report_cause;
@@ -21,18 +21,18 @@ use crate::keeping::{Copies, CopyEnd, ReadConnection, Starts, Writers, copy_file
 use crate::unopened::{FileOpenError, OpenError};
 use db_file::order_text;
 use desk_cli::{CopyArgs, Database, ErrorCode, ExitReport, report_exit};
-use desk_host::files::LocalHost;
-use desk_host::naming::Folder;
-use desk_host::reporting::{report_line, report_of};
 use desk_host::scratch::{make_scratch, remove_scratch};
 use desk_host::ways::ReadMode;
 use desk_program::{CheckedFile, print_checked};
+use host_files::files::LocalHost;
+use host_files::naming::Folder;
+use host_files::reporting::{report_line, report_of};
 use sqlite::{Connection, FileFrom, FileStore, Start};
 use sqlite_disk::Disk;
 use std::alloc::{AllocError, Global};
 use std::io::Write;
 
-/// What is reported of the rows of a file whose pages lack their sums.
+/// What is said of the rows of a file whose pages lack their sums.
 #[derive(Clone, Copy, Debug, PartialEq, Eq)]
 pub enum Rows {
     /// They are a desk's.
@@ -58,7 +58,7 @@ impl Rows {
 /// A connection with which the files of a disk `D` were looked at, or what refused them.
 pub type Judged<D> = Result<Connection<FileStore<D>>, OpenError<D>>;
 
-/// So, with what the files hold.
+/// The same, with what the files hold.
 pub type CheckResult<D> = Result<(Connection<FileStore<D>>, CheckedFile), OpenError<D>>;
 
 /// Prints what a file holds, read in its way by a scratch copy beside it, and answers how that ended and the
@@ -145,7 +145,7 @@ fn report_found<D: Disk + Drop, W: Write + Drop, E: Write + Drop>(
     }
 }
 
-// Reports of a file whose scratch copy is a desk's what is reported of its way.
+// Prints what is said of the way of a file whose scratch copy is a desk's.
 fn report_taken<E: Write>(alloc: Global, path: &str, way: ReadMode, errors: &mut E)
     ensures { IsNotedIf (spec.taken_line path.now way) (bytes_written E.Write errors.old errors.new) }
 {
@@ -287,7 +287,7 @@ fn report_order<E: Write>(alloc: Global, path: &str, errors: &mut E)
     report_of(alloc, path, order_text(), errors);
 }
 
-// The line that reports of pages without their sums, and what their rows are.
+// The line that says of pages without their sums, and what their rows are.
 #[tactic(auto, unfolding(crate::specs::ScratchCopies::unsummed_line))]
 fn unsummed_line(alloc: Global, path: &str, pages: u64, text: &str) -> Result<String, AllocError>
     ensures { IfOk result (λ line. string_bytes line ≡ spec.unsummed_line path.now pages text.now) }

@@ -3,7 +3,7 @@
 ghost use Rattle.std.specs.Prelude.{◌≡◌};
 ghost use Rattle.std.specs.Option.{IsSomeAnd};
 ghost use Rattle.desk_cli.specs.Exits.{failure_word};
-ghost use Rattle.desk_tables.specs.OpenWords.{open_word};
+ghost use Rattle.table_load.specs.OpenWords.{open_word};
 ghost use Rattle.desk_admin.specs.Unopened as spec;
 ghost use Rattle.desk_admin.specs.Unopened.{IsUnreadFor};
 
@@ -47,7 +47,7 @@ impl<D: Disk + Drop> OpenError<D> {
 }
 
 impl<D: Disk + Drop> From<AllocError> for OpenError<D> {
-    ghost use Rattle.desk_tables.specs.declared.opening.open.OpenFault.TheVariants.{OutOfMemory};
+    ghost use Rattle.table_load.specs.declared.fault.OpenFault.TheVariants.{OutOfMemory};
     ghost use Rattle.desk_admin.specs.Unopened.{IsUnreadFor};
 
     ghost from_gives = { λ _ it. IsUnreadFor it OutOfMemory };

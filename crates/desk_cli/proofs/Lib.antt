@@ -5,4 +5,3 @@ pub mod CommandLemmas
 pub mod EqualLemmas
 pub mod LackLemmas
 mod RegisterLemmas
-mod PictureLemmas

@@ -106,7 +106,7 @@ IsConcluded (Err f) cut out now = HasWritten cut (failure_line f) out now
 abbrev pub EndsWith : {A : Type 0} → Result A ErrorCode → Ending → Type 0
 EndsWith done end = (end.status ≡ exit_status done) × IsConcluded done end.cut end.before end.now
 
--- nothing is reported of how a line ended
+-- nothing is said of how a line ended
 abbrev pub IsSilent : Ending → Type 0
 IsSilent end = (end.cut ≡ false) × (end.now ≡ end.before)
 

@@ -10,4 +10,3 @@ pub mod Register
 pub mod Printing
 pub mod Reporting
 pub mod Copies
-pub mod Picture

@@ -26,7 +26,7 @@ cell_line id =
     ++ (codes " leaves " ++ (token_text (first_leaf_id id) ++ (codes " " ++ (token_text (last_leaf_id id)
     ++ codes "\n"))))))))
 
--- what is reported of a text: the line of its cell, or that it is no token
+-- what is said of a text: the line of its cell, or that it is no token
 abbrev pub reported_of_token : Result ℕ TokenFault → Result (List ℕ) ErrorCode
 reported_of_token (Ok id) = Ok (cell_line id)
 reported_of_token (Err fault) = Err (failure.Token fault)
@@ -65,7 +65,7 @@ pub record IsCoverText (set : ℕ → Bool) (text : List ℕ) : Type 0 where
 abbrev pub IsLong : (ℕ → Bool) → Type 0
 IsLong set = (ids : List ℕ) × (IsCanonical set ids × (max_cover < length ids))
 
--- what is reported of a rectangle: the lines of its cover, a picture, or why there is none
+-- what is said of a rectangle: the lines of its cover, a picture, or why there is none
 abbrev pub IsRectReported : Bool → Result RectParts RectFault → Result (List ℕ) ErrorCode → Type 0
 IsRectReported picture (Err fault) reported = reported ≡ Err (failure.Rect fault)
 IsRectReported picture (Ok rect) (Err f) = (f ≡ failure.TooManyCells) × IsLong (rect_leaves rect)
@@ -78,7 +78,7 @@ IsPrinting (line.Token token) = ⊤
 IsPrinting (line.Cover words) = ⊤
 IsPrinting _ = ⊥
 
--- what is reported of a line
+-- what is said of a line
 abbrev pub IsTextOf : Line → Result (List ℕ) ErrorCode → Type 0
 IsTextOf (line.Token token) reported = reported ≡ reported_of_token (read_token (string_bytes token))
 IsTextOf (line.Cover words) reported
@@ -90,7 +90,7 @@ abbrev pub IsPrintingGivenUp : Line → ErrorCode → Option (List ℕ) → Opti
 IsPrintingGivenUp line f out now = ((f ≡ failure.Memory) × (now ≡ out))
     ⊎ ((f ≡ failure.Write) × ((text : List ℕ) × IsTextOf line (Ok text) × HasBegun text out now))
 
--- what came of a line: what is reported of it is printed, or it has a failure and nothing is printed, or it
+-- what came of a line: what is said of it is printed, or it has a failure and nothing is printed, or it
 -- is given up
 abbrev pub IsShown : Line → Result ⊤ ErrorCode → Option (List ℕ) → Option (List ℕ) → Type 0
 IsShown line (Ok done) out now = (text : List ℕ) × IsTextOf line (Ok text) × Appends out now text

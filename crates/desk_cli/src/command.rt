@@ -16,7 +16,7 @@ use std::alloc::{AllocError, Global};
 use volume4d::MAX_SECOND;
 
 // The version, and the logic of the kits whose provers prove the program.
-const VERSION: &str = "1.0.0\nRattle logic dac8208d650f15bf";
+const VERSION: &str = "2.0.0\nRattle logic dac8208d650f15bf";
 
 // A line: its first word, what it does, and its further words.
 struct Form {

@@ -7,7 +7,6 @@ mod equal;
 mod failure;
 mod line;
 mod malformed;
-mod picture;
 mod printed;
 mod register;
 mod reporting;

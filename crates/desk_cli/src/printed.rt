@@ -16,7 +16,7 @@ ghost use Rattle.desk_cli.specs.declared.failure.ErrorCode.TheVariants.{Memory, 
 
 use crate::failure::{ErrorCode, ExitReport, report_exit};
 use crate::line::{CoverArgs, Line};
-use crate::picture::picture_of;
+use cell_picture::picture_of;
 use io_ends::write_whole;
 use s2_cellid::CellId;
 use s2_cover::{Cover, Rect, cover};

@@ -1,4 +1,4 @@
--- Plans of others that can't block a plan: what an operator is reported doesn't depend on them.
+-- Plans of others that can't block a plan: what an operator is answered doesn't depend on them.
 use Rattle.std.proofs.Common.{◌≡◌, ℕ, ◌+◌, ℤ, Bool, true, false, ◌&&◌, ◌||◌, not, List, Option, Some, None}
 use Rattle.std.proofs.Common.{refl, sym, ap, ◌∙◌, arith}
 use Rattle.std.specs.Prelude.{cond, is_some, nat_le, nat_lt, ◌==◌}
@@ -106,7 +106,7 @@ module _ (permitted : List ℕ) (area : List Block) (f g : Point → Option ℕ)
       first = λ x before. sym (same_test x) ∙ is.first x before;
     }
 
--- what is reported of a request to plan, by its conflict
+-- what is said of a request to plan, by its conflict
 abbrev reported_by : Side → Option Spot → ℤ → PutCall → Option ℕ → Reported
 reported_by mine spot moment asked None = Reported.unknown_operator
 reported_by mine spot moment asked (Some ceiling) =
@@ -140,7 +140,7 @@ abbrev pub FindsConflict : Type 0
 FindsConflict = (permitted : List ℕ) (area : List Block) (levels : Point → Option ℕ) (priority : ℕ)
     → IsConflict permitted area levels priority (conflict permitted area levels priority)
 
--- what an operator is reported at two desks at which the same may block its plan
+-- what an operator is answered at two desks at which the same may block its plan
 pub same_plan_reply :
     HasOneConflict → FindsConflict → (v w : DeskWorld) (o : List ℕ) (moment : ℤ) (asked : PutCall)
     {one other : ReplyParts} → OwnAlike o v w → BlockAlike o asked v w

@@ -1,4 +1,4 @@
--- What a desk reports one operator, by its side of the desk's world.
+-- What a desk answers one operator, by its side of the desk's world.
 use Rattle.std.proofs.Common.{◌≡◌, ◌≢◌, ℕ, ℤ, List, [], ◌∷◌, map, Option, Some, None, Result, Ok, Err, refl, sym, ap, subst, ◌∙◌}
 use Rattle.std.proofs.Common.{Less, Equal, Greater}
 use Rattle.std.specs.Prelude.{IfSome, IsSome, OnOk, cond, is_some}
@@ -54,7 +54,7 @@ unfolding reported_to
 same_reported v w o moment asked own_same held_same =
     λ i. (verdict (own_same i).terms (own_same i).own (everywhere o v w held_same i) moment asked).reported
 
--- what an operator is reported at two desks that look alike to it
+-- what an operator is answered at two desks that look alike to it
 pub same_reply :
     (v w : DeskWorld) (o : List ℕ) (moment : ℤ) (asked : Call) {one other : ReplyParts} → OwnAlike o v w
     → HoldAlike o v w → reported_to v o moment asked ≡ replied one → reported_to w o moment asked ≡ replied other

@@ -1,7 +1,6 @@
-pub mod ReportLemmas
-pub mod NameLemmas
 mod FaultLemmas
 mod JournalLemmas
+mod LossLemmas
 mod OperatorLemmas
-mod ScratchLemmas
 mod ReportedLemmas
+mod ScratchLemmas

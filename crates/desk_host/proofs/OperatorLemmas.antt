@@ -1,4 +1,4 @@
--- What is reported of a file of enrolments that can't be read.
+-- What is said of a file of enrolments that can't be read.
 use Rattle.std.proofs.Common.{◌≡◌, inr, List, [], ◌∷◌, ℕ, Option, None, sym, subst}
 use Rattle.desk_wire.specs.Passage.{course}
 use Rattle.desk_program.specs.Serving.{Grows}

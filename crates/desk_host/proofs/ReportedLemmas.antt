@@ -1,11 +1,11 @@
--- What is reported of the lines of a file, one after the other.
+-- What is said of the lines of a file, one after the other.
 use Rattle.std.proofs.Common.{◌≡◌, ◌<◌, ◌+◌, ℕ, Bor, List, [], ◌∷◌, ◌++◌, Option, ap, drop, get_or, length, map, refl, subst, sym}
 use Rattle.std.proofs.lemmas.List.{drop_more}
 use Rattle.desk_wire.specs.Passage.{course}
-use Rattle.desk_host.specs.Reporting.{IsWrittenIfRoom, Reports}
+use Rattle.host_files.specs.Reporting.{IsWrittenIfRoom, Reports}
 use Rattle.desk_host.specs.ReportedLines.{AreReported, counted_with, line_reported, lines_reported, lines_reported_after}
 use Rattle.desk_host.specs.declared.operators.LineCounts.{LineCounts}
-use Rattle.desk_host.proofs.ReportLemmas.{reports_both}
+use Rattle.host_files.proofs.lemmas.Reporting.{reports_both}
 
 -- one line is reported
 pub reported_one : (line : List ℕ) (old now : Option (List ℕ)) → IsWrittenIfRoom line (course old now)
@@ -19,8 +19,8 @@ reported_both [] ys old between now first next = subst (λ at. AreReported ys at
 reported_both (x ∷ xs) ys old between now first next =
     (first.0, first.1, reported_both xs ys first.0 between now first.2 next)
 
--- some of the lines of a file were looked at, so many, and these are left: whatever is reported of them, it
--- was reported of all
+-- some of the lines of a file were looked at, so many, and these are left: whatever is said of them, it
+-- was said of all
 pub record AreReportedOf (path : List ℕ) (all : List (List ℕ)) (so_far : LineCounts) (rest : List (List ℕ))
     (before now : Option (List ℕ)) : Type 0 where
   pub reported : (end : Option (List ℕ)) → AreReported (lines_reported_after path so_far rest) now end

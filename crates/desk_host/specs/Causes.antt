@@ -1,18 +1,17 @@
--- Causes: what is reported of an error of the operating system at a file of operators, at a folder of
--- records, or at a file that can't be had.
-use Rattle.std.specs.Prelude.{◌≡◌, ◌⊎◌, ℕ, Bool, true, false, List, [], ◌∷◌, codes, Option, None, Some}
+-- Causes: what is said of an error of the operating system at a file of operators, or at a folder of
+-- records.
+use Rattle.std.specs.Prelude.{◌≡◌, ◌⊎◌, ℕ, List, codes, Option, None, Some}
 use Rattle.std.specs.declared.io.ErrorKind.{ErrorKind}
 use Rattle.std.specs.declared.io.ErrorKind.TheVariants as kind
 use Rattle.desk_recording.specs.Tail.{HasNoTail}
 use Rattle.desk_recording.specs.declared.tail.TailFault.{TailFault}
 use Rattle.desk_recording.specs.declared.tail.TailFault.TheVariants as tail
-use Rattle.desk_host.specs.Naming.{Failed, Follows, Steps, Tried}
 use Rattle.desk_host.specs.declared.folders.JournalError.{JournalError}
 use Rattle.desk_host.specs.declared.folders.JournalError.TheVariants as unkept
 use Rattle.desk_host.specs.declared.operators.FileReadError.{FileReadError}
 use Rattle.desk_host.specs.declared.operators.FileReadError.TheVariants as unread
 
--- the text that is reported of a file that can't be read; none where memory ran out
+-- the text that is said of a file that can't be read; none where memory ran out
 abbrev pub unread_text : FileReadError → Option (List ℕ)
 unread_text unread.Memory = None
 unread_text (unread.Cause cause) = Some cause.now
@@ -24,7 +23,7 @@ unread_by kind.NotFound = Some (codes "no such file")
 unread_by kind.PermissionDenied = Some (codes "no right to read it")
 unread_by _ = Some (codes "it can't be read")
 
--- the text that is reported of a record that can't be read or kept; none where memory ran out
+-- the text that is said of a record that can't be read or kept; none where memory ran out
 abbrev pub unkept_text : JournalError → Option (List ℕ)
 unkept_text unkept.Memory = None
 unkept_text (unkept.Cause cause) = Some cause.now
@@ -60,10 +59,3 @@ pub record IsTailFault (bytes : Option (List ℕ)) (fault : JournalError) : Type
 -- so, of one whose bytes are not known; or an error of the operating system
 abbrev pub IsTailUnread : JournalError → Type 0
 IsTailUnread fault = IsUnkept fault ⊎ ((bytes : Option (List ℕ)) × IsTailFault bytes fault)
-
--- why SQLite refuses a file, by whether there is none, and what is reported of what was found: where there is
--- none, one is made for a trial, and if it can't be, that is reported; else no folder is asked
-abbrev pub IsCauseBy : Bool → List ℕ → List ℕ → Steps → List ℕ → Type 0
-IsCauseBy true found path steps text =
-    (Follows steps (Tried path ∷ []) × (text ≡ found)) ⊎ Follows steps (Failed ∷ [])
-IsCauseBy false found path steps text = (text ≡ found) × (steps.after ≡ steps.before)

@@ -1,4 +1,4 @@
--- DamageReported: what is reported of a damaged log, and which files are opened.
+-- DamageReported: what is said of a damaged log, and which files are opened.
 use Rattle.std.specs.Prelude.{◌≡◌, ◌⊎◌, ℕ, Bool, true, false, if◌then◌else◌, List, ◌++◌, codes, decimal}
 use Rattle.std.specs.Prelude.{Option, IfSome, Result, Ok, Err}
 use Rattle.std.specs.declared.io.Read as read
@@ -10,7 +10,7 @@ use Rattle.desk_cli.specs.declared.failure.ErrorCode.{ErrorCode}
 use Rattle.desk_cli.specs.declared.failure.ErrorCode.TheVariants as failure
 use Rattle.db_file.specs.Damage.{IsDamaged}
 use Rattle.db_file.specs.Reads.{IsUnjudged}
-use Rattle.desk_host.specs.Reporting.{IsWrittenIfRoom, IsWrittenOnce, IsWrittenUpTo, line_of}
+use Rattle.host_files.specs.Reporting.{IsWrittenIfRoom, IsWrittenOnce, IsWrittenUpTo, line_of}
 use Rattle.desk_host.specs.declared.logs.FoundLog.{FoundLog}
 use Rattle.desk_host.specs.declared.logs.FoundLog.TheVariants as found
 use Rattle.desk_host.specs.declared.damage.LogCheck.{LogCheck}
@@ -59,7 +59,7 @@ admission_of (Ok look) = if look.is_admitted then Ok look.is_damaged else Err fa
 admission_of (Err unlooked.OutOfMemory) = Err failure.Memory
 admission_of (Err (unlooked.Unread fault)) = Err failure.Store
 
--- what is reported of a log that is there without its file
+-- what is said of a log that is there without its file
 abbrev pub alone_text : List ℕ
 alone_text = codes "its log is there without it: was it moved or removed while a desk ran?"
 

@@ -9,13 +9,13 @@ use Rattle.db_file.specs.Commits.{least_with_commit}
 use Rattle.db_file.specs.Damage.{least_damaged}
 use Rattle.desk_cli.specs.declared.failure.ErrorCode.{ErrorCode}
 use Rattle.desk_cli.specs.declared.failure.ErrorCode.TheVariants as failure
-use Rattle.desk_host.specs.Answers.{Answers}
-use Rattle.desk_host.specs.Naming.{log_of}
-use Rattle.desk_host.specs.declared.files.Found.{Found}
+use Rattle.host_files.specs.Answers.{Answers}
+use Rattle.host_files.specs.Naming.{log_of}
+use Rattle.host_files.specs.declared.files.Found.{Found}
 use Rattle.desk_host.specs.declared.logs.FoundLog.{FoundLog}
 use Rattle.desk_host.specs.declared.logs.FoundLog.TheVariants as log
-use Rattle.desk_host.specs.declared.state.Denial.{Denial}
-use Rattle.desk_host.specs.declared.state.Denial.TheVariants as denial
+use Rattle.host_files.specs.declared.state.Denial.{Denial}
+use Rattle.host_files.specs.declared.state.Denial.TheVariants as denial
 
 -- nothing is at a path, by what it leads to; another error leaves that open
 abbrev pub is_gone : Result Found ErrorKind → Bool

@@ -43,7 +43,7 @@ pub record IsUnreadBySystem (fault : FileReadError) : Type 0 where
 abbrev pub IsUnstamped : FileReadError → Type 0
 IsUnstamped fault = IsUnreadBySystem fault ⊎ (unread_text fault ≡ Some (codes "no file"))
 
--- the most bytes of a file that is read, and what is reported of a longer one
+-- the most bytes of a file that is read, and what is said of a longer one
 abbrev pub max_bytes : ℕ
 max_bytes = 1048576
 
@@ -69,7 +69,7 @@ IsUnreadIf None result = ⊤
 abbrev pub is_unread : List ℕ → Bool
 is_unread line = if length line == 0 then false else is_none (enrolment_on line)
 
--- what is reported of a line that can't be read, and of those past the first ones
+-- what is said of a line that can't be read, and of those past the first ones
 unfoldable pub unread_line : ℕ → List ℕ
 unread_line number = codes "line " ++ (decimal number ++ codes " is not NAME CEILING, and passed over")
 

@@ -3,7 +3,7 @@ use Rattle.std.specs.Prelude.{◌≡◌, ℕ, ◌+◌, ◌-◌, ◌^◌, min, na
 use Rattle.std.specs.Prelude.{Option}
 use Rattle.desk_wire.specs.Passage.{course}
 use Rattle.desk_host.specs.Operators.{is_unread, more_lines, unread_line}
-use Rattle.desk_host.specs.Reporting.{IsWrittenIfRoom, line_of}
+use Rattle.host_files.specs.Reporting.{IsWrittenIfRoom, line_of}
 use Rattle.desk_host.specs.declared.operators.LineCounts.{LineCounts}
 
 -- lines are written, each once, in their order
@@ -27,22 +27,22 @@ counted_with line so_far = record {
   unread = if is_unread line then one_more so_far.unread else so_far.unread;
 }
 
--- what is reported of the last of the lines that were looked at
+-- what is said of the last of the lines that were looked at
 abbrev pub line_reported : List ℕ → List ℕ → LineCounts → List (List ℕ)
 line_reported path line so_far = if is_unread line then (if nat_le so_far.unread reported_lines
     then line_of path (unread_line so_far.lines) ∷ [] else []) else []
 
--- what is reported of those that were not reported one by one
+-- what is said of those that were not reported one by one
 abbrev pub rest_reported : List ℕ → ℕ → List (List ℕ)
 rest_reported path unread =
     if nat_lt reported_lines unread then line_of path (more_lines (unread - reported_lines)) ∷ [] else []
 
--- what is reported of lines, once so many were looked at
+-- what is said of lines, once so many were looked at
 abbrev pub lines_reported_after : List ℕ → LineCounts → List (List ℕ) → List (List ℕ)
 lines_reported_after path so_far [] = rest_reported path so_far.unread
 lines_reported_after path so_far (line ∷ lines) = line_reported path line (counted_with line so_far)
     ++ lines_reported_after path (counted_with line so_far) lines
 
--- what is reported of all lines of a file
+-- what is said of all lines of a file
 abbrev pub lines_reported : List ℕ → List (List ℕ) → List (List ℕ)
 lines_reported path lines = lines_reported_after path (record { lines = 0; unread = 0 }) lines

@@ -5,7 +5,7 @@ use Rattle.desk_wire.specs.Passage.{course}
 use Rattle.desk_cli.specs.declared.failure.ErrorCode.{ErrorCode}
 use Rattle.desk_cli.specs.declared.failure.ErrorCode.TheVariants as failure
 use Rattle.desk_host.specs.declared.scratch.ScratchCopy.{ScratchCopy}
-use Rattle.desk_host.specs.Naming.{Cleared, Failed, Follows, Removed, Step, Steps, Takes, Twinned, log_of}
+use Rattle.host_files.specs.Naming.{Cleared, Failed, Follows, Removed, Step, Steps, Takes, Twinned, log_of}
 
 -- the name of a scratch copy
 abbrev pub scratch_of : List ℕ → List ℕ

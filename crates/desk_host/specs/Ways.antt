@@ -2,8 +2,8 @@
 use Rattle.std.specs.Prelude.{◌≡◌, ◌⊎◌, ⊤, ℕ, ◌==◌, Bool, true, false, if◌then◌else◌, List}
 use Rattle.std.specs.Prelude.{Option, None, Some, Result, Ok, Err}
 use Rattle.std.specs.declared.io.ErrorKind.{ErrorKind}
-use Rattle.desk_host.specs.Access.{is_no_path}
-use Rattle.desk_host.specs.Answers.{Answers}
+use Rattle.host_files.specs.Access.{is_no_path}
+use Rattle.host_files.specs.Answers.{Answers}
 use Rattle.desk_host.specs.FoundLogs.{has_commit}
 use Rattle.desk_host.specs.declared.ways.ReadMode.{ReadMode}
 use Rattle.desk_host.specs.declared.ways.ReadMode.TheVariants as way
@@ -27,7 +27,7 @@ is_mended way.Damaged = false
 is_mended (way.BadChecksums count) = true
 is_mended way.OtherOrder = true
 
--- how many pages are reported of, if it was copied well: their sums were not tested
+-- how many pages are said of, if it was copied well: their sums were not tested
 abbrev pub untested : ReadMode → ℕ → Option ℕ
 untested way.Itself status = None
 untested way.Damaged status = None

@@ -9,14 +9,14 @@ ghost use Rattle.db_file.specs.Damage.{IsDamaged};
 ghost use Rattle.desk_host.specs.DamageReported as spec;
 ghost use Rattle.desk_host.specs.FoundLogs as logs;
 ghost use Rattle.desk_host.specs.DamageReported.{HasLogCheckCause, IsBegun, IsJudged, IsLogCheckReported, IsLookedAt};
-ghost use Rattle.desk_host.specs.Openings.{OpensAtMost};
-ghost use Rattle.desk_host.specs.Reporting.{IsWrittenUpTo};
+ghost use Rattle.host_files.specs.Openings.{OpensAtMost};
+ghost use Rattle.host_files.specs.Reporting.{IsWrittenUpTo};
 
-use crate::files::{HostFiles, LocalHost};
 use crate::logs::{FoundLog, find_log};
-use crate::reporting::{report_line, report_of};
 use db_file::{WalError, WalState, check_wal, commits_are_long, damaged_is_long};
 use desk_cli::{Database, ErrorCode};
+use host_files::files::{HostFiles, LocalHost};
+use host_files::reporting::{report_line, report_of};
 use io_ends::WriteError;
 use std::alloc::{AllocError, Global};
 use std::io::{Read, Write};
@@ -27,7 +27,7 @@ const LEAST_DAMAGED: u64 = 1_104;
 // How many a log with a commit has at least.
 const LEAST_WITH_A_COMMIT: u64 = 568;
 
-// What is reported of a file that isn't there, and its log is.
+// What is said of a file that isn't there, and its log is.
 const LOG_ALONE: &str = "its log is there without it: was it moved or removed while a desk ran?";
 
 /// What came of a look at a log that reports its damage to a writer of this type.
@@ -102,7 +102,7 @@ fn check_beside<F: HostFiles, E: Write>(
 
 // Refuses a file whose log was found without it, or damaged, and reports why; or answers whether the log is
 // damaged of a file that is copied.
-#[tactic(auto, using(crate::proofs::ReportLemmas::begins))]
+#[tactic(auto, using(crate::proofs::LossLemmas::begins))]
 fn judge_found<R: Read + Drop, E: Write>(
     alloc: Global,
     path: &str,
@@ -143,7 +143,7 @@ fn admission_of<E>(look: Result<LogCheck<E>, LogCheckError>) -> Result<bool, Err
 /// # Errors
 ///
 /// As `LogCheckError` says.
-#[tactic(auto, using(crate::proofs::ReportLemmas::loss_reported))]
+#[tactic(auto, using(crate::proofs::LossLemmas::loss_reported))]
 pub fn check_log<R: Read, E: Write>(
     alloc: Global,
     path: &str,

@@ -10,8 +10,8 @@ ghost use Rattle.desk_host.specs.Causes.{IsTailFault, IsTailUnread, IsUnkept};
 ghost use Rattle.desk_host.specs.Journals as spec;
 ghost use Rattle.desk_host.specs.Journals.{IsFoundIn, IsGreatestIn, IsNextAt, IsNumberIn};
 
-use crate::naming::{OWNER_ALONE, READ_ONLY, TAKEN, sync_folder};
 use desk_recording::{Tail, TailEnd, TailFault, read_tail};
+use host_files::naming::{OWNER_ALONE, READ_ONLY, TAKEN, sync_folder};
 use std::alloc::{AllocError, Global};
 use std::fs::{self, File, OpenOptions};
 use std::io::{self, BufReader, ErrorKind, Read, Seek, SeekFrom, Write};

@@ -5,13 +5,13 @@ ghost use Rattle.std.specs.Prelude.{◌≡◌, IfErr, IfOk, IfSome};
 ghost use Rattle.desk_cli.specs.declared.failure.ErrorCode.TheVariants.{Memory};
 ghost use Rattle.desk_host.specs.FoundLogs as spec;
 ghost use Rattle.desk_host.specs.FoundLogs.{IsLogAt, IsLogBeside};
-ghost use Rattle.desk_host.specs.Openings.{OpensAtMost};
+ghost use Rattle.host_files.specs.Openings.{OpensAtMost};
 
 use crate::damage::{may_be_damaged, may_have_commit};
-use crate::files::{Found, HostFiles};
-use crate::naming::name_with;
-use crate::state::Denial;
 use desk_cli::ErrorCode;
+use host_files::files::{Found, HostFiles};
+use host_files::naming::name_with;
+use host_files::state::Denial;
 use std::alloc::{AllocError, Global};
 use std::io::ErrorKind;
 

@@ -8,7 +8,7 @@ ghost use Rattle.desk_cli.specs.Lines.{AreEnrolments};
 ghost use Rattle.desk_wire.specs.Passage.{course};
 ghost use Rattle.desk_program.specs.Outside.{bytes_written};
 ghost use Rattle.desk_program.specs.Serving.{Grows};
-ghost use Rattle.desk_host.specs.Answers.{by_ok};
+ghost use Rattle.host_files.specs.Answers.{by_ok};
 ghost use Rattle.desk_host.specs.Causes as cause;
 ghost use Rattle.desk_host.specs.Causes.{unread_by, unread_text};
 ghost use Rattle.desk_host.specs.Operators as spec;
@@ -16,12 +16,12 @@ ghost use Rattle.desk_host.specs.Operators.{AreEnrolmentsRead, AreNews, Asking, 
 ghost use Rattle.desk_host.specs.Operators.{IsUnreadIf, IsTextFault, IsTextOf, IsUnstamped};
 ghost use Rattle.desk_host.specs.ReportedLines as reported;
 ghost use Rattle.desk_host.specs.ReportedLines.{AreReported};
-ghost use Rattle.desk_host.specs.Reporting.{IsWrittenIfRoom, Reports, line_of};
+ghost use Rattle.host_files.specs.Reporting.{IsWrittenIfRoom, Reports, line_of};
 
-use crate::files::{HostFiles, LocalHost};
-use crate::reporting::report_of;
 use desk_cli::{Enrolment, ErrorCode, enrolment_on, enrolments_on, lines_of};
 use desk_program::EnrolmentSource;
+use host_files::files::{HostFiles, LocalHost};
+use host_files::reporting::report_of;
 use std::alloc::{AllocError, Global};
 use std::fs::{self, File, Metadata};
 use std::io::{self, ErrorKind, Read, Write};
@@ -30,10 +30,10 @@ use std::time::SystemTime;
 /// The most bytes of the file: 1 MiB.
 const MAX_BYTES: u64 = 1_048_576;
 
-// What is reported of a file that is longer.
+// What is said of a file that is longer.
 const TOO_LONG: &str = "longer than 1,048,576 bytes";
 
-/// How many lines are reported of each time that the file is read.
+/// How many lines are said of each time that the file is read.
 const TOLD_LINES: u32 = 20;
 
 /// When a file was changed last, and how long it is.
@@ -127,15 +127,15 @@ pub struct EnrolmentFile<'r, F: Drop> {
     rt: &'r HostRuntime,
     files: F,
     path: Option<&'r str>,
-    // The file whose operators were reported.
+    // The file whose operators were answered.
     seen: Option<Stamp>,
-    // The file of whose lines it was reported which can't be read.
+    // The file of whose lines it was said which can't be read.
     checked: Option<Stamp>,
     // Why the file could not be read, as it was reported last.
     reported: Option<&'static str>,
 }
 
-/// The file of enrolments at a path, if there is one, read once, so that the administrator is reported which
+/// The file of enrolments at a path, if there is one, read once, so that the administrator is shown which
 /// lines can't be read.
 ///
 /// # Errors
@@ -315,7 +315,7 @@ impl LineCounts {
 }
 
 // Reports which lines of a file can't be read, the first of them one by one.
-#[tactic(auto, using(crate::proofs::ReportLemmas::reports_both))]
+#[tactic(auto, using(host_files::proofs::lemmas::Reporting::reports_both))]
 fn report_lines<E: Write>(
     alloc: Global,
     path: &str,
@@ -339,7 +339,7 @@ fn report_lines<E: Write>(
 }
 
 // Reports that the last of so many lines can't be read, if that is so, and it is one of the first of these.
-#[tactic(auto, using(crate::proofs::ReportLemmas::reports_nothing, crate::proofs::ReportedLemmas::reported_one))]
+#[tactic(auto, using(host_files::proofs::lemmas::Reporting::reports_nothing, crate::proofs::ReportedLemmas::reported_one))]
 fn report_next<E: Write>(
     alloc: Global,
     path: &str,
@@ -360,7 +360,7 @@ fn report_next<E: Write>(
 }
 
 // Reports how many lines more can't be read than those that were reported one by one, if some can't.
-#[tactic(auto, using(crate::proofs::ReportLemmas::reports_nothing, crate::proofs::ReportedLemmas::reported_one))]
+#[tactic(auto, using(host_files::proofs::lemmas::Reporting::reports_nothing, crate::proofs::ReportedLemmas::reported_one))]
 fn report_rest<E: Write>(
     alloc: Global,
     path: &str,
@@ -388,7 +388,7 @@ fn is_unread(line: &str) -> bool
 }
 
 // Reports that a line can't be read.
-#[tactic(auto, using(crate::proofs::ReportLemmas::reports_nothing))]
+#[tactic(auto, using(host_files::proofs::lemmas::Reporting::reports_nothing))]
 fn report_line<E: Write>(
     alloc: Global,
     path: &str,
@@ -413,7 +413,7 @@ fn line_text(alloc: Global, number: u32) -> Result<String, AllocError>
 }
 
 // Reports that there are more lines that can't be read.
-#[tactic(auto, using(crate::proofs::ReportLemmas::reports_nothing))]
+#[tactic(auto, using(host_files::proofs::lemmas::Reporting::reports_nothing))]
 fn report_more<E: Write>(
     alloc: Global,
     path: &str,

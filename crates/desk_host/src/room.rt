@@ -1,11 +1,11 @@
 //! Room for a new file: nothing stands at its names, and it can be made.
 
 ghost use Rattle.std.specs.Prelude.{OnErr, OnOk, List, is_ok, ℕ};
-ghost use Rattle.desk_host.specs.Naming.{AreNames, Cleared, Follows, Free, IsNotFree, Takes, Tried, free_steps};
-ghost use Rattle.desk_host.specs.FolderSteps.{steps_of};
+ghost use Rattle.host_files.specs.Naming.{AreNames, Cleared, Follows, Free, IsNotFree, Takes, Tried, free_steps};
+ghost use Rattle.host_files.specs.FolderSteps.{steps_of};
 
-use crate::access::new_cause;
-use crate::naming::{Folder, NewFile};
+use host_files::access::new_cause;
+use host_files::naming::{Folder, NewFile};
 
 /// What stands in the way of a new file.
 #[derive(Clone, Copy, Debug, PartialEq, Eq)]

@@ -3,15 +3,15 @@
 ghost use Rattle.std.specs.Prelude.{◌≡◌, IfErr, IfOk, List, OnOk, ℕ};
 ghost use Rattle.desk_cli.specs.Exits.{IsLineBreakdown};
 ghost use Rattle.desk_program.specs.Outside.{bytes_written};
-ghost use Rattle.desk_host.specs.Naming.{Follows};
-ghost use Rattle.desk_host.specs.FolderSteps.{steps_of};
+ghost use Rattle.host_files.specs.Naming.{Follows};
+ghost use Rattle.host_files.specs.FolderSteps.{steps_of};
 ghost use Rattle.desk_host.specs.Scratch.{AreRemoved, AreTwins, IsUntwinned, making, scratch_of};
-ghost use Rattle.desk_host.specs.Reporting.{Reports};
+ghost use Rattle.host_files.specs.Reporting.{Reports};
 
-use crate::naming::{Folder, name_with};
-use crate::pairs::ScratchFault;
-use crate::reporting::report_of;
 use desk_cli::ErrorCode;
+use host_files::naming::{Folder, name_with};
+use host_files::pairs::ScratchFault;
+use host_files::reporting::report_of;
 use std::alloc::{AllocError, Global};
 use std::io::Write;
 

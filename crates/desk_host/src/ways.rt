@@ -2,13 +2,13 @@
 //! spoilt it or put its tables in another order. It is decided before the file is opened as a desk's.
 
 ghost use Rattle.std.specs.Prelude.{◌≡◌, false, IfSome};
-ghost use Rattle.desk_host.specs.Access as access;
+ghost use Rattle.host_files.specs.Access as access;
 ghost use Rattle.desk_host.specs.Ways as spec;
 ghost use Rattle.desk_host.specs.Ways.{HasChanges, IsWayAt, MayBeRead};
 
-use crate::files::{HostFiles, LocalHost};
 use crate::logs::has_commit;
-use crate::naming::is_no_path;
+use host_files::files::{HostFiles, LocalHost};
+use host_files::naming::is_no_path;
 use std::alloc::Global;
 
 /// The way in which a file is read.
@@ -36,7 +36,7 @@ impl ReadMode {
         }
     }
 
-    /// How many pages are reported of after a copy that ended with this status: their sums were not tested.
+    /// How many pages are said of after a copy that ended with this status: their sums were not tested.
     pub fn untested(self, status: u8) -> Option<u64>
         ensures { result ≡ spec.untested self status }
     {

@@ -1,4 +1,4 @@
--- Enrolling: the world in which operators are listed, and the line that reports of one.
+-- Enrolling: the world in which operators are listed, and the line that says of one.
 use Rattle.std.specs.Prelude.{◌≡◌, ◌<◌, ◌⊎◌, ℕ, List, [], ◌∷◌, ◌++◌, length, take, codes, decimal, Option, Result, Ok, Err}
 use Rattle.std.specs.Io.KnownBytes.{Appends}
 use Rattle.desk_rules.specs.declared.terms.Terms.{Terms}

@@ -1,4 +1,4 @@
--- Looking: the lines that report an administrator what a file holds and what was copied, and what is
+-- Looking: the lines that show an administrator what a file holds and what was copied, and what is
 -- printed of them.
 use Rattle.std.specs.Prelude.{◌≡◌, ◌⊎◌, ℕ, ◌/◌, ◌%◌, Bool, true, false, List, ◌++◌, codes, decimal, if◌then◌else◌, Option}
 use Rattle.std.specs.Io.KnownBytes.{Appends}

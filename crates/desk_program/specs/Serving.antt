@@ -175,7 +175,7 @@ first_failure None then = then
 first_failure (Some failure) then = Some failure
 
 -- the machine denied memory, a write, a connection or the moment; or a request, or the answer to one, can't
--- be recorded: the client was reported that the desk failed
+-- be recorded: the client was answered that the desk failed
 abbrev pub IsDenied : ErrorCode → Type 0
 IsDenied f =
     (f ≡ failure.Memory) ⊎ (f ≡ failure.Write) ⊎ (f ≡ failure.Network) ⊎ (f ≡ failure.Clock)

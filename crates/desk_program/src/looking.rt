@@ -1,4 +1,4 @@
-//! The lines that report an administrator what a file holds, and what was copied of it.
+//! The lines that show an administrator what a file holds, and what was copied of it.
 
 ghost use Rattle.std.specs.Prelude.{◌≡◌, ℕ, IfOk, List, codes, if◌then◌else◌, string_bytes};
 ghost use Rattle.desk_cli.specs.Exits.{ending};

@@ -82,7 +82,7 @@ pub trait Port {
     /// # Errors
     ///
     /// `Network` if none can be taken, `Clock` if the clock gives no moment in range, `Memory`; `Broken` if
-    /// the request can't be recorded: the client was reported that the desk failed.
+    /// the request can't be recorded: the client was answered that the desk failed.
     fn take(&mut self, alloc: Global) -> Result<ClientStream<Self::Input, Self::Output>, ErrorCode>
         ensures taken { IfOk result (λ c. TakesArrival (traffic self.old) (traffic self.new)
             (arrived c.moment.second (Self.Input.remaining c.input))) }
@@ -95,7 +95,7 @@ pub trait Port {
     ///
     /// # Errors
     ///
-    /// `Broken` if the answer can't be recorded: the client was reported that the desk failed. The connection
+    /// `Broken` if the answer can't be recorded: the client was answered that the desk failed. The connection
     /// has ended all the same.
     fn close(
         &mut self,

@@ -98,7 +98,7 @@ pub fn enrol<S: PlanStore, W: Write, E: Write>(
     }
 }
 
-// The line that reports of an enrolment.
+// The line that says of an enrolment.
 #[tactic(auto, unfolding(crate::specs::Enrolling::enrolled_line))]
 fn enrolled_text(alloc: Global, enrolment: &Enrolment) -> Result<String, AllocError>
     ensures { IfOk result (λ text. string_bytes text ≡ enrolling.enrolled_line enrolment.now) }

@@ -232,7 +232,7 @@ fn closed_as(is_lost: bool, closed: Result<(), ErrorCode>) -> Result<(), ErrorCo
 }
 
 // Keeps the answer of a connection, if it is whole and nothing was lost before, and then sends it; or else
-// reports the client that the desk failed. What is lost, if so, and whether all was sent.
+// answers the client that the desk failed. What is lost, if so, and whether all was sent.
 fn send_kept<R: Record, W: Write>(
     journal: &mut R,
     broken: Option<Loss<R>>,

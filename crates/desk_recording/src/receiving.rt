@@ -45,10 +45,8 @@ pub(crate) fn receive<R: Read>(alloc: Global, client: &mut R) -> Result<Vec<u8>,
         Ok(request) => Ok(request),
         Err(ServeFault::CutShort) => Err(Unreceived::CutShort),
         Err(ServeFault::OutOfMemory) => Err(Unreceived::OutOfMemory),
-        Err(ServeFault::Read | ServeFault::Write(_)) => Err(Unreceived::Unread(
-            ReceiveError {
-                client: PhantomData,
-            },
-        )),
+        Err(ServeFault::Read | ServeFault::Write(_)) => Err(Unreceived::Unread(ReceiveError {
+            client: PhantomData,
+        })),
     }
 }

@@ -1,4 +1,4 @@
--- ReplayReported: what a line reports of a replay, and how it ends.
+-- ReplayReported: what a line says of a replay, and how it ends.
 use Rattle.std.specs.Prelude.{◌≡◌, ◌≤◌, ◌⊎◌, ⊤, ℕ, Bool, List, [], ◌++◌, codes, decimal, Option, Some, None, Result, Ok, Err}
 use Rattle.std.specs.Option.{IsSomeAnd}
 use Rattle.std.specs.Io.KnownBytes.{Appends}
@@ -83,7 +83,7 @@ pub record IsFailed (f : ErrorCode) (line : List ℕ) (end : Ending) (writes : C
   pub fails : FailsWith f (record end { before = mid })
   pub unwritten : writes.after ≡ writes.before
 
--- what is reported of a replay, by the failure that its end means
+-- what is said of a replay, by the failure that its end means
 abbrev pub IsReportedBy :
     Option ErrorCode → List ℕ → List ℕ → Ending → Course (Option (List ℕ)) → Type 0
 IsReportedBy None line cause end writes = IsAllPlayed line end writes

@@ -1,4 +1,4 @@
-//! The line of a replay: a record played at the desk that was opened for it, and what is reported of it.
+//! The line of a replay: a record played at the desk that was opened for it, and what is said of it.
 
 ghost use Rattle.std.specs.Prelude.{◌≡◌, ◌⊎◌, IfErr, IfOk, is_some, string_bytes};
 ghost use Rattle.desk_store.specs.StoreFaults.{IsHonest};

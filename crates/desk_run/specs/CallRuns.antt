@@ -21,7 +21,7 @@ world_after_call w call = step w call.1.operator call.0 call.1.call
 abbrev pub calls_of : List ℕ → List TimedCall → List TimedCall
 calls_of o calls = beside caller o calls calls
 
--- what the operator is reported
+-- what the operator is answered
 abbrev pub reported_for : List ℕ → DeskWorld → List TimedCall → List Reported
 reported_for o w calls = beside caller o calls (reported_in w calls)
 

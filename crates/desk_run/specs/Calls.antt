@@ -22,7 +22,7 @@ use Rattle.desk_run.specs.declared.fault.DeskFault.{DeskFault}
 use Rattle.desk_run.specs.declared.fault.DeskFault.TheVariants.{OutOfMemory, Store, UnknownOperator, NoSuchPlan, Ceiling}
 use Rattle.desk_run.specs.Verdicts.{Reported, Ruling, replied, unknown_operator, no_such_plan, is_in, row_asked, ruling_alone, world_with_plans, makes_change, reported_to, step}
 
--- a call without a reply: what the caller is reported instead, and that the call leaves the world as it was
+-- a call without a reply: what the caller is answered instead, and that the call leaves the world as it was
 pub record HasNoReply (w : DeskWorld) (moment : ℤ) (asked : Asked) (reason : Reported) : Type 0 where
   pub reported : reported_to w asked.operator moment asked.call ≡ reason
   pub change_is : makes_change w asked.operator moment asked.call ≡ false

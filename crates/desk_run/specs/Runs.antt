@@ -13,7 +13,7 @@ use Rattle.desk_run.specs.declared.run.Outcome.TheVariants as outcome
 use Rattle.desk_run.specs.CallFaults.{IsBreakdown}
 use Rattle.desk_run.specs.Verdicts.{Reported, replied, unknown_operator, no_such_plan, reported_to, step}
 
--- what each caller is reported
+-- what each caller is answered
 abbrev pub reported_in : DeskWorld → List (ℤ × Asked) → List Reported
 reported_in w [] = []
 reported_in w (call ∷ calls) =

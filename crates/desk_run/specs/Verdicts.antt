@@ -33,13 +33,13 @@ use Rattle.desk_store.specs.World.{World, Own, own, held, held_at, cells_beside,
 use Rattle.desk_store.specs.Changes.{put_row, close_row, with_plans}
 use Rattle.desk_run.specs.DeskWorld.{DeskWorld, Side, held_in}
 
--- what a caller is reported: a reply, that the operator is not enrolled, or that it has no such plan
+-- what a caller is answered: a reply, that the operator is not enrolled, or that it has no such plan
 pub data Reported : Type 0 where
   replied : ReplyParts → Reported
   unknown_operator : Reported
   no_such_plan : Reported
 
--- the verdict on a call: what the caller is reported, and the operator's plans afterwards, or none
+-- the verdict on a call: what the caller is answered, and the operator's plans afterwards, or none
 -- where they stay as they were
 pub record Ruling : Type 0 where
   pub reported : Reported
@@ -204,7 +204,7 @@ abbrev pub ruling_in : DeskWorld → List ℕ → ℤ → Call → Ruling
 ruling_in w operator moment asked =
     verdict w.terms (own w.content operator) (held_in w operator) moment asked
 
--- a call at a moment: what the caller is reported, and the desk's world after it
+-- a call at a moment: what the caller is answered, and the desk's world after it
 unfoldable pub reported_to : DeskWorld → List ℕ → ℤ → Call → Reported
 reported_to w operator moment asked = (ruling_in w operator moment asked).reported
 

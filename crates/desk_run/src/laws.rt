@@ -52,7 +52,7 @@ pub fn repeated()
 
 /// Two runs, from worlds in which an operator owns the same on the same terms,
 /// with the same calls of that operator in the same order and at the same moments. If others hold the
-/// same before each of these calls, then the operator is reported the same and owns the same after each of
+/// same before each of these calls, then the operator is answered the same and owns the same after each of
 /// them and at the end, whatever calls of others stand between.
 pub fn two_runs()
     ensures { (operator : List ℕ) (v w : DeskWorld) (calls others : List TimedCall) →

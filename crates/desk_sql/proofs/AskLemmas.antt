@@ -28,7 +28,7 @@ use Rattle.desk_sql.specs.Finding.{Holds}
 use Rattle.sqlite.specs.Tree.{Trees}
 use Rattle.desk_sql.specs.Rows.{IsDesk, Lists, tables_of, tables_in, tables_at}
 use Rattle.desk_sql.specs.Statements.{SelectsAll}
-use Rattle.desk_sql.proofs.ReadLemmas.{shown_read, sure_plain}
+use Rattle.desk_sql.proofs.lemmas.Read.{shown_read, sure_plain}
 use Rattle.desk_sql.specs.Refusals.{NeverRefuses, IsSure, IsSureCommand, IsSureGiven, IsSureMeaning, IsRefusal}
 
 -- the cause, of two states

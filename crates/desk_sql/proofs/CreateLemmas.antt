@@ -24,11 +24,11 @@ use Rattle.desk_sql.specs.Rows.{IsDesk, IsMadeTo, AreNumbered, tables_at, tables
 use Rattle.desk_sql.specs.Finding.{Holds}
 use Rattle.desk_sql.specs.Effects.{Spares}
 use Rattle.desk_sql.specs.Frames.{Remembers}
-use Rattle.desk_sql.proofs.LeavingLemmas.{remembers_then}
+use Rattle.desk_sql.proofs.lemmas.Leaving.{remembers_then}
 use Rattle.desk_sql.specs.Statements.{MayWrite, Extends, enforced}
-use Rattle.desk_sql.proofs.Texts.{operator_text, plan_text, old_volume_text, old_span_text, old_first_text, volume_text, span_text, first_text}
+use Rattle.desk_sql.proofs.lemmas.Texts.{operator_text, plan_text, old_volume_text, old_span_text, old_first_text, volume_text, span_text, first_text}
 use Rattle.desk_sql.proofs.TextLemmas.{operator_is, plan_is, old_volume_is, old_span_is, old_first_is, volume_is, span_is, first_is}
-use Rattle.desk_sql.proofs.WriteLemmas.{went, same_value, does_command, is_writing, ran, ran_sound}
+use Rattle.desk_sql.proofs.lemmas.Write.{went, same_value, does_command, is_writing, ran, ran_sound}
 
 -- a text that makes this table, over this schema
 pub record MakesTable (schema : Schema) (text : List ℕ) (table : Table) : Type 0 where

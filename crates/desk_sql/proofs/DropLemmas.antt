@@ -29,7 +29,7 @@ use Rattle.desk_sql.specs.Statements.{MayWrite, enforced}
 use Rattle.desk_sql.specs.Making.{Finishes}
 use Rattle.desk_sql.specs.Effects.{Makes}
 use Rattle.desk_sql.specs.Unpacking.{packed_old_first_index, Drops, Unpacks, RemakesTables, loose_schema, spanless_schema}
-use Rattle.desk_sql.proofs.WriteLemmas.{went, same_value, does_command, ran, ran_sound}
+use Rattle.desk_sql.proofs.lemmas.Write.{went, same_value, does_command, ran, ran_sound}
 
 abbrev pub drop_old_first_text : List ℕ
 drop_old_first_text = codes "DROP INDEX span_first"

@@ -27,10 +27,10 @@ use Rattle.desk_sql.specs.Statements.{enforced}
 use Rattle.desk_sql.specs.Changing.{IsWholeIn, MayStop}
 use Rattle.desk_sql.specs.Refusals.{IsRefusal}
 use Rattle.desk_sql.specs.Unpacking.{packed_old_first_index, Drops, Unpacks, loose_schema, spanless_schema}
-use Rattle.desk_sql.proofs.WriteLemmas.{is_writing}
-use Rattle.desk_sql.proofs.StopLemmas.{caused_inside, whole_in}
-use Rattle.desk_sql.proofs.RowidLemmas.{refusal_on}
-use Rattle.desk_sql.proofs.KeyLemmas.{obeyed_refers}
+use Rattle.desk_sql.proofs.lemmas.Write.{is_writing}
+use Rattle.desk_sql.proofs.lemmas.Stop.{caused_inside, whole_in}
+use Rattle.desk_sql.proofs.lemmas.Rowid.{refusal_on}
+use Rattle.desk_sql.proofs.lemmas.Key.{obeyed_refers}
 use Rattle.desk_sql.proofs.StepStops.{stop_at}
 use Rattle.desk_sql.proofs.DropLemmas.{DropsIndex, DropsTable, drop_old_first_text, drop_spans_text, drop_volumes_text, drops_old_first, drops_spans, drops_volumes, index_dropped, kept_counts, kept_rows, table_dropped}
 

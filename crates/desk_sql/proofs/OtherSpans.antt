@@ -14,11 +14,11 @@ use Rattle.desk_sql.specs.Queries.{others_params}
 use Rattle.desk_sql.specs.Refusals.{IsSureGiven}
 use Rattle.desk_sql.specs.Statements.{Selects}
 use Rattle.desk_sql.specs.Others.{is_others_from}
-use Rattle.desk_sql.proofs.QueryTexts.{rival_spans_is, rival_spans_query}
-use Rattle.desk_sql.proofs.ReadLemmas.{either_null, le_number, ge_number, lt_number, gt_number}
+use Rattle.desk_sql.proofs.lemmas.QueryTexts.{rival_spans_is, rival_spans_query}
+use Rattle.desk_sql.proofs.lemmas.Read.{either_null, le_number, ge_number, lt_number, gt_number}
 use Rattle.desk_sql.proofs.StatementLemmas.{and_last, both_hold, one_plan, selects}
-use Rattle.desk_sql.proofs.SureLemmas.{sure_given}
-use Rattle.desk_sql.proofs.Texts.{rival_spans_text}
+use Rattle.desk_sql.proofs.lemmas.Sure.{sure_given}
+use Rattle.desk_sql.proofs.lemmas.Texts.{rival_spans_text}
 
 others_test : (operator : List ℕ) (reach : SpanFilter) (low : ℤ) (s : Row)
     → list_all (holds (others_params operator reach low ∷ s ∷ [])) rival_spans_query.filter

@@ -6,12 +6,12 @@ use Rattle.sqlite.specs.Listing.{understood}
 use Rattle.desk_sql.specs.declared.opening.numbers.DeskTable.TheVariants.{PackedVolume, PackedSpan}
 use Rattle.desk_sql.specs.Rows.{columns, packed_tables_of}
 use Rattle.desk_sql.specs.Statements.{SelectsAll, rowids}
-use Rattle.desk_sql.proofs.Texts.{volume_rows_text, all_spans_text, volume_rowids_text, span_rowids_text}
-use Rattle.desk_sql.proofs.QueryTexts.{IsWhole, volume_rows_in, spans_in, rowids_query}
-use Rattle.desk_sql.proofs.ReadLemmas.{scanned}
+use Rattle.desk_sql.proofs.lemmas.Texts.{volume_rows_text, all_spans_text, volume_rowids_text, span_rowids_text}
+use Rattle.desk_sql.proofs.lemmas.QueryTexts.{IsWhole, volume_rows_in, spans_in, rowids_query}
+use Rattle.desk_sql.proofs.lemmas.Read.{scanned}
 use Rattle.desk_sql.proofs.SureTexts.{IsSureWith, sure_scan}
 use Rattle.desk_sql.proofs.StatementLemmas.{every, selects_all}
-use Rattle.desk_sql.proofs.RowidLemmas.{rowids_selected}
+use Rattle.desk_sql.proofs.lemmas.Rowid.{rowids_selected}
 
 volume_rows_are : IsWhole PackedVolume volume_rows_text (volume_rows_in 8)
     (codes "operator" ∷ codes "id" ∷ codes "place" ∷ codes "lower" ∷ codes "upper" ∷ codes "start"

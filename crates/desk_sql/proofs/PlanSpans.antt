@@ -17,10 +17,10 @@ use Rattle.desk_sql.specs.Queries.{plan_params}
 use Rattle.desk_sql.specs.Refusals.{IsSureGiven}
 use Rattle.desk_sql.specs.Statements.{Selects}
 use Rattle.desk_sql.specs.Others.{is_plans}
-use Rattle.desk_sql.proofs.QueryTexts.{IsQuery, query_of}
-use Rattle.desk_sql.proofs.ReadLemmas.{equals_text, le_number, ge_number, lt_number, gt_number}
+use Rattle.desk_sql.proofs.lemmas.QueryTexts.{IsQuery, query_of}
+use Rattle.desk_sql.proofs.lemmas.Read.{equals_text, le_number, ge_number, lt_number, gt_number}
 use Rattle.desk_sql.proofs.StatementLemmas.{and_last, both_hold, one_plan, selects}
-use Rattle.desk_sql.proofs.SureLemmas.{sure_given}
+use Rattle.desk_sql.proofs.lemmas.Sure.{sure_given}
 
 abbrev pub plan_spans_text : List ℕ
 plan_spans_text = codes

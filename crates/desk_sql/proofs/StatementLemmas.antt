@@ -34,9 +34,9 @@ use Rattle.desk_sql.specs.Refusals.{IsSure, IsSureGiven}
 use Rattle.desk_sql.specs.Statements.{MayRead, Selects, SelectsAll}
 use Rattle.desk_sql.proofs.Sure.{plan_of_sure, volumes_of_sure, own_plans_sure, rival_spans_sure}
 use Rattle.desk_sql.proofs.SureTexts.{all_operators_sure, all_plans_sure, volume_rows_sure, all_spans_sure}
-use Rattle.desk_sql.proofs.Texts.{all_operators_text, plan_of_text, all_plans_text, volumes_of_text, volume_rows_text, all_spans_text, own_plans_text, rival_spans_text}
-use Rattle.desk_sql.proofs.QueryTexts.{IsQueryIn, IsQuery, IsWhole, query_of, all_operators_is, all_operators_query, plan_of_is, plan_of_query, all_plans_is, all_plans_query, volumes_of_is, volumes_of_query, volume_rows_is, volume_rows_query, all_spans_is, all_spans_query, own_plans_is, own_plans_query, rival_spans_is, rival_spans_query}
-use Rattle.desk_sql.proofs.ReadLemmas.{was_open, answer_rows, may_answer, scanned, equals_text, equals, either_true, le_number, ge_number, lt_number, gt_number}
+use Rattle.desk_sql.proofs.lemmas.Texts.{all_operators_text, plan_of_text, all_plans_text, volumes_of_text, volume_rows_text, all_spans_text, own_plans_text, rival_spans_text}
+use Rattle.desk_sql.proofs.lemmas.QueryTexts.{IsQueryIn, IsQuery, IsWhole, query_of, all_operators_is, all_operators_query, plan_of_is, plan_of_query, all_plans_is, all_plans_query, volumes_of_is, volumes_of_query, volume_rows_is, volume_rows_query, all_spans_is, all_spans_query, own_plans_is, own_plans_query, rival_spans_is, rival_spans_query}
+use Rattle.desk_sql.proofs.lemmas.Read.{was_open, answer_rows, may_answer, scanned, equals_text, equals, either_true, le_number, ge_number, lt_number, gt_number}
 
 -- a value that a desk's rows have, whenever something is shown
 module _ {S V : Type 0} (g : Ghosts S) (old new : Held S) (items : V → List Row) (text : List ℕ)

@@ -50,11 +50,11 @@ use Rattle.desk_sql.specs.Statements.{Extends, enforced}
 use Rattle.desk_sql.specs.Changing.{IsWholeIn, MayStop}
 use Rattle.desk_sql.specs.Refusals.{IsRefusal}
 use Rattle.desk_sql.specs.Making.{IsSmall, AreSmall, HasSmallSpans, IsStep}
-use Rattle.desk_sql.proofs.Texts.{operator_text, plan_text, old_volume_text, old_span_text, old_first_text, volume_text, span_text, first_text}
-use Rattle.desk_sql.proofs.WriteLemmas.{same_value}
-use Rattle.desk_sql.proofs.StopLemmas.{caused_inside, names_in, tail_of, whole_in}
-use Rattle.desk_sql.proofs.RowidLemmas.{refusal_on}
-use Rattle.desk_sql.proofs.SizeLemmas.{blob, storable, text, whole}
+use Rattle.desk_sql.proofs.lemmas.Texts.{operator_text, plan_text, old_volume_text, old_span_text, old_first_text, volume_text, span_text, first_text}
+use Rattle.desk_sql.proofs.lemmas.Write.{same_value}
+use Rattle.desk_sql.proofs.lemmas.Stop.{caused_inside, names_in, tail_of, whole_in}
+use Rattle.desk_sql.proofs.lemmas.Rowid.{refusal_on}
+use Rattle.desk_sql.proofs.lemmas.Size.{blob, storable, text, whole}
 use Rattle.desk_sql.proofs.CreateLemmas.{HasGrown, MakesTable, MakesIndex, operator_makes, plan_makes, old_volume_makes, old_span_makes, old_first_makes, volume_makes, span_makes, first_makes, operator_extends, plan_extends, old_volume_extends, old_span_extends, old_first_extends, volume_extends, span_extends, first_extends}
 
 -- what holds of some value that a reading gives holds of that which it gives

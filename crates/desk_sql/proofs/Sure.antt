@@ -6,10 +6,10 @@ use Rattle.sqlite.specs.Listing.{understood}
 use Rattle.desk_sql.specs.declared.reading.rivals.SpanFilter.{SpanFilter}
 use Rattle.desk_sql.specs.Schema.{desk_schema}
 use Rattle.desk_sql.specs.Refusals.{IsSureGiven}
-use Rattle.desk_sql.proofs.Texts.{plan_of_text, volumes_of_text, own_plans_text, rival_spans_text}
-use Rattle.desk_sql.proofs.QueryTexts.{plan_of_is, plan_of_query, volumes_of_is, volumes_of_query, own_plans_is, own_plans_query, rival_spans_is, rival_spans_query}
+use Rattle.desk_sql.proofs.lemmas.Texts.{plan_of_text, volumes_of_text, own_plans_text, rival_spans_text}
+use Rattle.desk_sql.proofs.lemmas.QueryTexts.{plan_of_is, plan_of_query, volumes_of_is, volumes_of_query, own_plans_is, own_plans_query, rival_spans_is, rival_spans_query}
 use Rattle.desk_sql.specs.Queries.{rival_params}
-use Rattle.desk_sql.proofs.SureLemmas.{sure_given}
+use Rattle.desk_sql.proofs.lemmas.Sure.{sure_given}
 
 pub plan_of_sure : (operator id : List ℕ)
     → IsSureGiven desk_schema plan_of_text (Text operator ∷ Text id ∷ [])

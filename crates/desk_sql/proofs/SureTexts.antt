@@ -14,10 +14,10 @@ use Rattle.desk_sql.specs.declared.opening.numbers.DeskTable.{DeskTable}
 use Rattle.desk_sql.specs.declared.opening.numbers.DeskTable.TheVariants.{Operator, Plan, OldVolume, OldSpan, Volume, Span}
 use Rattle.desk_sql.specs.Schema.{schema_to}
 use Rattle.desk_sql.specs.Refusals.{NeverRefuses, IsSure}
-use Rattle.desk_sql.proofs.Texts.{all_operators_text, all_plans_text, volume_rows_text, all_spans_text, operator_rowids_text, plan_rowids_text, old_volume_rowids_text, old_span_rowids_text, volume_rowids_text, span_rowids_text}
-use Rattle.desk_sql.proofs.StopLemmas.{names_in, tail_of}
-use Rattle.desk_sql.proofs.SureLemmas.{Misfits, meant}
-use Rattle.desk_sql.proofs.QueryTexts.{IsQueryIn, query_of, operator_rowids_is, plan_rowids_is, old_volume_rowids_is, old_span_rowids_is, volume_rowids_is, span_rowids_is, all_operators_is, all_plans_is, volume_rows_is, all_spans_is}
+use Rattle.desk_sql.proofs.lemmas.Texts.{all_operators_text, all_plans_text, volume_rows_text, all_spans_text, operator_rowids_text, plan_rowids_text, old_volume_rowids_text, old_span_rowids_text, volume_rowids_text, span_rowids_text}
+use Rattle.desk_sql.proofs.lemmas.Stop.{names_in, tail_of}
+use Rattle.desk_sql.proofs.lemmas.Sure.{Misfits, meant}
+use Rattle.desk_sql.proofs.lemmas.QueryTexts.{IsQueryIn, query_of, operator_rowids_is, plan_rowids_is, old_volume_rowids_is, old_span_rowids_is, volume_rowids_is, span_rowids_is, all_operators_is, all_plans_is, volume_rows_is, all_spans_is}
 
 -- nothing in a scan of one table can overflow
 scan_never : (schema : Schema) (tree : ℕ) (project : List Term) (order : List (Term × Key))

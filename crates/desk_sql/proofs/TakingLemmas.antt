@@ -15,7 +15,7 @@ use Rattle.sqlite.specs.Listing.{understood, reads_listing, IsSourceOf}
 use Rattle.sqlite.specs.State.{State, HasCleanDisk, Shown, ShowsRows, IsUnchanged, IsRolledBack}
 use Rattle.sqlite.proofs.Callers.{unchanged_then, begun_plain}
 use Rattle.desk_sql.specs.Finding.{Holds}
-use Rattle.desk_sql.proofs.ReadLemmas.{was_open, is_open}
+use Rattle.desk_sql.proofs.lemmas.Read.{was_open, is_open}
 use Rattle.desk_sql.specs.Taking.{FailsNext, FailsToHandAll, HandsOver, HandsAll, IsLeft, Refusing}
 
 pub unchanged_itself : (s : State) → IsTrue s.is_open → IsUnchanged s s

@@ -11,9 +11,9 @@ use Rattle.desk_sql.specs.WholeTables.{ShowsWhole}
 use Rattle.desk_sql.proofs.AskLemmas.{one_tree, two_trees}
 use Rattle.desk_sql.proofs.PackedLemmas as packed
 use Rattle.desk_sql.proofs.StatementLemmas.{all_operators_selected, all_plans_selected, all_spans_selected}
-use Rattle.desk_sql.proofs.Texts.{all_operators_text, all_plans_text, all_spans_text}
+use Rattle.desk_sql.proofs.lemmas.Texts.{all_operators_text, all_plans_text, all_spans_text}
 use Rattle.desk_sql.proofs.old_tables.ReadLemmas.{all_old_volumes_selected, all_old_spans_selected}
-use Rattle.desk_sql.proofs.old_tables.Texts.{all_old_volumes_text, all_old_spans_text}
+use Rattle.desk_sql.proofs.lemmas.OldTexts.{all_old_volumes_text, all_old_spans_text}
 
 -- what is read of the tables of version 1 is the same in a packed file
 abbrev IsSame : WholeTable → Type 0

@@ -6,7 +6,6 @@ pub mod Effects
 pub mod Frames
 pub mod Making
 pub mod Unpacking
-pub mod Batches
 pub mod Finding
 pub mod Objects
 pub mod Refusals
@@ -17,6 +16,4 @@ pub mod Statements
 pub mod Queries
 pub mod Volumes
 pub mod Changing
-pub mod Putting
-pub mod RowChanges
 pub mod WholeTables

@@ -8,9 +8,8 @@ use Rattle.sqlite.specs.Store.{Ghosts}
 use Rattle.sqlite.specs.State.{HasCleanDisk, KeepsCommit}
 use Rattle.sqlite.specs.Held.{Held, state}
 use Rattle.desk_sql.specs.Rows.{Tables}
-use Rattle.desk_sql.specs.Effects.{StaysShown, Makes, Commits, MayMake}
+use Rattle.desk_sql.specs.Effects.{StaysShown, Makes, Commits, MayMake, IsUnderWay}
 use Rattle.desk_sql.specs.Frames.{OnlyReads, Remembers, IsOver}
-use Rattle.desk_sql.specs.Batches.{IsUnderWay}
 use Rattle.desk_sql.specs.Refusals.{IsRefusal}
 use Rattle.desk_sql.specs.Taking.{Refusing, IsTakenInPart}
 

@@ -11,7 +11,7 @@ const MOST: usize = 10;
 
 /// The parameters of a text, in turn.
 #[derive(Drop)]
-pub(crate) struct Parameters<'a> {
+pub struct Parameters<'a> {
     // the parameters, and nulls after them
     values: [ValueRef<'a>; MOST],
     count: usize,
@@ -35,7 +35,7 @@ impl<'a> Model for Parameters<'a> {
 
 impl<'a> Parameters<'a> {
     /// These.
-    pub(crate) fn of(given: &[ValueRef<'a>]) -> Parameters<'a>
+    pub fn of(given: &[ValueRef<'a>]) -> Parameters<'a>
         requires { length given.now ≤ 10 }
         ensures { result ≡ bound given.now }
     {
@@ -48,7 +48,7 @@ impl<'a> Parameters<'a> {
     }
 
     /// As a statement takes them.
-    pub(crate) fn as_slice(&self) -> &[ValueRef<'a>]
+    pub fn as_slice(&self) -> &[ValueRef<'a>]
         ensures { bound result.now ≡ self.now }
     {
         &self.values[..self.count]

@@ -10,7 +10,7 @@ use Rattle.sqlite.specs.Held.{Held, state}
 use Rattle.sqlite_value.specs.declared.value.Value.TheVariants.{Int}
 use Rattle.sqlite_value.specs.Order.{Row, column}
 use Rattle.desk_sql.specs.Rows.{Tables, PutsOperator, ClosesPlan, tables_of}
-use Rattle.desk_sql.specs.Batches.{PutsPlan, RemovesPlans}
+use Rattle.desk_changes.specs.Batches.{PutsPlan, RemovesPlans}
 use Rattle.desk_sql.specs.Effects.{Commits, MayMake, IsMadeOf}
 use Rattle.desk_sql.specs.Frames.{OnlyReads}
 use Rattle.desk_sql.specs.QueryEnds.{IsCommitted}
@@ -24,13 +24,14 @@ use Rattle.desk_store.specs.declared.change.Change.{Change}
 use Rattle.desk_store.specs.declared.fault.StoreFault.{StoreFault}
 use Rattle.desk_store.specs.declared.change.Change.TheVariants.{Enrol, Put, Close}
 use Rattle.desk_store.specs.Content.{IsId, IsPlan, IsContent}
-use Rattle.desk_tables.specs.PlanRows.{filed_put}
-use Rattle.desk_tables.specs.Tables.{id_text, usage_number, aircraft_number, plan_rows, area_rows, area_covers, ArePlanSpanRows, AreTables}
+use Rattle.row_codec.specs.PlanRows.{filed_put}
+use Rattle.row_codec.specs.Tables.{id_text, usage_number, aircraft_number, plan_rows, area_rows, area_covers, ArePlanSpanRows, AreTables}
 use Rattle.desk_tables.specs.Lookups.{own_of}
 use Rattle.desk_tables.specs.TableChanges.{ChangesRows, PutsRows, ClosesRows, ClearsRows, IsWithinLimits}
 use Rattle.desk_tables.specs.Causes.{BlamesStore}
-use Rattle.desk_tables.specs.Store.{HeldWorld, Stands}
-use Rattle.desk_tables.specs.Leaving.{HasWorld, MayHave}
+use Rattle.table_load.specs.Standing.{Stands}
+use Rattle.desk_tables.specs.Store.{HeldWorld}
+use Rattle.table_load.specs.Leaving.{HasWorld, MayHave}
 use Rattle.desk_tables.specs.ChangesMade.{HasFollowed, IsMade, IsNext}
 use Rattle.desk_tables.proofs.ChangeLemmas.{change_tables, change_content}
 use Rattle.desk_tables.proofs.SetLemmas.{operator_is_put}
@@ -38,7 +39,7 @@ use Rattle.desk_tables.proofs.PutLemmas.{put_as, put_is_put}
 use Rattle.desk_tables.proofs.ClearLemmas.{removal_is_clear}
 use Rattle.desk_tables.proofs.CloseLemmas.{close_is_close}
 use Rattle.desk_tables.proofs.CauseLemmas.{blamed}
-use Rattle.desk_tables.proofs.StoreLemmas.{kept_stands}
+use Rattle.table_load.proofs.lemmas.Store.{kept_stands}
 
 named : (name : List ℕ) (ceiling : ℕ) → IsTrue (is_operator_name name) → IsWithinLimits (Enrol name ceiling)
 unfolding IsWithinLimits

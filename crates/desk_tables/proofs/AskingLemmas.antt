@@ -9,11 +9,12 @@ use Rattle.sqlite.specs.Held.{state}
 use Rattle.volume4d.specs.declared.slab.Held.{Held as One}
 use Rattle.desk_sql.specs.Frames.{OnlyReads}
 use Rattle.desk_sql.specs.Rows.{tables_of}
-use Rattle.desk_tables.specs.RivalRows.{HasTakenHelds, HaveTaken, HaveTakenAll}
+use Rattle.row_codec.specs.RivalRows.{HasTakenHelds, HaveTaken, HaveTakenAll}
 use Rattle.desk_tables.specs.ReadsMade.{spans_shown}
-use Rattle.desk_tables.specs.Store.{HeldWorld, Stands}
+use Rattle.table_load.specs.Standing.{Stands}
+use Rattle.desk_tables.specs.Store.{HeldWorld}
 use Rattle.desk_tables.proofs.HeldLemmas.{all_taken}
-use Rattle.desk_tables.proofs.FrameLemmas.{reads_itself, reads_then}
+use Rattle.table_load.proofs.lemmas.Frame.{reads_itself, reads_then}
 
 module _ {S : Type 0} (g : Ghosts S) where
   -- some questions are answered, and nothing was changed

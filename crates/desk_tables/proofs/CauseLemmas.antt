@@ -1,10 +1,6 @@
 -- Why a reader answers that the store failed.
 use Rattle.std.proofs.Common.{◌≡◌, ◌≢◌, ◌≤◌, ◌<◌, ◌^◌, ◌⊎◌, ◌∙◌, ◌∷◌, inl, inr, ℕ, List, [], length, true, false, cond, Bool, Option, Some, None, Result, Ok, Err, IfErr, IfOk, OnErr, OnOk, IsTrue, IsPermutation, map, sym, ap, subst, true≢false, arith}
-use Rattle.std.specs.Prelude.{IsSome, nat_le}
-use Rattle.std.proofs.lemmas.Bool.{and_parts, leb-true}
-use Rattle.desk_rules.specs.Name.{is_operator_name}
-use Rattle.desk_rules.specs.Limits.{max_name_length}
-use Rattle.desk_sql.specs.Changing.{IsShort}
+use Rattle.std.specs.Prelude.{IsSome}
 use Rattle.desk_store.specs.StoreChange.{IsFitting}
 use Rattle.desk_store.specs.declared.change.Change.TheVariants.{Close}
 use Rattle.std.specs.List.{AllByRecursion, AllZip, filter, find}
@@ -25,25 +21,25 @@ use Rattle.desk_store.specs.World.{Filed, World, plans_of, stored_of}
 use Rattle.desk_store.specs.declared.fault.StoreFault.{StoreFault}
 use Rattle.desk_store.specs.declared.fault.StoreFault.TheVariants.{Store}
 use Rattle.desk_tables.specs.Causes.{BlamesStore}
-use Rattle.desk_tables.specs.ReadsMade.{IsReportedAs}
+use Rattle.row_codec.specs.ErrorFaults.{IsReportedAs}
 use Rattle.desk_store.specs.Content.{IsContent, IsPlan}
 use Rattle.desk_tables.specs.Lookups.{one_or_none, own_of}
-use Rattle.desk_tables.specs.RowsRead.{IsHead, IsVolumeAt}
-use Rattle.desk_tables.specs.Tables.{area_rows, plan_rows, row_of_plan, volume_rows}
+use Rattle.row_codec.specs.RowsRead.{IsHead, IsVolumeAt}
+use Rattle.row_codec.specs.Tables.{area_rows, plan_rows, row_of_plan, volume_rows}
 use Rattle.desk_tables.specs.Causes.{HasTooManySpans}
-use Rattle.desk_tables.specs.Gathering.{BeginNoListing, HasCollected, HasNoArea}
-use Rattle.desk_tables.specs.RowsRead.{listing_rows}
-use Rattle.desk_tables.specs.RivalRows.{IsNoHeld}
-use Rattle.desk_tables.specs.Tables.{AreTables}
-use Rattle.desk_tables.specs.declared.reading.values.PlanHead.{PlanHead}
+use Rattle.row_codec.specs.Gathering.{BeginNoListing, HasCollected, HasNoArea}
+use Rattle.row_codec.specs.RowsRead.{listing_rows}
+use Rattle.row_codec.specs.RivalRows.{IsNoHeld}
+use Rattle.row_codec.specs.Tables.{AreTables}
+use Rattle.row_codec.specs.declared.values.PlanHead.{PlanHead}
 use Rattle.desk_rules.specs.Limits.{max_plans}
 use Rattle.desk_sql.specs.Rows.{held_columns, tables_of}
 use Rattle.desk_sql.specs.Taking.{IsTakenInPart}
 use Rattle.std.specs.Result.{IsErrAnd}
 use Rattle.std.proofs.lemmas.List.{length-map}
 use Rattle.std.proofs.lemmas.List.Sorted.{length_permutation}
-use Rattle.desk_tables.proofs.FilterLemmas.{ArePlans}
-use Rattle.desk_tables.proofs.CollectorLemmas.{AreLow, listing_short, never_cut}
+use Rattle.row_codec.proofs.lemmas.Order.{ArePlans}
+use Rattle.row_codec.proofs.lemmas.Collector.{AreLow, listing_short, never_cut}
 use Rattle.desk_tables.proofs.ListingLemmas.{area_read, head_read}
 use Rattle.desk_tables.proofs.SlabLemmas.{spans_read}
 
@@ -78,7 +74,7 @@ pub on_refused : {V E A : Type 0} (P : E → Type 0) (r : Result V E) → OnErr 
 on_refused P (Ok v) holds gives = tt
 on_refused P (Err e) holds gives = gives holds
 
--- what is reported of an answer of SQLite
+-- what is said of an answer of SQLite
 pub reported_value : {V : Type 0} (P : V → Type 0) (answer : Result V Error) (result : Result V StoreFault)
     → IsReportedAs answer result → IfOk answer P → IfOk result P
 reported_value P (Ok v) result is holds = subst (λ r. IfOk r P) (sym is) holds
@@ -161,14 +157,7 @@ closed_stored operator id w fits none = none_there (stored_of id (plans_of opera
     none_there None some e = absurd (true≢false (sym some))
     none_there (Some p) some e = cc
 
--- a name is short
-pub name_short : (name : List ℕ) → IsTrue (is_operator_name name) → IsShort name
-name_short name h =
-    let parts = and_parts _ _ h in
-    let bounds = and_parts (nat_le 1 (length name)) _ parts.0 in
-    omega (arith, leb-true (length name) max_name_length bounds.1)
-
--- what takes rows and refuses one that a reading reports of
+-- what takes rows and refuses one that a reading says of
 abbrev Or : (List Row → Row → Type 0) → List Row → Row → Error → Type 0
 Or P taken row e = (e ≡ SqliteFailure code.OutOfMemory) ⊎ P taken row
 

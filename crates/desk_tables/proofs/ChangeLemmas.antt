@@ -26,11 +26,12 @@ use Rattle.desk_store.proofs.lemmas.Change.{stays, cleared_plans, close_filed, c
 use Rattle.desk_store.specs.StoreChange.{changed_by, IsFitting}
 use Rattle.desk_store.specs.declared.change.Change.{Change}
 use Rattle.desk_store.specs.declared.change.Change.TheVariants.{Enrol, Put, Close, Clear}
-use Rattle.desk_tables.specs.Tables.{id_text, row_of_operator, operator_rows, row_of_plan, plan_rows, row_of_volume, rows_from, area_rows, volume_rows, row_of_cover, area_covers, cover_rows, AreSpanRows, HasNoOldRows, AreTables}
+use Rattle.row_codec.specs.Tables.{id_text, row_of_operator, operator_rows, row_of_plan, plan_rows, row_of_volume, rows_from, area_rows, volume_rows, row_of_cover, area_covers, cover_rows, AreSpanRows, HasNoOldRows, AreTables}
 use Rattle.desk_store.specs.Content.{IsId, IsPlan, IsContent}
 use Rattle.desk_tables.specs.TableChanges.{with_usage, EnrolsRows, PutsRows, ClosesRows, ClearsRows, ChangesRows, IsWithinLimits, closed_if, is_left}
-use Rattle.desk_tables.proofs.RowLemmas.{after_key}
-use Rattle.desk_tables.proofs.FilterLemmas.{ArePlans, turned, own_row, other_row, left_row, plans_filtered, volumes_filtered, covers_filtered, plan_spans_filtered, spans_filtered, spans_moved}
+use Rattle.row_codec.proofs.lemmas.Order.{after_key}
+use Rattle.row_codec.proofs.lemmas.Order.{ArePlans, turned}
+use Rattle.desk_tables.proofs.FilterLemmas.{own_row, other_row, left_row, plans_filtered, volumes_filtered, covers_filtered, plan_spans_filtered, spans_filtered, spans_moved}
 
 -- tables that have the rows of plans in some order
 abbrev HaveSpans : List Filed → List Row → Type 0

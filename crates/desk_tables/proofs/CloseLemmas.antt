@@ -12,13 +12,14 @@ use Rattle.desk_sql.specs.Rows as sql
 use Rattle.desk_sql.specs.Rows.{Tables, is_of, with_row, ClosesPlan}
 use Rattle.desk_store.specs.World.{Filed, World, text_cmp}
 use Rattle.desk_store.specs.OwnRows.{is_own}
-use Rattle.desk_tables.specs.Tables.{id_text, aircraft_number, row_of_plan, plan_rows, AreTables}
+use Rattle.row_codec.specs.Tables.{id_text, aircraft_number, row_of_plan, plan_rows, AreTables}
 use Rattle.desk_store.specs.Content.{IsId, IsContent}
 use Rattle.desk_tables.specs.Lookups.{one_or_none, own_of}
 use Rattle.desk_tables.specs.TableChanges.{ClosesRows, closed_if}
-use Rattle.desk_tables.proofs.FilterLemmas.{ArePlans, own_row}
+use Rattle.row_codec.proofs.lemmas.Order.{ArePlans}
+use Rattle.desk_tables.proofs.FilterLemmas.{own_row}
 use Rattle.desk_tables.proofs.ListingLemmas.{one_own}
-use Rattle.desk_tables.proofs.RowLemmas.{after_key}
+use Rattle.row_codec.proofs.lemmas.Order.{after_key}
 
 same_text : (s t : List ℕ) → is_eq (text_cmp s t) ≡ true → s ≡ t
 same_text s t e = by_order (text_cmp s t) refl e where

@@ -11,11 +11,11 @@ use Rattle.desk_sql.specs.Effects.{Commits}
 use Rattle.desk_sql.specs.Rows.{Tables, tables_of, AddsOperator, AddsPlan}
 use Rattle.desk_store.specs.World.{Filed, Listed, World}
 use Rattle.desk_store.specs.Content.{IsContent}
-use Rattle.desk_tables.specs.Store.{Stands}
-use Rattle.desk_tables.specs.Tables.{row_of_operator, operator_rows, row_of_plan, plan_rows, volume_rows, cover_rows, AreTables}
+use Rattle.table_load.specs.Standing.{Stands}
+use Rattle.row_codec.specs.Tables.{row_of_operator, operator_rows, row_of_plan, plan_rows, volume_rows, cover_rows, AreTables}
 use Rattle.desk_tables.specs.Copying.{AddsHeadRows, AddsOperatorRows, AddsWorldRows}
-use Rattle.desk_tables.proofs.MovingLemmas.{further}
-use Rattle.desk_tables.proofs.StoreLemmas.{no_row, nothing}
+use Rattle.table_load.proofs.lemmas.Moving.{further}
+use Rattle.table_load.proofs.lemmas.Store.{no_row, nothing}
 
 -- ---- one row more
 

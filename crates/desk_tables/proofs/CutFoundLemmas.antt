@@ -24,16 +24,16 @@ use Rattle.desk_store.specs.World.{World}
 use Rattle.sqlite_wal.proofs.LogLemmas.{SeenMayStay}
 use Rattle.sqlite_store.specs.Laws.{settled_at}
 use Rattle.desk_sql.specs.Frames.{OnlyReads}
-use Rattle.desk_tables.specs.Files.{FindsFirst}
-use Rattle.desk_tables.specs.Opening.{BeginsWith}
-use Rattle.desk_tables.specs.Moving.{BeginsMoved}
-use Rattle.desk_tables.specs.Copying.{IsContentIn}
-use Rattle.desk_tables.specs.Store.{IsStanding}
-use Rattle.desk_tables.specs.Leaving.{HasWorld, IsFoundAfter}
-use Rattle.desk_tables.specs.CutShort.{HasContent, HasOldWorld, IsCutShort, IsMovedOn, ShowContent}
-use Rattle.desk_tables.proofs.ContentLemmas.{of_rows}
-use Rattle.desk_tables.proofs.OpeningLemmas.{made_desk, old_rows_none}
-use Rattle.desk_tables.proofs.StoreLemmas.{nothing_holds}
+use Rattle.table_load.specs.Files.{FindsFirst}
+use Rattle.table_load.specs.Opening.{BeginsWith}
+use Rattle.table_load.specs.Moving.{BeginsMoved}
+use Rattle.table_load.specs.HeldContent.{IsContentIn}
+use Rattle.table_load.specs.Standing.{IsStanding}
+use Rattle.table_load.specs.Leaving.{HasWorld, IsFoundAfter}
+use Rattle.table_load.specs.CutShort.{HasContent, HasOldWorld, IsCutShort, IsMovedOn, ShowContent}
+use Rattle.table_load.proofs.lemmas.Content.{of_rows}
+use Rattle.table_load.proofs.lemmas.Opening.{made_desk, old_rows_none}
+use Rattle.table_load.proofs.lemmas.Store.{nothing_holds}
 
 -- ---- a schema says what is made
 

@@ -14,30 +14,31 @@ use Rattle.desk_sql.specs.Changing.{HasKey, IsNewRow, IsShort, FitsOperator, Fit
 use Rattle.desk_rules.specs.Name.{is_operator_name}
 use Rattle.desk_sql.specs.Effects.{IsOpenIfClean}
 use Rattle.desk_sql.specs.Finding.{Holds}
-use Rattle.desk_sql.specs.Putting.{HasRoomFor, HaveOwnKeys, TakesOperators, TakesRoom}
+use Rattle.desk_changes.specs.Putting.{HasRoomFor, HaveOwnKeys, TakesOperators, TakesRoom}
 use Rattle.desk_sql.specs.Rows.{AddsOperator, AddsPlan, Tables, by_cells, tables_of}
 use Rattle.desk_store.specs.World.{Filed, IsListed, Listed, World, filed_cmp, listed_cmp}
 use Rattle.desk_store.proofs.lemmas.Order.{all_weaker}
-use Rattle.desk_tables.specs.declared.opening.open.OpenFault.{OpenFault}
-use Rattle.desk_tables.specs.Opening.{BlamesDatabase, BlamesReading}
+use Rattle.table_load.specs.declared.fault.OpenFault.{OpenFault}
+use Rattle.table_load.specs.Opening.{BlamesDatabase, BlamesReading}
 use Rattle.desk_tables.specs.Copying.{AddsHeadRows, AddsOperatorRows, BlamesNew}
 use Rattle.desk_store.specs.Content.{IsContent}
-use Rattle.desk_tables.specs.Records.{IsFiled}
-use Rattle.desk_tables.specs.Store.{Stands}
-use Rattle.desk_tables.specs.Tables.{id_text, operator_rows, plan_rows, row_of_operator, row_of_plan}
-use Rattle.desk_tables.specs.Writable.{AreNewHeads, AreNewKeys, AreNewOperators, AreWritable, CanBeFilled, HaveFewRows}
-use Rattle.desk_tables.proofs.AssemblyLemmas.{filed_within}
-use Rattle.desk_tables.proofs.CauseLemmas.{name_short}
+use Rattle.row_codec.specs.Records.{IsFiled}
+use Rattle.table_load.specs.Standing.{Stands}
+use Rattle.row_codec.specs.Tables.{id_text, operator_rows, plan_rows, row_of_operator, row_of_plan}
+use Rattle.table_load.specs.Writable.{AreNewHeads, AreNewKeys, AreNewOperators, AreWritable, CanBeFilled, HaveFewRows}
+use Rattle.table_load.proofs.lemmas.Assembly.{filed_within}
+use Rattle.table_load.proofs.lemmas.NewRow.{name_short}
 use Rattle.desk_tables.proofs.CopyLemmas.{alone}
-use Rattle.desk_tables.proofs.FilterLemmas.{ArePlans}
-use Rattle.desk_tables.proofs.KeyOrderLemmas.{operators_up, plans_up}
+use Rattle.row_codec.proofs.lemmas.Order.{ArePlans}
+use Rattle.table_load.proofs.lemmas.KeyOrder.{operators_up, plans_up}
 use Rattle.desk_tables.proofs.LiftLemmas.{disk_blamed}
-use Rattle.desk_tables.proofs.OpeningLemmas.{cause_then}
-use Rattle.desk_tables.proofs.PuttableLemmas.{apart_by, named_row}
-use Rattle.desk_tables.proofs.ShareLemmas.{if_listed}
-use Rattle.desk_tables.proofs.SmallLemmas.{id_short}
-use Rattle.desk_tables.proofs.StoreLemmas.{no_row, nothing}
-use Rattle.desk_tables.proofs.WritingLemmas.{FewCovers, all_free, are_plans, blank_room, fewer, no_tree, writable}
+use Rattle.table_load.proofs.lemmas.Opening.{cause_then}
+use Rattle.table_load.proofs.lemmas.NewRow.{apart_by}
+use Rattle.desk_tables.proofs.PuttableLemmas.{named_row}
+use Rattle.row_codec.proofs.lemmas.Share.{if_listed}
+use Rattle.table_load.proofs.lemmas.Small.{id_short}
+use Rattle.table_load.proofs.lemmas.Store.{no_row, nothing}
+use Rattle.table_load.proofs.lemmas.Writing.{FewCovers, all_free, are_plans, blank_room, fewer, no_tree, writable}
 
 -- ---- one row after the other
 

@@ -1,9 +1,7 @@
 -- The rows of some plans among those of all, and of plans in another order.
-use Rattle.std.proofs.Common.{◌≡◌, ℕ, ◌+◌, Bool, true, false, MatchBool, ◌&&◌, ◌||◌, not, cond, List, [], ◌∷◌, ◌++◌, map, refl, sym, ap, subst, ◌∙◌, Less, Equal, Greater, IsPermutation}
+use Rattle.std.proofs.Common.{◌≡◌, ℕ, ◌+◌, Bool, true, false, MatchBool, ◌&&◌, ◌||◌, not, cond, List, [], ◌∷◌, ◌++◌, map, refl, sym, ap, subst, ◌∙◌, IsPermutation}
 use Rattle.std.specs.List.{AllByRecursion, filter, list_any}
-use Rattle.std.specs.declared.cmp.Ordering.{Ordering}
-use Rattle.std.specs.Ordering.{ordering_reverse, is_eq}
-use Rattle.std.specs.Cmp.Lexicographic.{nat_list_cmp_total}
+use Rattle.std.specs.Ordering.{is_eq}
 use Rattle.std.proofs.lemmas.List.{append_assoc}
 use Rattle.std.proofs.lemmas.List.Elements.{filter-append}
 use Rattle.std.proofs.lemmas.List.Sorted.{IsPermutation-refl, IsPermutation-trans, IsPermutation-append_left, IsPermutation-append_right, IsPermutation-append_comm}
@@ -15,25 +13,15 @@ use Rattle.s2_cover.specs.declared.spans.Span.{Span}
 use Rattle.volume4d.specs.Volume.{Block}
 use Rattle.desk_rules.specs.Plan.{is_live}
 use Rattle.desk_sql.specs.Rows.{is_of, is_not_of}
-use Rattle.desk_store.specs.World.{Filed, text_cmp}
+use Rattle.desk_store.specs.World.{Filed}
 use Rattle.desk_store.specs.OwnRows.{is_own}
 use Rattle.desk_store.proofs.lemmas.Change.{stays}
-use Rattle.desk_tables.specs.Tables.{id_text, row_of_plan, plan_rows, row_of_volume, rows_from, volume_rows, row_of_cover, cover_rows, row_of_span, AreSpanRowsFrom, ArePlanSpanRows, AreSpanRows}
+use Rattle.row_codec.specs.Tables.{id_text, row_of_plan, plan_rows, row_of_volume, rows_from, volume_rows, row_of_cover, cover_rows, row_of_span, AreSpanRowsFrom, ArePlanSpanRows, AreSpanRows}
 use Rattle.desk_store.specs.Content.{IsId, IsPlan}
 use Rattle.desk_tables.specs.TableChanges.{is_left}
-use Rattle.desk_tables.proofs.IdLemmas.{text_order}
-use Rattle.desk_tables.proofs.RowLemmas.{after_key, after_place, placed, placed_rows}
-
-abbrev pub ArePlans : List Filed → Type 0
-ArePlans ps = AllByRecursion (λ p. IsPlan p.row) ps
-
-is_eq_turned : (n : Ordering) → is_eq (ordering_reverse n) ≡ is_eq n
-is_eq_turned Less = refl
-is_eq_turned Equal = refl
-is_eq_turned Greater = refl
-
-pub turned : (a b : List ℕ) → is_eq (text_cmp a b) ≡ is_eq (text_cmp b a)
-turned a b = ap is_eq (nat_list_cmp_total.antisymm a b) ∙ is_eq_turned (text_cmp b a)
+use Rattle.row_codec.proofs.lemmas.Id.{text_order}
+use Rattle.row_codec.proofs.lemmas.Order.{after_key, after_place, placed, placed_rows}
+use Rattle.row_codec.proofs.OrderLemmas.{ArePlans, turned}
 
 -- a row with the key of a plan is of the operator and the id if the plan is
 pub own_row : (o id : List ℕ) (q : Filed) (r : Row) → IsId id → IsId q.row.id

@@ -36,15 +36,16 @@ use Rattle.desk_store.specs.World.{Filed, World, held, is_by}
 use Rattle.desk_store.specs.OwnRows.{is_own, other_level, others_top, rival_level, rivals_top}
 use Rattle.desk_store.specs.Rivals.{AreRivals, HaveLevel}
 use Rattle.desk_store.proofs.lemmas.Rival.{others_top-cons, others_top-nil, held_by_others, rivals_top-cons, rivals_top-nil, held_by_rivals}
-use Rattle.desk_tables.specs.Tables.{id_text, row_of_span, AreSpanRowsFrom, ArePlanSpanRows, AreSpanRows, AreTables}
+use Rattle.row_codec.specs.Tables.{id_text, row_of_span, AreSpanRowsFrom, ArePlanSpanRows, AreSpanRows, AreTables}
 use Rattle.desk_store.specs.Content.{IsId, IsPlan, IsContent}
-use Rattle.desk_tables.specs.declared.span_bounds.SpanBounds.{SpanBounds}
-use Rattle.desk_tables.specs.SpanBounds.{AreWhole, Bounds, HasKnownSpan, IsKnown, IsWithinExtent}
-use Rattle.desk_tables.specs.RivalRows.{HaveTaken, HaveTakenAll, IsHeldIn, HasTakenHelds, is_asked, is_asked_if, reach_of}
-use Rattle.desk_tables.specs.RivalRows.{AreWanted}
-use Rattle.desk_tables.proofs.SpanBoundLemmas.{asked_rival, tables_known}
-use Rattle.desk_tables.proofs.RowLemmas.{after_key}
-use Rattle.desk_tables.proofs.FilterLemmas.{ArePlans, own_row, turned}
+use Rattle.row_codec.specs.declared.span_bounds.SpanBounds.{SpanBounds}
+use Rattle.row_codec.specs.SpanBounds.{AreWhole, Bounds, HasKnownSpan, IsKnown, IsWithinExtent}
+use Rattle.row_codec.specs.RivalRows.{HaveTaken, HaveTakenAll, IsHeldIn, HasTakenHelds, is_asked, is_asked_if, reach_of}
+use Rattle.row_codec.specs.RivalRows.{AreWanted}
+use Rattle.row_codec.proofs.lemmas.SpanBound.{asked_rival, tables_known}
+use Rattle.row_codec.proofs.lemmas.Order.{after_key}
+use Rattle.row_codec.proofs.lemmas.Order.{ArePlans, turned}
+use Rattle.desk_tables.proofs.FilterLemmas.{own_row}
 
 -- ---- the greatest of some elements
 
@@ -213,14 +214,6 @@ taken_top (r ∷ rows) (g ∷ helds) x h =
     ∙ (λ i. greater (level_where (sym (row_holds_slab r g x h.0) i) (sym (ap nat_of h.0.priority) i))
     (taken_top rows helds x h.1 i))
     ∙ sym (top_by-cons (λ k. row_has k x) row_priority r rows)
-
-pub one_taken : (helds : List Held) (rows : List Row) (held : Held) (row : Row)
-    → HasTakenHelds helds rows
-    → IsHeldIn row held → HasTakenHelds (helds ++ held ∷ []) (rows ++ row ∷ [])
-one_taken [] [] held row h is = (is, tt)
-one_taken [] (r ∷ rows) held row h is = absurd h
-one_taken (g ∷ helds) [] held row h is = absurd h
-one_taken (g ∷ helds) (r ∷ rows) held row h is = (h.0, one_taken helds rows held row h.1 is)
 
 -- ---- SQL's tests of numbers
 

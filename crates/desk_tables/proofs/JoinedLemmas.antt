@@ -19,13 +19,15 @@ use Rattle.desk_sql.specs.Rows.{Tables, Lists, by_cells, joined, has_volume, wit
 use Rattle.desk_store.specs.World.{Filed, World, text_cmp, filed_cmp, is_by}
 use Rattle.desk_store.proofs.lemmas.Order.{all_filter, all_append, all_kept, by_ids, name_of}
 use Rattle.desk_store.specs.OwnRows.{is_own}
-use Rattle.desk_tables.specs.Tables.{id_text, row_of_plan, plan_rows, row_of_volume, area_rows, volume_rows, AreTables}
+use Rattle.row_codec.specs.Tables.{id_text, row_of_plan, plan_rows, row_of_volume, area_rows, volume_rows, AreTables}
 use Rattle.desk_store.specs.Content.{IsPlan, IsContent}
-use Rattle.desk_tables.specs.RowsRead.{joined_from, joined_rows, listing_rows}
+use Rattle.row_codec.specs.RowsRead.{joined_from, joined_rows, listing_rows}
 use Rattle.desk_tables.specs.Lookups.{one_or_none}
-use Rattle.desk_tables.proofs.IdLemmas.{text_order}
-use Rattle.desk_tables.proofs.FilterLemmas.{ArePlans, turned, own_row, volumes_filtered}
-use Rattle.desk_tables.proofs.ListingLemmas.{in_order, places_less, one_own, filed_total, own_at}
+use Rattle.row_codec.proofs.lemmas.Id.{text_order}
+use Rattle.row_codec.proofs.lemmas.Order.{ArePlans, turned}
+use Rattle.desk_tables.proofs.FilterLemmas.{own_row, volumes_filtered}
+use Rattle.row_codec.proofs.lemmas.Order.{in_order, places_less, filed_total, own_at}
+use Rattle.desk_tables.proofs.ListingLemmas.{one_own}
 
 heads_filtered : (wanted : Filed → Bool) (want : Row → Bool)
     → ((q : Filed) → IsPlan q.row → want (row_of_plan q) ≡ wanted q) → (ps : List Filed) → ArePlans ps

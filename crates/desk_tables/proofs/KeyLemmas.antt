@@ -24,14 +24,15 @@ use Rattle.desk_store.specs.Rivals.{HaveLevel}
 use Rattle.desk_store.proofs.lemmas.Order.{all_append}
 use Rattle.live_index.specs.declared.near.PlanKey.{PlanKey}
 use Rattle.live_index.specs.Near.{is_listed, listed_level, listed_top}
-use Rattle.desk_tables.specs.RivalRows.{HasTakenHelds, HaveTaken, HaveTakenAll, is_asked_of_plan, reach_of}
+use Rattle.row_codec.specs.RivalRows.{HasTakenHelds, HaveTaken, HaveTakenAll, is_asked_of_plan, reach_of}
 use Rattle.desk_tables.specs.ReadsMade.{spans_shown}
-use Rattle.desk_tables.specs.Store.{HeldWorld, Stands}
-use Rattle.desk_tables.specs.Tables.{AreTables, id_text}
+use Rattle.table_load.specs.Standing.{Stands}
+use Rattle.desk_tables.specs.Store.{HeldWorld}
+use Rattle.row_codec.specs.Tables.{AreTables, id_text}
 use Rattle.desk_tables.proofs.AskingLemmas.{IsAsking, asking_begins, asking_on}
 use Rattle.desk_tables.proofs.FilterLemmas.{own_row}
 use Rattle.desk_tables.proofs.HeldLemmas.{is_in, on_plans, row_has, row_priority, taken_top, top_asked, top_permuted}
-use Rattle.desk_tables.proofs.StoreLemmas.{no_row}
+use Rattle.table_load.proofs.lemmas.Store.{no_row}
 
 abbrev pub AreIds : List PlanKey → Type 0
 AreIds keys = AllByRecursion (λ k. IsId k.id) keys

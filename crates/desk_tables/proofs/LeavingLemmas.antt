@@ -10,7 +10,7 @@ use Rattle.sqlite_catalog.proofs.ReadLemmas.{lists_once}
 use Rattle.sqlite.specs.Tree.{Trees}
 use Rattle.sqlite.specs.Effect.{Database, IsDatabase}
 use Rattle.sqlite.specs.State.{HasCleanDisk}
-use Rattle.desk_tables.specs.declared.opening.path.NotOpened.{NotOpened}
+use Rattle.table_load.specs.declared.path.NotOpened.{NotOpened}
 use Rattle.sqlite.specs.Held.{Held, state}
 use Rattle.sqlite.specs.Files.{over_files, file_state}
 use Rattle.sqlite.proofs.Theorems.{next_run}
@@ -21,23 +21,23 @@ use Rattle.desk_sql.specs.Rows.{IsDesk, IsMadeTo, Tables, tables_of, tables_at, 
 use Rattle.desk_store.specs.World.{World}
 use Rattle.desk_store.specs.Crashes.{LeavesOnly, LeavesOldOr}
 use Rattle.desk_store.specs.contracts.list.ListStore as list
-use Rattle.desk_tables.specs.declared.opening.open.OpenFault.{OpenFault}
-use Rattle.desk_tables.specs.declared.opening.open.OpenFault.TheVariants.{OutOfMemory, Store, NotADesk, OldSchema}
-use Rattle.desk_tables.specs.Tables.{AreTables}
+use Rattle.table_load.specs.declared.fault.OpenFault.{OpenFault}
+use Rattle.table_load.specs.declared.fault.OpenFault.TheVariants.{OutOfMemory, Store, NotADesk, OldSchema}
+use Rattle.row_codec.specs.Tables.{AreTables}
 use Rattle.desk_store.specs.Content.{IsContent}
-use Rattle.desk_tables.specs.Store.{IsStanding, Stands}
-use Rattle.desk_tables.specs.Files.{AreRefused, IsUnread}
-use Rattle.desk_tables.specs.Opening.{IsPart, AreNoContent}
-use Rattle.desk_tables.specs.Leaving.{HasWorld, ReadsAs, MayLeave, MayHave, IsNotTakenAsIs, IsFoundAfter, BeginsAfter, IsImageLeft, IsLegible, IsRefusedAfter, IsRefusedAtRest}
+use Rattle.table_load.specs.Standing.{IsStanding, Stands}
+use Rattle.table_load.specs.Files.{AreRefused, IsUnread}
+use Rattle.table_load.specs.Opening.{IsPart, AreNoContent}
+use Rattle.table_load.specs.Leaving.{HasWorld, ReadsAs, MayLeave, MayHave, IsNotTakenAsIs, IsFoundAfter, BeginsAfter, IsImageLeft, IsLegible, IsRefusedAfter, IsRefusedAtRest}
 use Rattle.sqlite_disk.specs.declared.Files.{Files}
 use Rattle.sqlite_wal.specs.Files.{outcomes}
 use Rattle.sqlite_wal.proofs.LogLemmas.{SeenMayStay}
 use Rattle.sqlite_store.specs.Laws.{stays_at}
 use Rattle.sqlite.specs.Closing.{IsCopied}
-use Rattle.desk_tables.specs.Files.{FindsFirst}
-use Rattle.desk_tables.specs.Copying.{HoldsContent}
-use Rattle.desk_tables.specs.CutShort.{IsCutShort, IsMovedOn}
-use Rattle.desk_tables.proofs.OpeningLemmas.{desk_made, made_desk, old_rows_none}
+use Rattle.table_load.specs.Files.{FindsFirst}
+use Rattle.table_load.specs.HeldContent.{HoldsContent}
+use Rattle.table_load.specs.CutShort.{IsCutShort, IsMovedOn}
+use Rattle.table_load.proofs.lemmas.Opening.{desk_made, made_desk, old_rows_none}
 
 -- the law `one_content`
 abbrev pub HaveOneContent : Type 0

@@ -6,9 +6,9 @@ use Rattle.sqlite_trees.specs.View.{doubt}
 use Rattle.sqlite.specs.Held.{Held, state}
 use Rattle.desk_sql.specs.Effects.{ShowsAsBefore, StaysShown}
 use Rattle.desk_store.specs.World.{World}
-use Rattle.desk_tables.specs.declared.opening.open.OpenFault.{OpenFault}
-use Rattle.desk_tables.specs.Moving.{BeginsMoved, KeepsRows, ShowsNoContent}
-use Rattle.desk_tables.specs.Opening.{BeginsWith, BlamesDatabase, BlamesDisk, ShowsNoDesk, ShowsOldRows}
+use Rattle.table_load.specs.declared.fault.OpenFault.{OpenFault}
+use Rattle.table_load.specs.Moving.{BeginsMoved, KeepsRows, ShowsNoContent}
+use Rattle.table_load.specs.Opening.{BeginsWith, BlamesDatabase, BlamesDisk, ShowsNoDesk, ShowsOldRows}
 
 -- without a limit on steps it is none that refuses
 pub disk_blamed : {S : Type 0} (g : Ghosts S) (a c : Held S) (e : OpenFault) → a.step_limit ≡ None

@@ -1,53 +1,27 @@
 -- The rows that queries answer, of the plans of a world.
-use Rattle.std.proofs.Common.{◌≡◌, ℕ, pos, ◌+◌, ◌<◌, Bool, true, false, ◌&&◌, cond, List, [], ◌∷◌, map, Option, Some, None, refl, sym, ap, subst, ◌∙◌, arith, Less, Equal, Greater, IsPermutation}
+use Rattle.std.proofs.Common.{◌≡◌, ℕ, ◌+◌, ◌<◌, Bool, true, false, ◌&&◌, cond, List, [], ◌∷◌, map, Option, Some, None, refl, sym, ap, subst, ◌∙◌, arith, Less, Equal, IsPermutation}
 use Rattle.std.specs.Prelude.{slice_get}
 use Rattle.std.specs.List.{AllByRecursion, AllZip, filter, find}
 use Rattle.std.specs.List.Sorted.{IsStrictlySortedBy}
 use Rattle.std.specs.Option.{option_map}
-use Rattle.std.specs.declared.cmp.Ordering.{Ordering}
-use Rattle.std.specs.Ordering.{ordering_then, is_eq, int_cmp}
-use Rattle.std.specs.Cmp.{IsTotalOrder}
-use Rattle.std.specs.Cmp.Lexicographic.{nat_list_cmp_total}
-use Rattle.std.proofs.lemmas.Cmp.{on_total, then_total, nat_cmp_total}
-use Rattle.std.proofs.lemmas.Bool.Decides.{nat_tests}
+use Rattle.std.specs.Ordering.{ordering_then, is_eq}
 use Rattle.std.proofs.lemmas.List.{append-nil}
-use Rattle.std.proofs.lemmas.List.Sorted.{IsPermutation-trans}
-use Rattle.sqlite_value.specs.declared.value.Value.TheVariants.{Int}
-use Rattle.sqlite_value.specs.Order.{Row, column, value_cmp}
-use Rattle.sqlite_value.proofs.OrderLemmas.{value_cmp_total, value_cmp-Int}
+use Rattle.sqlite_value.specs.Order.{Row}
 use Rattle.sqlite_trees.specs.Tree.{IsAscending}
 use Rattle.sqlite_keyed.proofs.ListLemmas.{IsPermutation-filter, filter_none}
-use Rattle.sqlite_keyed.proofs.SortLemmas.{sorted_unique}
 use Rattle.volume4d.specs.Volume.{Block}
 use Rattle.desk_rules.specs.declared.plan.PlanRow.{PlanRow}
 use Rattle.desk_sql.specs.Rows.{Tables, Lists, by_cells, is_of}
 use Rattle.desk_store.specs.World.{Filed, World, text_cmp, filed_cmp, is_by, has_id, rows_by, plans_of, stored_of}
 use Rattle.desk_store.proofs.lemmas.Order.{is_equal, all_weaker}
 use Rattle.desk_store.specs.OwnRows.{is_own}
-use Rattle.desk_tables.specs.Tables.{id_text, row_of_plan, plan_rows, row_of_volume, volume_rows_from, area_rows, volume_rows, AreTables}
+use Rattle.row_codec.specs.Tables.{id_text, row_of_plan, plan_rows, row_of_volume, volume_rows_from, area_rows, volume_rows, AreTables}
 use Rattle.desk_store.specs.Content.{IsId, IsBlock, IsContent}
-use Rattle.desk_tables.specs.RowsRead.{IsVolumeAt, IsHead}
+use Rattle.row_codec.specs.RowsRead.{IsVolumeAt, IsHead}
 use Rattle.desk_tables.specs.Lookups.{one_or_none, own_of}
-use Rattle.desk_tables.proofs.FilterLemmas.{ArePlans, own_row, plans_filtered, volumes_filtered}
-
-by_cells_total : (cells : List ℕ) → IsTotalOrder (by_cells cells)
-by_cells_total [] = on_total (λ (r : Row). 0) nat_cmp_total
-by_cells_total (at ∷ more) = then_total (on_total (λ (r : Row). column r at) value_cmp_total)
-    (by_cells_total more)
-
--- rows that ascend by the cells are those of the answer, in its order
-pub in_order : (cells : List ℕ) (xs wanted rows : List Row)
-    → IsAscending (λ a b. by_cells cells a b ≡ Less) xs → IsPermutation xs wanted
-    → Lists cells wanted rows
-    → rows ≡ xs
-in_order cells xs wanted rows up same lists = sorted_unique (by_cells cells) (by_cells_total cells) xs
-    rows up
-    (IsPermutation-trans xs wanted rows same lists.same) lists.sorted
-
-pub places_less : (n m : ℕ) → n < m → value_cmp (Int (pos n)) (Int (pos m)) ≡ Less
-places_less n m h = value_cmp-Int (pos n) (pos m) ∙ ints where
-  ints : int_cmp (pos n) (pos m) ≡ Less
-  ints = grind (arith, nat_tests, h)
+use Rattle.row_codec.proofs.lemmas.Order.{ArePlans}
+use Rattle.desk_tables.proofs.FilterLemmas.{own_row, plans_filtered, volumes_filtered}
+use Rattle.row_codec.proofs.OrderLemmas.{filed_total, in_order, own_at, places_less}
 
 area_after : (p : Filed) (n m : ℕ) (v : Block) (us : List Block) → n < m
     → AllByRecursion (λ r. by_cells (2 ∷ []) (row_of_volume p n v) r ≡ Less) (volume_rows_from p m us)
@@ -64,15 +38,6 @@ area_ascends p n [] = tt
 area_ascends p n (v ∷ vs) = (area_after p n (n + 1) v vs (omega arith), area_ascends p (n + 1) vs)
 
 -- ---- the plan of an operator and an id
-
-pub filed_total : IsTotalOrder filed_cmp
-filed_total = then_total (on_total (λ (p : Filed). p.operator) nat_list_cmp_total)
-    (on_total (λ (p : Filed). p.row.id) nat_list_cmp_total)
-
-pub own_at : (n m : Ordering) → is_eq (ordering_then n m) ≡ (is_eq n && is_eq m)
-own_at Less m = refl
-own_at Equal m = refl
-own_at Greater m = refl
 
 pub one_own : (o id : List ℕ) (ps : List Filed) → IsStrictlySortedBy filed_cmp ps
     → filter (is_own o id) ps

@@ -15,9 +15,10 @@ use Rattle.desk_rules.specs.Conflict.{at_least}
 use Rattle.desk_store.specs.World.{World, held}
 use Rattle.desk_store.specs.Rivals.{AddsLevel, AreHeldByOthers, HaveLevel}
 use Rattle.live_index.specs.Regions.{HoldNothingBeside}
-use Rattle.desk_tables.specs.Store.{HeldWorld, Stands}
+use Rattle.table_load.specs.Standing.{Stands}
+use Rattle.desk_tables.specs.Store.{HeldWorld}
 use Rattle.desk_tables.proofs.HeldLemmas.{any_level}
-use Rattle.desk_tables.proofs.FrameLemmas.{reads_itself, reads_then}
+use Rattle.table_load.proofs.lemmas.Frame.{reads_itself, reads_then}
 
 -- what slabs hold at each point of some regions, and nothing elsewhere
 abbrev pub HoldTheirs : World → List ℕ → List Slab → List One → Type 0

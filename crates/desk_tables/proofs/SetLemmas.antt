@@ -12,10 +12,10 @@ use Rattle.desk_sql.specs.Rows as sql
 use Rattle.desk_sql.specs.Rows.{Tables, with_row, PutsOperator, ClosesPlan}
 use Rattle.desk_store.specs.World.{Listed, World, text_cmp, listed_cmp}
 use Rattle.desk_store.proofs.lemmas.Order.{is_equal, all_weaker}
-use Rattle.desk_tables.specs.Tables.{row_of_operator, operator_rows, AreTables}
+use Rattle.row_codec.specs.Tables.{row_of_operator, operator_rows, AreTables}
 use Rattle.desk_store.specs.Content.{IsContent}
 use Rattle.desk_tables.specs.TableChanges.{EnrolsRows}
-use Rattle.desk_tables.proofs.FilterLemmas.{turned}
+use Rattle.row_codec.proofs.lemmas.Order.{turned}
 use Rattle.desk_tables.proofs.ChangeLemmas.{named_otherwise, front, operators_filtered}
 
 abbrev named : List ℕ → Listed → Bool

@@ -14,10 +14,10 @@ use Rattle.desk_sql.specs.Rows.{Tables, held_columns}
 use Rattle.desk_store.specs.World.{Filed, World}
 use Rattle.desk_store.proofs.lemmas.Order.{all_append, all_filter}
 use Rattle.desk_store.specs.Content.{IsBlock, IsContent}
-use Rattle.desk_tables.specs.RivalRows.{FitsColumns, IsHeldIn, IsNoHeld}
-use Rattle.desk_tables.specs.Tables.{row_of_span, AreSpanRowsFrom, ArePlanSpanRows, AreSpanRows, AreTables}
-use Rattle.desk_tables.proofs.FilterLemmas.{ArePlans}
-use Rattle.desk_tables.proofs.UnreadLemmas.{window_fits}
+use Rattle.row_codec.specs.RivalRows.{FitsColumns, IsHeldIn, IsNoHeld}
+use Rattle.row_codec.specs.Tables.{row_of_span, AreSpanRowsFrom, ArePlanSpanRows, AreSpanRows, AreTables}
+use Rattle.row_codec.proofs.lemmas.Order.{ArePlans}
+use Rattle.row_codec.proofs.lemmas.Unread.{window_fits}
 
 abbrev IsHeldRow : Row → Type 0
 IsHeldRow row = (held : Held) × FitsColumns held × IsHeldIn row held

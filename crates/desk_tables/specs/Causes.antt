@@ -7,7 +7,7 @@ use Rattle.sqlite.specs.Held.{Held, state}
 use Rattle.sqlite.specs.Effect.{Database}
 use Rattle.desk_sql.specs.Rows.{tables_of}
 use Rattle.desk_sql.specs.Changing.{AreLow, HasRowids}
-use Rattle.desk_sql.specs.Putting.{HasRoomFor}
+use Rattle.desk_changes.specs.Putting.{HasRoomFor}
 use Rattle.desk_sql.specs.Refusals.{HasDiskFailed}
 use Rattle.desk_store.specs.Changes.{filed_by}
 use Rattle.desk_store.specs.World.{Filed}
@@ -15,7 +15,7 @@ use Rattle.desk_store.specs.declared.change.Change.{Change}
 use Rattle.desk_store.specs.declared.change.Change.TheVariants.{Enrol, Put, Close, Clear}
 use Rattle.desk_store.specs.declared.fault.StoreFault.{StoreFault}
 use Rattle.desk_store.specs.declared.fault.StoreFault.TheVariants.{Store}
-use Rattle.desk_tables.specs.Tables.{ArePlanSpanRows}
+use Rattle.row_codec.specs.Tables.{ArePlanSpanRows}
 
 -- `span2` has 2 ^ 64 - 1 rows and more
 abbrev pub HasTooManySpans : Database → Type 0

@@ -14,7 +14,7 @@ use Rattle.desk_store.specs.declared.change.Change.{Change}
 use Rattle.desk_store.specs.declared.fault.StoreFault.{StoreFault}
 use Rattle.desk_store.specs.declared.fault.StoreFault.TheVariants.{Store}
 use Rattle.desk_tables.specs.Store.{HeldWorld}
-use Rattle.desk_tables.specs.Leaving.{MayHave}
+use Rattle.table_load.specs.Leaving.{MayHave}
 
 -- a change that fits the world, if the disk is clean, makes this of it
 pub record IsNext {S : Type 0} (g : Ghosts S) (old : HeldWorld S) (next : World) (change : Change) : Type 0

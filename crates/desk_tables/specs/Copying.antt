@@ -1,5 +1,5 @@
--- Copying: what a database holds, read in either schema, and a new one that gets its content.
-use Rattle.std.specs.Prelude.{◌≡◌, ◌≢◌, ◌≤◌, ◌⊎◌, ℕ, Bool, true, false, List, ◌++◌, length, map, filter, IsTrue, IsPermutation, Result, Ok, Err}
+-- Copying: a new database that gets the content of another, which is read in either schema.
+use Rattle.std.specs.Prelude.{◌≡◌, ◌≢◌, ◌≤◌, ◌⊎◌, Bool, true, List, ◌++◌, map, IsTrue, IsPermutation, Result, Ok, Err}
 use Rattle.sqlite_disk.specs.declared.Disk as disk
 use Rattle.sqlite_wal.specs.Recovery.{Image}
 use Rattle.sqlite_trees.specs.declared.store.Store.{Ghosts}
@@ -18,66 +18,17 @@ use Rattle.desk_sql.specs.declared.opening.finding.TablesPresent.{TablesPresent}
 use Rattle.desk_sql.specs.Finding.{HasOthers}
 use Rattle.desk_sql.specs.Refusals.{HasDiskFailed, IsMisnumbered}
 use Rattle.desk_sql.specs.declared.opening.finding.TablesPresent.TheVariants.{Nothing}
-use Rattle.desk_sql.specs.Rows.{IsMadeTo, Tables, tables_at, has_old_rows}
-use Rattle.desk_rules.specs.Plan.{is_live}
+use Rattle.desk_sql.specs.Rows.{IsMadeTo, Tables}
 use Rattle.desk_store.specs.World.{Filed, Listed, World}
-use Rattle.desk_tables.specs.Tables.{row_of_operator, operator_rows, plan_rows, volume_rows, cover_rows, AreSpanRows}
-use Rattle.desk_tables.specs.Counting.{HaveSpanRows, IsMostCells, IsMostSpans}
-use Rattle.desk_tables.specs.Opening.{IsContentOf, HasNoContent, AreNoContent, BlamesDisk}
-use Rattle.desk_tables.specs.Moving.{IsOldContentOf, HasNoOldContent, AreNoOldContent}
-use Rattle.desk_tables.specs.Files.{FindsFirst, IsOfUnreached, IsUnread}
+use Rattle.row_codec.specs.Tables.{row_of_operator, operator_rows, plan_rows, volume_rows, cover_rows, AreSpanRows}
+use Rattle.table_load.specs.Opening.{BlamesDisk}
+use Rattle.table_load.specs.Files.{FindsFirst, IsOfUnreached, IsUnread}
 use Rattle.desk_tables.specs.declared.opening.files.CopyFault.{CopyFault}
 use Rattle.desk_tables.specs.declared.opening.files.CopyFault.TheVariants as copy
-use Rattle.desk_tables.specs.declared.opening.path.NotOpened.{NotOpened}
-use Rattle.desk_tables.specs.declared.opening.looking.DbStats.{DbStats}
-use Rattle.desk_tables.specs.declared.opening.open.OpenFault.{OpenFault}
-use Rattle.desk_tables.specs.declared.opening.open.OpenFault.TheVariants.{NotADesk, OldSchema, Store}
-
--- ---- what a database holds
-
--- the rows of this content, in schema 1 or in schema 2
-abbrev pub IsContentIn : Bool → Tables → World → Type 0
-IsContentIn true tables w = IsOldContentOf tables w
-IsContentIn false tables w = IsContentOf tables w
-
-abbrev pub AreNoContentIn : Bool → Tables → Type 0
-AreNoContentIn true tables = AreNoOldContent tables
-AreNoContentIn false tables = AreNoContent tables
-
--- a desk's tables, so far as they are made, with the rows of this content: in schema 1 if that has rows, else
--- in schema 2
-pub record HoldsContent (old : Bool) (w : World) (db : Database) : Type 0 where
-  pub made : TablesPresent
-  pub desk : IsMadeTo made db
-  pub schema : has_old_rows (tables_at made db.trees) ≡ old
-  pub rows : IsContentIn old (tables_at made db.trees) w
-
--- no table at all, other tables than a desk's, or rows of no content in either schema
-abbrev pub HoldsNone : Database → Type 0
-HoldsNone db = (db.schema ≡ blank_schema) ⊎ (HasOthers db ⊎ (HasNoContent db ⊎ HasNoOldContent db))
-
--- how many plans are not closed
-abbrev pub live_count : List Filed → ℕ
-live_count ps = length (filter (λ p. is_live p.row.usage) ps)
-
--- what a content holds: operators, plans, those not closed, rows of spans, those of the operator that has
--- most, and the cells of the operator that has most of those
-pub record AreHoldingsOf (h : DbStats) (w : World) : Type 0 where
-  pub operators : h.operators ≡ length w.operators
-  pub plans : h.plans ≡ length w.plans
-  pub live : h.live ≡ live_count w.plans
-  pub spans : HaveSpanRows w.plans h.spans
-  pub most_spans : IsMostSpans w.plans h.most_spans
-  pub most_cells : IsMostCells w.plans h.most_cells
-
-module _ {S : Type 0} (g : Ghosts S) (old new : Held S) where
-  -- what is shown is no content
-  abbrev pub ShowsNone : Type 0
-  ShowsNone = HasCleanDisk (state g new) → IsTrue (state g new).is_open → HoldsNone (state g old).now
-
-  -- over a clean disk, what was shown has the rows of this content
-  abbrev pub ShowsContent : Bool → World → Type 0
-  ShowsContent schema w = HasCleanDisk (state g new) → HoldsContent schema w (state g old).now
+use Rattle.table_load.specs.declared.path.NotOpened.{NotOpened}
+use Rattle.table_load.specs.declared.fault.OpenFault.{OpenFault}
+use Rattle.table_load.specs.declared.fault.OpenFault.TheVariants.{NotADesk, OldSchema, Store}
+use Rattle.table_load.specs.HeldContent.{ShowsContent, ShowsNone}
 
 -- a table of a desk's, or another
 abbrev pub HasTables : Database → Type 0

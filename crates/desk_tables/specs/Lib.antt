@@ -1,32 +1,9 @@
--- Read first: Tables, Opening, and Content of desk_store.
-pub mod Tables
-pub mod PlanRows
+-- Read first: Store, Causes; Tables of row_codec and Opening of table_load.
 pub mod TableChanges
-pub mod RowsRead
-pub mod Gathering
 pub mod Lookups
-pub mod RivalRows
 pub mod Store
-pub mod SpanBounds
-pub mod SpanChecks
-pub mod SpansHeld
-pub mod Known
-pub mod Records
-pub mod Covers
-pub mod Opening
-pub mod OpenWords
-pub mod Moving
-pub mod Writable
-pub mod Counting
 pub mod Copying
 pub mod Causes
-pub mod Leftovers
-pub mod Files
-pub mod Naming
-pub mod Leaving
-pub mod CutShort
-pub mod OpeningSteps
 pub mod ReadsMade
 pub mod ChangesMade
-pub mod LyingDisk
 pub mod Closing

@@ -1,25 +1,14 @@
 -- What a reader of a store's tables comes to.
-use Rattle.std.specs.Prelude.{◌≡◌, ◌≢◌, List, Ok, Result, IfErr, IfOk, MatchResult}
-use Rattle.std.specs.Result.{IsErrAnd}
+use Rattle.std.specs.Prelude.{◌≡◌, List, Result, IfErr, IfOk}
 use Rattle.sqlite_trees.specs.declared.store.Store.{Ghosts}
 use Rattle.sqlite_value.specs.Order.{Row}
-use Rattle.sqlite.specs.declared.error.Error.{Error}
-use Rattle.sqlite.specs.declared.error.Error.TheVariants.{SqliteFailure}
-use Rattle.sqlite.specs.declared.error.ErrorCode.TheVariants as code
 use Rattle.sqlite.specs.State.{HasCleanDisk}
 use Rattle.sqlite.specs.Held.{state}
 use Rattle.desk_sql.specs.Frames.{OnlyReads}
 use Rattle.desk_sql.specs.Rows.{tables_of}
 use Rattle.desk_store.specs.declared.fault.StoreFault.{StoreFault}
-use Rattle.desk_store.specs.declared.fault.StoreFault.TheVariants.{Store}
 use Rattle.desk_tables.specs.Causes.{BlamesSpans, BlamesStore}
 use Rattle.desk_tables.specs.Store.{HeldWorld}
-
--- what SQLite answered, or its error as a fault: a growth that was refused is reported as that
-abbrev pub IsReportedAs : {V : Type 0} → Result V Error → Result V StoreFault → Type 0
-IsReportedAs answer result =
-    MatchResult answer (λ v. result ≡ Ok v)
-    (λ error. IsErrAnd result (λ fault. fault ≡ Store → error ≢ SqliteFailure code.OutOfMemory))
 
 module _ {S V : Type 0} (g : Ghosts S) (old new : HeldWorld S) (result : Result V StoreFault) where
   -- what it answers over a clean disk, and why it fails; the world stays, and the connection is only read

@@ -11,7 +11,7 @@ use Rattle.desk_store.specs.World.{Filed}
 use Rattle.desk_store.specs.Changes.{filed_by}
 use Rattle.desk_store.specs.declared.change.Change.{Change}
 use Rattle.desk_store.specs.declared.change.Change.TheVariants.{Enrol, Put, Close, Clear}
-use Rattle.desk_tables.specs.Tables.{id_text, usage_number, row_of_plan, area_rows, area_covers, ArePlanSpanRows, HasNoOldRows}
+use Rattle.row_codec.specs.Tables.{id_text, usage_number, row_of_plan, area_rows, area_covers, ArePlanSpanRows, HasNoOldRows}
 use Rattle.desk_store.specs.Content.{IsId, IsPlan}
 
 -- a row of none of an operator's plans of these ids

@@ -1,4 +1,3 @@
 //! Changing: what a change makes of the rows.
 
 pub(crate) mod changes;
-pub(crate) mod records;

@@ -10,24 +10,24 @@ ghost use Rattle.sqlite.specs.Files.{over_files, AreFoundIn, HoldsDatabase, IsNo
 ghost use Rattle.sqlite.specs.Tree.{Trees};
 ghost use Rattle.sqlite.specs.declared.file.Leftover.{Leftover};
 ghost use Rattle.desk_sql.specs.Rows.{Tables, PutsOperator, ClosesPlan};
-ghost use Rattle.desk_sql.specs.Batches.{PutsPlan, RemovesPlans};
+ghost use Rattle.desk_changes.specs.Batches.{PutsPlan, RemovesPlans};
 ghost use Rattle.desk_store.specs.World.{Filed, World, text_cmp};
 ghost use Rattle.desk_store.specs.StoreChange.{changed_by, IsFitting};
 ghost use Rattle.desk_store.specs.declared.change.Change.{Change};
 ghost use Rattle.desk_store.specs.Crashes.{LeavesOnly, LeavesOldOr};
-ghost use Rattle.desk_tables.specs.Tables.{id_text, aircraft_number, ArePlanSpanRows, AreTables};
-ghost use Rattle.desk_tables.specs.PlanRows.{filed_put};
+ghost use Rattle.row_codec.specs.Tables.{id_text, aircraft_number, ArePlanSpanRows, AreTables};
+ghost use Rattle.row_codec.specs.PlanRows.{filed_put};
 ghost use Rattle.desk_store.specs.Content.{IsId, IsPlan, IsContent};
 ghost use Rattle.desk_tables.specs.Lookups.{own_of};
 ghost use Rattle.desk_tables.specs.TableChanges.{ChangesRows, EnrolsRows, PutsRows};
 ghost use Rattle.desk_tables.specs.TableChanges.{ClosesRows, ClearsRows, IsWithinLimits};
-ghost use Rattle.desk_tables.specs.Store.{IsStanding};
+ghost use Rattle.table_load.specs.Standing.{IsStanding};
 ghost use Rattle.sqlite_disk.specs.Modelled.{calls_of, start_of};
 ghost use Rattle.desk_tables.specs.Copying.{IsMadeIn, IsUnreadIn, LooksIn};
-ghost use Rattle.desk_tables.specs.CutShort.{HasContent, IsCompletedAs, IsCutShort, IsMovedOn};
-ghost use Rattle.desk_tables.specs.CutShort.{ShowContent};
-ghost use Rattle.desk_tables.specs.Moving.{BeginsMoved};
-ghost use Rattle.desk_tables.specs.LyingDisk.{HasStoreCollided, IsGuarded};
+ghost use Rattle.table_load.specs.CutShort.{HasContent, IsCompletedAs, IsCutShort, IsMovedOn};
+ghost use Rattle.table_load.specs.CutShort.{ShowContent};
+ghost use Rattle.table_load.specs.Moving.{BeginsMoved};
+ghost use Rattle.table_load.specs.LyingDisk.{HasStoreCollided, IsGuarded};
 ghost use Rattle.std.specs.Prelude.{IfOk};
 ghost use Rattle.sqlite_wal.specs.Recovery.{Image};
 ghost use Rattle.sqlite_wal.specs.Files.{outcomes};
@@ -35,12 +35,12 @@ ghost use Rattle.sqlite_disk.specs.declared.Files.{Files};
 ghost use Rattle.sqlite.specs.Closing.{IsCopied};
 ghost use Rattle.desk_tables.specs.Closing.{IsLeftUnclosed};
 ghost use Rattle.desk_tables.specs.declared.closing.CheckpointError.{CheckpointError};
-ghost use Rattle.desk_tables.specs.Files.{AreRefused, FindsFirst, IsSummed, IsUnread, OpensIn};
-ghost use Rattle.desk_tables.specs.Files.{OpensMoved};
-ghost use Rattle.desk_tables.specs.declared.opening.open.OpenFault.{OpenFault};
-ghost use Rattle.desk_tables.specs.Leaving.{MayLeave, IsFoundAfter, BeginsAfter, IsImageLeft, IsLegible};
-ghost use Rattle.desk_tables.specs.Leaving.{IsRefusedAtRest};
-ghost use Rattle.desk_tables.specs.Leftovers.{RemainsOf};
+ghost use Rattle.table_load.specs.Files.{AreRefused, FindsFirst, IsSummed, IsUnread, OpensIn};
+ghost use Rattle.table_load.specs.Files.{OpensMoved};
+ghost use Rattle.table_load.specs.declared.fault.OpenFault.{OpenFault};
+ghost use Rattle.table_load.specs.Leaving.{MayLeave, IsFoundAfter, BeginsAfter, IsImageLeft, IsLegible};
+ghost use Rattle.table_load.specs.Leaving.{IsRefusedAtRest};
+ghost use Rattle.table_load.specs.Leftovers.{RemainsOf};
 
 use crate::opening::files::FilesFault;
 use crate::store::SqliteStore;
@@ -205,7 +205,7 @@ pub fn a_close_leaves_the_content<D: Disk, E: Disk>()
         → IsStanding over_files found other → other ≡ w }
 {}
 
-/// What is reported of files in which a connection left one content is never that they hold no desk, or rows
+/// What is said of files in which a connection left one content is never that they hold no desk, or rows
 /// of schema 1: `refused` is what an opening of them reported, with its connection open and its disk clean,
 /// if it had one.
 pub fn a_desk_is_not_reported_as_none<D: Disk, E: Disk>(refused: &FilesFault<E>)

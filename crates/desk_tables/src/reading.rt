@@ -1,9 +1,6 @@
 //! Reading: rows as values, and what the store answers of them.
 
 pub(crate) mod asking;
-pub(crate) mod listing;
 pub(crate) mod others;
 pub(crate) mod plans;
 pub(crate) mod readers;
-pub(crate) mod rivals;
-pub(crate) mod values;

@@ -5,12 +5,10 @@ ghost use Rattle.sqlite.specs.Held.{state};
 ghost use Rattle.sqlite.specs.State.{HasCleanDisk};
 ghost use Rattle.desk_store.specs.StoreFaults.{HasRisen};
 ghost use Rattle.desk_sql.specs.Effects.{IsOpenIfClean};
-ghost use Rattle.desk_tables.specs.Store.{Stands};
-ghost use Rattle.desk_tables.specs.Known.{Knows};
-ghost use Rattle.desk_tables.specs.Leaving.{IsSettledAt};
+ghost use Rattle.table_load.specs.Standing.{Stands};
+ghost use Rattle.row_codec.specs.Known.{Knows};
+ghost use Rattle.table_load.specs.Leaving.{IsSettledAt};
 
-use crate::kept::GhostState;
-use crate::known::MemoryIndex;
 use crate::laws::one_content;
 use crate::tables::DeskTables;
 use desk_rules::operator::Operator;
@@ -20,6 +18,8 @@ use desk_store::laws::{cells_are_few, spans_are_few};
 use desk_store::{Change, PlanStore, Sizes, StoreFault};
 use live_index::Wanted;
 use operator_index::ListedOperator;
+use row_codec::kept::GhostState;
+use row_codec::known::MemoryIndex;
 use sqlite::Connection;
 use sqlite_trees::store::Alter;
 use std::alloc::{AllocError, Global};
@@ -45,7 +45,7 @@ pub struct SqliteStore<S: Alter> {
 
 impl<S: Alter> Model for SqliteStore<S> {
     ghost use Rattle.desk_tables.specs.Store.{Shown, shown_code};
-    ghost use Rattle.desk_tables.specs.Known.{Knows};
+    ghost use Rattle.row_codec.specs.Known.{Knows};
     ghost use Rattle.desk_store.specs.Content.{IsContent};
     ghost use Rattle.sqlite.specs.Held.{state};
     ghost use Rattle.sqlite.specs.State.{HasCleanDisk};
@@ -127,7 +127,7 @@ impl<S: Alter> SqliteStore<S> {
 impl<S: Alter> PlanStore for SqliteStore<S> {
     ghost use Rattle.sqlite_trees.specs.View.{doubt};
     ghost use Rattle.sqlite.specs.Held.{state};
-    ghost use Rattle.desk_tables.specs.Leaving.{MayLeave};
+    ghost use Rattle.table_load.specs.Leaving.{MayLeave};
 
     ghost content = { λ s. s.world };
 

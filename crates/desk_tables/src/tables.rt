@@ -1,13 +1,13 @@
 //! The tables of a store, over a connection, with the world that they stand for.
 
 ghost use Rattle.std.specs.Prelude.{◌≡◌};
-ghost use Rattle.desk_tables.specs.Store.{Stands};
-ghost use Rattle.desk_tables.specs.Leaving.{IsSettledAt};
+ghost use Rattle.table_load.specs.Standing.{Stands};
+ghost use Rattle.table_load.specs.Leaving.{IsSettledAt};
 
-use crate::kept::GhostState;
 use crate::laws::one_content;
 use desk_sql::laws::committed_and_sound;
 use desk_store::StoreFault;
+use row_codec::kept::GhostState;
 use sqlite::Connection;
 use sqlite_trees::store::Alter;
 use std::alloc::Global;
@@ -26,7 +26,8 @@ pub(crate) struct DeskTables<S: Alter> {
 }
 
 impl<S: Alter> Model for DeskTables<S> {
-    ghost use Rattle.desk_tables.specs.Store.{HeldWorld, held_world_code, Stands};
+    ghost use Rattle.table_load.specs.Standing.{Stands};
+    ghost use Rattle.desk_tables.specs.Store.{HeldWorld, held_world_code};
 
     ghost Value = { HeldWorld S };
 

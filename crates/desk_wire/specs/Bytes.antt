@@ -12,7 +12,7 @@ use Rattle.desk_wire.specs.RefusalTexts.{refusal_status, refusal_text, server_er
 use Rattle.desk_run.specs.Verdicts.{Reported, replied, unknown_operator, no_such_plan, makes_change, reported_to, step}
 use Rattle.desk_run.specs.DeskWorld.{DeskWorld}
 
--- the text of what a caller is reported
+-- the text of what a caller is answered
 unfoldable pub text : Reported → List ℕ
 text (replied reply) = reply_text reply
 text unknown_operator = refusal_text UnknownOperator

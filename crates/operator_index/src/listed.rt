@@ -1,4 +1,4 @@
-//! What a roll reports of an operator.
+//! What a roll says of an operator.
 
 use desk_rules::operator::Operator;
 use std::marker::Model;

@@ -22,6 +22,6 @@ behind path (Some rest) (n, is, what, size) =
     let reported = starts_is Decides-eqb path plans_folder (starts_with nat_eq path plans_folder) refl in
     rw (reported.1 (drop n path) is.1, what, is.0) refl
 
--- what `from_utf8` reports of a text, as the test
+-- what `from_utf8` says of a text, as the test
 pub is_utf8-false : (text : List ℕ) → ¬ (IsUtf8 text) → is_utf8 text ≡ false
 is_utf8-false text none = false_from_ne_true (is_utf8 text) (λ e. none (IsUtf8-from_is_utf8 text e))

@@ -1,4 +1,4 @@
--- What a look at a square reports of the leaves in it.
+-- What a look at a square says of the leaves in it.
 use Rattle.std.proofs.Common.{◌≡◌, ◌≢◌, ℕ, ◌-◌, ◌*◌, ◌/◌, ◌^◌, ◌<◌, ◌≤◌, Bool, true, false, refl, sym, ◌∙◌, ap, subst, arith, inl, inr, ◌⊎◌}
 use Rattle.std.specs.Prelude.{◌↔◌, ◌&&◌, ◌==◌}
 use Rattle.std.specs.Int.{IsInRange}

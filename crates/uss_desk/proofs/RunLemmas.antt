@@ -16,7 +16,7 @@ use Rattle.desk_cli.specs.declared.failure.ErrorCode.{ErrorCode}
 use Rattle.desk_cli.specs.Exits.{Ending}
 use Rattle.desk_cli.specs.declared.line.Database.{Database}
 use Rattle.desk_tables.specs.Closing.{IsLeftUnclosed}
-use Rattle.desk_tables.specs.LyingDisk.{IsGuarded}
+use Rattle.table_load.specs.LyingDisk.{IsGuarded}
 use Rattle.uss_desk.specs.FilesLeft.{IsClosed, IsEnded}
 use Rattle.uss_desk.specs.Guarding.{IsPastOf, IsTrueOrCollided, Past}
 use Rattle.std.specs.Option.{IsSomeAnd}

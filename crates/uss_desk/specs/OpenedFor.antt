@@ -12,12 +12,12 @@ use Rattle.desk_cli.specs.declared.failure.ErrorCode.{ErrorCode}
 use Rattle.desk_cli.specs.declared.failure.ErrorCode.TheVariants as failure
 use Rattle.desk_cli.specs.declared.line.Database.{Database}
 use Rattle.desk_cli.specs.declared.line.Database.TheVariants.{InMemory, File}
-use Rattle.desk_tables.specs.Files.{AreNotMoved, AreRefused, OpensIn, OpensMoved}
-use Rattle.desk_tables.specs.LyingDisk.{IsGuarded}
-use Rattle.desk_tables.specs.Leaving.{MayLeave}
+use Rattle.table_load.specs.Files.{AreNotMoved, AreRefused, OpensIn, OpensMoved}
+use Rattle.table_load.specs.LyingDisk.{IsGuarded}
+use Rattle.table_load.specs.Leaving.{MayLeave}
 use Rattle.desk_tables.specs.Store.{Shown}
-use Rattle.desk_tables.specs.declared.opening.open.OpenFault.{OpenFault}
-use Rattle.desk_tables.specs.declared.opening.open.OpenFault.TheVariants as opening
+use Rattle.table_load.specs.declared.fault.OpenFault.{OpenFault}
+use Rattle.table_load.specs.declared.fault.OpenFault.TheVariants as opening
 use Rattle.desk_admin.specs.Unopened.{FailsOver, IsUnreadFor}
 use Rattle.desk_admin.specs.declared.unopened.OpenError.{OpenError}
 use Rattle.uss_desk.specs.declared.opening.Opened.{Opened}

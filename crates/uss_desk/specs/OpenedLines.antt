@@ -14,8 +14,8 @@ use Rattle.desk_store.specs.StoreFrames.{Remembers}
 use Rattle.desk_store.specs.Crashes.{LeavesOnly}
 use Rattle.desk_run.specs.DeskWorld.{Parts}
 use Rattle.desk_tables.specs.Store.{Shown}
-use Rattle.desk_tables.specs.Leaving.{MayLeave}
-use Rattle.desk_tables.specs.LyingDisk.{IsGuarded}
+use Rattle.table_load.specs.Leaving.{MayLeave}
+use Rattle.table_load.specs.LyingDisk.{IsGuarded}
 use Rattle.desk_wire.specs.Passage.{Course}
 use Rattle.desk_cli.specs.declared.failure.ErrorCode.{ErrorCode}
 use Rattle.desk_cli.specs.declared.line.Line.{Line}

@@ -9,7 +9,7 @@ use Rattle.sqlite.specs.Held.{state}
 use Rattle.desk_store.specs.World.{World}
 use Rattle.desk_store.specs.Crashes.{LeavesOnly}
 use Rattle.desk_run.specs.DeskWorld.{Parts}
-use Rattle.desk_tables.specs.Leaving.{MayLeave}
+use Rattle.table_load.specs.Leaving.{MayLeave}
 use Rattle.desk_tables.specs.Store.{Shown}
 use Rattle.desk_cli.specs.declared.failure.ErrorCode.{ErrorCode}
 use Rattle.desk_cli.specs.declared.line.PlayArgs.{PlayArgs}

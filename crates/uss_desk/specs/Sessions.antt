@@ -6,8 +6,8 @@ use Rattle.std.specs.Option.{IsSomeAnd, is_some}
 use Rattle.desk_cli.specs.Lines.{file_of}
 use Rattle.desk_cli.specs.declared.line.DeskArgs.{DeskArgs}
 use Rattle.desk_cli.specs.declared.line.Enrolment.{Enrolment}
-use Rattle.desk_host.specs.Paths.{IsUnheldAt}
-use Rattle.desk_host.specs.declared.paths.LocalOpenPaths.{LocalOpenPaths}
+use Rattle.host_files.specs.Paths.{IsUnheldAt}
+use Rattle.host_files.specs.declared.paths.LocalOpenPaths.{LocalOpenPaths}
 use Rattle.uss_desk.specs.declared.recording.RecordFolder.{RecordFolder}
 use Rattle.uss_desk.specs.declared.session.Session.{Session}
 

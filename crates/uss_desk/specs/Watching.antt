@@ -3,7 +3,7 @@ use Rattle.std.specs.Prelude.{◌≡◌, ◌⊎◌, ℕ, Bool, true, false, List
 use Rattle.desk_store.specs.declared.fault.StoreFault.{StoreFault}
 use Rattle.desk_store.specs.declared.fault.StoreFault.TheVariants.{Store}
 use Rattle.desk_wire.specs.Passage.{Course}
-use Rattle.desk_host.specs.Paths.{AreAtPaths, Look}
+use Rattle.host_files.specs.Paths.{AreAtPaths, Look}
 
 -- the paths are looked at first; if one doesn't lead to its file, the store has failed, and is as it was;
 -- else no change more was refused for that

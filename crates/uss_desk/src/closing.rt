@@ -7,7 +7,7 @@ ghost use Rattle.uss_desk.specs.FilesLeft.{IsClosed, IsEnded, IsUnclosed};
 use crate::opening::DeskAt;
 use crate::watching::CloseReport;
 use desk_cli::{ErrorCode, ExitReport, report_exit};
-use desk_host::paths::OpenPaths;
+use host_files::paths::OpenPaths;
 use sqlite_disk::Disk;
 use std::io::Write;
 

@@ -9,8 +9,8 @@ ghost use Rattle.uss_desk.specs.RecordedPlays.{IsInputRun};
 
 use crate::opening::DeskAt;
 use desk_cli::{ErrorCode, ExitReport, PlayArgs};
-use desk_host::paths::OpenPaths;
 use desk_recording::{InputPort, Record, RecordedPort, play_opened};
+use host_files::paths::OpenPaths;
 use sqlite_disk::Disk;
 use std::alloc::Global;
 use std::io::{Read, Write};

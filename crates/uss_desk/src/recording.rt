@@ -17,17 +17,17 @@ use crate::opening::{DeskAt, opened_anew};
 use crate::rolls::NotedOperators;
 use crate::watching::CloseReport;
 use desk_cli::{DeskArgs, DeskCommand, Enrolment, ErrorCode, ExitReport};
-use desk_host::files::LocalHost;
 use desk_host::folders::{
     JournalError, JournalFile, last_record, make_part, move_rest, name_part, tail_of,
 };
-use desk_host::naming::IN_USE;
-use desk_host::paths::OpenPaths;
-use desk_host::reporting::report_of;
 use desk_recording::{
     Exchange, Journal, Record, Tail, TailEnd, WrittenRecord, begin_record, missing_of, recover,
 };
 use desk_rules::terms::Terms;
+use host_files::files::LocalHost;
+use host_files::naming::IN_USE;
+use host_files::paths::OpenPaths;
+use host_files::reporting::report_of;
 use io_ends::Moment;
 use sqlite_disk::Disk;
 use std::alloc::AllocError;

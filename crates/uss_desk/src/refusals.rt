@@ -2,18 +2,18 @@
 
 ghost use Rattle.std.specs.Prelude.{◌≡◌, OnOk};
 ghost use Rattle.desk_program.specs.Outside.{bytes_written};
-ghost use Rattle.desk_host.specs.Reporting.{Reports};
+ghost use Rattle.host_files.specs.Reporting.{Reports};
 
 use desk_admin::causes::{report_database, report_made};
 use desk_admin::unopened::FileOpenError;
 use desk_cli::Database;
-use desk_host::files::LocalHost;
+use host_files::files::LocalHost;
 use sqlite::Start;
 use std::io::Write;
 
 /// Reports why the files of a database can't be opened, if they can't: those that are made where there are
 /// none (`is_made`), or that have to be there.
-#[tactic(auto, using(desk_host::proofs::ReportLemmas::reports_nothing))]
+#[tactic(auto, using(host_files::proofs::lemmas::Reporting::reports_nothing))]
 pub fn report_refusal<T, F: Start, E: Write>(
     host: LocalHost<'_>,
     database: &Database,

@@ -10,8 +10,8 @@ ghost use Rattle.uss_desk.specs.OpenedLines.{AreReadsTested, IsLineRun, StaysGua
 
 use crate::opening::DeskAt;
 use desk_cli::{DeskCommand, ErrorCode, ExitReport};
-use desk_host::paths::OpenPaths;
 use desk_program::{Port, Streams, run_opened};
+use host_files::paths::OpenPaths;
 use sqlite_disk::Disk;
 use std::alloc::Global;
 use std::io::{Read, Write};

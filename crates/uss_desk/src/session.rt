@@ -3,7 +3,7 @@
 
 ghost use Rattle.std.specs.Prelude.{◌≡◌, ◌↔◌, [], IfOk, IsTrue, None};
 ghost use Rattle.desk_cli.specs.Lines.{IsLine, file_of, line_of};
-ghost use Rattle.desk_host.specs.Reporting.{IsWrittenIfRoom, unenrolled_line};
+ghost use Rattle.host_files.specs.Reporting.{IsWrittenIfRoom, unenrolled_line};
 ghost use Rattle.desk_program.specs.Outside.{bytes_written};
 ghost use Rattle.uss_desk.specs.OpenedLines.{AreReadsTested};
 ghost use Rattle.uss_desk.specs.Sessions as spec;
@@ -21,12 +21,12 @@ use desk_admin::reordering::reorder_for;
 use desk_admin::unopened::or_failure;
 use desk_cli::{DeskArgs, DeskCommand, Enrolment, ErrorCode};
 use desk_host::damage::check_before;
-use desk_host::files::LocalHost;
 use desk_host::operators::{EnrolmentFile, operators_of};
-use desk_host::paths::{LocalOpenPaths, OpenPaths, paths_at};
-use desk_host::reporting::report_unenrolled;
 use desk_program::{LocalPort, Streams};
 use desk_recording::{InputPort, RecordedPort};
+use host_files::files::LocalHost;
+use host_files::paths::{LocalOpenPaths, OpenPaths, paths_at};
+use host_files::reporting::report_unenrolled;
 use sqlite::Unknown;
 use sqlite_disk::Disk;
 use std::io::{BufReader, Stderr, Stdin, Stdout, Write};

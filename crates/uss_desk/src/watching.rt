@@ -9,17 +9,17 @@ ghost use Rattle.desk_store.specs.StoreFaults.{HasRisen, IsHonest};
 ghost use Rattle.desk_store.specs.StoreFrames.{Remembers};
 ghost use Rattle.desk_tables.specs.Closing.{IsLeftUnclosed};
 ghost use Rattle.desk_wire.specs.Passage.{course};
-ghost use Rattle.desk_host.specs.Paths.{AreAtPaths};
+ghost use Rattle.host_files.specs.Paths.{AreAtPaths};
 ghost use Rattle.uss_desk.specs.Rolls.{HasNoted};
 ghost use Rattle.uss_desk.specs.Watching.{IsWatched};
 
 use crate::rolls::NotedOperators;
-use desk_host::paths::OpenPaths;
 use desk_rules::operator::Operator;
 use desk_rules::plan::{PlanRow, States};
 use desk_rules::plan_id::PlanId;
 use desk_store::{Change, PlanStore, Sizes, StoreFault};
 use desk_tables::{CheckpointError, SqliteStore};
+use host_files::paths::OpenPaths;
 use sqlite::{FileStore, Files};
 use sqlite_disk::Disk;
 use sqlite_trees::store::Alter;
@@ -152,7 +152,7 @@ fn apply_at<S: PlanStore, N: OpenPaths>(
 impl<S: Alter, N: OpenPaths + Drop> PlanStore for PathChecked<S, N> {
     ghost use Rattle.sqlite_trees.specs.View.{doubt};
     ghost use Rattle.sqlite.specs.Held.{state};
-    ghost use Rattle.desk_tables.specs.Leaving.{MayLeave};
+    ghost use Rattle.table_load.specs.Leaving.{MayLeave};
 
     ghost content = { λ w. w.world };
 

@@ -1,4 +1,4 @@
--- Laws of two runs of calls, with their proofs: what an operator is reported, and what it owns.
+-- Laws of two runs of calls, with their proofs: what an operator is answered, and what it owns.
 use Rattle.std.proofs.Common.{◌≡◌, ℕ, true, List, [], ◌∷◌, refl, sym, ap, subst, ◌∙◌}
 use Rattle.std.specs.List.{AllZip}
 use Rattle.std.specs.Ordering.{is_eq}
@@ -42,7 +42,7 @@ kept o = record {
       subst (λ name. side (step w name call.0 call.1.call) o ≡ keep (side w o) (held_in w o) call)
       (same_name o call.1.operator e) (own_stays w o call.0 call.1.call)
 
--- a call of an operator to which two worlds look alike is reported the same
+-- a call of an operator to which two worlds look alike is answered the same
 pub reported_alike : (v w : DeskWorld) (call : TimedCall) → OwnAlike call.1.operator v w
     → HoldAlike call.1.operator v w → reported_at v call ≡ reported_at w call
 unfolding reported_to

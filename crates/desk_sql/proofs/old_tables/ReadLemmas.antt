@@ -5,10 +5,10 @@ use Rattle.sqlite.specs.Listing.{understood}
 use Rattle.desk_sql.specs.declared.opening.numbers.DeskTable.TheVariants.{OldVolume, OldSpan}
 use Rattle.desk_sql.specs.Rows.{columns, tables_of}
 use Rattle.desk_sql.specs.Statements.{SelectsAll}
-use Rattle.desk_sql.proofs.ReadLemmas.{scanned}
+use Rattle.desk_sql.proofs.lemmas.Read.{scanned}
 use Rattle.desk_sql.proofs.SureTexts.{IsSureWith, sure_scan}
 use Rattle.desk_sql.proofs.StatementLemmas.{every, selects_all}
-use Rattle.desk_sql.proofs.old_tables.Texts.{all_old_volumes_text, all_old_volumes_is, all_old_volumes_query, all_old_spans_text, all_old_spans_is, all_old_spans_query}
+use Rattle.desk_sql.proofs.lemmas.OldTexts.{all_old_volumes_text, all_old_volumes_is, all_old_volumes_query, all_old_spans_text, all_old_spans_is, all_old_spans_query}
 
 pub all_old_volumes_sure : IsSureWith OldVolume all_old_volumes_text
 unfolding understood everything

@@ -12,13 +12,13 @@ ghost use Rattle.desk_sql.specs.QueryEnds.{IsRunWithin};
 ghost use Rattle.desk_sql.specs.Frames.{IsOver};
 ghost use Rattle.desk_sql.specs.Refusals.{IsRefusal};
 
-use crate::changing::run::run;
 use crate::laws::committed_and_sound;
 use crate::opening::finding::TablesPresent;
 use crate::opening::objects::{
     LEAVES, OLD_LEAVES, OLD_SPAN_TABLE, OLD_VOLUME_TABLE, OPERATOR_TABLE, PLAN_TABLE, SPAN_TABLE,
     VOLUME_TABLE,
 };
+use crate::running::run;
 use sqlite::{Alter, Connection, Error, Transaction};
 
 #[tactic(auto, using(crate::proofs::StepStops::operator_step))]

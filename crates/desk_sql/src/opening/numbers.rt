@@ -146,35 +146,35 @@ pub(crate) fn rowids_text(table: DeskTable) -> &'static str
     }
 }
 
-#[tactic(auto, using(crate::proofs::RowidLemmas::operator_rowids_selected))]
+#[tactic(auto, using(crate::proofs::lemmas::Rowid::operator_rowids_selected))]
 fn operator_rowids_text() -> &'static str
     ensures { SelectsAll DeskTable.Operator result.now (0 ∷ []) (λ db. rowids (db 0)) }
 {
     "SELECT rowid FROM operator ORDER BY rowid"
 }
 
-#[tactic(auto, using(crate::proofs::RowidLemmas::plan_rowids_selected))]
+#[tactic(auto, using(crate::proofs::lemmas::Rowid::plan_rowids_selected))]
 fn plan_rowids_text() -> &'static str
     ensures { SelectsAll DeskTable.Plan result.now (0 ∷ []) (λ db. rowids (db 2)) }
 {
     "SELECT rowid FROM plan ORDER BY rowid"
 }
 
-#[tactic(auto, using(crate::proofs::RowidLemmas::old_volume_rowids_selected))]
+#[tactic(auto, using(crate::proofs::lemmas::Rowid::old_volume_rowids_selected))]
 fn old_volume_rowids_text() -> &'static str
     ensures { SelectsAll DeskTable.OldVolume result.now (0 ∷ []) (λ db. rowids (db 4)) }
 {
     "SELECT rowid FROM volume ORDER BY rowid"
 }
 
-#[tactic(auto, using(crate::proofs::RowidLemmas::old_span_rowids_selected))]
+#[tactic(auto, using(crate::proofs::lemmas::Rowid::old_span_rowids_selected))]
 fn old_span_rowids_text() -> &'static str
     ensures { SelectsAll DeskTable.OldSpan result.now (0 ∷ []) (λ db. rowids (db 6)) }
 {
     "SELECT rowid FROM span ORDER BY rowid"
 }
 
-#[tactic(auto, using(crate::proofs::RowidLemmas::volume_rowids_selected, crate::proofs::PackedLemmas::volume_rowids_selected))]
+#[tactic(auto, using(crate::proofs::lemmas::Rowid::volume_rowids_selected, crate::proofs::PackedLemmas::volume_rowids_selected))]
 fn volume_rowids_text() -> &'static str
     ensures own { SelectsAll DeskTable.Volume result.now (0 ∷ []) (λ db. rowids (db 9)) }
     ensures packed { SelectsAll DeskTable.PackedVolume result.now (0 ∷ []) (λ db. rowids (db 8)) }
@@ -182,7 +182,7 @@ fn volume_rowids_text() -> &'static str
     "SELECT rowid FROM volume2 ORDER BY rowid"
 }
 
-#[tactic(auto, using(crate::proofs::RowidLemmas::span_rowids_selected, crate::proofs::PackedLemmas::span_rowids_selected))]
+#[tactic(auto, using(crate::proofs::lemmas::Rowid::span_rowids_selected, crate::proofs::PackedLemmas::span_rowids_selected))]
 fn span_rowids_text() -> &'static str
     ensures own { SelectsAll DeskTable.Span result.now (0 ∷ []) (λ db. rowids (db 11)) }
     ensures packed { SelectsAll DeskTable.PackedSpan result.now (0 ∷ []) (λ db. rowids (db 10)) }

@@ -11,9 +11,9 @@ ghost use Rattle.desk_sql.specs.Effects.{Makes};
 ghost use Rattle.desk_sql.specs.Making.{HasSmallSpans};
 ghost use Rattle.desk_sql.specs.Unpacking.{loose_schema, spanless_schema, Drops, Unpacks, RemakesTables};
 
-use crate::changing::run::run;
 use crate::opening::finding::TablesPresent;
 use crate::opening::making::make_rest;
+use crate::running::run;
 use sqlite::{Alter, Error, Transaction};
 
 #[tactic(auto, using(crate::proofs::DropStops::old_first_drops))]

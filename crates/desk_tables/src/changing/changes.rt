@@ -10,24 +10,24 @@ ghost use Rattle.desk_store.specs.StoreChange.{IsFitting, changed_by};
 ghost use Rattle.desk_store.specs.declared.change.Change.TheVariants as change;
 ghost use Rattle.desk_sql.specs.Changing.{AreLow, HasRowids};
 ghost use Rattle.desk_rules.specs.declared.plan.PlanRow.{PlanRow as Plan};
-ghost use Rattle.desk_tables.specs.RowsRead.{IsHead};
+ghost use Rattle.row_codec.specs.RowsRead.{IsHead};
 ghost use Rattle.desk_tables.specs.Causes.{BlamesChange, BlamesStore, HasRoomForPlan};
-ghost use Rattle.desk_tables.specs.SpanBounds.{IsKnownPlan, BringsKnown, Keeps};
+ghost use Rattle.row_codec.specs.SpanBounds.{IsKnownPlan, BringsKnown, Keeps};
 ghost use Rattle.desk_tables.specs.ChangesMade.{HasFollowed, IsMade, IsNext};
 
-use crate::canon::canons_of;
-use crate::changing::records::{
-    aircraft_number, asked_of, lengths_with, span_rows, texts_of, usage_number, volume_rows,
-};
-use crate::kept::GhostState;
-use crate::reading::values::{count_at, fault_reported};
-use crate::span_bounds::SpanBounds;
 use crate::tables::DeskTables;
+use desk_changes::{PlanRecord, clear_plans, close_plan, put_operator, put_plan};
 use desk_rules::operator::Operator;
 use desk_rules::plan::PlanRow;
 use desk_rules::plan_id::PlanId;
-use desk_sql::{PlanRecord, clear_plans, close_plan, put_operator, put_plan};
 use desk_store::{Change, StoreFault};
+use row_codec::canon::canons_of;
+use row_codec::kept::GhostState;
+use row_codec::records::{
+    aircraft_number, asked_of, lengths_with, span_rows, texts_of, usage_number, volume_rows,
+};
+use row_codec::span_bounds::SpanBounds;
+use row_codec::values::{count_at, fault_reported};
 use s2_cover::laws::one_list_of_ranges;
 use sqlite::{Error, Row};
 use sqlite_trees::store::Alter;

@@ -5,30 +5,31 @@ ghost use Rattle.sqlite_wal.specs.Files.{image_at};
 ghost use Rattle.sqlite_wal.specs.Recovery.{Image};
 ghost use Rattle.sqlite.specs.Held.{IsNew};
 ghost use Rattle.sqlite.specs.Files.{over_files};
-ghost use Rattle.desk_tables.specs.CutShort.{IsCompletedAs, IsCutShort, IsMovedOn};
-ghost use Rattle.desk_tables.specs.Files.{AreNotMoved, AreRefused, Finds, OpensIn, OpensMoved};
-ghost use Rattle.desk_tables.specs.Files.{no_files};
-ghost use Rattle.desk_tables.specs.LyingDisk.{IsGuarded};
-ghost use Rattle.desk_tables.specs.Leaving.{IsSettledAt};
+ghost use Rattle.table_load.specs.CutShort.{IsCompletedAs, IsCutShort, IsMovedOn};
+ghost use Rattle.table_load.specs.Files.{AreNotMoved, AreRefused, Finds, OpensIn, OpensMoved};
+ghost use Rattle.table_load.specs.Files.{no_files};
+ghost use Rattle.table_load.specs.LyingDisk.{IsGuarded};
+ghost use Rattle.table_load.specs.Leaving.{IsSettledAt};
 ghost use Rattle.desk_store.specs.World.{World};
 ghost use Rattle.desk_store.specs.Content.{IsContent};
-ghost use Rattle.desk_tables.specs.Copying.{AreHoldingsOf, AreNotCopied, AreNotMade, AreNotRead, IsMadeIn};
+ghost use Rattle.table_load.specs.HeldContent.{AreHoldingsOf};
+ghost use Rattle.desk_tables.specs.Copying.{AreNotCopied, AreNotMade, AreNotRead, IsMadeIn};
 ghost use Rattle.desk_tables.specs.Copying.{IsUnmadeOf, LooksIn};
-ghost use Rattle.desk_tables.specs.Known.{Knows};
-ghost use Rattle.desk_tables.specs.Writable.{HaveFewRows};
+ghost use Rattle.row_codec.specs.Known.{Knows};
+ghost use Rattle.table_load.specs.Writable.{HaveFewRows};
 
-use crate::known::MemoryIndex;
-use crate::opening::connecting::{connect, connect_new, connect_there};
-use crate::opening::content::Content;
 use crate::opening::copying::store_of;
-use crate::opening::looking::{DbStats, holdings_of, read_content};
-use crate::opening::open::OpenFault;
-use crate::opening::path::NotOpened;
 use crate::store::SqliteStore;
+use row_codec::content::Content;
+use row_codec::known::MemoryIndex;
 use sqlite::{Connection, FileFrom, FileStore, Start, Unknown};
 use sqlite_disk::Disk;
 use sqlite_trees::store::Alter;
 use std::alloc::Global;
+use table_load::connecting::{connect, connect_new, connect_there};
+use table_load::fault::OpenFault;
+use table_load::looking::{DbStats, holdings_of, read_content};
+use table_load::path::NotOpened;
 
 // A connection to files, the content that was read with it, what is known of it, and whether it is of
 // schema 1.

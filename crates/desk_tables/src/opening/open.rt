@@ -2,25 +2,23 @@
 
 ghost use Rattle.std.specs.Prelude.{◌≡◌, ◌-◌, ◌++◌, [], false, length, replicate, IfOk, IfErr, MatchResult, None};
 ghost use Rattle.desk_sql.specs.Effects.{StaysShown};
-ghost use Rattle.desk_tables.specs.CutShort.{IsCompletedAs, IsMovedOn, LeavesShownOr};
-ghost use Rattle.desk_tables.specs.Moving.{BeginsMoved, KeepsRows, ShowsNoContent};
-ghost use Rattle.desk_tables.specs.Opening.{BeginsWith, ShowsNoDesk, ShowsOldRows};
-ghost use Rattle.desk_tables.specs.OpeningSteps.{IsAdopted, IsNotAdopted};
+ghost use Rattle.table_load.specs.CutShort.{IsCompletedAs, IsMovedOn, LeavesShownOr};
+ghost use Rattle.table_load.specs.Moving.{BeginsMoved, KeepsRows, ShowsNoContent};
+ghost use Rattle.table_load.specs.Opening.{BeginsWith, ShowsNoDesk, ShowsOldRows};
+ghost use Rattle.table_load.specs.OpeningSteps.{IsAdopted, IsNotAdopted};
 
-use crate::known::MemoryIndex;
-use crate::opening::exact::RowFault;
-use crate::opening::finding::{create_tables, load_world};
-use crate::opening::moving::moved_world_in;
 use crate::store::SqliteStore;
 use db_file::Ram;
 use desk_sql::laws::committed_and_sound;
 use desk_sql::{TablesPresent, find_tables};
 use desk_store::StoreFault;
-use sqlite::{Connection, ErrorCode, FileStore, Files, Options};
+use row_codec::known::MemoryIndex;
+use sqlite::{Connection, FileStore, Files, Options};
 use sqlite_trees::store::Alter;
 use std::alloc::{AllocError, Global};
-use std::error::Error;
-use std::fmt;
+use table_load::fault::OpenFault;
+use table_load::finding::{create_tables, load_world};
+use table_load::moving::moved_world_in;
 
 // What a log in memory takes its salts from. No other program writes to it, so that any number will do.
 const SEED: u64 = 1;
@@ -41,76 +39,6 @@ const BLANK: [u8; 108] = [
     0, 0, 0, 0, 0, 1, 0, 0, 0, 0, 0, 0, 0, 0, 0, 0, 0, 0, 0, 0, 0, 0, 0, 0, 0, 0, 0, 0, 0, 0, 0, 0,
     0, 0, 0, 0, 0, 0, 0, 0, 0, 0, 0, 46, 118, 136, 13, 0, 0, 0, 0, 4, 0, 0,
 ];
-
-/// Why a store over tables cannot be opened.
-#[derive(Clone, Copy, Debug, PartialEq, Eq)]
-pub enum OpenFault {
-    /// A growth was refused.
-    OutOfMemory,
-    /// SQLite refused the database or a statement for another cause.
-    Store,
-    /// There are other tables than a desk's, or their rows are those of no content.
-    NotADesk,
-    /// There are rows of schema 1, which have to be migrated.
-    OldSchema,
-}
-
-impl fmt::Display for OpenFault {
-    ghost use Rattle.std.specs.Prelude.{Some};
-    ghost use Rattle.desk_tables.specs.Opening.{open_fault_text};
-
-    ghost output = { λ fault. Some (open_fault_text fault) };
-
-    fn fmt<W: fmt::Write>(&self, f: &mut fmt::Formatter<W>) -> fmt::Result {
-        f.pad(match self {
-            OpenFault::OutOfMemory => "out of memory",
-            OpenFault::Store => "the database failed",
-            OpenFault::NotADesk => "the tables are not a desk's",
-            OpenFault::OldSchema => "the tables are of schema 1",
-        })
-    }
-}
-
-impl Error for OpenFault {}
-
-impl From<sqlite::Error> for OpenFault {
-    ghost use Rattle.std.specs.Prelude.{◌≡◌};
-    ghost use Rattle.desk_tables.specs.Opening.{open_fault_of};
-
-    ghost from_gives = { λ error fault. fault ≡ open_fault_of error };
-
-    fn from(error: sqlite::Error) -> OpenFault {
-        match error {
-            sqlite::Error::SqliteFailure(ErrorCode::OutOfMemory) => OpenFault::OutOfMemory,
-            _ => OpenFault::Store,
-        }
-    }
-}
-
-impl From<AllocError> for OpenFault {
-    ghost use Rattle.std.specs.Prelude.{◌≡◌};
-    ghost use Rattle.desk_tables.specs.declared.opening.open.OpenFault.TheVariants.{OutOfMemory};
-
-    ghost from_gives = { λ _ fault. fault ≡ OutOfMemory };
-
-    fn from(_error: AllocError) -> OpenFault {
-        OpenFault::OutOfMemory
-    }
-}
-
-impl From<RowFault> for OpenFault {
-    ghost use Rattle.std.specs.Prelude.{◌≡◌};
-    ghost use Rattle.desk_tables.specs.Opening.{fault_of_rows};
-
-    ghost from_gives = { λ rows fault. fault ≡ fault_of_rows rows };
-
-    fn from(rows: RowFault) -> OpenFault {
-        match rows {
-            RowFault::OutOfMemory => OpenFault::OutOfMemory,
-            RowFault::NoDesk => OpenFault::NotADesk,
-        }
-    }
-}
 
 /// Why a connection was not adopted, with the connection.
 #[derive(Drop)]

@@ -6,17 +6,17 @@ ghost use Rattle.sqlite.specs.State.{HasCleanDisk};
 ghost use Rattle.sqlite.specs.Held.{state};
 ghost use Rattle.desk_store.specs.Content.{IsId};
 ghost use Rattle.desk_sql.specs.QueryEnds.{WasOpen};
-ghost use Rattle.desk_tables.specs.RivalRows.{AreWanted, HaveTaken, HaveTakenAll, is_asked};
-ghost use Rattle.desk_tables.specs.SpanBounds.{Bounds, IsWithinExtent};
+ghost use Rattle.row_codec.specs.RivalRows.{AreWanted, HaveTaken, HaveTakenAll, is_asked};
+ghost use Rattle.row_codec.specs.SpanBounds.{Bounds, IsWithinExtent};
 ghost use Rattle.desk_tables.specs.ReadsMade.{ReadsSpans, spans_shown};
 
 use crate::reading::readers::held_by;
-use crate::reading::rivals::{SpanCollector, reach_from};
-use crate::span_bounds::SpanBounds;
 use crate::tables::DeskTables;
 use desk_sql::{other_spans, rival_spans};
 use desk_store::StoreFault;
 use live_index::Wanted;
+use row_codec::rivals::{SpanCollector, reach_from};
+use row_codec::span_bounds::SpanBounds;
 use s2_cover::Span;
 use sqlite_trees::store::Alter;
 use volume4d::{Held, Slab};
@@ -30,7 +30,7 @@ impl<S: Alter> DeskTables<S> {
     ///
     /// `OutOfMemory` if memory runs out. `Store` if SQLite refuses a query for another cause, or if a row is
     /// no slab's.
-    #[tactic(auto, using(crate::proofs::FrameLemmas::reads_itself))]
+    #[tactic(auto, using(table_load::proofs::lemmas::Frame::reads_itself))]
     pub(crate) fn wanted_in_tables(
         &mut self,
         wanted: &Wanted,
@@ -47,7 +47,7 @@ impl<S: Alter> DeskTables<S> {
     }
 
     // The slabs of the spans that questions are for, those of one question after those of another.
-    #[tactic(auto, using(crate::proofs::FrameLemmas::reads_then))]
+    #[tactic(auto, using(table_load::proofs::lemmas::Frame::reads_then))]
     fn asked_all(
         &mut self,
         wanted: &Wanted,

@@ -6,16 +6,16 @@ ghost use Rattle.volume4d.specs.Slab.{slabs_have, top_held};
 ghost use Rattle.desk_store.specs.World.{held};
 ghost use Rattle.desk_store.specs.Rivals.{AreHeldByOthers};
 ghost use Rattle.desk_tables.specs.ReadsMade.{ReadsSpans};
-ghost use Rattle.desk_tables.specs.Known.{Knows};
-ghost use Rattle.desk_tables.specs.SpanBounds.{Bounds};
+ghost use Rattle.row_codec.specs.Known.{Knows};
+ghost use Rattle.row_codec.specs.SpanBounds.{Bounds};
 
-use crate::known::MemoryIndex;
 use crate::reading::plans::{FEW, MOST};
-use crate::span_bounds::SpanBounds;
 use crate::tables::DeskTables;
 use desk_rules::operator::Operator;
 use desk_store::StoreFault;
 use live_index::{Wanted, push_clipped};
+use row_codec::known::MemoryIndex;
+use row_codec::span_bounds::SpanBounds;
 use sqlite_trees::store::Alter;
 use volume4d::{Held, Slab};
 
@@ -28,7 +28,7 @@ impl<S: Alter> DeskTables<S> {
     ///
     /// `OutOfMemory` if memory runs out. `Store` if SQLite refuses the query for another cause, or if
     /// a row is no slab's.
-    #[tactic(auto, using(crate::proofs::FrameLemmas::reads_itself))]
+    #[tactic(auto, using(table_load::proofs::lemmas::Frame::reads_itself))]
     pub(crate) fn held_by_others(
         &mut self,
         operator: &Operator,
@@ -52,7 +52,7 @@ impl<S: Alter> DeskTables<S> {
     }
 
     // What others hold in regions, and nothing else.
-    #[tactic(auto, using(crate::proofs::FrameLemmas::reads_then))]
+    #[tactic(auto, using(table_load::proofs::lemmas::Frame::reads_then))]
     fn held_in(
         &mut self,
         operator: &Operator,

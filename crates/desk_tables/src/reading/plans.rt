@@ -8,15 +8,15 @@ ghost use Rattle.desk_store.specs.Content.{IsId};
 ghost use Rattle.desk_store.specs.Rivals.{HaveLevel};
 ghost use Rattle.live_index.specs.Near.{listed_top};
 ghost use Rattle.desk_tables.specs.ReadsMade.{ReadsSpans, spans_shown};
-ghost use Rattle.desk_tables.specs.RivalRows.{HaveTaken, is_asked_of_plan, leaves_begun};
+ghost use Rattle.row_codec.specs.RivalRows.{HaveTaken, is_asked_of_plan, leaves_begun};
 ghost use Rattle.desk_sql.specs.QueryEnds.{WasOpen};
 
 use crate::reading::readers::held_by;
-use crate::reading::rivals::{SpanCollector, reach_of};
 use crate::tables::DeskTables;
 use desk_sql::plan_spans;
 use desk_store::StoreFault;
 use live_index::{PlanKey, whole_of};
+use row_codec::rivals::{SpanCollector, reach_of};
 use s2_cover::Span;
 use sqlite_trees::store::Alter;
 use volume4d::{Held, Slab};
@@ -44,7 +44,7 @@ impl<S: Alter> DeskTables<S> {
     ///
     /// `OutOfMemory` if memory runs out. `Store` if SQLite refuses a query for another cause, or if a row is
     /// no slab's.
-    #[tactic(auto, using(crate::proofs::FrameLemmas::reads_itself))]
+    #[tactic(auto, using(table_load::proofs::lemmas::Frame::reads_itself))]
     pub(crate) fn held_near(
         &mut self,
         keys: &[PlanKey],
@@ -67,7 +67,7 @@ impl<S: Alter> DeskTables<S> {
     ///
     /// `OutOfMemory` if memory runs out. `Store` if SQLite refuses a query for another cause, or if a row is
     /// no slab's.
-    #[tactic(auto, using(crate::proofs::FrameLemmas::reads_then))]
+    #[tactic(auto, using(table_load::proofs::lemmas::Frame::reads_then))]
     pub(crate) fn held_by_plans(
         &mut self,
         keys: &[PlanKey],

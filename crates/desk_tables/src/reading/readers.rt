@@ -5,20 +5,16 @@ ghost use Rattle.std.specs.List.{AllByRecursion, AllZip};
 ghost use Rattle.std.specs.Result.{IsErrAnd};
 ghost use Rattle.desk_rules.specs.declared.plan.PlanRow.{PlanRow as Plan};
 ghost use Rattle.desk_store.specs.World.{Filed, plans_of, stored_of};
-ghost use Rattle.desk_tables.specs.Tables.{plan_rows, volume_rows};
+ghost use Rattle.row_codec.specs.Tables.{plan_rows, volume_rows};
 ghost use Rattle.desk_store.specs.Content.{IsBlock, IsContent, IsId, IsPlan};
-ghost use Rattle.desk_tables.specs.RowsRead.{IsHead, IsVolumeAt, listing_rows};
-ghost use Rattle.desk_tables.specs.Gathering.{HasCollected, HasNoArea};
+ghost use Rattle.row_codec.specs.RowsRead.{IsHead, IsVolumeAt, listing_rows};
+ghost use Rattle.row_codec.specs.Gathering.{HasCollected, HasNoArea};
 ghost use Rattle.desk_tables.specs.Lookups.{own_of};
-ghost use Rattle.desk_tables.specs.Known.{Knows};
-ghost use Rattle.desk_tables.specs.RivalRows.{AreWantedNear};
+ghost use Rattle.row_codec.specs.Known.{Knows};
+ghost use Rattle.row_codec.specs.RivalRows.{AreWantedNear};
 ghost use Rattle.desk_tables.specs.ReadsMade.{ReadsPlans, ReadsSpans};
 
-use crate::known::MemoryIndex;
-use crate::reading::listing::PlanCollector;
 use crate::reading::plans::room_beside;
-use crate::reading::rivals::SpanCollector;
-use crate::reading::values::{area_in, fault_reported, or_fault, plan_in};
 use crate::tables::DeskTables;
 use desk_rules::operator::Operator;
 use desk_rules::plan::PlanRow;
@@ -26,6 +22,10 @@ use desk_rules::plan_id::PlanId;
 use desk_sql::{own_plans as own_listing, plan_of, volumes_of};
 use desk_store::StoreFault;
 use live_index::{Wanted, whole_of};
+use row_codec::known::MemoryIndex;
+use row_codec::listing::PlanCollector;
+use row_codec::rivals::SpanCollector;
+use row_codec::values::{area_in, fault_reported, or_fault, plan_in};
 use sqlite::{Error, ErrorCode, Row};
 use sqlite_trees::store::Alter;
 use std::alloc::Global;
@@ -68,7 +68,7 @@ impl<S: Alter> DeskTables<S> {
     ///
     /// `OutOfMemory` if memory runs out. `Store` if SQLite refuses a query for another cause, or if the
     /// rows are no plan's.
-    #[tactic(auto, using(crate::proofs::FrameLemmas::reads_then))]
+    #[tactic(auto, using(table_load::proofs::lemmas::Frame::reads_then))]
     pub(crate) fn plan(
         &mut self,
         operator: &Operator,
@@ -108,7 +108,7 @@ impl<S: Alter> DeskTables<S> {
     ///
     /// `OutOfMemory` if memory runs out. `Store` if SQLite refuses the query for another cause, or if
     /// a row is no slab's.
-    #[tactic(auto, using(crate::proofs::FrameLemmas::reads_itself))]
+    #[tactic(auto, using(table_load::proofs::lemmas::Frame::reads_itself))]
     pub(crate) fn rivals_near(
         &mut self,
         wanted: &Wanted,

@@ -35,7 +35,7 @@ impl<S> Stand<S> {
 
 impl<S: PlanStore> Stand<S> {
     /// What is said to what is asked, without the end of its last line, or None if memory was refused.
-    /// Nothing grows after a change of the desk, so no call that changed it is reported of as refused.
+    /// Nothing grows after a change of the desk, so no call that changed it is said of as refused.
     pub fn said(&mut self, asked: &Asked) -> Option<Vec<u8>> {
         match asked {
             Asked::Enrol(name) => self.enrol(name),

@@ -64,7 +64,7 @@ impl Content {
         Ok(())
     }
 
-    /// Appends what is reported of it.
+    /// Appends what is said of it.
     pub fn report(&mut self, reported: &Reported) -> anyhow::Result<()> {
         writeln!(self.text, "{reported}")?;
         Ok(())

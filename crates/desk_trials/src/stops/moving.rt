@@ -16,7 +16,7 @@ use sqlite::{Connection, FileStore};
 use std::alloc::Global;
 use std::fmt::{self, Display, Formatter, Write};
 
-/// What is reported of a database.
+/// What is said of a database.
 #[derive(Clone, Copy, Debug, PartialEq, Eq)]
 pub enum Reported {
     /// It is adopted.

@@ -1,6 +1,6 @@
 use Rattle.std.proofs.Common.{◌≡◌, ◌∙◌, inl, inr, rules, string_bytes}
-use Rattle.desk_host.specs.Naming.{ChangesOwn, GivesNoName}
-use Rattle.desk_host.proofs.NameLemmas.{takes_both, takes_one}
+use Rattle.host_files.specs.Naming.{ChangesOwn, GivesNoName}
+use Rattle.host_files.proofs.lemmas.Naming.{takes_both, takes_one}
 use Rattle.desk_admin.proofs.keeping.give_up.Goals as goal
 
 pub returns-then-is_free-clause-gone : goal.returns-then-is_free-clause-gone

@@ -1,6 +1,6 @@
 use Rattle.std.proofs.Common.{inl, inr, subst}
 use Rattle.desk_admin.specs.FilesReported.{FailsUntried}
-use Rattle.desk_host.proofs.NameLemmas.{gone_changes, gone_unnamed}
+use Rattle.host_files.proofs.lemmas.Naming.{gone_changes, gone_unnamed}
 use Rattle.desk_admin.proofs.keeping.keep_copy.Goals as goal
 
 pub returns-in-Err-clause-fault : goal.returns-in-Err-clause-fault

@@ -2,8 +2,8 @@ use Rattle.std.proofs.Common.{◌≡◌, ap, rules, string_bytes, subst}
 use Rattle.sqlite_wal.specs.Files.{image_at}
 use Rattle.desk_wire.specs.Passage.{course}
 use Rattle.desk_cli.specs.Lines.{file_of}
-use Rattle.desk_host.specs.Naming.{Follows}
-use Rattle.desk_host.specs.FolderSteps.{steps_of}
+use Rattle.host_files.specs.Naming.{Follows}
+use Rattle.host_files.specs.FolderSteps.{steps_of}
 use Rattle.desk_host.specs.Scratch.{AreTwins, making, scratch_of}
 use Rattle.desk_admin.specs.ScratchCopies.{IsTestReported}
 use Rattle.desk_admin.proofs.ScratchLemmas.{copied_from}

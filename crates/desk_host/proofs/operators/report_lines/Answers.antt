@@ -1,4 +1,4 @@
-use Rattle.desk_host.proofs.ReportLemmas.{reports_both}
+use Rattle.host_files.proofs.lemmas.Reporting.{reports_both}
 use Rattle.desk_host.proofs.ReportedLemmas.{reported_next}
 use Rattle.desk_host.proofs.operators.report_lines.Goals as goal
 

@@ -1,6 +1,6 @@
 use Rattle.std.proofs.Common.{◌≡◌, ◌∙◌, rules, string_bytes}
-use Rattle.desk_host.specs.Naming.{Tried}
-use Rattle.desk_host.proofs.NameLemmas.{clears_own, not_free_after, not_free_now, on_err, on_failed}
+use Rattle.host_files.specs.Naming.{Tried}
+use Rattle.host_files.proofs.lemmas.Naming.{clears_own, not_free_after, not_free_now, on_err, on_failed}
 use Rattle.desk_host.proofs.room.make_room.Goals as goal
 
 pub returns-in_err-find_free-2-clause-taken : goal.returns-in_err-find_free-2-clause-taken

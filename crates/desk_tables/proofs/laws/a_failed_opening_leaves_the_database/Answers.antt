@@ -1,4 +1,4 @@
-use Rattle.desk_tables.proofs.LeftoverLemmas.{holds_still, none_still}
+use Rattle.table_load.proofs.lemmas.Leftover.{holds_still, none_still}
 use Rattle.desk_tables.proofs.laws.a_failed_opening_leaves_the_database.Goals as goal
 
 pub returns-clause-held : goal.returns-clause-held

@@ -1,4 +1,4 @@
-use Rattle.desk_tables.proofs.LeftoverLemmas.{finds_first, found_after}
+use Rattle.table_load.proofs.lemmas.Leftover.{finds_first, found_after}
 use Rattle.desk_tables.proofs.laws.a_start_after_a_failed_opening_finds_the_database.Goals as goal
 
 pub returns-clause-found : goal.returns-clause-found

@@ -1,4 +1,4 @@
-use Rattle.desk_tables.proofs.IdLemmas.{text_order}
+use Rattle.row_codec.proofs.lemmas.Id.{text_order}
 use Rattle.desk_tables.proofs.laws.id_texts_are_ordered_as_ids.Goals as goal
 
 pub returns : goal.returns

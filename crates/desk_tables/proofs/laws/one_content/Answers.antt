@@ -1,4 +1,4 @@
-use Rattle.desk_tables.proofs.ContentLemmas.{one_world}
+use Rattle.table_load.proofs.lemmas.Content.{one_world}
 use Rattle.desk_tables.proofs.laws.one_content.Goals as goal
 
 pub returns : goal.returns

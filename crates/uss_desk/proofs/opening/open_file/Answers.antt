@@ -1,9 +1,9 @@
 use Rattle.std.proofs.Common.{ap, sym, subst, ◌∙◌}
 use Rattle.sqlite_wal.specs.Files.{image_at}
 use Rattle.sqlite.specs.Files.{over_files}
-use Rattle.desk_tables.specs.Files.{AreRefused, OpensIn}
-use Rattle.desk_tables.specs.LyingDisk.{IsGuarded}
-use Rattle.desk_tables.specs.Leaving.{IsSettledAt}
+use Rattle.table_load.specs.Files.{AreRefused, OpensIn}
+use Rattle.table_load.specs.LyingDisk.{IsGuarded}
+use Rattle.table_load.specs.Leaving.{IsSettledAt}
 use Rattle.uss_desk.specs.Rolls.{HasNoted}
 use Rattle.desk_admin.proofs.UnopenedLemmas.{fails_over}
 use Rattle.uss_desk.proofs.opening.open_file.Goals as goal

@@ -1,6 +1,6 @@
 use Rattle.std.proofs.Common.{ap, sym, subst, ◌∙◌}
 use Rattle.sqlite_wal.specs.Files.{image_at}
-use Rattle.desk_tables.specs.Files.{AreNotMoved, OpensMoved}
+use Rattle.table_load.specs.Files.{AreNotMoved, OpensMoved}
 use Rattle.desk_admin.proofs.UnopenedLemmas.{fails_over}
 use Rattle.uss_desk.proofs.opening.open_old_file.Goals as goal
 

@@ -2,7 +2,7 @@ use Rattle.std.proofs.Common.{arith}
 use Rattle.sqlite.specs.Held.{state}
 use Rattle.desk_sql.proofs.AskLemmas.{all_selected}
 use Rattle.desk_sql.proofs.old_tables.RowLemmas.{some_shown}
-use Rattle.desk_sql.proofs.ReadLemmas.{was_open}
+use Rattle.desk_sql.proofs.lemmas.Read.{was_open}
 use Rattle.desk_sql.proofs.old.rows.has_row.Goals as goal
 
 pub hand_rows-requires-clause-ready : goal.hand_rows-requires-clause-ready

@@ -1,7 +1,7 @@
 use Rattle.std.proofs.Common.{arith}
 use Rattle.std.proofs.lemmas.Result.{on_ok_weaker}
 use Rattle.sqlite.specs.Held.{state}
-use Rattle.desk_sql.proofs.RowidLemmas.{numbered_handed, unnumbered_handed}
+use Rattle.desk_sql.proofs.lemmas.Rowid.{numbered_handed, unnumbered_handed}
 use Rattle.desk_sql.proofs.opening.numbers.test_rowids.Goals as goal
 
 pub hand_rows-requires-clause-ready : goal.hand_rows-requires-clause-ready

@@ -8,7 +8,7 @@ use Rattle.desk_sql.specs.Rows.{IsDesk, tables_of, Lists}
 use Rattle.desk_sql.specs.Statements.{Selects}
 use Rattle.desk_sql.proofs.AskLemmas.{sure_here}
 use Rattle.desk_sql.proofs.HandLemmas.{cut_short_of}
-use Rattle.desk_sql.proofs.ReadLemmas.{selected, was_open}
+use Rattle.desk_sql.proofs.lemmas.Read.{selected, was_open}
 use Rattle.desk_sql.proofs.TakingLemmas.{if_handed}
 use Rattle.desk_sql.proofs.reading.taking.for_each_row.Goals as goal
 

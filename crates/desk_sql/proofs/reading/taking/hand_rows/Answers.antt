@@ -9,8 +9,8 @@ use Rattle.desk_sql.specs.Refusals.{IsRefusal}
 use Rattle.desk_sql.specs.Taking.{IsTakenInPart}
 use Rattle.desk_sql.proofs.AskLemmas.{plain_if, refused_unprepared}
 use Rattle.desk_sql.proofs.HandLemmas.{cut_short, refused_begun}
-use Rattle.desk_sql.proofs.LeavingLemmas.{begun_after, plain_text, was_prepared, handed_after, kept_after, kept_refused, spared_handed, reads_unprepared, reads_prepared, reads_handed}
-use Rattle.desk_sql.proofs.ReadLemmas.{if_either, unprepared}
+use Rattle.desk_sql.proofs.lemmas.Leaving.{begun_after, plain_text, was_prepared, handed_after, kept_after, kept_refused, spared_handed, reads_unprepared, reads_prepared, reads_handed}
+use Rattle.desk_sql.proofs.lemmas.Read.{if_either, unprepared}
 use Rattle.desk_sql.proofs.TakingLemmas.{begun, open_on, live_handed, taken_fresh}
 use Rattle.desk_sql.proofs.reading.taking.hand_rows.Goals as goal
 

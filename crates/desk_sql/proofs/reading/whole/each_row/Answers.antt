@@ -8,7 +8,7 @@ use Rattle.desk_sql.specs.Rows.{Lists, tables_at}
 use Rattle.desk_sql.specs.Schema.{HasTable, has_table, is_packed}
 use Rattle.desk_sql.proofs.AskLemmas.{all_selected, read_as}
 use Rattle.desk_sql.proofs.HandLemmas.{cut_short_of}
-use Rattle.desk_sql.proofs.ReadLemmas.{was_open}
+use Rattle.desk_sql.proofs.lemmas.Read.{was_open}
 use Rattle.desk_sql.proofs.SchemaLemmas.{has_made}
 use Rattle.desk_sql.proofs.TakingLemmas.{if_handed}
 use Rattle.desk_sql.proofs.reading.whole.each_row.Goals as goal

@@ -1,6 +1,6 @@
 use Rattle.desk_tables.specs.Copying.{BlamesNew}
 use Rattle.desk_tables.proofs.FillLemmas.{blames_disk}
-use Rattle.desk_tables.proofs.OpeningLemmas.{blames_unread, reported_as}
+use Rattle.table_load.proofs.lemmas.Opening.{blames_unread, reported_as}
 use Rattle.desk_tables.proofs.opening.copying.find_blank.Goals as goal
 
 pub returns-in_err-made-clause-cause : goal.returns-in_err-made-clause-cause

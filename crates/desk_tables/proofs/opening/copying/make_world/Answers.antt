@@ -2,12 +2,12 @@ use Rattle.std.proofs.Common.{◌≡◌, ◌<◌, ◌^◌, ◌∙◌, ap, arith,
 use Rattle.desk_sql.specs.Effects.{Commits}
 use Rattle.desk_store.specs.World.{World}
 use Rattle.desk_tables.specs.Copying.{AddsWorldRows, BlamesNew}
-use Rattle.desk_tables.specs.Store.{Stands}
-use Rattle.desk_tables.specs.Writable.{CanBeFilled}
+use Rattle.table_load.specs.Standing.{Stands}
+use Rattle.table_load.specs.Writable.{CanBeFilled}
 use Rattle.desk_sql.specs.Finding.{Holds}
 use Rattle.desk_tables.proofs.CopyLemmas.{written_stands}
 use Rattle.desk_tables.proofs.FillLemmas.{blames_later, can_fill}
-use Rattle.desk_tables.proofs.OpeningLemmas.{reported_as}
+use Rattle.table_load.proofs.lemmas.Opening.{reported_as}
 use Rattle.desk_tables.proofs.opening.copying.make_world.Goals as goal
 
 pub returns-clause-made : goal.returns-clause-made

@@ -3,10 +3,10 @@ use Rattle.sqlite.specs.Held.{state}
 use Rattle.desk_sql.specs.Rows as sql
 use Rattle.desk_sql.specs.Rows.{AddsPlan, tables_of}
 use Rattle.desk_store.specs.World.{Filed}
-use Rattle.desk_tables.specs.Opening.{BlamesReading}
-use Rattle.desk_tables.specs.Tables.{aircraft_number, id_text, row_of_plan, usage_number}
+use Rattle.table_load.specs.Opening.{BlamesReading}
+use Rattle.row_codec.specs.Tables.{aircraft_number, id_text, row_of_plan, usage_number}
 use Rattle.desk_tables.proofs.FillLemmas.{head_fits, heads_left}
-use Rattle.desk_tables.proofs.OpeningLemmas.{blames_reading, reported_as}
+use Rattle.table_load.proofs.lemmas.Opening.{blames_reading, reported_as}
 use Rattle.desk_tables.proofs.opening.copying.write_head.Goals as goal
 
 pub returns-in_err-insert_plan-clause-cause : goal.returns-in_err-insert_plan-clause-cause

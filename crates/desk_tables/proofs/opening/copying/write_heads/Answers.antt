@@ -4,12 +4,12 @@ use Rattle.sqlite.specs.State.{HasCleanDisk}
 use Rattle.sqlite.specs.Held.{state}
 use Rattle.desk_sql.specs.Rows.{AddsPlan}
 use Rattle.desk_tables.specs.Copying.{AddsHeadRows}
-use Rattle.desk_tables.specs.Opening.{BlamesReading}
-use Rattle.desk_tables.specs.Tables.{row_of_plan}
-use Rattle.desk_tables.specs.Writable.{AreNewHeads}
+use Rattle.table_load.specs.Opening.{BlamesReading}
+use Rattle.row_codec.specs.Tables.{row_of_plan}
+use Rattle.table_load.specs.Writable.{AreNewHeads}
 use Rattle.desk_tables.proofs.CopyLemmas.{no_heads, more_heads}
-use Rattle.desk_tables.proofs.MovingLemmas.{begins, goes_on, way_on}
-use Rattle.desk_tables.proofs.OpeningLemmas.{blames_since, reported_as}
+use Rattle.table_load.proofs.lemmas.Moving.{begins, goes_on, way_on}
+use Rattle.table_load.proofs.lemmas.Opening.{blames_since, reported_as}
 use Rattle.desk_tables.proofs.opening.copying.write_heads.Goals as goal
 
 pub plans-init : goal.plans-init

@@ -1,9 +1,9 @@
 use Rattle.std.proofs.Common.{◌≡◌, drop, take}
 use Rattle.sqlite.specs.State.{HasCleanDisk}
 use Rattle.sqlite.specs.Held.{state}
-use Rattle.desk_tables.proofs.MovingLemmas.{HasAdded}
+use Rattle.table_load.proofs.lemmas.Moving.{HasAdded}
 use Rattle.desk_tables.specs.Copying.{AddsHeadRows}
-use Rattle.desk_tables.specs.Writable.{AreNewHeads}
+use Rattle.table_load.specs.Writable.{AreNewHeads}
 use Rattle.desk_tables.proofs.opening.copying.write_heads.Given as goal
 
 -- the rows of the plans so far were added, and those of the others can be, if all could

@@ -3,10 +3,10 @@ use Rattle.sqlite.specs.Held.{state}
 use Rattle.desk_sql.specs.Changing.{FitsOperator}
 use Rattle.desk_sql.specs.Rows.{AddsOperator, tables_of}
 use Rattle.desk_store.specs.World.{Listed}
-use Rattle.desk_tables.specs.Opening.{BlamesReading}
-use Rattle.desk_tables.specs.Tables.{row_of_operator}
+use Rattle.table_load.specs.Opening.{BlamesReading}
+use Rattle.row_codec.specs.Tables.{row_of_operator}
 use Rattle.desk_tables.proofs.FillLemmas.{operator_fits, operators_left}
-use Rattle.desk_tables.proofs.OpeningLemmas.{blames_reading, reported_as}
+use Rattle.table_load.proofs.lemmas.Opening.{blames_reading, reported_as}
 use Rattle.desk_tables.proofs.opening.copying.write_operator.Goals as goal
 
 pub returns-in_err-insert_operator-clause-cause : goal.returns-in_err-insert_operator-clause-cause

@@ -1,5 +1,5 @@
 use Rattle.std.proofs.Common.{◌≡◌, min, take, ◌-◌, ◌^◌}
-use Rattle.desk_tables.specs.RivalRows.{leaves_begun}
+use Rattle.row_codec.specs.RivalRows.{leaves_begun}
 use Rattle.desk_tables.proofs.reading.plans.leaves_of.Given as goal
 
 abbrev pub invariant-loop-question : goal.invariant-loop-question

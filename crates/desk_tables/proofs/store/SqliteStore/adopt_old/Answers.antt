@@ -1,8 +1,8 @@
 use Rattle.std.proofs.Common.{sym, subst}
-use Rattle.desk_tables.specs.Moving.{BeginsMoved}
-use Rattle.desk_tables.specs.OpeningSteps.{IsAdopted}
-use Rattle.desk_tables.specs.CutShort.{IsMovedOn, LeavesShownOr}
-use Rattle.desk_tables.proofs.CutLemmas.{shown_leaves}
+use Rattle.table_load.specs.Moving.{BeginsMoved}
+use Rattle.table_load.specs.OpeningSteps.{IsAdopted}
+use Rattle.table_load.specs.CutShort.{IsMovedOn, LeavesShownOr}
+use Rattle.table_load.proofs.lemmas.Cut.{shown_leaves}
 use Rattle.desk_tables.proofs.LiftLemmas.{doubt_lifted, none_then, shield_lifted, blames_lifted, keeps_lifted, moves_lifted, unmoved_lifted}
 use Rattle.desk_tables.proofs.store.SqliteStore.adopt_old.Goals as goal
 

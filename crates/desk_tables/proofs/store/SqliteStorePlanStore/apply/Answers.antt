@@ -2,8 +2,8 @@ use Rattle.std.proofs.Common.{arith, sym, subst}
 use Rattle.desk_store.specs.StoreChange.{changed_by}
 use Rattle.desk_store.specs.Content.{IsContent}
 use Rattle.desk_store.specs.Crashes.{LeavesOldOr}
-use Rattle.desk_tables.specs.Known.{Knows}
-use Rattle.desk_tables.specs.Leaving.{MayLeave}
+use Rattle.row_codec.specs.Known.{Knows}
+use Rattle.table_load.specs.Leaving.{MayLeave}
 use Rattle.desk_tables.proofs.LeavingLemmas.{leaves_or_changed}
 use Rattle.desk_tables.proofs.store.SqliteStorePlanStore.apply.Goals as goal
 

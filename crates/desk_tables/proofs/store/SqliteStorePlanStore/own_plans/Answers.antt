@@ -2,7 +2,7 @@ use Rattle.std.proofs.Common.{arith, subst}
 use Rattle.sqlite.specs.Held.{state}
 use Rattle.sqlite.specs.State.{HasCleanDisk}
 use Rattle.desk_store.specs.Content.{IsContent}
-use Rattle.desk_tables.proofs.StoreLemmas.{on_any}
+use Rattle.table_load.proofs.lemmas.Store.{on_any}
 use Rattle.desk_tables.proofs.store.SqliteStorePlanStore.own_plans.Goals as goal
 
 pub returns-clause-content : goal.returns-clause-content

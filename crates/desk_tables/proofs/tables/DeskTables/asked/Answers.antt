@@ -6,8 +6,9 @@ use Rattle.sqlite.specs.Held.{state}
 use Rattle.desk_sql.specs.Rows.{tables_of, held_columns, is_wanted}
 use Rattle.desk_sql.specs.Others.{is_others_from}
 use Rattle.desk_tables.specs.Causes.{BlamesSpans}
-use Rattle.desk_tables.specs.RivalRows.{HasTakenHelds, HaveTaken, is_another_from, reach_from}
-use Rattle.desk_tables.proofs.StoreLemmas.{still_stands, weaker, on_whole}
+use Rattle.row_codec.specs.RivalRows.{HasTakenHelds, HaveTaken, is_another_from, reach_from}
+use Rattle.row_codec.proofs.lemmas.Result.{weaker}
+use Rattle.table_load.proofs.lemmas.Store.{still_stands, on_whole}
 use Rattle.desk_tables.proofs.CauseLemmas.{err_weaker, spans_blamed}
 use Rattle.desk_tables.proofs.tables.DeskTables.asked.Goals as goal
 

@@ -1,5 +1,5 @@
 use Rattle.std.proofs.Common.{take}
-use Rattle.desk_tables.specs.RivalRows.{is_asked}
+use Rattle.row_codec.specs.RivalRows.{is_asked}
 use Rattle.desk_tables.proofs.AskingLemmas.{IsAsking}
 use Rattle.desk_tables.proofs.tables.DeskTables.asked_all.Given as goal
 

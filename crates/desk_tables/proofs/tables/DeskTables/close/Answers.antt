@@ -9,11 +9,12 @@ use Rattle.desk_sql.specs.Frames.{OnlyReads}
 use Rattle.desk_tables.specs.Causes.{BlamesStore}
 use Rattle.desk_tables.specs.Store.{HeldWorld}
 use Rattle.desk_tables.specs.Lookups.{own_of}
-use Rattle.desk_tables.specs.Tables.{plan_rows}
+use Rattle.row_codec.specs.Tables.{plan_rows}
 use Rattle.desk_tables.proofs.ListingLemmas.{none_first, none_stored, some_first}
 use Rattle.desk_tables.proofs.ParseLemmas.{parsed_short}
-use Rattle.desk_tables.proofs.UnreadLemmas.{on_err}
-use Rattle.desk_tables.proofs.CauseLemmas.{blamed_since, closed_stored, err_weaker, head_reads, name_short, on_refused}
+use Rattle.row_codec.proofs.lemmas.Unread.{on_err}
+use Rattle.table_load.proofs.lemmas.NewRow.{name_short}
+use Rattle.desk_tables.proofs.CauseLemmas.{blamed_since, closed_stored, err_weaker, head_reads, on_refused}
 use Rattle.desk_tables.proofs.AfterLemmas.{committed_as, followed, followed_blamed, made_after, made_closed, next_after}
 use Rattle.desk_tables.proofs.tables.DeskTables.close.Goals as goal
 

@@ -4,7 +4,7 @@ use Rattle.desk_sql.specs.Changing.{IsShort}
 use Rattle.desk_sql.specs.Rows.{PutsOperator}
 use Rattle.desk_tables.specs.ChangesMade.{IsNext}
 use Rattle.desk_tables.proofs.AfterLemmas.{committed_as, followed, followed_blamed, made_enrolled}
-use Rattle.desk_tables.proofs.CauseLemmas.{name_short}
+use Rattle.table_load.proofs.lemmas.NewRow.{name_short}
 use Rattle.desk_tables.proofs.tables.DeskTables.enrol.Goals as goal
 
 pub invariant_of-self : goal.invariant_of-self

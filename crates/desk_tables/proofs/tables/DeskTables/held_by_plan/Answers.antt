@@ -4,8 +4,9 @@ use Rattle.desk_sql.specs.Rows.{tables_of, held_columns}
 use Rattle.desk_sql.specs.Others.{is_plans}
 use Rattle.desk_store.proofs.lemmas.Parse.{parsed_id}
 use Rattle.desk_tables.specs.Causes.{BlamesSpans}
-use Rattle.desk_tables.specs.RivalRows.{HasTakenHelds, reach_of}
-use Rattle.desk_tables.proofs.StoreLemmas.{still_stands, weaker, on_whole}
+use Rattle.row_codec.specs.RivalRows.{HasTakenHelds, reach_of}
+use Rattle.row_codec.proofs.lemmas.Result.{weaker}
+use Rattle.table_load.proofs.lemmas.Store.{still_stands, on_whole}
 use Rattle.desk_tables.proofs.CauseLemmas.{err_weaker, spans_blamed}
 use Rattle.desk_tables.proofs.tables.DeskTables.held_by_plan.Goals as goal
 

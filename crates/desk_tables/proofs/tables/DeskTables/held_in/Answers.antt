@@ -1,8 +1,8 @@
 use Rattle.std.proofs.Common.{subst, sym}
 use Rattle.sqlite.specs.State.{HasCleanDisk}
 use Rattle.sqlite.specs.Held.{state}
-use Rattle.desk_tables.specs.RivalRows.{AreWanted}
-use Rattle.desk_tables.specs.SpanBounds.{Bounds}
+use Rattle.row_codec.specs.RivalRows.{AreWanted}
+use Rattle.row_codec.specs.SpanBounds.{Bounds}
 use Rattle.desk_tables.proofs.OtherLemmas.{reading_begins, reading_on}
 use Rattle.desk_tables.proofs.tables.DeskTables.held_in.Goals as goal
 

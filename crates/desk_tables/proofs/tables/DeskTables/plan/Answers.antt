@@ -2,10 +2,10 @@ use Rattle.std.proofs.Common.{◌≡◌, ◌∙◌, sym, subst, arith}
 use Rattle.desk_tables.proofs.ListingLemmas.{none_stored, plan_stored, none_first, some_first}
 use Rattle.desk_tables.specs.Causes.{BlamesStore}
 use Rattle.desk_tables.specs.Lookups.{own_of}
-use Rattle.desk_tables.specs.Tables.{volume_rows}
+use Rattle.row_codec.specs.Tables.{volume_rows}
 use Rattle.desk_tables.proofs.CauseLemmas.{plan_reads}
-use Rattle.desk_tables.proofs.FrameLemmas.{reads_then}
-use Rattle.desk_tables.proofs.UnreadLemmas.{no_value, on_err}
+use Rattle.table_load.proofs.lemmas.Frame.{reads_then}
+use Rattle.row_codec.proofs.lemmas.Unread.{no_value, on_err}
 use Rattle.desk_tables.proofs.tables.DeskTables.plan.Goals as goal
 
 pub returns-in_default : goal.returns-in_default

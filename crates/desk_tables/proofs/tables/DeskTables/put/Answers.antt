@@ -2,17 +2,17 @@ use Rattle.std.proofs.Common.{ap, arith, sym, subst, ◌∙◌, map}
 use Rattle.std.specs.List.{AllByRecursion}
 use Rattle.sqlite.specs.State.{HasCleanDisk}
 use Rattle.sqlite.specs.Held.{state}
-use Rattle.desk_sql.specs.Putting.{IsPuttable}
-use Rattle.desk_sql.specs.Batches.{PutsPlan, volume_row_in, cover_of, span_row_in}
+use Rattle.desk_changes.specs.Putting.{IsPuttable}
+use Rattle.desk_changes.specs.Batches.{PutsPlan, volume_row_in, cover_of, span_row_in}
 use Rattle.desk_store.specs.Changes.{filed_by}
 use Rattle.desk_store.specs.declared.change.Change.TheVariants.{Put}
 use Rattle.desk_tables.specs.ChangesMade.{IsNext}
-use Rattle.desk_tables.specs.Tables.{usage_number, aircraft_number, area_rows, area_covers, ArePlanSpanRows}
+use Rattle.row_codec.specs.Tables.{usage_number, aircraft_number, area_rows, area_covers, ArePlanSpanRows}
 use Rattle.desk_store.specs.Content.{IsBlock}
-use Rattle.desk_tables.specs.SpanBounds.{IsKnownRow}
+use Rattle.row_codec.specs.SpanBounds.{IsKnownRow}
 use Rattle.desk_store.proofs.lemmas.Parse.{parsed_id}
 use Rattle.desk_tables.proofs.ParseLemmas.{parsed_short}
-use Rattle.desk_tables.proofs.SpanBoundLemmas.{plan_near}
+use Rattle.row_codec.proofs.lemmas.SpanBound.{plan_near}
 use Rattle.desk_tables.proofs.CauseLemmas.{on_refused}
 use Rattle.desk_tables.proofs.PutLemmas.{put_as}
 use Rattle.desk_tables.proofs.PuttableLemmas.{puttable}

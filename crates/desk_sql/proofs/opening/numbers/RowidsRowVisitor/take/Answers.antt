@@ -1,5 +1,5 @@
-use Rattle.desk_sql.proofs.RowidLemmas.{one_taken}
-use Rattle.desk_sql.proofs.opening.numbers.RowidsRowSink.take.Goals as goal
+use Rattle.desk_sql.proofs.lemmas.Rowid.{one_taken}
+use Rattle.desk_sql.proofs.opening.numbers.RowidsRowVisitor.take.Goals as goal
 
 pub returns-clause-taken : goal.returns-clause-taken
 returns-clause-taken c = λ rows so.

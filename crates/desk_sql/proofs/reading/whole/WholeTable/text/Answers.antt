@@ -1,6 +1,6 @@
 use Rattle.std.proofs.Common.{sym, subst}
 use Rattle.desk_sql.specs.WholeTables.{ShowsWhole}
-use Rattle.desk_sql.proofs.reading.whole.Whole.text.Goals as goal
+use Rattle.desk_sql.proofs.reading.whole.WholeTable.text.Goals as goal
 
 pub returns-in-Operators : goal.returns-in-Operators
 returns-in-Operators c = subst (λ whole. ShowsWhole whole c.operators_text.result.now) (sym c.in-Operators.is) c.operators_text.ensures

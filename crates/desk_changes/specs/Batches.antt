@@ -1,0 +1,97 @@
+-- Several rows at once.
+use Rattle.std.specs.Prelude.{◌≡◌, ℕ, Bool, not, List, [], ◌∷◌, ◌++◌, filter, IsPermutation}
+use Rattle.std.specs.List.{list_any}
+use Rattle.sqlite.specs.declared.types.Value.TheVariants.{Blob}
+use Rattle.sqlite.specs.Order.{Row}
+use Rattle.desk_changes.specs.declared.writing.VolumeRecord.{VolumeRecord}
+use Rattle.desk_changes.specs.declared.writing.SpanRecord.{SpanRecord}
+use Rattle.desk_sql.specs.Rows.{Tables, VolumeColumns, SpanColumns, is_of, is_not_of, left_without, volume_row, cover_row, span_row}
+
+abbrev pub volume_columns : VolumeRecord → VolumeColumns
+volume_columns v = record {
+  operator = v.operator.now;
+  id = v.id.now;
+  place = v.place;
+  lower = v.lower;
+  upper = v.upper;
+  start = v.start;
+  stop = v.stop;
+  asked = v.asked.now;
+}
+
+abbrev pub volume_row_in : VolumeRecord → Row
+volume_row_in v = volume_row (volume_columns v)
+
+abbrev pub cover_of : VolumeRecord → Row
+cover_of v = cover_row v.operator.now v.id.now v.place v.canon.now
+
+-- the whole row of `volume2`
+abbrev pub volume_params : VolumeRecord → Row
+volume_params v = volume_row_in v ++ Blob v.canon.now ∷ []
+
+abbrev pub span_columns : SpanRecord → SpanColumns
+span_columns s = record {
+  operator = s.operator.now;
+  id = s.id.now;
+  place = s.place;
+  first = s.first;
+  last = s.last;
+  lower = s.lower;
+  upper = s.upper;
+  start = s.start;
+  stop = s.stop;
+  priority = s.priority;
+}
+
+abbrev pub span_row_in : SpanRecord → Row
+span_row_in s = span_row (span_columns s)
+
+abbrev pub AddsVolumes : List Row → List Row → Tables → Tables → Type 0
+AddsVolumes rows covers old new = IsPermutation (rows ++ old.volumes) new.volumes
+    × IsPermutation (covers ++ old.covers) new.covers
+    × (new ≡ record old { volumes = new.volumes; covers = new.covers })
+
+abbrev pub AddsSpans : List Row → Tables → Tables → Type 0
+AddsSpans rows old new = IsPermutation (rows ++ old.spans) new.spans
+    × (new ≡ record old { spans = new.spans })
+
+-- what is put of a plan: whose and which it is, its row, and the rows of its volumes, covers and spans
+pub record PlanPut : Type 0 where
+  pub operator : List ℕ
+  pub id : List ℕ
+  pub plan : Row
+  pub volumes : List Row
+  pub covers : List Row
+  pub spans : List Row
+
+-- what there was of the plan goes, and this comes
+pub record PutsPlan (put : PlanPut) (old new : Tables) : Type 0 where
+  pub operators : new.operators ≡ old.operators
+  pub plans : IsPermutation (put.plan ∷ filter (is_not_of put.operator put.id) old.plans) new.plans
+  pub old_volumes : new.old_volumes ≡ left_without put.operator put.id old old.old_volumes
+  pub old_spans : new.old_spans ≡ left_without put.operator put.id old old.old_spans
+  pub with_volumes : IsPermutation (put.volumes ++ left_without put.operator put.id old old.volumes)
+      new.volumes
+  pub with_covers : IsPermutation (put.covers ++ left_without put.operator put.id old old.covers) new.covers
+  pub with_spans : IsPermutation (put.spans ++ left_without put.operator put.id old old.spans) new.spans
+
+-- of none of these plans
+abbrev pub is_of_none : List ℕ → List (List ℕ) → Row → Bool
+is_of_none operator ids row = not (list_any (λ id. is_of operator id row) ids)
+
+-- those of the ids whose plan is there
+abbrev pub ids_there : List ℕ → List (List ℕ) → Tables → List (List ℕ)
+ids_there operator ids old = filter (λ id. list_any (is_of operator id) old.plans) ids
+
+-- the plans of these ids go, and the volumes and spans of each that is there with it
+abbrev pub RemovesPlans : List ℕ → List (List ℕ) → Tables → Tables → Type 0
+RemovesPlans operator ids old new =
+    new ≡ record {
+      operators = old.operators;
+      plans = filter (is_of_none operator ids) old.plans;
+      old_volumes = filter (is_of_none operator (ids_there operator ids old)) old.old_volumes;
+      old_spans = filter (is_of_none operator (ids_there operator ids old)) old.old_spans;
+      volumes = filter (is_of_none operator (ids_there operator ids old)) old.volumes;
+      covers = filter (is_of_none operator (ids_there operator ids old)) old.covers;
+      spans = filter (is_of_none operator (ids_there operator ids old)) old.spans;
+    }

@@ -1,0 +1,4 @@
+-- Each names those before it.
+pub mod Batches
+pub mod Putting
+pub mod RowChanges

@@ -1,0 +1,93 @@
+//! Rows of volumes and of spans added, and plans removed, one after the other.
+
+ghost use Rattle.std.specs.Prelude.{◌≡◌, ⊤, OnOk, IsTrue, length, map};
+ghost use Rattle.std.specs.String.{string_bytes};
+ghost use Rattle.sqlite.specs.Effect.{IsDatabase};
+ghost use Rattle.sqlite.specs.State.{HasCleanDisk};
+ghost use Rattle.sqlite.specs.Held.{state};
+ghost use Rattle.desk_changes.specs.Batches.{volume_row_in, cover_of, span_row_in, AddsVolumes, AddsSpans, RemovesPlans};
+ghost use Rattle.desk_sql.specs.Effects.{Makes, IsUnderWay};
+ghost use Rattle.desk_sql.specs.Frames.{Remembers};
+ghost use Rattle.desk_sql.specs.QueryEnds.{HasRefusal, IsChanged, IsUndone};
+ghost use Rattle.desk_sql.specs.Finding.{Holds};
+ghost use Rattle.desk_sql.specs.Rows.{RemovesPlan, IsDesk};
+ghost use Rattle.desk_changes.specs.Putting.{AreNewSpans, AreNewVolumes, TakesRoom};
+
+use crate::change::RowChange;
+use crate::execute::execute;
+use crate::writing::{SpanRecord, VolumeRecord};
+use sqlite::{Alter, Error, Transaction};
+
+/// Adds these rows to `volume2`.
+pub fn insert_volumes<S: Alter>(
+    tx: &mut Transaction<'_, S>,
+    rows: &[VolumeRecord<'_>],
+) -> Result<(), Error>
+    requires under_way { IsUnderWay S.Store tx.old.conn.now }
+    ensures same_reference { tx.new.conn.ghost_name ≡ tx.old.conn.ghost_name }
+    ensures changed { IsChanged S.Store tx.old.conn.now tx.new.conn.now result
+        (AddsVolumes (map volume_row_in rows.now) (map cover_of rows.now))
+        (AreNewVolumes (map volume_row_in rows.now) (map cover_of rows.now))
+        (TakesRoom 0 (length rows.now) 0) }
+{
+    'rows: for row in rows {
+        execute(tx, RowChange::AddVolume(*row))?;
+    }
+    Ok(())
+}
+
+/// Adds these rows to `span2`.
+pub fn insert_spans<S: Alter>(
+    tx: &mut Transaction<'_, S>,
+    rows: &[SpanRecord<'_>],
+) -> Result<(), Error>
+    requires under_way { IsUnderWay S.Store tx.old.conn.now }
+    ensures same_reference { tx.new.conn.ghost_name ≡ tx.old.conn.ghost_name }
+    ensures changed { IsChanged S.Store tx.old.conn.now tx.new.conn.now result
+        (AddsSpans (map span_row_in rows.now)) (AreNewSpans (map span_row_in rows.now))
+        (TakesRoom 0 0 (length rows.now)) }
+{
+    'rows: for row in rows {
+        execute(tx, RowChange::AddSpan(*row))?;
+    }
+    Ok(())
+}
+
+/// Removes the plans of these ids, and their volumes and spans with them.
+pub fn remove_plans<S: Alter>(
+    tx: &mut Transaction<'_, S>,
+    operator: &str,
+    ids: &[String],
+) -> Result<(), Error>
+    requires desk { Holds S.Store tx.old.conn.now IsDesk }
+    requires sound { Holds S.Store tx.old.conn.now IsDatabase }
+    requires begun { IsTrue tx.old.conn.now.in_transaction }
+    ensures same_reference { tx.new.conn.ghost_name ≡ tx.old.conn.ghost_name }
+    ensures done { HasCleanDisk (state S.Store tx.new.conn.now)
+        → OnOk result (Makes S.Store tx.old.conn.now tx.new.conn.now
+        (RemovesPlans operator.now (map string_bytes ids.now))) }
+    ensures undone { IsUndone S.Store tx.old.conn.now tx.new.conn.now result }
+    ensures cause { HasRefusal S.Store tx.old.conn.now tx.new.conn.now result }
+    ensures remembered { Remembers S.Store tx.old.conn.now tx.new.conn.now }
+{
+    // Refused on a connection that is shut, also if there are no ids.
+    let _statement = tx.prepare(RowChange::RemovePlan { operator, id: "" }.text())?;
+    'ids: for id in ids {
+        remove_one(tx, operator, id)?;
+    }
+    Ok(())
+}
+
+// Removes the plan of an id, which is a text of its own.
+fn remove_one<S: Alter>(
+    tx: &mut Transaction<'_, S>,
+    operator: &str,
+    id: &String,
+) -> Result<(), Error>
+    requires desk { Holds S.Store tx.old.conn.now IsDesk }
+    ensures same_reference { tx.new.conn.ghost_name ≡ tx.old.conn.ghost_name }
+    ensures changed { IsChanged S.Store tx.old.conn.now tx.new.conn.now result
+        (RemovesPlan operator.now (string_bytes id.now)) (λ _. ⊤) (TakesRoom 0 0 0) }
+{
+    execute(tx, RowChange::RemovePlan { operator, id })
+}

@@ -1,0 +1,180 @@
+//! The statements that change rows.
+
+ghost use Rattle.std.specs.Prelude.{◌≡◌, ℕ, List};
+ghost use Rattle.desk_changes.specs.declared.writing.PlanRecord.{PlanRecord as PlanRow};
+ghost use Rattle.desk_changes.specs.declared.writing.SpanRecord.{SpanRecord as SpanRow};
+ghost use Rattle.desk_changes.specs.declared.writing.VolumeRecord.{VolumeRecord as VolumeRow};
+ghost use Rattle.desk_changes.specs.RowChanges.{IsTextOf, given_to};
+ghost use Rattle.desk_changes.specs.RowChanges.{DoesAddOperator, DoesSetCeiling, DoesSetClosed};
+ghost use Rattle.desk_changes.specs.RowChanges.{DoesRemovePlan, DoesRemoveSpans};
+
+use crate::writing::{PlanRecord, SpanRecord, VolumeRecord};
+use desk_sql::Parameters;
+use sqlite::params;
+
+/// A change of rows, with what it is given.
+#[derive(Clone, Copy)]
+pub(crate) enum RowChange<'a> {
+    /// Adds a row to `operator`.
+    AddOperator {
+        name: &'a str,
+        ceiling: u32,
+    },
+    /// Adds a row to `plan`.
+    AddPlan(PlanRecord<'a>),
+    /// Adds a row to `volume2`.
+    AddVolume(VolumeRecord<'a>),
+    /// Adds a row to `span2`.
+    AddSpan(SpanRecord<'a>),
+    /// Sets the ceiling of the operator with this name, if there is one.
+    SetCeiling {
+        name: &'a str,
+        ceiling: u32,
+    },
+    /// Sets the row of a plan, if there is one, to the usage Closed with this priority and this state of
+    /// the aircraft.
+    SetClosed {
+        operator: &'a str,
+        id: &'a str,
+        priority: u32,
+        aircraft: u32,
+    },
+    /// Removes a plan, and its volumes and spans with it. Without the plan it changes nothing.
+    RemovePlan {
+        operator: &'a str,
+        id: &'a str,
+    },
+    /// Removes the spans of a plan.
+    RemoveSpans {
+        operator: &'a str,
+        id: &'a str,
+    },
+    /// Removes all rows of `volume`, which version 1 of the schema has.
+    EmptyOldVolumes,
+    /// Removes all rows of `span`, which version 1 of the schema has.
+    EmptyOldSpans,
+}
+
+impl<'a> RowChange<'a> {
+    /// The text, whose parameters are what the change is given.
+    pub(crate) fn text(self) -> &'static str
+        ensures { IsTextOf self.entry result.now }
+    {
+        match self {
+            RowChange::AddOperator { .. } => add_operator_text(),
+            RowChange::AddPlan(_) => add_plan_text(),
+            RowChange::AddVolume(_) => add_volume_text(),
+            RowChange::AddSpan(_) => add_span_text(),
+            RowChange::SetCeiling { .. } => set_ceiling_text(),
+            RowChange::SetClosed { .. } => set_closed_text(),
+            RowChange::RemovePlan { .. } => remove_plan_text(),
+            RowChange::RemoveSpans { .. } => remove_spans_text(),
+            RowChange::EmptyOldVolumes => empty_old_volumes_text(),
+            RowChange::EmptyOldSpans => empty_old_spans_text(),
+        }
+    }
+
+    /// What the change is given, as the parameters of its text.
+    pub(crate) fn params(self) -> Parameters<'a>
+        ensures { result ≡ given_to self.entry }
+    {
+        match self {
+            RowChange::AddOperator { name, ceiling } => Parameters::of(params![name, ceiling]),
+            RowChange::AddPlan(p) => {
+                Parameters::of(params![p.operator, p.id, p.priority, p.usage, p.aircraft])
+            }
+            RowChange::AddVolume(v) => Parameters::of(params![
+                v.operator, v.id, v.place, v.lower, v.upper, v.start, v.stop, v.asked, v.canon
+            ]),
+            RowChange::AddSpan(s) => Parameters::of(params![
+                s.operator, s.id, s.place, s.first, s.last, s.lower, s.upper, s.start, s.stop,
+                s.priority
+            ]),
+            RowChange::SetCeiling { name, ceiling } => Parameters::of(params![name, ceiling]),
+            RowChange::SetClosed {
+                operator,
+                id,
+                priority,
+                aircraft,
+            } => { Parameters::of(params![operator, id, priority, aircraft]) }
+            RowChange::RemovePlan { operator, id } => Parameters::of(params![operator, id]),
+            RowChange::RemoveSpans { operator, id } => Parameters::of(params![operator, id]),
+            RowChange::EmptyOldVolumes | RowChange::EmptyOldSpans => Parameters::of(&[]),
+        }
+    }
+}
+
+// Adds a row to `operator`.
+fn add_operator_text() -> &'static str
+    ensures { (name : List ℕ) (ceiling : ℕ) → DoesAddOperator name ceiling result.now }
+{
+    "INSERT INTO operator (name, ceiling) VALUES (?1, ?2)"
+}
+
+// Adds a row to `plan`.
+fn add_plan_text() -> &'static str
+    ensures { (row : PlanRow) → IsTextOf (RowChange.AddPlan row) result.now }
+{
+    "INSERT INTO plan (operator, id, priority, usage, aircraft) VALUES (?1, ?2, ?3, ?4, ?5)"
+}
+
+// Adds a row to `volume2`.
+fn add_volume_text() -> &'static str
+    ensures { (row : VolumeRow) → IsTextOf (RowChange.AddVolume row) result.now }
+{
+    "INSERT INTO volume2 (operator, id, place, lower, upper, start, stop, asked, canon) \
+     VALUES (?1, ?2, ?3, ?4, ?5, ?6, ?7, ?8, ?9)"
+}
+
+// Adds a row to `span2`.
+fn add_span_text() -> &'static str
+    ensures { (row : SpanRow) → IsTextOf (RowChange.AddSpan row) result.now }
+{
+    "INSERT INTO span2 (operator, id, place, first, last, lower, upper, start, stop, priority) \
+     VALUES (?1, ?2, ?3, ?4, ?5, ?6, ?7, ?8, ?9, ?10)"
+}
+
+// Sets the ceiling of the operator with a name.
+fn set_ceiling_text() -> &'static str
+    ensures { (name : List ℕ) (ceiling : ℕ) → DoesSetCeiling name ceiling result.now }
+{
+    "UPDATE operator SET ceiling = ?2 WHERE name = ?1"
+}
+
+// Sets the row of a plan to the usage Closed, with a priority and a state of the aircraft.
+fn set_closed_text() -> &'static str
+    ensures { (operator id : List ℕ) (priority aircraft : ℕ) →
+        DoesSetClosed operator id priority aircraft result.now }
+{
+    "UPDATE plan SET priority = ?3, usage = 2, aircraft = ?4 WHERE operator = ?1 AND id = ?2"
+}
+
+// Removes a plan, and its volumes and spans with it.
+fn remove_plan_text() -> &'static str
+    ensures { (operator id : List ℕ) → DoesRemovePlan operator id result.now }
+{
+    "DELETE FROM plan WHERE operator = ?1 AND id = ?2"
+}
+
+// Removes the spans of a plan.
+fn remove_spans_text() -> &'static str
+    ensures { (operator id : List ℕ) → DoesRemoveSpans operator id result.now }
+{
+    "DELETE FROM span2 WHERE operator = ?1 AND id = ?2"
+}
+
+// Removes all rows of `volume`.
+#[tactic(auto, using(crate::proofs::ChangeTexts::empty_old_volumes_does))]
+fn empty_old_volumes_text() -> &'static str
+    ensures { IsTextOf RowChange.EmptyOldVolumes result.now }
+{
+    "DELETE FROM volume"
+}
+
+// Removes all rows of `span`.
+#[tactic(auto, using(crate::proofs::ChangeTexts::empty_old_spans_does))]
+fn empty_old_spans_text() -> &'static str
+    ensures { IsTextOf RowChange.EmptyOldSpans result.now }
+{
+    "DELETE FROM span"
+}

@@ -1,0 +1,31 @@
+//! The tables of version 1 of the schema are emptied.
+
+ghost use Rattle.std.specs.Prelude.{◌≡◌, ⊤};
+ghost use Rattle.desk_sql.specs.Rows.{RemovesOldVolumes, RemovesOldSpans, IsDesk};
+ghost use Rattle.desk_sql.specs.QueryEnds.{IsChanged};
+ghost use Rattle.desk_changes.specs.Putting.{TakesRoom};
+ghost use Rattle.desk_sql.specs.Finding.{Holds};
+
+use crate::change::RowChange;
+use crate::execute::execute;
+use sqlite::{Alter, Error, Transaction};
+
+/// Removes all rows of `volume`, which version 1 of the schema has.
+pub fn empty_old_volumes<S: Alter>(tx: &mut Transaction<'_, S>) -> Result<(), Error>
+    requires desk { Holds S.Store tx.old.conn.now IsDesk }
+    ensures same_reference { tx.new.conn.ghost_name ≡ tx.old.conn.ghost_name }
+    ensures changed { IsChanged S.Store tx.old.conn.now tx.new.conn.now result
+        RemovesOldVolumes (λ _. ⊤) (TakesRoom 0 0 0) }
+{
+    execute(tx, RowChange::EmptyOldVolumes)
+}
+
+/// Removes all rows of `span`, which version 1 of the schema has.
+pub fn empty_old_spans<S: Alter>(tx: &mut Transaction<'_, S>) -> Result<(), Error>
+    requires desk { Holds S.Store tx.old.conn.now IsDesk }
+    ensures same_reference { tx.new.conn.ghost_name ≡ tx.old.conn.ghost_name }
+    ensures changed { IsChanged S.Store tx.old.conn.now tx.new.conn.now result
+        RemovesOldSpans (λ _. ⊤) (TakesRoom 0 0 0) }
+{
+    execute(tx, RowChange::EmptyOldSpans)
+}

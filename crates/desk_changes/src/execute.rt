@@ -1,0 +1,43 @@
+//! A change of the tables, made within a transaction.
+
+ghost use Rattle.std.specs.Prelude.{◌≡◌, IfOk};
+ghost use Rattle.sqlite.specs.State.{HasCleanDisk};
+ghost use Rattle.sqlite.specs.Held.{state};
+ghost use Rattle.desk_sql.specs.QueryEnds.{IsChanged};
+ghost use Rattle.desk_changes.specs.RowChanges.{changes, counts, fits, takes};
+ghost use Rattle.desk_sql.specs.Finding.{Holds};
+ghost use Rattle.desk_sql.specs.Rows.{IsDesk, tables_of};
+
+use crate::change::RowChange;
+use desk_sql::run;
+use sqlite::{Alter, Error, Transaction};
+
+/// Makes a change, and counts the rows that it changed.
+pub(crate) fn execute_counted<S: Alter>(
+    tx: &mut Transaction<'_, S>,
+    change: RowChange<'_>,
+) -> Result<usize, Error>
+    requires desk { Holds S.Store tx.old.conn.now IsDesk }
+    ensures same_reference { tx.new.conn.ghost_name ≡ tx.old.conn.ghost_name }
+    ensures changed { IsChanged S.Store tx.old.conn.now tx.new.conn.now result
+        (changes change.entry) (fits change.entry) (takes change.entry) }
+    ensures counted { HasCleanDisk (state S.Store tx.new.conn.now) → IfOk result (λ count.
+        counts change.entry count (tables_of (state S.Store tx.old.conn.now).now.trees)) }
+{
+    let count = run(tx, change.text(), change.params().as_slice())?;
+    Ok(count)
+}
+
+/// Makes a change.
+pub(crate) fn execute<S: Alter>(
+    tx: &mut Transaction<'_, S>,
+    change: RowChange<'_>,
+) -> Result<(), Error>
+    requires desk { Holds S.Store tx.old.conn.now IsDesk }
+    ensures same_reference { tx.new.conn.ghost_name ≡ tx.old.conn.ghost_name }
+    ensures changed { IsChanged S.Store tx.old.conn.now tx.new.conn.now result
+        (changes change.entry) (fits change.entry) (takes change.entry) }
+{
+    execute_counted(tx, change)?;
+    Ok(())
+}

@@ -1,0 +1,123 @@
+//! Whole changes of the tables, each one transaction.
+
+ghost use Rattle.std.specs.Prelude.{◌≡◌, ⊤, map};
+ghost use Rattle.desk_sql.specs.Finding.{Holds};
+ghost use Rattle.desk_sql.specs.Rows.{PutsOperator, ClosesPlan, IsDesk};
+ghost use Rattle.std.specs.String.{string_bytes};
+ghost use Rattle.desk_changes.specs.Batches.{PutsPlan, RemovesPlans};
+ghost use Rattle.desk_sql.specs.Changing.{AreLow, HasRowids, IsShort};
+ghost use Rattle.desk_changes.specs.Putting.{IsPuttable};
+ghost use Rattle.desk_changes.specs.RowChanges.{plan_put};
+ghost use Rattle.desk_sql.specs.Effects.{IsReady};
+ghost use Rattle.desk_sql.specs.QueryEnds.{IsChanged, IsCommitted};
+
+use crate::batch::{insert_spans, insert_volumes, remove_plans};
+use crate::change::RowChange;
+use crate::execute::{execute, execute_counted};
+use crate::writing::{PlanRecord, SpanRecord, VolumeRecord, insert_operator, insert_plan};
+use desk_sql::laws::committed_and_sound;
+use sqlite::{Alter, Connection, Error, Transaction};
+
+/// Removes the plans of these ids, and their volumes and spans with them, as one transaction.
+pub fn clear_plans<S: Alter>(
+    connection: &mut Connection<S>,
+    operator: &str,
+    ids: &[String],
+) -> Result<(), Error>
+    requires ready { IsReady S.Store connection.old IsDesk }
+    ensures committed { IsCommitted S.Store connection.old connection.new result
+        (RemovesPlans operator.now (map string_bytes ids.now)) (λ _. ⊤) }
+{
+    committed_and_sound(connection);
+    let mut tx = connection.transaction();
+    remove_plans(&mut tx, operator, ids)?;
+    tx.commit()
+}
+
+/// Puts a plan with its volumes and spans, in place of what there was of it, as one transaction.
+pub fn put_plan<S: Alter>(
+    connection: &mut Connection<S>,
+    plan: PlanRecord<'_>,
+    volumes: &[VolumeRecord<'_>],
+    spans: &[SpanRecord<'_>],
+) -> Result<(), Error>
+    requires ready { IsReady S.Store connection.old IsDesk }
+    ensures committed { IsCommitted S.Store connection.old connection.new result
+        (PutsPlan (plan_put plan.entry volumes.now spans.now))
+        (IsPuttable (plan_put plan.entry volumes.now spans.now)) }
+{
+    committed_and_sound(connection);
+    let mut tx = connection.transaction();
+    let (operator, id) = (plan.operator, plan.id);
+    execute(&mut tx, RowChange::RemovePlan { operator, id })?;
+    insert_plan(
+        &mut tx,
+        plan.operator,
+        plan.id,
+        plan.priority,
+        plan.usage,
+        plan.aircraft,
+    )?;
+    insert_volumes(&mut tx, volumes)?;
+    insert_spans(&mut tx, spans)?;
+    tx.commit()
+}
+
+// Sets the ceiling of the operator with this name, or adds the operator.
+fn set_or_add<S: Alter>(tx: &mut Transaction<'_, S>, name: &str, ceiling: u32) -> Result<(), Error>
+    requires desk { Holds S.Store tx.old.conn.now IsDesk }
+    ensures same_reference { tx.new.conn.ghost_name ≡ tx.old.conn.ghost_name }
+    ensures changed { IsChanged S.Store tx.old.conn.now tx.new.conn.now result
+        (PutsOperator name.now ceiling) (λ db. IsShort name.now × HasRowids 1 (db.trees 0)) (λ _ _. ⊤) }
+{
+    let count = execute_counted(tx, RowChange::SetCeiling { name, ceiling })?;
+    let is_set = count > 0;
+    if is_set {
+        return Ok(());
+    }
+    insert_operator(tx, name, ceiling)?;
+    Ok(())
+}
+
+/// Sets the ceiling of the operator with this name, or adds the operator, as one transaction.
+pub fn put_operator<S: Alter>(
+    connection: &mut Connection<S>,
+    name: &str,
+    ceiling: u32,
+) -> Result<(), Error>
+    requires ready { IsReady S.Store connection.old IsDesk }
+    ensures committed { IsCommitted S.Store connection.old connection.new result
+        (PutsOperator name.now ceiling) (λ db. IsShort name.now × HasRowids 1 (db.trees 0)) }
+{
+    committed_and_sound(connection);
+    let mut tx = connection.transaction();
+    set_or_add(&mut tx, name, ceiling)?;
+    tx.commit()
+}
+
+/// Closes a plan, if it is there: its row gets the usage Closed with this priority and this state
+/// of the aircraft, and its spans go. One transaction.
+pub fn close_plan<S: Alter>(
+    connection: &mut Connection<S>,
+    operator: &str,
+    id: &str,
+    priority: u32,
+    aircraft: u32,
+) -> Result<(), Error>
+    requires ready { IsReady S.Store connection.old IsDesk }
+    ensures committed { IsCommitted S.Store connection.old connection.new result
+        (ClosesPlan operator.now id.now priority aircraft)
+        (λ db. IsShort operator.now × IsShort id.now × AreLow (db.trees 2)) }
+{
+    committed_and_sound(connection);
+    let mut tx = connection.transaction();
+    let closed = RowChange::SetClosed {
+        operator,
+        id,
+        priority,
+        aircraft,
+    };
+    execute(&mut tx, closed)?;
+    execute(&mut tx, RowChange::RemoveSpans { operator, id })?;
+    tx.commit()
+}

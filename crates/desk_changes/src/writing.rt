@@ -1,0 +1,94 @@
+//! Rows as they are written, and the statements that add one operator or plan.
+
+ghost use Rattle.std.specs.Prelude.{◌≡◌, ⊤};
+ghost use Rattle.desk_sql.specs.Rows.{operator_row, plan_row, AddsOperator, AddsPlan, IsDesk};
+ghost use Rattle.desk_sql.specs.QueryEnds.{IsChanged};
+ghost use Rattle.desk_sql.specs.Changing.{FitsOperator, FitsPlan};
+ghost use Rattle.desk_changes.specs.Putting.{TakesOperators, TakesRoom};
+ghost use Rattle.desk_sql.specs.Finding.{Holds};
+
+use crate::change::RowChange;
+use crate::execute::execute;
+use sqlite::{Alter, Error, Transaction};
+
+/// A row of `plan`.
+#[derive(Clone, Copy, Debug)]
+pub struct PlanRecord<'a> {
+    pub operator: &'a str,
+    pub id: &'a str,
+    pub priority: u32,
+    pub usage: u32,
+    pub aircraft: u32,
+}
+
+/// A row of `volume2`: altitudes in decimetres above the WGS84 ellipsoid, moments in seconds since 1970.
+#[derive(Clone, Copy, Debug)]
+pub struct VolumeRecord<'a> {
+    pub operator: &'a str,
+    pub id: &'a str,
+    pub place: u32,
+    pub lower: i64,
+    pub upper: i64,
+    pub start: i64,
+    pub stop: i64,
+    pub asked: &'a [u8],
+    /// The ids of the volume's canonical cover, ascending, eight bytes each, the most significant first.
+    pub canon: &'a [u8],
+}
+
+/// A row of `span2`: leaf positions, altitudes in decimetres above the WGS84 ellipsoid, moments in
+/// seconds since 1970.
+#[derive(Clone, Copy, Debug)]
+pub struct SpanRecord<'a> {
+    pub operator: &'a str,
+    pub id: &'a str,
+    pub place: u32,
+    pub first: i64,
+    pub last: i64,
+    pub lower: i64,
+    pub upper: i64,
+    pub start: i64,
+    pub stop: i64,
+    pub priority: u32,
+}
+
+/// Adds a row to `operator`.
+pub fn insert_operator<S: Alter>(
+    tx: &mut Transaction<'_, S>,
+    name: &str,
+    ceiling: u32,
+) -> Result<(), Error>
+    requires desk { Holds S.Store tx.old.conn.now IsDesk }
+    ensures same_reference { tx.new.conn.ghost_name ≡ tx.old.conn.ghost_name }
+    ensures changed { IsChanged S.Store tx.old.conn.now tx.new.conn.now result
+        (AddsOperator (operator_row name.now ceiling))
+        (FitsOperator name.now (operator_row name.now ceiling)) (TakesOperators 1) }
+{
+    execute(tx, RowChange::AddOperator { name, ceiling })
+}
+
+/// Adds a row to `plan`.
+pub fn insert_plan<S: Alter>(
+    tx: &mut Transaction<'_, S>,
+    operator: &str,
+    id: &str,
+    priority: u32,
+    usage: u32,
+    aircraft: u32,
+) -> Result<(), Error>
+    requires desk { Holds S.Store tx.old.conn.now IsDesk }
+    ensures same_reference { tx.new.conn.ghost_name ≡ tx.old.conn.ghost_name }
+    ensures changed { IsChanged S.Store tx.old.conn.now tx.new.conn.now result
+        (AddsPlan (plan_row operator.now id.now priority usage aircraft))
+        (FitsPlan operator.now id.now (plan_row operator.now id.now priority usage aircraft))
+        (TakesRoom 1 0 0) }
+{
+    let plan = PlanRecord {
+        operator,
+        id,
+        priority,
+        usage,
+        aircraft,
+    };
+    execute(tx, RowChange::AddPlan(plan))
+}

@@ -1,5 +1,0 @@
-use Rattle.desk_sql.proofs.ChangeTexts.{add_span_does}
-use Rattle.desk_sql.proofs.changing.change.add_span_text.Goals as goal
-
-pub returns : goal.returns
-returns c = add_span_does

@@ -1,5 +1,0 @@
-use Rattle.desk_sql.proofs.ChangeTexts.{add_volume_does}
-use Rattle.desk_sql.proofs.changing.change.add_volume_text.Goals as goal
-
-pub returns : goal.returns
-returns c = add_volume_does

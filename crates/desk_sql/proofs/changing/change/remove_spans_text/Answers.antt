@@ -1,5 +1,0 @@
-use Rattle.desk_sql.proofs.ChangeTexts.{remove_spans_does}
-use Rattle.desk_sql.proofs.changing.change.remove_spans_text.Goals as goal
-
-pub returns : goal.returns
-returns c = remove_spans_does

@@ -1,5 +1,0 @@
-use Rattle.desk_sql.proofs.ChangeTexts.{set_ceiling_does}
-use Rattle.desk_sql.proofs.changing.change.set_ceiling_text.Goals as goal
-
-pub returns : goal.returns
-returns c = set_ceiling_does

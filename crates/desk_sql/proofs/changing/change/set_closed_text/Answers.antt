@@ -1,5 +1,0 @@
-use Rattle.desk_sql.proofs.ChangeTexts.{set_closed_does}
-use Rattle.desk_sql.proofs.changing.change.set_closed_text.Goals as goal
-
-pub returns : goal.returns
-returns c = set_closed_does

@@ -1,0 +1,35 @@
+//! A statement that writes, run within a transaction.
+
+ghost use Rattle.std.specs.Prelude.{◌≡◌, true, IfOk, IfErr, IsTrue, Ok, Err};
+ghost use Rattle.sqlite.specs.Values.{bound};
+ghost use Rattle.sqlite.specs.State.{HasCleanDisk, Executes, ExecutesInside, Shows};
+ghost use Rattle.sqlite.specs.Held.{state};
+ghost use Rattle.desk_sql.specs.QueryEnds.{IsUndone};
+ghost use Rattle.desk_sql.specs.Frames.{Remembers};
+
+use sqlite::{Alter, Error, Transaction};
+use sqlite_value::value::ValueRef;
+
+/// Runs a statement that writes. What was committed stays, whatever is answered.
+// Long: what ran, what is shown, what is undone and where it stopped are four things to say of SQLite.
+pub fn run<S: Alter>(
+    tx: &mut Transaction<'_, S>,
+    statement: &str,
+    params: &[ValueRef<'_>],
+) -> Result<usize, Error>
+    ensures same_reference { tx.new.conn.ghost_name ≡ tx.old.conn.ghost_name }
+    ensures ran { HasCleanDisk (state S.Store tx.new.conn.now)
+        → IfOk result (λ count. Executes statement.now (bound params.now)
+        (state S.Store tx.old.conn.now) (state S.Store tx.new.conn.now) (Ok count)) }
+    ensures shown { HasCleanDisk (state S.Store tx.new.conn.now)
+        → IfOk result (λ _. Shows (state S.Store tx.old.conn.now) (state S.Store tx.new.conn.now)
+        (state S.Store tx.new.conn.now).now (state S.Store tx.old.conn.now).committed true) }
+    ensures undone { IsUndone S.Store tx.old.conn.now tx.new.conn.now result }
+    ensures stopped { HasCleanDisk (state S.Store tx.new.conn.now)
+        → IsTrue tx.old.conn.now.in_transaction
+        → IfErr result (λ e. ExecutesInside 0 statement.now (bound params.now)
+        (state S.Store tx.old.conn.now) (state S.Store tx.new.conn.now) (Err e)) }
+    ensures remembered { Remembers S.Store tx.old.conn.now tx.new.conn.now }
+{
+    tx.execute(statement, params)
+}

@@ -1,9 +1,0 @@
-use Rattle.std.proofs.Common.{◌≡◌, map, take}
-use Rattle.desk_sql.specs.Batches.{span_row_in}
-use Rattle.desk_tables.specs.PlanRows.{slab_record}
-use Rattle.desk_tables.proofs.changing.records.slab_rows.Given as goal
-
--- the rows of the slabs so far
-abbrev pub invariant-loop-slab : goal.invariant-loop-slab
-invariant-loop-slab l = map span_row_in l.rows.items ≡ map (slab_record l.operator l.id l.place l.priority)
-    (take l.slab-index l.slabs)

@@ -1,5 +1,0 @@
-use Rattle.desk_store.proofs.lemmas.Parse.{parsed_id}
-use Rattle.desk_tables.proofs.changing.records.text_of.Goals as goal
-
-pub returns-clause-valid : goal.returns-clause-valid
-returns-clause-valid c = parsed_id c.encode.result.now c.args.id.now c.encode.ensures.parsed

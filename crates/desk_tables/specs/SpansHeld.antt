@@ -1,9 +1,0 @@
--- The rows that a check of spans has taken.
-use Rattle.std.specs.Prelude.{List}
-use Rattle.sqlite_value.specs.Order.{Row}
-use Rattle.desk_tables.specs.declared.opening.spans.SpanCheck.{SpanCheck}
-use Rattle.desk_tables.specs.SpanChecks.{HasChecked}
-
--- these rows were held against its plans
-abbrev pub AreHeld : SpanCheck → List Row → Type 0
-AreHeld check = HasChecked check.plans.items check.cursor check.agree check.count check.span_bounds

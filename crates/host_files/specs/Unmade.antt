@@ -1,0 +1,49 @@
+-- Unmade: what is said of a file that can't be made, or has no scratch copy.
+use Rattle.std.specs.Prelude.{◌≡◌, ◌⊎◌, ℕ, Bool, true, false, List, codes, Option, None, Some}
+use Rattle.std.specs.declared.io.ErrorKind.{ErrorKind}
+use Rattle.std.specs.declared.io.ErrorKind.TheVariants as kind
+use Rattle.host_files.specs.declared.pairs.ScratchFault.{ScratchFault}
+use Rattle.host_files.specs.declared.pairs.ScratchFault.TheVariants as fault
+
+-- why a file can't be made where there is none, by the kind of the error
+abbrev pub unmade_text : ErrorKind → List ℕ
+unmade_text kind.AlreadyExists = codes "it is there already"
+unmade_text kind.NotFound = codes "no such folder"
+unmade_text kind.NotADirectory = codes "no such folder"
+unmade_text kind.PermissionDenied = codes "no right to make it"
+unmade_text kind.ReadOnlyFilesystem = codes "a read-only file system"
+unmade_text kind.StorageFull = codes "a full disk"
+unmade_text kind.QuotaExceeded = codes "a full disk"
+unmade_text _ = codes "it can't be made"
+
+-- what is reported, and whether it is of the file itself; nothing where memory ran out
+abbrev pub fault_text : ScratchFault → Option (Bool × List ℕ)
+fault_text fault.OutOfMemory = None
+fault_text (fault.Source cause) = Some (true, cause.now)
+fault_text (fault.ScratchCopy cause) = Some (false, cause.now)
+
+-- the same of a new file that can't be made, by the kind of the error
+abbrev pub made_text : ErrorKind → Option (Bool × List ℕ)
+made_text kind.OutOfMemory = None
+made_text it = Some (false, unmade_text it)
+
+-- the same of a file that can't be read, and of one that can't be copied, by the kind of the error
+abbrev pub source_text : ErrorKind → Option (Bool × List ℕ)
+source_text kind.OutOfMemory = None
+source_text _ = Some (true, codes "it can't be read")
+
+abbrev pub copy_text : ErrorKind → Option (Bool × List ℕ)
+copy_text kind.OutOfMemory = None
+copy_text kind.StorageFull = Some (false, codes "a full disk")
+copy_text kind.QuotaExceeded = Some (false, codes "a full disk")
+copy_text _ = Some (false, codes "it can't be written, or what it is made of can't be read")
+
+-- why there is no scratch copy: by the kind of an error, of which this is reported
+pub record IsScratchFaultBy (text : ErrorKind → Option (Bool × List ℕ)) (fault : ScratchFault) : Type 0 where
+  pub kind : ErrorKind
+  pub is : fault_text fault ≡ text kind
+
+-- so, of a file that can't be read, of one that can't be made, or of one that can't be copied
+abbrev pub IsCopyFault : ScratchFault → Type 0
+IsCopyFault fault = IsScratchFaultBy source_text fault
+    ⊎ (IsScratchFaultBy made_text fault ⊎ IsScratchFaultBy copy_text fault)

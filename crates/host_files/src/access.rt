@@ -1,0 +1,192 @@
+//! Why a file can't be had, as it is reported: by what a look at its path found, and nothing of what its
+//! tables hold.
+
+ghost use Rattle.std.specs.Prelude.{◌≡◌, IfSome, option_map};
+ghost use Rattle.desk_program.specs.Outside.{bytes_written};
+ghost use Rattle.host_files.specs.Access as spec;
+ghost use Rattle.host_files.specs.Access.{IsCauseBy, IsDenialText};
+ghost use Rattle.host_files.specs.Openings.{OpensAtMost};
+ghost use Rattle.host_files.specs.Reporting.{Reports};
+ghost use Rattle.host_files.specs.Naming.{Free, TakesIfNone};
+ghost use Rattle.host_files.specs.FolderSteps.{steps_of};
+
+use crate::files::{HostFiles, LocalHost};
+use crate::naming::{Folder, IN_USE, READ_ONLY, TAKEN, is_no_path};
+use crate::probing::probe_access;
+use crate::reporting::report_of;
+use crate::state::{Denial, FileState, Missing, Start};
+use std::alloc::Global;
+use std::io::Write;
+
+const NO_PATH: &str = "a name that SQLite reads otherwise than as a path";
+
+// What a file of anything else is, and what is no regular file.
+const NO_DATABASE: &str = "no SQLite database";
+
+/// Why there can be no new file at a path, if that is so: it is no path, or something is there.
+pub fn new_cause<P: Folder>(folder: &mut P, path: &str) -> Option<&'static str>
+    ensures { TakesIfNone (steps_of P.Folder folder.old folder.new) result (Free path.now) }
+{
+    if folder.is_free(path) {
+        return None;
+    }
+    Some(taken_text(is_no_path(path)))
+}
+
+// Why a path is not free.
+fn taken_text(is_no_path: bool) -> &'static str
+    ensures { result.now ≡ spec.taken_text is_no_path }
+{
+    if is_no_path { NO_PATH } else { TAKEN }
+}
+
+/// Reports why SQLite refuses the file at a path, by what a look at it found: of one that may be damaged, how
+/// many pages, if their sums report.
+#[tactic(auto, using(crate::proofs::lemmas::Reporting::reports_nothing))]
+pub fn report_store<E: Write>(
+    rt: &HostRuntime,
+    path: &str,
+    name: &str,
+    state: FileState,
+    errors: &mut E,
+)
+    ensures { Reports (bytes_written E.Write errors.old errors.new) }
+{
+    match pages_of(&LocalHost::new(rt), path, state) {
+        Some(count) => report_pages(rt.alloc(), name, count, errors),
+        None => {
+            let cause = cause_of(&mut LocalHost::new(rt), path, state);
+            report_of(rt.alloc(), name, cause, errors);
+        }
+    }
+}
+
+// How many pages of a file that may be damaged have another sum than theirs, if some have.
+fn pages_of<F: HostFiles>(files: &F, path: &str, state: FileState) -> Option<u64>
+    ensures { IfSome (F.answers files.now) (λ it. result ≡ spec.pages_of it path.now state) }
+{
+    if !may_be_damaged(state) {
+        return None;
+    }
+    match files.unsummed(path) {
+        Some(0) | None => None,
+        Some(count) => Some(count),
+    }
+}
+
+// Whether the pages of a file may be damaged: all else that refuses it was looked at.
+fn may_be_damaged(state: FileState) -> bool
+    ensures { result ≡ spec.may_be_damaged state }
+{
+    matches!(state, FileState::Filled(Ok(Start::Database)))
+}
+
+// Reports that so many pages have another sum than theirs.
+#[tactic(auto, using(crate::proofs::lemmas::Reporting::reports_nothing))]
+fn report_pages<E: Write>(alloc: Global, path: &str, count: u64, errors: &mut E)
+    ensures { Reports (bytes_written E.Write errors.old errors.new) }
+{
+    let reported = format!(in alloc;
+        "{count} pages without their sums, as sqlite3 leaves them, or damaged"
+    );
+    if let Ok(text) = reported {
+        report_of(alloc, path, &text, errors);
+    }
+}
+
+// Why SQLite refuses a file. Where there is none, one is made for a trial, which reports why it can't be.
+fn cause_of<P: Folder>(folder: &mut P, path: &str, state: FileState) -> &'static str
+    ensures { IsCauseBy (spec.is_free state) (spec.refusal_text state) path.now
+        (steps_of P.Folder folder.old folder.new) result.now }
+{
+    if !is_free(state) {
+        return refusal_text(state);
+    }
+    match folder.try_file(path) {
+        Some(cause) => cause,
+        None => refusal_text(state),
+    }
+}
+
+// Whether nothing is there, where a file is made.
+fn is_free(state: FileState) -> bool
+    ensures { result ≡ spec.is_free state }
+{
+    matches!(state, FileState::Free)
+}
+
+/// Why a file can't be had, whatever it holds.
+pub fn access_cause(rt: &HostRuntime, path: &str) -> Option<&'static str>
+    ensures { IfSome result (λ cause. IsDenialText cause.now) }
+{
+    cause_at(&mut LocalHost::new(rt), path)
+}
+
+/// The same, of the files of any machine.
+pub fn cause_at<F: HostFiles>(files: &mut F, path: &str) -> Option<&'static str>
+    ensures answer { IfSome (F.answers files.old) (λ it.
+        option_map (λ cause. cause.now) result ≡ spec.access_cause it path.now) }
+    ensures text { IfSome result (λ cause. IsDenialText cause.now) }
+    ensures opens { OpensAtMost F.HostFiles path.now files.old files.new }
+{
+    match probe_access(files, path) {
+        Some(denial) => Some(denial_text(denial)),
+        None => None,
+    }
+}
+
+// Why a file is refused, by what a look at its path found.
+fn refusal_text(state: FileState) -> &'static str
+    ensures { result.now ≡ spec.refusal_text state }
+{
+    match state {
+        FileState::NoPath => NO_PATH,
+        FileState::Missing(missing) => missing_text(missing),
+        FileState::DeadLink => "a link to no file",
+        FileState::Free => "it can't be made",
+        FileState::NotRegular => NO_DATABASE,
+        FileState::Empty => "an empty file",
+        FileState::Made(None) => "it can't be written: a full disk, or one that fails",
+        FileState::Made(Some(denial)) | FileState::Filled(Err(denial)) => denial_text(denial),
+        FileState::Filled(Ok(start)) => start_text(start),
+    }
+}
+
+// Why nothing is reached at a path.
+fn missing_text(missing: Missing) -> &'static str
+    ensures { result.now ≡ spec.missing_text missing }
+{
+    match missing {
+        Missing::NoFile => "no such file",
+        Missing::NoFolder => "no such folder",
+        Missing::NoRight => "no right to reach it",
+        Missing::Other => "it can't be reached",
+    }
+}
+
+// Why a file can't be had, whatever it holds.
+fn denial_text(denial: Denial) -> &'static str
+    ensures { result.now ≡ spec.denial_text denial }
+{
+    match denial {
+        Denial::NoReading => "no right to read it",
+        Denial::NoWriting => "no right to write it",
+        Denial::ReadOnly => READ_ONLY,
+        Denial::Busy => IN_USE,
+        Denial::HotJournal => "a journal of SQLite beside it: open it with sqlite3 first",
+        Denial::Unopened => "no right to its log or folder, a second name, or a disk that fails",
+    }
+}
+
+// Why a file that can be had is refused, by how it begins.
+fn start_text(start: Start) -> &'static str
+    ensures { result.now ≡ spec.start_text start }
+{
+    match start {
+        Start::Database => {
+            "a damaged page, the log of another file, rows that break a key, or a disk that fails"
+        }
+        Start::Other => NO_DATABASE,
+        Start::Unread => "it can't be read",
+    }
+}

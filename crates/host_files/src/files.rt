@@ -1,0 +1,227 @@
+//! What the program asks about the files of a machine before it opens one. No clause reports what the
+//! operating system answers: the clauses above say what follows from its answers.
+
+ghost use Rattle.std.specs.Prelude.{◌≡◌, ◌∷◌, [], ℕ, Err, IfOk, IfSome, List, MatchResult, None, Option};
+ghost use Rattle.std.specs.Prelude.{string_bytes};
+ghost use Rattle.std.specs.IoError.{error_kind};
+ghost use Rattle.desk_program.specs.Serving.{Grows};
+ghost use Rattle.host_files.specs.Access as spec;
+ghost use Rattle.host_files.specs.Answers.{Answers, IsFoundAs, by_ok, error_of};
+
+use crate::state::Denial;
+use db_file::{count_bad_checksums, has_other_order, takes_commit};
+use sqlite::Unknown;
+use sqlite_std_file::OpenError;
+use std::alloc::Global;
+use std::fs::{self, File, Metadata, OpenOptions};
+use std::io::{self, ErrorKind, Read, Stderr, Stdin, Stdout};
+use std::os::unix::fs::MetadataExt;
+
+/// What stands at a path.
+#[derive(Clone, Copy)]
+pub struct Found {
+    /// Whether it is a regular file.
+    pub is_file: bool,
+    /// How many bytes it has.
+    pub len: u64,
+    /// Which file it is.
+    pub identity: Identity,
+}
+
+/// Which file of a machine something is.
+#[derive(Clone, Copy)]
+pub struct Identity {
+    /// The device on which it lies.
+    pub device: u64,
+    /// Its number there.
+    pub inode: u64,
+}
+
+/// The files of a machine, which are looked at.
+pub trait HostFiles {
+    /// A file that is open for reading.
+    type File: Read + Drop;
+
+    /// What is answered as long as the files stay as they are, if that is known.
+    ghost answers: { Self → Option Answers } = { λ _. None };
+
+    /// The files that were opened as SQLite does, in their order, if they are known.
+    ghost openings: { Self → Option (List (List ℕ)) } = { λ _. None };
+
+    /// What a path leads to.
+    ///
+    /// # Errors
+    ///
+    /// Why nothing is reached.
+    fn find(&self, path: &str) -> Result<Found, ErrorKind>
+        ensures { IfSome (answers self.now) (λ it. result ≡ it.found path.now) };
+
+    /// What stands at a path, which may be a link.
+    ///
+    /// # Errors
+    ///
+    /// Why nothing is reached.
+    fn find_entry(&self, path: &str) -> Result<Found, ErrorKind>
+        ensures { IfSome (answers self.now) (λ it. result ≡ it.entry path.now) };
+
+    /// The path to which the links of a path lead.
+    ///
+    /// # Errors
+    ///
+    /// Why nothing is reached.
+    fn real(&self, path: &str) -> Result<String, ErrorKind>
+        ensures { IfSome (answers self.now) (λ it. by_ok string_bytes result ≡ it.real path.now) };
+
+    /// The file at a path, open for reading.
+    ///
+    /// # Errors
+    ///
+    /// Why it can't be opened.
+    fn open(&self, path: &str) -> Result<Self::File, ErrorKind>
+        ensures error { IfSome (answers self.now) (λ it. error_of result ≡ it.unread path.now) }
+        ensures bytes { IfSome (answers self.now) (λ it.
+            IfOk result (λ file. Self.File.remaining file ≡ it.bytes path.now)) };
+
+    /// Why a file can't be opened for reading and writing, if so.
+    fn writing_error(&self, path: &str) -> Option<ErrorKind>
+        ensures { IfSome (answers self.now) (λ it. result ≡ it.unwritten path.now) };
+
+    /// Why a file can't be had, by an opening as SQLite's, if so. A log is made beside it if it has none.
+    fn opening_denial(&mut self, path: &str) -> Option<Denial>
+        ensures answer { IfSome (answers self.old) (λ it. result ≡ it.unheld path.now) }
+        ensures same { answers self.new ≡ answers self.old }
+        ensures opens { Grows (openings self.old) (openings self.new) (path.now ∷ []) };
+
+    /// How many pages of a database end with another checksum than theirs, if that can be known.
+    fn unsummed(&self, path: &str) -> Option<u64>
+        ensures { IfSome (answers self.now) (λ it. result ≡ it.unsummed path.now) };
+
+    /// Whether a database lists the tables of a desk in another order than the desk's own.
+    fn is_disordered(&self, path: &str) -> bool
+        ensures { IfSome (answers self.now) (λ it. result ≡ it.disordered path.now) };
+
+    /// Whether recovery takes a commit of the log of a file, or that can't be known. Of a log that was cut
+    /// off in the midst of its first commit it takes none.
+    fn takes_commit(&self, path: &str) -> bool
+        ensures { IfSome (answers self.now) (λ it. result ≡ it.recovered path.now) };
+}
+
+/// The machine on which the program runs, of which nothing is known.
+#[derive(Clone, Copy)]
+pub struct LocalHost<'s> {
+    /// The runtime, which is handed on to what asks the operating system.
+    pub rt: &'s HostRuntime,
+}
+
+impl<'s> LocalHost<'s> {
+    /// The machine of this run.
+    pub fn new(rt: &'s HostRuntime) -> LocalHost<'s> {
+        LocalHost { rt }
+    }
+
+    /// The allocator of this run.
+    pub fn alloc(&self) -> Global {
+        self.rt.alloc()
+    }
+
+    /// The standard input.
+    pub fn input(&self) -> Stdin {
+        self.rt.stdin()
+    }
+
+    /// The standard output.
+    pub fn output(&self) -> Stdout {
+        self.rt.stdout()
+    }
+
+    /// The standard error.
+    pub fn errors(&self) -> Stderr {
+        self.rt.stderr()
+    }
+}
+
+impl HostFiles for LocalHost<'_> {
+    type File = File;
+
+    fn find(&self, path: &str) -> Result<Found, ErrorKind> {
+        found_of(fs::metadata(self.rt, path))
+    }
+
+    fn find_entry(&self, path: &str) -> Result<Found, ErrorKind> {
+        found_of(fs::symlink_metadata(self.rt, path))
+    }
+
+    fn real(&self, path: &str) -> Result<String, ErrorKind> {
+        match fs::canonicalize(self.rt, path) {
+            Ok(real) => Ok(real.into_string()),
+            Err(error) => Err(error.kind()),
+        }
+    }
+
+    fn open(&self, path: &str) -> Result<File, ErrorKind> {
+        File::open(self.rt, path).map_err(|error| error.kind())
+    }
+
+    fn writing_error(&self, path: &str) -> Option<ErrorKind> {
+        match OpenOptions::new()
+            .read(true)
+            .write(true)
+            .open(self.rt, path)
+        {
+            Ok(_) => None,
+            Err(error) => Some(error.kind()),
+        }
+    }
+
+    fn opening_denial(&mut self, path: &str) -> Option<Denial> {
+        match sqlite_std_file::open(self.rt, path, Unknown) {
+            Ok(_) => None,
+            Err(error) => denial_by(error),
+        }
+    }
+
+    fn unsummed(&self, path: &str) -> Option<u64> {
+        count_bad_checksums(self.rt, path)
+    }
+
+    fn is_disordered(&self, path: &str) -> bool {
+        has_other_order(self.rt, path)
+    }
+
+    fn takes_commit(&self, path: &str) -> bool {
+        match sqlite_std_file::open(self.rt, path, Unknown) {
+            Ok(mut files) => takes_commit(self.rt.alloc(), &mut files).unwrap_or(true),
+            Err(_) => true,
+        }
+    }
+}
+
+// Why a file can't be had, by the error of opening it as SQLite does.
+fn denial_by(error: OpenError) -> Option<Denial>
+    ensures { result ≡ spec.denial_by error }
+{
+    match error {
+        OpenError::Busy => Some(Denial::Busy),
+        OpenError::HotJournal => Some(Denial::HotJournal),
+        OpenError::Io(_) => Some(Denial::Unopened),
+        OpenError::OutOfMemory => None,
+    }
+}
+
+// What was found, by what the operating system says of it.
+fn found_of(found: io::Result<Metadata>) -> Result<Found, ErrorKind>
+    ensures { MatchResult found (λ said. IfOk result (IsFoundAs said))
+        (λ error. result ≡ Err (error_kind error)) }
+{
+    match found {
+        Ok(found) => Ok(Found {
+            is_file: found.is_file(),
+            len: found.len(),
+            identity: Identity {
+                device: found.dev(),
+                inode: found.ino(),
+            },
+        }),
+        Err(error) => Err(error.kind()),
+    }
+}

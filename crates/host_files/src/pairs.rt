@@ -1,0 +1,168 @@
+//! The scratch copies of files of the operating system.
+
+ghost use Rattle.std.specs.Prelude.{◌≡◌, IfErr, IfSome};
+ghost use Rattle.host_files.specs.LeftFiles as left;
+ghost use Rattle.host_files.specs.Unmade as spec;
+ghost use Rattle.host_files.specs.Unmade.{IsCopyFault, IsScratchFaultBy};
+
+use crate::access::access_cause;
+use crate::files::{HostFiles, LocalHost};
+use crate::naming::{OWNER_ALONE, is_missing, name_with, unmade_text};
+use db_file::{copy_bytes, copy_mended};
+use sqlite::Unknown;
+use sqlite_std_file::OpenError;
+use std::alloc::AllocError;
+use std::fs::{self, File, OpenOptions};
+use std::io::ErrorKind;
+use std::os::unix::fs::OpenOptionsExt;
+
+/// Why a file has no scratch copy.
+#[derive(Clone, Copy, Debug, PartialEq, Eq)]
+pub enum ScratchFault {
+    /// Memory ran out.
+    OutOfMemory,
+    /// The file can't be had, for this cause.
+    Source(&'static str),
+    /// The scratch copy can't be made, for this cause.
+    ScratchCopy(&'static str),
+}
+
+impl From<AllocError> for ScratchFault {
+    ghost use Rattle.std.specs.Prelude.{◌≡◌, IfSome};
+    ghost use Rattle.host_files.specs.declared.pairs.ScratchFault.TheVariants.{OutOfMemory};
+
+    ghost from_gives = { λ _ fault. fault ≡ OutOfMemory };
+
+    fn from(_error: AllocError) -> ScratchFault {
+        ScratchFault::OutOfMemory
+    }
+}
+
+// What is said of a file that can't be read.
+const UNREAD: &str = "it can't be read";
+
+/// Makes the scratch copy of a file, which no other program has meanwhile, where there is nothing: mended,
+/// or, with its log, as it is. The scratch copy is its owner's alone. No log is left beside the file where
+/// there was none.
+///
+/// # Errors
+///
+/// As `ScratchFault` says. What was made by then is left.
+pub fn write_scratch(
+    rt: &HostRuntime,
+    source: &str,
+    scratch: &str,
+    is_mended: bool,
+) -> Result<(), ScratchFault> {
+    let host = LocalHost::new(rt);
+    let log = match host.real(source) {
+        Ok(real) => name_with(rt.alloc(), &real, "-wal")?,
+        Err(kind) => return Err(source_fault(kind)),
+    };
+    let is_alone = is_missing(&host, &log);
+    match sqlite_std_file::open(rt, source, Unknown) {
+        Ok(_held) => {
+            // a log that was made when the file was held
+            if is_alone && is_empty(&host, &log) {
+                let _ = fs::remove_file(rt, &log);
+            }
+            if is_mended {
+                write_mended(rt, source, scratch)
+            } else {
+                write_pair(rt, source, &log, scratch)
+            }
+        }
+        Err(OpenError::OutOfMemory) => Err(ScratchFault::OutOfMemory),
+        Err(_) => Err(ScratchFault::Source(access_cause(rt, source).unwrap_or(UNREAD))),
+    }
+}
+
+// Whether an empty file stands at a path.
+fn is_empty<F: HostFiles>(files: &F, path: &str) -> bool
+    ensures { IfSome (F.answers files.now) (λ it. result ≡ left.is_empty it path.now) }
+{
+    match files.find_entry(path) {
+        Ok(found) if found.is_file => found.len == 0,
+        _ => false,
+    }
+}
+
+// Copies a file, mended. It is opened once, and closed after all else: its closing lets go
+// of it.
+fn write_mended(rt: &HostRuntime, source: &str, scratch: &str) -> Result<(), ScratchFault>
+    ensures { IfErr result IsCopyFault }
+{
+    let mut file = match File::open(rt, source) {
+        Ok(file) => file,
+        Err(error) => return Err(source_fault(error.kind())),
+    };
+    let mut made = new_file(rt, scratch)?;
+    match copy_mended(&mut file, &mut made) {
+        Ok(()) => Ok(()),
+        Err(error) => Err(copy_fault(error.kind())),
+    }
+}
+
+// Copies a file and its log. Both are closed after all else.
+fn write_pair(
+    rt: &HostRuntime,
+    source: &str,
+    log: &str,
+    scratch: &str,
+) -> Result<(), ScratchFault> {
+    let scratch_log = format!(in rt.alloc(); "{scratch}-wal")?;
+    let mut file = File::open(rt, source).map_err(|error| source_fault(error.kind()))?;
+    let mut changes = File::open(rt, log).map_err(|error| source_fault(error.kind()))?;
+    let mut made = new_file(rt, scratch)?;
+    copy_bytes(&mut file, &mut made).map_err(|error| copy_fault(error.kind()))?;
+    let mut made_log = new_file(rt, &scratch_log)?;
+    copy_bytes(&mut changes, &mut made_log).map_err(|error| copy_fault(error.kind()))
+}
+
+// Makes a file where there is nothing, its owner's alone.
+fn new_file(rt: &HostRuntime, path: &str) -> Result<File, ScratchFault>
+    ensures { IfErr result (IsScratchFaultBy spec.made_text) }
+{
+    let made = OpenOptions::new()
+        .write(true)
+        .create_new(true)
+        .mode(OWNER_ALONE)
+        .open(rt, path);
+    match made {
+        Ok(file) => Ok(file),
+        Err(error) => Err(made_fault(error.kind())),
+    }
+}
+
+// Why a file can't be made.
+fn made_fault(kind: ErrorKind) -> ScratchFault
+    ensures { spec.fault_text result ≡ spec.made_text kind }
+{
+    match kind {
+        ErrorKind::OutOfMemory => ScratchFault::OutOfMemory,
+        kind => ScratchFault::ScratchCopy(unmade_text(kind)),
+    }
+}
+
+// Why a file can't be read.
+fn source_fault(kind: ErrorKind) -> ScratchFault
+    ensures { spec.fault_text result ≡ spec.source_text kind }
+{
+    match kind {
+        ErrorKind::OutOfMemory => ScratchFault::OutOfMemory,
+        _ => ScratchFault::Source(UNREAD),
+    }
+}
+
+// Why a file can't be copied.
+fn copy_fault(kind: ErrorKind) -> ScratchFault
+    ensures { spec.fault_text result ≡ spec.copy_text kind }
+{
+    match kind {
+        ErrorKind::OutOfMemory => ScratchFault::OutOfMemory,
+        ErrorKind::StorageFull | ErrorKind::QuotaExceeded => ScratchFault::ScratchCopy(
+            "a full disk",
+        ),
+        _ => ScratchFault::ScratchCopy("it can't be written, or what it is made of can't be read"),
+    }
+}

@@ -1,0 +1,177 @@
+//! The paths of a desk's files in the folders of the operating system.
+
+ghost use Rattle.std.specs.Prelude.{◌≡◌, [], ◌∷◌, IfErr, IfOk, IfSome, List, None, Option, string_bytes, true};
+ghost use Rattle.std.specs.Prelude.{unwrap_or};
+ghost use Rattle.desk_cli.specs.Lines.{file_of};
+ghost use Rattle.desk_cli.specs.declared.failure.ErrorCode.TheVariants.{Memory};
+ghost use Rattle.host_files.specs.LeftFiles as left;
+ghost use Rattle.desk_program.specs.Serving.{Grows};
+ghost use Rattle.host_files.specs.Paths as spec;
+ghost use Rattle.host_files.specs.Paths.{File, IsUnheldAt, Log, Look};
+
+use crate::files::{HostFiles, Identity, LocalHost};
+use crate::naming::name_with;
+use crate::reporting::report_of;
+use desk_cli::{Database, ErrorCode};
+use std::alloc::Global;
+use std::io::ErrorKind;
+
+/// The paths of a desk's database file and of its log, while the desk has both open.
+pub trait OpenPaths {
+    /// What was looked at, in its order, if it is known.
+    ghost looks: { Self → Option (List Look) } = { λ _. None };
+
+    /// Takes the files to which the paths lead for those that are opened. It is asked before that, and once
+    /// more when both are there, for one that wasn't.
+    fn hold(&mut self)
+        ensures { looks self.new ≡ looks self.old };
+
+    /// Whether the path of the database file leads to the file that is open.
+    fn has_file(&mut self) -> bool
+        ensures { Grows (looks self.old) (looks self.new) (File result ∷ []) };
+
+    /// Whether the path of the log leads to the log that is open.
+    fn has_log(&mut self) -> bool
+        ensures { Grows (looks self.old) (looks self.new) (Log result ∷ []) };
+}
+
+/// The paths of a database in memory: it has none, so that nobody can move it.
+#[derive(Clone, Copy)]
+pub struct NoPaths;
+
+impl OpenPaths for NoPaths {
+    fn hold(&mut self) {}
+
+    fn has_file(&mut self) -> bool {
+        true
+    }
+
+    fn has_log(&mut self) -> bool {
+        true
+    }
+}
+
+/// The paths of a file and of its log. That one doesn't lead to the file that is open is reported on the
+/// standard error, once.
+#[derive(Drop)]
+pub struct LocalOpenPaths<'r> {
+    rt: &'r HostRuntime,
+    file: &'r str,
+    log: String,
+    // the files that are open
+    held_file: Option<Identity>,
+    held_log: Option<Identity>,
+    is_reported: bool,
+}
+
+/// The paths of the file of a database; of no file if it is in memory.
+///
+/// # Errors
+///
+/// `Memory` if memory runs out.
+pub fn paths_at<'r>(
+    rt: &'r HostRuntime,
+    database: &'r Database,
+) -> Result<LocalOpenPaths<'r>, ErrorCode>
+    ensures { IfOk result (λ paths. IsUnheldAt (unwrap_or (file_of database.entry.now) []) paths) }
+{
+    paths_beside(rt, database.path().unwrap_or(""))
+}
+
+// The paths of a file.
+fn paths_beside<'r>(rt: &'r HostRuntime, file: &'r str) -> Result<LocalOpenPaths<'r>, ErrorCode>
+    ensures { IfOk result (λ paths. IsUnheldAt file.entry.now paths) }
+{
+    Ok(LocalOpenPaths {
+        rt,
+        file,
+        log: log_beside(rt.alloc(), &LocalHost::new(rt), file)?,
+        held_file: None,
+        held_log: None,
+        is_reported: false,
+    })
+}
+
+// The path of the log of a file, which is beside the file to which a link leads.
+fn log_beside<F: HostFiles>(alloc: Global, files: &F, file: &str) -> Result<String, ErrorCode>
+    ensures log { IfOk result (λ log. IfSome (F.answers files.now) (λ it.
+        string_bytes log ≡ spec.log_at it file.now)) }
+    ensures fault { IfErr result (λ f. f ≡ Memory) }
+{
+    match files.real(file) {
+        Ok(real) => Ok(name_with(alloc, &real, "-wal")?),
+        Err(ErrorKind::OutOfMemory) => Err(ErrorCode::Memory),
+        Err(_) => Ok(name_with(alloc, file, "-wal")?),
+    }
+}
+
+impl LocalOpenPaths<'_> {
+    // Reports that a file isn't at its path any more, if nothing was reported.
+    fn report_once(&mut self, text: &str)
+        ensures reported { self.new.is_reported ≡ true }
+        ensures same { (self.new.held_file ≡ self.old.held_file)
+            × (self.new.held_log ≡ self.old.held_log) × (self.new.log ≡ self.old.log) }
+    {
+        if !self.is_reported {
+            self.is_reported = true;
+            report_of(self.rt.alloc(), self.file, text, &mut self.rt.stderr());
+        }
+    }
+}
+
+impl OpenPaths for LocalOpenPaths<'_> {
+    fn hold(&mut self) {
+        if self.held_file.is_none() {
+            self.held_file = identity_at(&LocalHost::new(self.rt), self.file);
+        }
+        if self.held_log.is_none() {
+            self.held_log = identity_at(&LocalHost::new(self.rt), &self.log);
+        }
+    }
+
+    fn has_file(&mut self) -> bool {
+        let is_there = is_at(&LocalHost::new(self.rt), self.file, self.held_file);
+        if !is_there {
+            self.report_once("it was moved or removed while the desk ran");
+        }
+        is_there
+    }
+
+    fn has_log(&mut self) -> bool {
+        let is_there = is_at(&LocalHost::new(self.rt), &self.log, self.held_log);
+        if !is_there {
+            self.report_once("its log was moved or removed while the desk ran");
+        }
+        is_there
+    }
+}
+
+// Whether a path leads to this file.
+pub(crate) fn is_at<F: HostFiles>(files: &F, path: &str, held: Option<Identity>) -> bool
+    ensures { IfSome (F.answers files.now) (λ it. result ≡ left.is_at it path.now held) }
+{
+    match (files.find(path), held) {
+        (Ok(found), Some(held)) => is_same(found.identity, held),
+        _ => false,
+    }
+}
+
+// The file to which a path leads, if it leads to one.
+fn identity_at<F: HostFiles>(files: &F, path: &str) -> Option<Identity>
+    ensures { IfSome (F.answers files.now) (λ it. result ≡ spec.identity_at it path.now) }
+{
+    match files.find(path) {
+        Ok(found) => Some(found.identity),
+        Err(_) => None,
+    }
+}
+
+// Whether these are the same file.
+fn is_same(one: Identity, other: Identity) -> bool
+    ensures { result ≡ left.is_same one other }
+{
+    if one.device != other.device {
+        return false;
+    }
+    one.inode == other.inode
+}

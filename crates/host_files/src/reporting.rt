@@ -1,0 +1,72 @@
+//! Lines for the administrator on the standard error: `uss_desk: NAME: TEXT`.
+
+ghost use Rattle.std.specs.Prelude.{◌≡◌, IfOk, option_map, string_bytes};
+ghost use Rattle.desk_program.specs.Outside.{bytes_written};
+ghost use Rattle.host_files.specs.Reporting as spec;
+ghost use Rattle.host_files.specs.Reporting.{IsWrittenIfRoom, IsWrittenUpTo, Reports};
+
+use desk_cli::bad_argument;
+use io_ends::{WriteError, write_whole};
+use std::alloc::{AllocError, Global};
+use std::io::Write;
+
+// What is said of a desk without an operator.
+const UNENROLLED: &str = "no operator is enrolled, so each request is answered 403";
+
+/// Prints `uss_desk: PATH: TEXT`. A fault of the writer is passed over, and so is want of memory.
+#[tactic(auto, using(crate::proofs::lemmas::Reporting::reports_noted))]
+pub fn report_of<E: Write>(alloc: Global, path: &str, text: &str, errors: &mut E)
+    ensures line { IsWrittenIfRoom (spec.line_of path.now text.now)
+        (bytes_written E.Write errors.old errors.new) }
+    ensures reported { Reports (bytes_written E.Write errors.old errors.new) }
+{
+    if let Ok(line) = line_of(alloc, path, text) {
+        let _ = report_line(&line, errors);
+    }
+}
+
+/// The line that reports this text of a file.
+///
+/// # Errors
+///
+/// `AllocError` if memory runs out.
+#[tactic(auto, unfolding(crate::specs::Reporting::line_of))]
+pub fn line_of(alloc: Global, path: &str, text: &str) -> Result<String, AllocError>
+    ensures { IfOk result (λ line. string_bytes line ≡ spec.line_of path.now text.now) }
+{
+    format!(in alloc; "uss_desk: {path}: {text}\n")
+}
+
+/// Prints a line, and answers where it was broken off, if it was.
+#[tactic(auto, using(crate::proofs::lemmas::Reporting::noted))]
+pub fn report_line<E: Write>(line: &str, errors: &mut E) -> Option<WriteError<E>>
+    ensures cut { IsWrittenUpTo line.now result (bytes_written E.Write errors.old errors.new) }
+    ensures line { IsWrittenIfRoom line.now (bytes_written E.Write errors.old errors.new) }
+{
+    match write_whole(errors, line.as_bytes()) {
+        Ok(()) => None,
+        Err(cut) => Some(cut),
+    }
+}
+
+/// Reports which word of a line is malformed: `uss_desk: WORD: CAUSE`. A fault of the writer is passed over.
+#[tactic(auto, using(crate::proofs::lemmas::Reporting::reports_nothing))]
+pub fn report_malformed<E: Write>(alloc: Global, words: &[String], errors: &mut E)
+    ensures { Reports (bytes_written E.Write errors.old errors.new) }
+{
+    if let Some((word, cause)) = bad_argument(alloc, words) {
+        report_of(alloc, word, cause, errors);
+    }
+}
+
+/// Reports that a desk has no operator: that in the file at the path, or one in memory. A fault of the stream
+/// is passed over.
+pub fn report_unenrolled<E: Write>(alloc: Global, path: Option<&str>, errors: &mut E)
+    ensures { IsWrittenIfRoom (spec.unenrolled_line (option_map (λ path. path.now) path.entry))
+        (bytes_written E.Write errors.old errors.new) }
+{
+    match path {
+        Some(path) => report_of(alloc, path, UNENROLLED, errors),
+        None => report_of(alloc, "in memory", UNENROLLED, errors),
+    }
+}

@@ -1,0 +1,9 @@
+pub mod lemmas
+pub mod RivalLemmas
+pub mod ReadingLemmas
+pub mod JoinLemmas
+pub mod RecordLemmas
+pub mod AscendLemmas
+pub mod OperatorLemmas
+pub mod CountingLemmas
+pub mod LongSpanLemmas

@@ -1,0 +1,10 @@
+use Rattle.std.proofs.Common.{None, rules}
+use Rattle.row_codec.proofs.LongSpanLemmas.{asked_on}
+use Rattle.row_codec.proofs.span_bounds.SpanBounds.questions.Goals as goal
+
+pub loop-long_span-preserved : goal.loop-long_span-preserved
+loop-long_span-preserved c =
+    asked_on c.args.extent.now c.low-low.result c.args.self.now.long_spans c.loop-long_span.long_span-index
+    None
+    c.loop-long_span.questions.items c.ask_for.new.questions.items (search rules) c.loop-long_span.invariant
+    c.in_ok-ask_for.ensures.asked c.in_ok-ask_for.ensures.kept c.in_ok-ask_for.ensures.within

@@ -1,0 +1,114 @@
+-- Slabs that are held, as rows of `span2` show them.
+use Rattle.std.specs.Prelude.{◌≡◌, true, ◌+◌, ◌-◌, ◌<◌, ◌^◌, ◌*◌, ◌&&◌, ℕ, ℤ, Bool, pos, List, Option, Some, None, map, filter, IsPermutation, FitsSigned}
+use Rattle.std.specs.Int.{w32}
+use Rattle.std.specs.List.{AllZip, flat_map, sum_by}
+use Rattle.sqlite_value.specs.declared.value.Value.TheVariants.{Int}
+use Rattle.sqlite_value.specs.Order.{Row, column}
+use Rattle.s2_cover.specs.declared.spans.Span.{Span}
+use Rattle.volume4d.specs.declared.slab.Slab.{Slab}
+use Rattle.volume4d.specs.declared.slab.Held.{Held}
+use Rattle.volume4d.specs.Point.{Point}
+use Rattle.volume4d.specs.Slab.{slabs_have, top_held}
+use Rattle.desk_sql.specs.Rows.{held_columns, is_at_least, is_reached, is_wanted}
+use Rattle.desk_sql.specs.Others.{is_others_from, is_plans}
+use Rattle.desk_sql.specs.declared.reading.rivals.SpanFilter.{SpanFilter}
+use Rattle.live_index.specs.declared.near.PlanKey.{PlanKey}
+use Rattle.live_index.specs.declared.near.Wanted.{Wanted}
+use Rattle.live_index.specs.Near.{held_but}
+use Rattle.desk_rules.specs.Conflict.{at_least}
+use Rattle.desk_store.specs.Rivals.{HaveLevel}
+use Rattle.desk_store.specs.World.{World}
+use Rattle.row_codec.specs.Tables.{id_text}
+
+-- the columns of `span2` from `first` to `stop` are a slab's
+pub record IsSlabIn (row : Row) (slab : Slab) : Type 0 where
+  pub first : column row 0 ≡ Int (pos slab.first)
+  pub last : column row 1 ≡ Int (pos slab.last)
+  pub lower : column row 2 ≡ Int slab.lower
+  pub upper : column row 3 ≡ Int slab.upper
+  pub start : column row 4 ≡ Int slab.start
+  pub end : column row 5 ≡ Int slab.end
+
+-- and `priority` is its plan's
+pub record IsHeldIn (row : Row) (held : Held) : Type 0 where
+  pub slab : IsSlabIn row held.slab
+  pub priority : column row 6 ≡ Int (pos held.priority)
+
+-- a slab whose ends are leaf positions, and whose other numbers have 32 bits where the columns' have
+pub record FitsColumns (held : Held) : Type 0 where
+  pub first : held.slab.first < 6 * 2 ^ 60
+  pub last : held.slab.last < 6 * 2 ^ 60
+  pub lower : FitsSigned w32 held.slab.lower
+  pub upper : FitsSigned w32 held.slab.upper
+  pub priority : held.priority < 2 ^ 32
+
+-- the columns are those of no slab
+abbrev pub IsNoHeld : Row → Type 0
+IsNoHeld row = (held : Held) → FitsColumns held → ¬ IsHeldIn row held
+
+-- one held slab for each row, in the same order
+abbrev pub HasTakenHelds : List Held → List Row → Type 0
+HasTakenHelds helds rows = AllZip IsHeldIn rows helds
+
+-- what spans are asked for that may hold a point of an extent, at a priority at least
+abbrev pub reach_of : Slab → ℕ → SpanFilter
+reach_of extent least = record {
+  first = pos extent.first;
+  last = pos extent.last;
+  lower = extent.lower;
+  upper = extent.upper;
+  start = extent.start;
+  stop = extent.end;
+  priority = least;
+}
+
+-- of these only those that begin at the leaves that a question is for
+abbrev pub reach_from : Span → Slab → ℕ → SpanFilter
+reach_from question extent least = record (reach_of extent least) { last = pos question.last }
+
+-- a row of `span2` is of another plan than the operator's own one with this id, or, if there is no id, than
+-- all of its own; it is reached, and begins at a leaf position or later
+abbrev pub is_another_from : List ℕ → Option (List ℕ) → SpanFilter → ℤ → Row → Bool
+is_another_from operator None = is_others_from operator
+is_another_from operator (Some id) = is_wanted operator (id_text id)
+
+-- a question of the spans that are wanted near an extent is for a row of `span2`
+abbrev pub is_asked : Wanted → Slab → Span → Row → Bool
+is_asked wanted extent question =
+    is_another_from wanted.operator wanted.id (reach_from question extent wanted.least) (pos question.first)
+
+-- a question of the spans of a plan is for a row of `span2`
+abbrev pub is_asked_of_plan : ℕ → Slab → PlanKey → Row → Bool
+is_asked_of_plan least extent key = is_plans key.operator (id_text key.id) (reach_of extent least)
+
+-- so is one of the spans that pass a test
+abbrev pub is_asked_if : (Row → Bool) → ℕ → Slab → Span → Row → Bool
+is_asked_if passes least extent question row =
+    is_at_least (column row 3) (pos question.first)
+    && (is_reached (reach_from question extent least) row && passes row)
+
+-- one held slab for each row of these that is wanted, in some order
+abbrev pub HaveTaken : (Row → Bool) → List Row → List Held → Type 0
+HaveTaken wanted spans helds =
+    (rows : List Row) × IsPermutation (map held_columns (filter wanted spans)) rows × HasTakenHelds helds rows
+
+-- and for each that another question is for
+abbrev pub HaveTakenAll : {Q : Type 0} → (Q → Row → Bool) → List Q → List Row → List Held → Type 0
+HaveTakenAll asked questions spans helds =
+    (rows : List Row)
+    × IsPermutation (flat_map (λ question. map held_columns (filter (asked question) spans)) questions) rows
+    × HasTakenHelds helds rows
+
+-- where they meet an extent, these are what the plans that are wanted hold
+abbrev pub AreWanted : World → Wanted → Slab → List Held → Type 0
+AreWanted w wanted extent helds =
+    HaveLevel extent helds (λ x. at_least wanted.least (held_but w wanted.operator wanted.id x))
+
+-- and so where they meet one of some extents
+abbrev pub AreWantedNear : World → Wanted → List Slab → List Held → Type 0
+AreWantedNear w wanted extents helds = (x : Point) → slabs_have extents x ≡ true
+    → top_held helds x ≡ at_least wanted.least (held_but w wanted.operator wanted.id x)
+
+-- at how many leaves the spans begin that questions are for
+abbrev pub leaves_begun : List Span → ℕ
+leaves_begun questions = sum_by (λ q. q.last - q.first + 1) questions

@@ -1,0 +1,53 @@
+//! The canonical covers of volumes, as bytes.
+
+ghost use Rattle.std.specs.Prelude.{◌≡◌, IfOk, map};
+ghost use Rattle.std.specs.List.{flat_map};
+ghost use Rattle.std.specs.Int.{w64, to_be_bytes};
+ghost use Rattle.row_codec.specs.Tables.{canon_bytes};
+ghost use Rattle.row_codec.specs.PlanRows.{AreCanonOf};
+
+use s2_cellid::CellId;
+use s2_cover::laws::{canonical_list_is, one_canonical_list};
+use std::alloc::{AllocError, Global};
+use volume4d::Volume;
+
+/// The ids of the canonical cover of a volume's leaves, ascending, each as eight bytes, the most significant
+/// first.
+///
+/// # Errors
+///
+/// `AllocError` if memory runs out.
+pub fn canon_of(alloc: Global, volume: &Volume) -> Result<Vec<u8>, AllocError>
+    ensures { IfOk result (λ bytes. bytes.items ≡ canon_bytes volume.now.footprint) }
+{
+    one_canonical_list();
+    canonical_list_is();
+    let cover = volume.cover()?;
+    ids_of(alloc, cover.cells())
+}
+
+/// The bytes of the canonical covers of volumes.
+///
+/// # Errors
+///
+/// `AllocError` if memory runs out.
+pub fn canons_of(alloc: Global, volumes: &[Volume]) -> Result<Vec<Vec<u8>>, AllocError>
+    ensures { IfOk result (λ canon. AreCanonOf volumes.now (map (λ bytes. bytes.items) canon.items)) }
+{
+    let mut canon = Vec::new(alloc);
+    for volume in volumes {
+        canon.push(canon_of(alloc, volume)?)?;
+    }
+    Ok(canon)
+}
+
+// The ids of cells, each as eight bytes, the most significant first.
+fn ids_of(alloc: Global, cells: &[CellId]) -> Result<Vec<u8>, AllocError>
+    ensures { IfOk result (λ bytes. bytes.items ≡ flat_map (λ id. to_be_bytes w64 id) cells.now) }
+{
+    let mut bytes = Vec::new(alloc);
+    for cell in cells {
+        bytes.extend_from_slice(&cell.raw().to_be_bytes())?;
+    }
+    Ok(bytes)
+}

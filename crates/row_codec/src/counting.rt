@@ -1,0 +1,67 @@
+//! How many spans the operator that has most has, and how many cells the one that has most of those.
+
+ghost use Rattle.std.specs.Prelude.{◌≡◌, ◌*◌, ◌≤◌, ◌⊎◌, ℕ, List, length};
+ghost use Rattle.std.specs.List.{sum_by};
+ghost use Rattle.std.specs.List.Sorted.{IsStrictlySortedBy};
+ghost use Rattle.volume4d.specs.VolumeLimits.{max_cover, max_volumes};
+ghost use Rattle.desk_rules.specs.Limits.{max_plans};
+ghost use Rattle.desk_store.specs.World.{filed_cmp, rows_by};
+ghost use Rattle.row_codec.specs.Counting.{IsMostOf, count_of};
+
+use crate::content::count_own;
+use crate::exact::FiledPlan;
+
+/// What is counted of plans.
+#[derive(Clone, Copy, Debug, PartialEq, Eq)]
+pub enum Counted {
+    /// The spans of those that are live.
+    Spans,
+    /// The cells of all.
+    Cells,
+}
+
+/// What is counted of the operator that has most of it; none of no plans.
+pub fn most_of(counted: Counted, plans: &[FiledPlan]) -> usize
+    requires keys { IsStrictlySortedBy filed_cmp plans.now }
+    requires few { (operator : List ℕ) → length (rows_by operator plans.now) ≤ max_plans }
+    ensures { IsMostOf (count_of counted) plans.now result }
+{
+    let mut most = 0;
+    let mut left = plans;
+    while let Some((first, others)) = left.split_first() {
+        let (mine, later) = left.split_at(1 + count_own(&first.operator, others));
+        most = greater_of(most, sum_of(counted, mine));
+        left = later;
+    }
+    most
+}
+
+fn greater_of(one: usize, other: usize) -> usize
+    ensures no_less { (one ≤ result) × (other ≤ result) }
+    ensures which { (result ≡ one) ⊎ (result ≡ other) }
+{
+    if one < other { other } else { one }
+}
+
+// What is counted of plans, of which there are as many as an operator may have.
+fn sum_of(counted: Counted, plans: &[FiledPlan]) -> usize
+    requires { length plans.now ≤ max_plans }
+    ensures { result ≡ sum_by (λ p. count_of counted p.row) plans.now }
+{
+    let mut sum = 0;
+    for plan in plans {
+        sum += count_in(counted, plan);
+    }
+    sum
+}
+
+// What is counted of a plan.
+fn count_in(counted: Counted, plan: &FiledPlan) -> usize
+    ensures value { result ≡ count_of counted plan.now.row }
+    ensures few { result ≤ max_volumes * max_cover }
+{
+    match counted {
+        Counted::Spans => plan.row.span_count() as usize,
+        Counted::Cells => plan.row.cell_count() as usize,
+    }
+}

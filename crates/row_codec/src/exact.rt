@@ -1,0 +1,270 @@
+//! Rows read exactly: what an operator's row and the rows of a plan stand for, or that they are no
+//! desk's.
+
+ghost use Rattle.std.specs.Prelude.{◌≡◌, ◌≢◌, ◌≤◌, ◌↔◌, ℕ, List, pos, IsTrue, IfOk, IfErr};
+ghost use Rattle.std.specs.Prelude.{MatchOption};
+ghost use Rattle.std.specs.List.{AllZip};
+ghost use Rattle.sqlite_value.specs.declared.value.Value.TheVariants.{Int, Text};
+ghost use Rattle.sqlite_value.specs.Order.{column};
+ghost use Rattle.volume4d.specs.Slab.{slab_window};
+ghost use Rattle.volume4d.specs.Volume.{Block};
+ghost use Rattle.desk_rules.specs.Name.{is_operator_name};
+ghost use Rattle.desk_store.specs.World.{Filed, Listed};
+ghost use Rattle.row_codec.specs.Tables.{id_text, row_of_operator, row_of_volume, area_rows};
+ghost use Rattle.row_codec.specs.RowsRead.{IsVolumeAt};
+ghost use Rattle.row_codec.specs.Records.{IsOperator, IsFiled, AreRowsOf, AreNumbersOf, IsKeyed};
+ghost use Rattle.row_codec.specs.Records.{IsWindowAt, slab_row};
+
+use crate::values::{area_in, count_at, plan_in};
+use desk_rules::decide::MAX_PRIORITY;
+use desk_rules::operator::Operator;
+use desk_rules::plan::PlanRow;
+use desk_store::StoreFault;
+use operator_index::ListedOperator;
+use sqlite::Row;
+use sqlite_value::value::ValueRef;
+use std::alloc::Global;
+use std::marker::Model;
+use volume4d::Slab;
+
+// How many columns a row of each table has.
+const OPERATOR_WIDTH: usize = 2;
+
+pub const PLAN_WIDTH: usize = 5;
+
+const VOLUME_WIDTH: usize = 8;
+
+const SPAN_WIDTH: usize = 10;
+
+/// Why rows are not read.
+#[derive(Clone, Copy, Debug, PartialEq, Eq)]
+pub enum RowFault {
+    /// A growth was refused.
+    OutOfMemory,
+    /// They are no desk's.
+    NoDesk,
+}
+
+impl From<StoreFault> for RowFault {
+    ghost use Rattle.std.specs.Prelude.{◌≡◌};
+    ghost use Rattle.row_codec.specs.Records.{row_fault_of};
+
+    ghost from_gives = { λ fault e. e ≡ row_fault_of fault };
+
+    fn from(fault: StoreFault) -> RowFault {
+        match fault {
+            StoreFault::OutOfMemory => RowFault::OutOfMemory,
+            StoreFault::Store => RowFault::NoDesk,
+        }
+    }
+}
+
+/// A plan with its operator.
+#[derive(Debug, Drop)]
+pub struct FiledPlan {
+    pub operator: Operator,
+    pub row: PlanRow,
+}
+
+impl Model for FiledPlan {
+    ghost use Rattle.desk_store.specs.World.{Filed};
+
+    ghost Value = { Filed };
+
+    ghost view = { λ p. record { operator = p.operator; row = p.row } };
+}
+
+/// The operator whose row in `operator` this is.
+///
+/// # Errors
+///
+/// `OutOfMemory` if memory runs out. `NoDesk` if it is the row of no operator within the limits.
+pub(crate) fn listed_in(row: &Row) -> Result<ListedOperator, RowFault>
+    ensures ok { IfOk result (λ l. IsOperator l × (row.now ≡ row_of_operator l)) }
+    ensures none { IfErr result (λ e. e ≡ RowFault.NoDesk →
+        (l : Listed) → IsOperator l → row.now ≢ row_of_operator l) }
+{
+    let Some(operator) = operator_in(row) else {
+        return Err(RowFault::NoDesk);
+    };
+    let ceiling = count_at(row, 1)?;
+    if ceiling > MAX_PRIORITY {
+        return Err(RowFault::NoDesk);
+    }
+    if row.column_count() != OPERATOR_WIDTH {
+        return Err(RowFault::NoDesk);
+    }
+    Ok(ListedOperator { operator, ceiling })
+}
+
+/// The plan whose row in `plan` the first is, and whose rows in `volume2`, or in `volume` of schema 1, by
+/// place, the others are. A closed one keeps no ranges: no row of spans is compared with them.
+///
+/// # Errors
+///
+/// `OutOfMemory` if memory runs out. `NoDesk` if they are the rows of no plan within the limits.
+pub(crate) fn filed_in(alloc: Global, head: &Row, volumes: &[Row]) -> Result<FiledPlan, RowFault>
+    ensures ok { IfOk result (λ p. IsFiled p × AreRowsOf p head.now volumes.now) }
+    ensures none { IfErr result (λ e. e ≡ RowFault.NoDesk →
+        (p : Filed) → IsFiled p → ¬ AreRowsOf p head.now volumes.now) }
+{
+    let Some(operator) = operator_in(head) else {
+        return Err(RowFault::NoDesk);
+    };
+    let area = area_in(alloc, volumes, 3)?;
+    let row = plan_in(head, area)?;
+    if row.priority > MAX_PRIORITY {
+        return Err(RowFault::NoDesk);
+    }
+    let mut plan = FiledPlan { operator, row };
+    if !has_rows(&plan, head, volumes) {
+        return Err(RowFault::NoDesk);
+    }
+    if !plan.row.usage.is_live() {
+        plan.row.area.drop_ranges();
+    }
+    Ok(plan)
+}
+
+/// The operator whose name stands in the first column, if it is one's.
+pub fn operator_in(row: &Row) -> Option<Operator>
+    ensures { MatchOption result
+        ((name : List ℕ) → IsTrue (is_operator_name name) → column row.now 0 ≢ Text name)
+        (λ name. IsTrue (is_operator_name name) × (column row.now 0 ≡ Text name)) }
+{
+    match row.get_ref(0) {
+        Ok(ValueRef::Text(name)) => Operator::try_new(name),
+        _ => None,
+    }
+}
+
+// Whether the rows are just those of a plan whose numbers and volumes stand in them.
+fn has_rows(plan: &FiledPlan, head: &Row, volumes: &[Row]) -> bool
+    requires numbers { AreNumbersOf head.now plan.now.row }
+    requires area { AllZip (λ row v. IsVolumeAt row 3 v) volumes.now plan.now.row.area }
+    ensures { IsTrue result ↔ AreRowsOf plan.now head.now volumes.now }
+{
+    let mut buffer = [0u8; 36];
+    let id = plan.row.id.encode(&mut buffer);
+    if !is_keyed(head, plan.operator.as_str(), id, PLAN_WIDTH) {
+        return false;
+    }
+    are_placed(plan, id, volumes)
+}
+
+// Whether rows in which a plan's volumes stand are just the plan's, at the places 0, 1 and so on.
+fn are_placed(plan: &FiledPlan, id: &str, rows: &[Row]) -> bool
+    requires id { id.now ≡ id_text plan.now.row.id }
+    requires area { AllZip (λ row v. IsVolumeAt row 3 v) rows.now plan.now.row.area }
+    ensures { IsTrue result ↔ (rows.now ≡ area_rows plan.now) }
+{
+    for (place, row) in rows.iter().enumerate() {
+        if !is_placed(plan, id, place, row) {
+            return false;
+        }
+    }
+    true
+}
+
+// Whether a row in which a volume stands is just a plan's, at a place.
+fn is_placed(plan: &FiledPlan, id: &str, place: usize, row: &Row) -> bool
+    requires id { id.now ≡ id_text plan.now.row.id }
+    ensures { (v : Block) → IsVolumeAt row.now 3 v →
+        IsTrue result ↔ (row.now ≡ row_of_volume plan.now place v) }
+{
+    if !is_keyed(row, plan.operator.as_str(), id, VOLUME_WIDTH) {
+        return false;
+    }
+    is_count_at(row, 2, place as u64)
+}
+
+/// Whether a row is that of a slab of the volume at a place.
+pub fn is_slab_row(plan: &FiledPlan, id: &str, place: usize, slab: &Slab, row: &Row) -> bool
+    requires id { id.now ≡ id_text plan.now.row.id }
+    ensures { IsTrue result ↔ (row.now ≡ slab_row plan.now place slab.now) }
+{
+    if !is_keyed(row, plan.operator.as_str(), id, SPAN_WIDTH) {
+        return false;
+    }
+    if !is_count_at(row, 2, place as u64) {
+        return false;
+    }
+    if !has_leaves_of(row, slab) {
+        return false;
+    }
+    if !is_window_at(row, 5, slab) {
+        return false;
+    }
+    is_count_at(row, 9, u64::from(plan.row.priority))
+}
+
+// Whether the columns of a row of spans that say where it begins and ends have the leaves of a slab.
+fn has_leaves_of(row: &Row, slab: &Slab) -> bool
+    ensures { IsTrue result ↔ ((column row.now 3 ≡ Int (pos slab.now.first))
+        × (column row.now 4 ≡ Int (pos slab.now.last))) }
+{
+    if !is_count_at(row, 3, slab.first) {
+        return false;
+    }
+    is_count_at(row, 4, slab.last)
+}
+
+// Whether a row of so many columns begins with an operator's name and the text of an id.
+pub fn is_keyed(row: &Row, operator: &str, id: &str, width: usize) -> bool
+    ensures { IsTrue result ↔ IsKeyed operator.now id.now width row.now }
+{
+    if row.column_count() != width {
+        return false;
+    }
+    if !is_text_at(row, 0, operator) {
+        return false;
+    }
+    is_text_at(row, 1, id)
+}
+
+// Whether the four columns from a place on are the altitudes and seconds of a slab.
+fn is_window_at(row: &Row, at: usize, slab: &Slab) -> bool
+    requires { at ≤ 5 }
+    ensures { IsTrue result ↔ IsWindowAt row.now at (slab_window slab.now) }
+{
+    if !is_number_at(row, at, i64::from(slab.lower)) {
+        return false;
+    }
+    if !is_number_at(row, at + 1, i64::from(slab.upper)) {
+        return false;
+    }
+    if !is_number_at(row, at + 2, slab.start) {
+        return false;
+    }
+    is_number_at(row, at + 3, slab.end)
+}
+
+// Whether a column is this text.
+fn is_text_at(row: &Row, at: usize, text: &str) -> bool
+    ensures { IsTrue result ↔ (column row.now at ≡ Text text.now) }
+{
+    match row.get_ref(at) {
+        Ok(ValueRef::Text(bytes)) => bytes == text.as_bytes(),
+        _ => false,
+    }
+}
+
+// Whether a column is this number.
+fn is_number_at(row: &Row, at: usize, number: i64) -> bool
+    ensures { IsTrue result ↔ (column row.now at ≡ Int number) }
+{
+    match row.get_ref(at) {
+        Ok(ValueRef::Int(n)) => n == number,
+        _ => false,
+    }
+}
+
+// Whether a column is this count.
+pub(crate) fn is_count_at(row: &Row, at: usize, count: u64) -> bool
+    ensures { IsTrue result ↔ (column row.now at ≡ Int (pos count)) }
+{
+    match row.get_ref(at) {
+        Ok(ValueRef::Int(n)) => u64::try_from(n) == Ok(count),
+        _ => false,
+    }
+}

@@ -1,0 +1,43 @@
+//! The world that a store keeps, for its contracts alone.
+
+ghost use Rattle.std.specs.Prelude.{◌≡◌, []};
+ghost use Rattle.std.specs.Borrow.{ftrue};
+ghost use Rattle.desk_store.specs.World.{World};
+ghost use Rattle.desk_store.specs.StoreChange.{changed_by};
+
+use crate::content::Content;
+use desk_store::Change;
+use std::marker::Model;
+
+/// The world that a store keeps. It takes no bytes: contracts alone read it.
+#[derive(Drop)]
+pub struct GhostState {
+    pub ghost world: { World },
+}
+
+impl Model for GhostState {
+    ghost also_owns = { λ _. ftrue };
+}
+
+impl GhostState {
+    /// The world of no operators and no plans.
+    pub fn new() -> GhostState
+        ensures { result.world ≡ record { operators = []; plans = [] } }
+    {
+        GhostState {}
+    }
+
+    /// The world after a change.
+    pub fn after(_before: &GhostState, _change: &Change) -> GhostState
+        ensures { result.world ≡ changed_by _change.now _before.now.world }
+    {
+        GhostState {}
+    }
+
+    /// The world of a content that was read.
+    pub fn of(_content: &Content) -> GhostState
+        ensures { result.world ≡ _content.now }
+    {
+        GhostState {}
+    }
+}

@@ -1,0 +1,113 @@
+//! What a store knows of its plans without a look into its tables.
+
+ghost use Rattle.std.specs.Prelude.{◌≡◌, [], length, IfOk, OnOk};
+ghost use Rattle.std.specs.List.Sorted.{IsStrictlySortedBy};
+ghost use Rattle.desk_store.specs.World.{World, filed_cmp};
+ghost use Rattle.desk_store.specs.StoreChange.{changed_by};
+ghost use Rattle.live_index.specs.Live.{AreBrought, AreKeptOnce, HasRoomForVolumes};
+ghost use Rattle.operator_index.specs.Roll.{AreAccountsOf, IsReadyFor, accounts_of};
+ghost use Rattle.row_codec.specs.Known.{Knows};
+ghost use Rattle.row_codec.specs.SpanBounds.{BringsKnown, Keeps};
+
+use crate::exact::FiledPlan;
+use crate::span_bounds::SpanBounds;
+use desk_store::Change;
+use live_index::{LiveIndex, LiveIndexBuilder, LiveVolume};
+use operator_index::{ListedOperator, OperatorIndex};
+use std::alloc::{AllocError, Global};
+
+/// How long the spans of live plans are, bounds round each of their volumes, and the roll of operators.
+#[derive(Drop)]
+pub struct MemoryIndex {
+    pub span_bounds: SpanBounds,
+    pub live: LiveIndex,
+    pub roll: OperatorIndex,
+}
+
+impl MemoryIndex {
+    /// Of no plans.
+    pub fn new(alloc: Global) -> MemoryIndex
+        ensures { Knows result (record { operators = []; plans = [] }) }
+    {
+        MemoryIndex {
+            span_bounds: SpanBounds::new(),
+            live: LiveIndex::new(alloc),
+            roll: OperatorIndex::new(alloc),
+        }
+    }
+
+    /// The volumes that a change brings. There is room then for all that it adds.
+    ///
+    /// # Errors
+    ///
+    /// `AllocError` if memory runs out.
+    pub fn prepare(&mut self, alloc: Global, change: &Change) -> Result<Vec<LiveVolume>, AllocError>
+        ensures kept { (w : World) → Knows self.old w → Knows self.new w }
+        ensures brought { IfOk result (λ fresh. AreBrought change.now fresh.items) }
+        ensures room { IfOk result (λ fresh. HasRoomForVolumes self.new.live (length fresh.items)) }
+        ensures ready { OnOk result (IsReadyFor change.now self.new.roll) }
+    {
+        self.roll.prepare(alloc, change)?;
+        self.live.prepare(alloc, change)
+    }
+
+    /// Follows a change, for which there is room, with the lengths after it and the volumes that it brings.
+    pub fn follow(&mut self, change: &Change, span_bounds: SpanBounds, fresh: &[LiveVolume])
+        requires room { HasRoomForVolumes self.old.live (length fresh.now) }
+        requires brought { AreBrought change.now fresh.now }
+        requires ready { IsReadyFor change.now self.old.roll }
+        requires kept { Keeps self.old.span_bounds span_bounds }
+        requires brings { BringsKnown span_bounds change.now }
+        ensures { (w : World) → Knows self.old w → Knows self.new (changed_by change.now w) }
+    {
+        self.span_bounds = span_bounds;
+        self.live.follow(change, fresh);
+        self.roll.follow(change);
+    }
+}
+
+/// The volumes of the live ones among plans.
+///
+/// # Errors
+///
+/// `AllocError` if memory runs out.
+pub fn live_among(alloc: Global, plans: &[FiledPlan]) -> Result<LiveIndex, AllocError>
+    ensures { IfOk result (λ live. (w : World) → IsStrictlySortedBy filed_cmp w.plans
+        → w.plans ≡ plans.now → AreKeptOnce live w) }
+{
+    let mut gathering = LiveIndexBuilder::new(alloc);
+    for plan in plans {
+        gathering.add(&plan.operator, &plan.row)?;
+    }
+    gathering.finish(alloc)
+}
+
+/// The roll of operators and their plans.
+///
+/// # Errors
+///
+/// `AllocError` if memory runs out.
+pub fn roll_of(
+    alloc: Global,
+    operators: &[ListedOperator],
+    plans: &[FiledPlan],
+) -> Result<OperatorIndex, AllocError>
+    ensures { IfOk result (λ roll. AreAccountsOf operators.now plans.now (accounts_of roll)) }
+{
+    let mut roll = roll_with(alloc, operators)?;
+    for plan in plans {
+        roll.file(alloc, &plan.operator, &plan.row)?;
+    }
+    Ok(roll)
+}
+
+// The roll of operators without plans.
+fn roll_with(alloc: Global, operators: &[ListedOperator]) -> Result<OperatorIndex, AllocError>
+    ensures { IfOk result (λ roll. AreAccountsOf operators.now [] (accounts_of roll)) }
+{
+    let mut roll = OperatorIndex::new(alloc);
+    for listed in operators {
+        roll.list(alloc, &listed.operator, listed.ceiling)?;
+    }
+    Ok(roll)
+}

@@ -1,0 +1,14 @@
+//! The rows of a desk's tables: plans, operators and contents as rows, and back.
+#![tactic(auto)]
+
+pub mod canon;
+pub mod content;
+pub mod counting;
+pub mod exact;
+pub mod kept;
+pub mod known;
+pub mod listing;
+pub mod records;
+pub mod rivals;
+pub mod span_bounds;
+pub mod values;

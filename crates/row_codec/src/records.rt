@@ -1,0 +1,262 @@
+//! The rows of a plan, as they are put into the tables.
+
+ghost use Rattle.std.specs.Prelude.{◌≡◌, ◌≤◌, ◌<◌, ◌+◌, ◌^◌, ℕ, pos, IfOk, map};
+ghost use Rattle.std.specs.List.{AllByRecursion};
+ghost use Rattle.std.specs.String.{string_bytes};
+ghost use Rattle.volume4d.specs.FootprintBytes.{footprint_bytes};
+ghost use Rattle.desk_sql.specs.Rows.{cover_row};
+ghost use Rattle.desk_changes.specs.Batches.{volume_row_in, cover_of, span_row_in};
+ghost use Rattle.desk_store.specs.Changes.{filed_by};
+ghost use Rattle.row_codec.specs.Tables as spec;
+ghost use Rattle.row_codec.specs.Tables.{id_text, area_rows, area_covers, ArePlanSpanRows, AreSpanRowsFrom};
+ghost use Rattle.desk_store.specs.Content.{IsId, IsBlock};
+ghost use Rattle.row_codec.specs.SpanBounds.{IsKnownRow, Keeps};
+ghost use Rattle.row_codec.specs.PlanRows.{volume_record, slab_record, AreAskedOf, AreCanonOf};
+
+use crate::span_bounds::SpanBounds;
+use desk_changes::{SpanRecord, VolumeRecord};
+use desk_rules::plan::PlanRow;
+use desk_rules::plan_id::PlanId;
+use desk_rules::words::{Aircraft, Usage};
+use std::alloc::{AllocError, Global};
+use volume4d::{Slab, Volume};
+
+/// The number of a usage.
+pub fn usage_number(usage: Usage) -> u32
+    ensures { result ≡ spec.usage_number usage }
+{
+    match usage {
+        Usage::Planned => 0,
+        Usage::InUse => 1,
+        Usage::Closed => 2,
+    }
+}
+
+/// The number of a state of the aircraft.
+pub fn aircraft_number(aircraft: Aircraft) -> u32
+    ensures { result ≡ spec.aircraft_number aircraft }
+{
+    match aircraft {
+        Aircraft::Nominal => 0,
+        Aircraft::OffNominal => 1,
+        Aircraft::Contingent => 2,
+    }
+}
+
+/// The texts of ids, which are ids.
+///
+/// # Errors
+///
+/// `AllocError` if memory runs out.
+pub fn texts_of(alloc: Global, ids: &[PlanId]) -> Result<Vec<String>, AllocError>
+    ensures value { IfOk result (λ texts. map string_bytes texts.items ≡ map id_text ids.now) }
+    ensures valid { IfOk result (λ texts. AllByRecursion IsId ids.now) }
+{
+    let mut texts = Vec::new(alloc);
+    for id in ids {
+        texts.push(text_of(alloc, id)?)?;
+    }
+    Ok(texts)
+}
+
+// The text of an id, which is an id.
+fn text_of(alloc: Global, id: &PlanId) -> Result<String, AllocError>
+    ensures value { IfOk result (λ text. string_bytes text ≡ id_text id.now) }
+    ensures valid { IsId id.now }
+{
+    let mut buffer = [0u8; 36];
+    String::from_str(alloc, id.encode(&mut buffer))
+}
+
+/// The bytes of the footprints of volumes, which are within the limits.
+///
+/// # Errors
+///
+/// `AllocError` if memory runs out.
+pub fn asked_of(alloc: Global, volumes: &[Volume]) -> Result<Vec<Vec<u8>>, AllocError>
+    ensures value { IfOk result (λ asked. AreAskedOf volumes.now (map (λ bytes. bytes.items) asked.items)) }
+    ensures valid { IfOk result (λ asked. AllByRecursion IsBlock volumes.now) }
+{
+    let mut asked = Vec::new(alloc);
+    for volume in volumes {
+        asked.push(asked_in(alloc, volume)?)?;
+    }
+    Ok(asked)
+}
+
+// The bytes of the footprint of a volume, which is within the limits.
+fn asked_in(alloc: Global, volume: &Volume) -> Result<Vec<u8>, AllocError>
+    ensures value { IfOk result (λ bytes. bytes.items ≡ footprint_bytes volume.now.footprint) }
+    ensures valid { IfOk result (λ bytes. IsBlock volume.now) }
+{
+    // For its clause alone: the window of a volume is one.
+    let _window = volume.window();
+    volume.footprint().to_bytes(alloc)
+}
+
+/// The rows of a plan's volumes, at the places 0, 1, .. of their area.
+///
+/// # Errors
+///
+/// `AllocError` if memory runs out.
+pub fn volume_rows<'a>(
+    alloc: Global,
+    operator: &'a str,
+    id: &'a str,
+    plan: &PlanRow,
+    asked: &'a [Vec<u8>],
+    canon: &'a [Vec<u8>],
+) -> Result<Vec<VolumeRecord<'a>>, AllocError>
+    requires named { id.now ≡ id_text plan.now.id }
+    requires same { AreAskedOf plan.now.area (map (λ bytes. bytes.items) asked.now) }
+    requires covered { AreCanonOf plan.now.area (map (λ bytes. bytes.items) canon.now) }
+    ensures volumes { IfOk result (λ rows. map volume_row_in rows.items
+        ≡ area_rows (filed_by operator.now plan.now)) }
+    ensures covers { IfOk result (λ rows. map cover_of rows.items
+        ≡ area_covers (filed_by operator.now plan.now)) }
+{
+    let volumes = plan.area.volumes();
+    let mut rows = Vec::new(alloc);
+    let mut place = 0u32;
+    for volume in volumes {
+        let at = place as usize;
+        rows.push(volume_row(operator, id, place, volume, &asked[at], &canon[at]))?;
+        place += 1;
+    }
+    Ok(rows)
+}
+
+// The row of a volume at a place, with the bytes of its footprint and those of its cover.
+fn volume_row<'a>(
+    operator: &'a str,
+    id: &'a str,
+    place: u32,
+    volume: &Volume,
+    asked: &'a [u8],
+    canon: &'a [u8],
+) -> VolumeRecord<'a>
+    ensures volume { volume_row_in result
+        ≡ volume_record operator.now id.now place volume.now.window asked.now }
+    ensures cover { cover_of result ≡ cover_row operator.now id.now place canon.now }
+{
+    let window = volume.window();
+    VolumeRecord {
+        operator,
+        id,
+        place,
+        lower: i64::from(window.lower()),
+        upper: i64::from(window.upper()),
+        start: window.start(),
+        stop: window.end(),
+        asked,
+        canon,
+    }
+}
+
+/// The rows of a plan's spans: one for each range of each of its volumes while it is live, and none
+/// once it is closed.
+///
+/// # Errors
+///
+/// `AllocError` if memory runs out.
+pub fn span_rows<'a>(
+    alloc: Global,
+    operator: &'a str,
+    id: &'a str,
+    plan: &PlanRow,
+) -> Result<Vec<SpanRecord<'a>>, AllocError>
+    requires { id.now ≡ id_text plan.now.id }
+    ensures { IfOk result (λ rows. ArePlanSpanRows (filed_by operator.now plan.now)
+        (map span_row_in rows.items)) }
+{
+    if plan.usage.is_live() {
+        area_spans(alloc, operator, id, plan)
+    } else {
+        Ok(Vec::new(alloc))
+    }
+}
+
+// A row for each range of each volume of a plan.
+fn area_spans<'a>(
+    alloc: Global,
+    operator: &'a str,
+    id: &'a str,
+    plan: &PlanRow,
+) -> Result<Vec<SpanRecord<'a>>, AllocError>
+    requires { id.now ≡ id_text plan.now.id }
+    ensures { IfOk result (λ rows. AreSpanRowsFrom (filed_by operator.now plan.now) 0 plan.now.area
+        (map span_row_in rows.items)) }
+{
+    let volumes = plan.area.volumes();
+    let mut rows = Vec::new(alloc);
+    let mut place: u32 = 0;
+    for volume in volumes {
+        let slabs = volume.slabs()?;
+        rows.extend_from_slice(&slab_rows(alloc, operator, id, place, plan.priority, &slabs)?)?;
+        place += 1;
+    }
+    Ok(rows)
+}
+
+// A row for each slab of the volume at a place.
+fn slab_rows<'a>(
+    alloc: Global,
+    operator: &'a str,
+    id: &'a str,
+    place: u32,
+    priority: u32,
+    slabs: &[Slab],
+) -> Result<Vec<SpanRecord<'a>>, AllocError>
+    ensures { IfOk result (λ rows. map span_row_in rows.items
+        ≡ map (slab_record operator.now id.now place priority) slabs.now) }
+{
+    let mut rows = Vec::new(alloc);
+    for slab in slabs {
+        rows.push(slab_row(operator, id, place, priority, slab))?;
+    }
+    Ok(rows)
+}
+
+// The row of a slab of the volume at a place.
+fn slab_row<'a>(
+    operator: &'a str,
+    id: &'a str,
+    place: u32,
+    priority: u32,
+    slab: &Slab,
+) -> SpanRecord<'a>
+    ensures { span_row_in result ≡ slab_record operator.now id.now place priority slab.now }
+{
+    SpanRecord {
+        operator,
+        id,
+        place,
+        first: slab.first as i64,
+        last: slab.last as i64,
+        lower: i64::from(slab.lower),
+        upper: i64::from(slab.upper),
+        start: slab.start,
+        stop: slab.end,
+        priority,
+    }
+}
+
+/// Span bounds, with those of the spans of these rows.
+pub fn lengths_with(span_bounds: &SpanBounds, spans: &[SpanRecord<'_>]) -> SpanBounds
+    ensures kept { Keeps span_bounds.now result }
+    ensures known { AllByRecursion (IsKnownRow result) (map span_row_in spans.now) }
+{
+    let mut after = *span_bounds;
+    for span in spans {
+        after = length_with(&after, span);
+    }
+    after
+}
+
+// Span bounds, with that of the span of a row.
+fn length_with(span_bounds: &SpanBounds, span: &SpanRecord<'_>) -> SpanBounds
+    ensures kept { Keeps span_bounds.now result }
+    ensures known { IsKnownRow result (span_row_in span.now) }
+{
+    span_bounds.with(span.first, span.last)
+}

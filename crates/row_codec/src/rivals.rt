@@ -1,0 +1,132 @@
+//! Held slabs, from rows of `span2` that are taken one at a time.
+
+ghost use Rattle.std.specs.Prelude.{◌≡◌, ◌≢◌, ◌<◌, ◌*◌, ◌^◌, ℕ, pos, [], IfErr, IfOk};
+ghost use Rattle.sqlite_value.specs.declared.value.Value.TheVariants.{Int};
+ghost use Rattle.sqlite_value.specs.Order.{column};
+ghost use Rattle.row_codec.specs.RivalRows as spec;
+ghost use Rattle.volume4d.specs.declared.slab.Held.{Held as One};
+ghost use Rattle.row_codec.specs.RivalRows.{FitsColumns, IsHeldIn, IsNoHeld, IsSlabIn, HasTakenHelds};
+
+use crate::listing::error_of;
+use crate::values::{count_at, narrow_at, wide_at};
+use desk_sql::{RowVisitor, SpanFilter};
+use desk_store::StoreFault;
+use s2_cover::Span;
+use sqlite::{Error, Row};
+use std::alloc::Global;
+use volume4d::{Held, Slab};
+
+// How many leaf positions there are along the curve.
+const POSITIONS: i64 = 6 << 60;
+
+/// The slabs of the rows of `span2` that were taken.
+#[derive(Drop)]
+pub struct SpanCollector {
+    helds: Vec<Held>,
+}
+
+impl SpanCollector {
+    /// Of no row yet.
+    pub fn new(alloc: Global) -> SpanCollector
+        ensures { HasTakenHelds result.helds.items [] }
+    {
+        SpanCollector {
+            helds: Vec::new(alloc),
+        }
+    }
+
+    /// One slab for each row, in their order.
+    pub fn finish(self) -> Vec<Held>
+        ensures { result.items ≡ self.helds.items }
+    {
+        self.helds
+    }
+}
+
+impl RowVisitor for SpanCollector {
+    ghost use Rattle.std.specs.Prelude.{◌≡◌, ◌⊎◌, ⊤};
+    ghost use Rattle.sqlite.specs.declared.error.Error.TheVariants.{SqliteFailure};
+    ghost use Rattle.sqlite.specs.declared.error.ErrorCode.TheVariants.{OutOfMemory};
+    ghost use Rattle.row_codec.specs.RivalRows.{HasTakenHelds, IsNoHeld};
+
+    ghost has_taken = { λ r rows. HasTakenHelds r.helds.items rows };
+
+    ghost keeps = { λ _ _. ⊤ };
+
+    ghost refuses = { λ taken row e. (e ≡ SqliteFailure OutOfMemory) ⊎ IsNoHeld row };
+
+    #[tactic(auto, using(crate::proofs::RivalLemmas::one_taken))]
+    fn take(&mut self, row: &Row) -> Result<(), Error> {
+        match held_in(row) {
+            Ok(held) => Ok(self.helds.push(held)?),
+            Err(e) => Err(error_of(e)),
+        }
+    }
+}
+
+/// The spans that may hold a point of an extent, of a priority at least.
+pub fn reach_of(extent: &Slab, least: u32) -> SpanFilter
+    ensures { result ≡ spec.reach_of extent.now least }
+{
+    SpanFilter {
+        first: extent.first as i64,
+        last: extent.last as i64,
+        lower: i64::from(extent.lower),
+        upper: i64::from(extent.upper),
+        start: extent.start,
+        stop: extent.end,
+        priority: least,
+    }
+}
+
+/// Of these only those that begin at the leaves that a question is for.
+pub fn reach_from(question: &Span, extent: &Slab, least: u32) -> SpanFilter
+    requires { question.now.last < 6 * 2 ^ 60 }
+    ensures { result ≡ spec.reach_from question.now extent.now least }
+{
+    let mut reach = reach_of(extent, least);
+    reach.last = question.last as i64;
+    reach
+}
+
+// The slab of a row of `span2`, of which the columns from `first` on are shown, with its plan's priority.
+fn held_in(row: &Row) -> Result<Held, StoreFault>
+    ensures value { IfOk result (λ held. IsHeldIn row.now held) }
+    ensures none { IfErr result (λ e. e ≡ StoreFault.Store → IsNoHeld row.now) }
+{
+    Ok(Held {
+        slab: slab_in(row)?,
+        priority: count_at(row, 6)?,
+    })
+}
+
+// The slab of such a row.
+fn slab_in(row: &Row) -> Result<Slab, StoreFault>
+    ensures value { IfOk result (λ slab. IsSlabIn row.now slab) }
+    ensures none { IfErr result (λ e. e ≡ StoreFault.Store → (shown : One) → FitsColumns shown
+        → ¬ IsSlabIn row.now shown.slab) }
+{
+    Ok(Slab {
+        first: position_at(row, 0)?,
+        last: position_at(row, 1)?,
+        lower: narrow_at(row, 2)?,
+        upper: narrow_at(row, 3)?,
+        start: wide_at(row, 4)?,
+        end: wide_at(row, 5)?,
+    })
+}
+
+// The leaf position in a column.
+fn position_at(row: &Row, at: usize) -> Result<u64, StoreFault>
+    ensures value { IfOk result (λ position. column row.now at ≡ Int (pos position)) }
+    ensures leaf { IfOk result (λ position. position < 6 * 2 ^ 60) }
+    ensures none { IfErr result (λ e. e ≡ StoreFault.Store →
+        (n : ℕ) → n < 6 * 2 ^ 60 → column row.now at ≢ Int (pos n)) }
+{
+    let position = wide_at(row, at)?;
+    if (0..POSITIONS).contains(&position) {
+        Ok(position as u64)
+    } else {
+        Err(StoreFault::Store)
+    }
+}

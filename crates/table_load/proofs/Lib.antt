@@ -1,0 +1,10 @@
+pub mod lemmas
+pub mod NoneShownLemmas
+pub mod NamedLemmas
+pub mod RowLemmas
+pub mod AnyRowLemmas
+pub mod SpanCheckLemmas
+pub mod HeadLemmas
+pub mod NamingLemmas
+pub mod CoverLemmas
+pub mod OrderingLemmas

@@ -1,0 +1,179 @@
+-- How a content of schema 1 is moved to schema 2.
+use Rattle.std.specs.Prelude.{◌≡◌, ◌≤◌, ◌⊎◌, ⊤, ℕ, ◌-◌, ◌^◌, true, List, [], ◌∷◌, ◌++◌, length, nat_le, if◌then◌else◌, IsTrue, IsPermutation}
+use Rattle.std.specs.List.{AllByRecursion}
+use Rattle.sqlite_trees.specs.declared.store.Store.{Ghosts}
+use Rattle.sqlite_value.specs.Order.{Row}
+use Rattle.s2_cover.specs.CanonicalList.{canonical_list}
+use Rattle.volume4d.specs.Shape.{Shape, cells, rectangle, shape_positions}
+use Rattle.volume4d.specs.Volume.{Block}
+use Rattle.sqlite.specs.Effect.{Database}
+use Rattle.sqlite.specs.State.{HasCleanDisk}
+use Rattle.sqlite.specs.Held.{Held, state}
+use Rattle.desk_sql.specs.declared.opening.finding.TablesPresent.{TablesPresent}
+use Rattle.desk_sql.specs.Rows.{IsDesk, IsMadeTo, Tables, Lists, tables_of, tables_at, has_old_rows}
+use Rattle.desk_sql.specs.Effects.{ShowsAsBefore}
+use Rattle.desk_sql.specs.Finding.{HasOthers}
+use Rattle.desk_store.specs.World.{Filed, Listed, World}
+use Rattle.row_codec.specs.Tables.{operator_rows, plan_rows, area_rows, volume_rows, area_covers, cover_rows, ArePlanSpanRows, AreSpanRows}
+use Rattle.desk_store.specs.Content.{IsContent}
+use Rattle.table_load.specs.Standing.{IsStanding}
+use Rattle.table_load.specs.Opening.{AreParts, BeginsWith, HasNoContent}
+
+-- ---- schema 1
+
+-- the most volumes of a plan, and the most cells of a rectangle's cover, in schema 1
+abbrev pub old_max_volumes : ℕ
+old_max_volumes = 8
+
+abbrev pub old_max_cover : ℕ
+old_max_cover = 256
+
+-- a cell list has the same limits in both
+abbrev pub IsOldShape : Shape → Type 0
+IsOldShape (cells ids) = ⊤
+IsOldShape (rectangle r) = length (canonical_list (shape_positions (rectangle r))) ≤ old_max_cover
+
+-- the volumes of a plan within the limits of schema 1
+pub record IsOldArea (area : List Block) : Type 0 where
+  pub few : length area ≤ old_max_volumes
+  pub each : AllByRecursion (λ v. IsOldShape v.footprint) area
+
+pub record IsOldContent (w : World) : Type 0 where
+  pub content : IsContent w
+  pub areas : AllByRecursion (λ p. IsOldArea p.row.area) w.plans
+
+-- no row is in the tables that schema 2 has alone
+pub record HasNoNewRows (tables : Tables) : Type 0 where
+  pub volumes : tables.volumes ≡ []
+  pub covers : tables.covers ≡ []
+  pub spans : tables.spans ≡ []
+
+-- up to order, the tables have exactly the rows of the world, in schema 1
+pub record AreOldTables (tables : Tables) (w : World) : Type 0 where
+  pub new : HasNoNewRows tables
+  pub operators : IsPermutation (operator_rows w) tables.operators
+  pub plans : IsPermutation (plan_rows w.plans) tables.plans
+  pub volumes : IsPermutation (volume_rows w.plans) tables.old_volumes
+  pub spans : (rows : List Row) × AreSpanRows w.plans rows × IsPermutation rows tables.old_spans
+
+pub record IsOldContentOf (t : Tables) (w : World) : Type 0 where
+  pub content : IsOldContent w
+  pub tables : AreOldTables t w
+
+abbrev pub AreNoOldContent : Tables → Type 0
+AreNoOldContent t = (w : World) → IsOldContent w → ¬ AreOldTables t w
+
+-- the tables of schema 1 but for spans, each put in the order of its key
+pub record AreSortedOld (t rows : Tables) : Type 0 where
+  pub operator_part : Lists (0 ∷ []) t.operators rows.operators
+  pub plan_part : Lists (0 ∷ 1 ∷ []) t.plans rows.plans
+  pub volume_part : Lists (0 ∷ 1 ∷ 2 ∷ []) t.old_volumes rows.volumes
+
+-- the tables but for spans have the rows of these operators and plans, which are a content's of schema 1
+pub record AreOldParts (t : Tables) (ls : List Listed) (ps : List Filed) : Type 0 where
+  pub parts : AreParts t ls ps
+  pub areas : AllByRecursion (λ p. IsOldArea p.row.area) ps
+
+-- ---- the move
+
+-- the rows of a plan are added
+pub record AddsPlanRows (p : Filed) (old new : Tables) : Type 0 where
+  pub operators : new.operators ≡ old.operators
+  pub plans : new.plans ≡ old.plans
+  pub old_volumes : new.old_volumes ≡ old.old_volumes
+  pub old_spans : new.old_spans ≡ old.old_spans
+  pub with_volumes : IsPermutation (area_rows p ++ old.volumes) new.volumes
+  pub with_covers : IsPermutation (area_covers p ++ old.covers) new.covers
+  pub with_spans :
+      (rows : List Row) × ArePlanSpanRows p rows × IsPermutation (rows ++ old.spans) new.spans
+
+-- the rows of plans are added
+pub record AddsPlansRows (ps : List Filed) (old new : Tables) : Type 0 where
+  pub operators : new.operators ≡ old.operators
+  pub plans : new.plans ≡ old.plans
+  pub old_volumes : new.old_volumes ≡ old.old_volumes
+  pub old_spans : new.old_spans ≡ old.old_spans
+  pub with_volumes : IsPermutation (volume_rows ps ++ old.volumes) new.volumes
+  pub with_covers : IsPermutation (cover_rows ps ++ old.covers) new.covers
+  pub with_spans :
+      (rows : List Row) × AreSpanRows ps rows × IsPermutation (rows ++ old.spans) new.spans
+
+-- the rows of schema 1 go
+abbrev pub RemovesOldRows : Tables → Tables → Type 0
+RemovesOldRows old new = new ≡ record old { old_volumes = []; old_spans = [] }
+
+-- both
+pub record MovesRows (ps : List Filed) (old new : Tables) : Type 0 where
+  pub operators : new.operators ≡ old.operators
+  pub plans : new.plans ≡ old.plans
+  pub old_volumes : new.old_volumes ≡ []
+  pub old_spans : new.old_spans ≡ []
+  pub with_volumes : IsPermutation (volume_rows ps ++ old.volumes) new.volumes
+  pub with_covers : IsPermutation (cover_rows ps ++ old.covers) new.covers
+  pub with_spans :
+      (rows : List Row) × AreSpanRows ps rows × IsPermutation (rows ++ old.spans) new.spans
+
+-- the rows of plans come in the place of those of `volume2` and `span2`, and the rows of the others stay
+pub record OrdersRows (ps : List Filed) (old new : Tables) : Type 0 where
+  pub operators : new.operators ≡ old.operators
+  pub plans : new.plans ≡ old.plans
+  pub old_volumes : new.old_volumes ≡ old.old_volumes
+  pub old_spans : new.old_spans ≡ old.old_spans
+  pub with_volumes : IsPermutation (volume_rows ps ++ []) new.volumes
+  pub with_covers : IsPermutation (cover_rows ps ++ []) new.covers
+  pub with_spans : (rows : List Row) × AreSpanRows ps rows × IsPermutation (rows ++ []) new.spans
+
+-- all of a desk's tables are made, with the rows that there were
+pub record HasAllTables {S : Type 0} (g : Ghosts S) (made : TablesPresent) (old new : Held S) : Type 0 where
+  pub was_open : IsTrue (state g old).is_open
+  pub desk : IsDesk (state g new).now
+  pub same : tables_of (state g new).now.trees ≡ tables_at made (state g old).now.trees
+
+-- ---- what a store begins with
+
+-- there were rows of schema 1, of this world; all are those of schema 2 now
+pub record WasMoved {S : Type 0} (g : Ghosts S) (old new : Held S) (w : World) : Type 0 where
+  pub made : TablesPresent
+  pub desk : IsMadeTo made (state g old).now
+  pub old_rows : has_old_rows (tables_at made (state g old).now.trees) ≡ true
+  pub rows : IsOldContentOf (tables_at made (state g old).now.trees) w
+  pub standing : IsStanding g new w
+
+-- a desk's tables, so far as they are made, with a row of schema 1, and rows of no content of schema 1
+pub record HasNoOldContent (db : Database) : Type 0 where
+  pub made : TablesPresent
+  pub desk : IsMadeTo made db
+  pub old : has_old_rows (tables_at made db.trees) ≡ true
+  pub none : AreNoOldContent (tables_at made db.trees)
+
+-- how many plans were moved is reported up to the greatest number of 32 bits
+abbrev pub reported_count : List Filed → ℕ
+reported_count ps = if nat_le (length ps) (2 ^ 32 - 1) then length ps else 2 ^ 32 - 1
+
+module _ {S : Type 0} (g : Ghosts S) (old new : Held S) where
+  -- over a connection that is open and a clean disk, a store of this world begins, and so many plans were
+  -- moved
+  abbrev pub BeginsMoved : World → ℕ → Type 0
+  BeginsMoved w count =
+      HasCleanDisk (state g new) → IsTrue (state g new).is_open →
+      ((count ≡ 0) × BeginsWith g old new w) ⊎ ((count ≡ reported_count w.plans) × WasMoved g old new w)
+
+  -- what is shown is no desk's, in either schema
+  abbrev pub ShowsNoContent : Type 0
+  ShowsNoContent = HasCleanDisk (state g new) → IsTrue (state g new).is_open →
+      HasOthers (state g old).now
+      ⊎ (HasNoContent (state g old).now ⊎ HasNoOldContent (state g old).now)
+
+  -- a desk's tables are made so far now, with the rows that there were
+  pub record HasSameRows : Type 0 where
+    pub made : TablesPresent
+    pub next : TablesPresent
+    pub was_open : IsTrue (state g old).is_open
+    pub desk : IsMadeTo made (state g old).now
+    pub after : IsMadeTo next (state g new).now
+    pub same : tables_at next (state g new).now.trees ≡ tables_at made (state g old).now.trees
+
+  -- what is shown is what was shown, or has the same rows
+  abbrev pub KeepsRows : Type 0
+  KeepsRows =
+      HasCleanDisk (state g new) → IsTrue (state g new).is_open → ShowsAsBefore g old new ⊎ HasSameRows

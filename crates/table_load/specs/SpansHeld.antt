@@ -1,0 +1,9 @@
+-- The rows that a check of spans has taken.
+use Rattle.std.specs.Prelude.{List}
+use Rattle.sqlite_value.specs.Order.{Row}
+use Rattle.table_load.specs.declared.spans.SpanCheck.{SpanCheck}
+use Rattle.table_load.specs.SpanChecks.{HasChecked}
+
+-- these rows were held against its plans
+abbrev pub AreHeld : SpanCheck → List Row → Type 0
+AreHeld check = HasChecked check.plans.items check.cursor check.agree check.count check.span_bounds

@@ -1,0 +1,65 @@
+//! A connection to the files at a path, with the options of a desk.
+
+ghost use Rattle.std.specs.Prelude.{IfErr, IfOk};
+ghost use Rattle.sqlite_wal.specs.Files.{image_at};
+ghost use Rattle.sqlite.specs.Held.{IsNew};
+ghost use Rattle.table_load.specs.Files.{Finds, IsUnreached};
+
+use crate::path::{NotOpened, find_file, find_nothing, open_pair, options, over_pair};
+use sqlite::{Connection, FileFrom, FileStore, Start};
+
+/// A connection to the database in the files at a path; `start` stands for what the files held. Where there
+/// are no files, they are made.
+///
+/// # Errors
+///
+/// `OutOfMemory` if memory runs out, and `Store` if the files cannot be opened for another cause.
+pub fn connect<S: Start>(
+    rt: &HostRuntime,
+    path: &str,
+    start: S,
+) -> Result<Connection<FileStore<FileFrom<S>>>, NotOpened<FileFrom<S>>>
+    ensures found { IfOk result (Finds (image_at S.Start)) }
+    ensures fresh { IfOk result IsNew }
+    ensures unread { IfErr result (IsUnreached (image_at S.Start)) }
+{
+    let options = options(rt)?;
+    let files = open_pair(rt, path, start)?;
+    over_pair(rt.alloc(), files, options)
+}
+
+/// A connection to files that are there already, as `connect` gives it.
+///
+/// # Errors
+///
+/// Those of `connect`, and `Store` if there is no file at the path, or an empty one.
+pub fn connect_there<S: Start>(
+    rt: &HostRuntime,
+    path: &str,
+    start: S,
+) -> Result<Connection<FileStore<FileFrom<S>>>, NotOpened<FileFrom<S>>>
+    ensures found { IfOk result (Finds (image_at S.Start)) }
+    ensures fresh { IfOk result IsNew }
+    ensures unread { IfErr result (IsUnreached (image_at S.Start)) }
+{
+    find_file(rt, path)?;
+    connect(rt, path, start)
+}
+
+/// A connection to files that are made, as `connect` gives it.
+///
+/// # Errors
+///
+/// Those of `connect`, and `Store` if there is something at the path.
+pub fn connect_new<S: Start>(
+    rt: &HostRuntime,
+    path: &str,
+    start: S,
+) -> Result<Connection<FileStore<FileFrom<S>>>, NotOpened<FileFrom<S>>>
+    ensures found { IfOk result (Finds (image_at S.Start)) }
+    ensures fresh { IfOk result IsNew }
+    ensures unread { IfErr result (IsUnreached (image_at S.Start)) }
+{
+    find_nothing(rt, path)?;
+    connect(rt, path, start)
+}

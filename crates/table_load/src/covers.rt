@@ -1,0 +1,178 @@
+//! The rows of `volume2`, taken one at a time. The cover in each is compared with that of the volume in it,
+//! and is not kept.
+
+ghost use Rattle.std.specs.Prelude.{◌≡◌, ◌≢◌, ◌↔◌, ◌++◌, [], ◌∷◌, List, map, IsTrue, IfOk, IfErr, OnOk};
+ghost use Rattle.sqlite_value.specs.declared.value.Value.TheVariants.{Blob};
+ghost use Rattle.sqlite_value.specs.Value.{owned};
+ghost use Rattle.sqlite_value.specs.Order.{Row as Columns, column};
+ghost use Rattle.sqlite.specs.State.{HasCleanDisk};
+ghost use Rattle.sqlite.specs.Held.{state};
+ghost use Rattle.desk_sql.specs.Effects.{IsReady, StaysOpen};
+ghost use Rattle.desk_sql.specs.Frames.{OnlyReads};
+ghost use Rattle.desk_sql.specs.Rows.{IsMadeTo, tables_at};
+ghost use Rattle.desk_sql.specs.Volumes.{ListVolumes};
+ghost use Rattle.table_load.specs.Covers.{AreCompared, HasCoverOf, HasItsCover};
+ghost use Rattle.table_load.specs.Opening.{BlamesReading};
+
+use crate::fault::OpenFault;
+use crate::spans::fault_of;
+use desk_sql::{RowVisitor, TablesPresent, each_volume};
+use desk_store::StoreFault;
+use row_codec::canon::canon_of;
+use row_codec::values::volume_in;
+use sqlite::{Connection, Error, Row};
+use sqlite_exec::work::FromRow;
+use sqlite_trees::store::Alter;
+use sqlite_value::row;
+use sqlite_value::value::ValueRef;
+use std::alloc::{AllocError, Global};
+use volume4d::Volume;
+use volume4d::laws::one_shape;
+
+/// Rows with all columns of `volume2`, by its key. Each is kept without its cover.
+#[derive(Drop)]
+pub struct CoverCheck {
+    alloc: Global,
+    pub volumes: Vec<Row>,
+    /// Whether each row so far has the cover of its volume.
+    pub agree: bool,
+    // the values of a row under way, whose buffers serve for all
+    values: row::Row,
+}
+
+impl CoverCheck {
+    /// Of no row yet.
+    pub fn new(alloc: Global) -> CoverCheck
+        ensures { AreCompared result.volumes.items result.agree [] }
+    {
+        CoverCheck {
+            alloc,
+            volumes: Vec::new(alloc),
+            agree: true,
+            values: row::Row::new(alloc),
+        }
+    }
+
+    // Takes the next row.
+    fn add(&mut self, row: &Row) -> Result<(), AllocError>
+        ensures { OnOk result ((rows : List Columns)
+            → AreCompared self.old.volumes.items self.old.agree rows
+            → AreCompared self.new.volumes.items self.new.agree (rows ++ row.now ∷ [])) }
+    {
+        let volume = columns_of(self.alloc, &mut self.values, row, &[0, 1, 2, 3, 4, 5, 6, 7])?;
+        self.volumes.push(volume)?;
+        self.agree = agree_with(self.alloc, self.agree, row)?;
+        Ok(())
+    }
+}
+
+impl RowVisitor for CoverCheck {
+    ghost use Rattle.std.specs.Prelude.{◌≡◌, ⊤};
+    ghost use Rattle.sqlite.specs.declared.error.Error.TheVariants.{SqliteFailure};
+    ghost use Rattle.sqlite.specs.declared.error.ErrorCode.TheVariants.{OutOfMemory};
+    ghost use Rattle.table_load.specs.Covers.{AreCompared};
+
+    ghost has_taken = { λ c rows. AreCompared c.volumes.items c.agree rows };
+
+    ghost keeps = { λ first now. ⊤ };
+
+    ghost refuses = { λ taken row e. e ≡ SqliteFailure OutOfMemory };
+
+    fn take(&mut self, row: &Row) -> Result<(), Error> {
+        self.add(row)?;
+        Ok(())
+    }
+}
+
+// A row of these columns of a row.
+fn columns_of(
+    alloc: Global,
+    values: &mut row::Row,
+    row: &Row,
+    places: &[usize],
+) -> Result<Row, AllocError>
+    ensures { IfOk result (λ part. part ≡ map (column row.now) places.now) }
+{
+    values.clear();
+    for place in places {
+        values.push(value_at(row, *place))?;
+    }
+    Row::from_row(alloc, values)
+}
+
+// The value in a column, and NULL past the last.
+fn value_at(row: &Row, at: usize) -> ValueRef<'_>
+    ensures { owned result ≡ column row.now at }
+{
+    match row.get_ref(at) {
+        Ok(value) => value,
+        Err(_) => ValueRef::Null,
+    }
+}
+
+// Whether rows that have their covers, or that don't, and a row after them all have them.
+fn agree_with(alloc: Global, agree: bool, row: &Row) -> Result<bool, AllocError>
+    ensures { IfOk result (λ all. IsTrue all ↔ (IsTrue agree × HasItsCover row.now)) }
+{
+    if !agree {
+        return Ok(false);
+    }
+    is_covered(alloc, row)
+}
+
+// Whether a row with all columns of `volume2` has a volume, and the cover of that.
+fn is_covered(alloc: Global, row: &Row) -> Result<bool, AllocError>
+    ensures { IfOk result (λ is. IsTrue is ↔ HasItsCover row.now) }
+{
+    one_shape();
+    match volume_in(alloc, row, 3) {
+        Ok(volume) => has_cover_of(alloc, row, &volume),
+        Err(StoreFault::OutOfMemory) => Err(AllocError),
+        Err(StoreFault::Store) => Ok(false),
+    }
+}
+
+// Whether such a row has the cover of a volume.
+fn has_cover_of(alloc: Global, row: &Row, volume: &Volume) -> Result<bool, AllocError>
+    ensures { IfOk result (λ has. IsTrue has ↔ HasCoverOf volume.now row.now) }
+{
+    let canon = canon_of(alloc, volume)?;
+    Ok(are_bytes_at(row, 8, &canon))
+}
+
+// Whether a column has these bytes.
+fn are_bytes_at(row: &Row, at: usize, bytes: &[u8]) -> bool
+    ensures { IsTrue result ↔ (column row.now at ≡ Blob bytes.now) }
+{
+    match row.get_ref(at) {
+        Ok(ValueRef::Blob(found)) => found == bytes,
+        _ => false,
+    }
+}
+
+/// Takes all rows of `volume2`, so far as it is made, one at a time by its key.
+///
+/// # Errors
+///
+/// `OutOfMemory` if memory runs out, or if there are 2 ^ 64 - 1 rows. `Store` if SQLite refuses for another
+/// cause.
+pub(crate) fn take_volumes<S: Alter>(
+    connection: &mut Connection<S>,
+    made: TablesPresent,
+    check: &mut CoverCheck,
+) -> Result<(), OpenFault>
+    requires ready { IsReady S.Store connection.old (IsMadeTo made) }
+    requires fresh { AreCompared check.old.volumes.items check.old.agree [] }
+    ensures value { HasCleanDisk (state S.Store connection.new) → OnOk result ((rows : List Columns)
+        × ListVolumes (tables_at made (state S.Store connection.old).now.trees) rows
+        × AreCompared check.new.volumes.items check.new.agree rows) }
+    ensures live { OnOk result (StaysOpen S.Store connection.old connection.new) }
+    ensures fault { IfErr result (λ e. (e ≢ OpenFault.NotADesk) × (e ≢ OpenFault.OldSchema)) }
+    ensures cause { IfErr result (BlamesReading S.Store connection.old connection.new) }
+    ensures reads { OnlyReads S.Store connection.old connection.new }
+{
+    match each_volume(connection, made, check) {
+        Ok(()) => Ok(()),
+        Err(e) => Err(fault_of(e)),
+    }
+}

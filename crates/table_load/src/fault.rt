@@ -1,0 +1,77 @@
+//! The faults of an opening, and which of them an error is.
+
+use row_codec::exact::RowFault;
+use sqlite::ErrorCode;
+use std::alloc::AllocError;
+use std::error::Error;
+use std::fmt;
+
+/// Why a store over tables cannot be opened.
+#[derive(Clone, Copy, Debug, PartialEq, Eq)]
+pub enum OpenFault {
+    /// A growth was refused.
+    OutOfMemory,
+    /// SQLite refused the database or a statement for another cause.
+    Store,
+    /// There are other tables than a desk's, or their rows are those of no content.
+    NotADesk,
+    /// There are rows of schema 1, which have to be migrated.
+    OldSchema,
+}
+
+impl fmt::Display for OpenFault {
+    ghost use Rattle.std.specs.Prelude.{Some};
+    ghost use Rattle.table_load.specs.Opening.{open_fault_text};
+
+    ghost output = { λ fault. Some (open_fault_text fault) };
+
+    fn fmt<W: fmt::Write>(&self, f: &mut fmt::Formatter<W>) -> fmt::Result {
+        f.pad(match self {
+            OpenFault::OutOfMemory => "out of memory",
+            OpenFault::Store => "the database failed",
+            OpenFault::NotADesk => "the tables are not a desk's",
+            OpenFault::OldSchema => "the tables are of schema 1",
+        })
+    }
+}
+
+impl Error for OpenFault {}
+
+impl From<sqlite::Error> for OpenFault {
+    ghost use Rattle.std.specs.Prelude.{◌≡◌};
+    ghost use Rattle.table_load.specs.Opening.{open_fault_of};
+
+    ghost from_gives = { λ error fault. fault ≡ open_fault_of error };
+
+    fn from(error: sqlite::Error) -> OpenFault {
+        match error {
+            sqlite::Error::SqliteFailure(ErrorCode::OutOfMemory) => OpenFault::OutOfMemory,
+            _ => OpenFault::Store,
+        }
+    }
+}
+
+impl From<AllocError> for OpenFault {
+    ghost use Rattle.std.specs.Prelude.{◌≡◌};
+    ghost use Rattle.table_load.specs.declared.fault.OpenFault.TheVariants.{OutOfMemory};
+
+    ghost from_gives = { λ _ fault. fault ≡ OutOfMemory };
+
+    fn from(_error: AllocError) -> OpenFault {
+        OpenFault::OutOfMemory
+    }
+}
+
+impl From<RowFault> for OpenFault {
+    ghost use Rattle.std.specs.Prelude.{◌≡◌};
+    ghost use Rattle.table_load.specs.Opening.{fault_of_rows};
+
+    ghost from_gives = { λ rows fault. fault ≡ fault_of_rows rows };
+
+    fn from(rows: RowFault) -> OpenFault {
+        match rows {
+            RowFault::OutOfMemory => OpenFault::OutOfMemory,
+            RowFault::NoDesk => OpenFault::NotADesk,
+        }
+    }
+}

@@ -1,0 +1,337 @@
+//! The world that a database stands for when a store is opened over it.
+
+ghost use Rattle.std.specs.Prelude.{◌≡◌, ◌≢◌, ◌↔◌, ◌<◌, ◌^◌, List, [], length, true, false, IfOk, IfErr, OnOk, IsTrue, None, ◌≤◌};
+ghost use Rattle.sqlite_value.specs.Order.{Row as Values};
+ghost use Rattle.sqlite.specs.State.{HasCleanDisk};
+ghost use Rattle.sqlite.specs.Held.{state};
+ghost use Rattle.desk_sql.specs.QueryEnds.{WasOpen};
+ghost use Rattle.desk_sql.specs.Rows.{IsMadeTo, tables_at};
+ghost use Rattle.desk_sql.specs.Effects.{IsOpenIfClean, StaysShown};
+ghost use Rattle.desk_sql.specs.Frames.{OnlyReads};
+ghost use Rattle.desk_sql.specs.Finding.{Holds};
+ghost use Rattle.desk_store.specs.World.{World};
+ghost use Rattle.desk_store.specs.Content.{IsContent};
+ghost use Rattle.table_load.specs.CutShort.{IsCompletedAs, MayBecome};
+ghost use Rattle.row_codec.specs.Known.{Knows};
+ghost use Rattle.table_load.specs.Writable.{HaveFewRows};
+ghost use Rattle.row_codec.specs.SpanBounds.{IsKnownRow, Keeps};
+ghost use Rattle.table_load.specs.Opening.{IsContentOf, AreNoContent};
+ghost use Rattle.row_codec.specs.Tables.{AreSpanRows, volume_rows};
+ghost use Rattle.table_load.specs.SpansHeld.{AreHeld};
+ghost use Rattle.table_load.specs.Opening.{AreListedInOrder, AreParts, AreRows, AreSortedHeads};
+ghost use Rattle.table_load.specs.Opening.{BeginsWith, HasRowsOld, HasNewRows};
+ghost use Rattle.table_load.specs.Opening.{ShowsNoDesk, ShowsOldRows};
+ghost use Rattle.table_load.specs.Opening.{BlamesReading, BlamesDatabase};
+ghost use Rattle.table_load.specs.OpeningSteps.{BeginsCompleted, HadNone, IsOpening, IsRead, IsSetUp};
+ghost use Rattle.table_load.specs.OpeningSteps.{IsAtRest, ShowsOperators, ShowsPart};
+
+use crate::covers::{CoverCheck, take_volumes};
+use crate::fault::OpenFault;
+use crate::ordering::ordered_in;
+use crate::spans::{SpanCheck, take_spans};
+use desk_sql::{TablesPresent, WholeTable, all_rows, complete_tables, find_tables, has_old_rows};
+use operator_index::ListedOperator;
+use row_codec::content::{
+    Content, TableRows, are_shared, keys_ascend, names_ascend, operators_in, plans_in,
+};
+use row_codec::exact::FiledPlan;
+use row_codec::kept::GhostState;
+use row_codec::known::{MemoryIndex, live_among, roll_of};
+use row_codec::span_bounds::SpanBounds;
+use s2_cover::laws::one_list_of_ranges;
+use sqlite::{Connection, Row};
+use sqlite_trees::store::Alter;
+use sqlite_value::value::ValueRef;
+use std::alloc::Global;
+use volume4d::laws::one_shape;
+
+/// The world that the database stands for: that of the rows in a desk's tables; what is known of its plans;
+/// and whether it has an operator, of which no clause speaks. A database with no table gets a desk's, and its
+/// world is empty. One with the first of these tables and indexes gets what is missing, if its rows are those
+/// of a content, and a packed file is put into a desk's own order then.
+///
+/// # Errors
+///
+/// `OutOfMemory` if memory runs out. `Store` if SQLite refuses for another cause. `OldSchema` if there are
+/// rows of schema 1. `NotADesk` if there are other tables, or if the rows are those of no content.
+pub fn load_world<S: Alter>(
+    alloc: Global,
+    connection: &mut Connection<S>,
+) -> Result<(GhostState, MemoryIndex, bool), OpenFault>
+    requires rest { IsAtRest connection.old }
+    ensures opened { IsOpening S.Store connection.old connection.new result (λ found. found.0.world)
+        (λ found. BeginsWith S.Store connection.old connection.new found.0.world)
+        (ShowsNoDesk S.Store connection.old connection.new)
+        (ShowsOldRows S.Store connection.old connection.new)
+        (StaysShown S.Store connection.old connection.new) }
+    ensures bounded { IfOk result (λ found. Knows found.1 found.0.world) }
+    ensures crash { MayBecome S.Store connection.old connection.new IsCompletedAs }
+{
+    let (made, old) = tables_found(connection)?;
+    if old {
+        return Err(OpenFault::OldSchema);
+    }
+    world_of(alloc, connection, made)
+}
+
+/// How far a desk's tables are made, and whether there are rows of schema 1.
+pub(crate) fn tables_found<S: Alter>(
+    connection: &mut Connection<S>,
+) -> Result<(TablesPresent, bool), OpenFault>
+    requires settled { connection.old.in_transaction ≡ false }
+    ensures part { IfOk result (λ found. Holds S.Store connection.new (IsMadeTo found.0)) }
+    ensures rows { IfOk result (λ found.
+        Holds S.Store connection.new (HasRowsOld found.0 found.1)) }
+    ensures some { IfOk result (λ found. found.1 ≡ true → found.0 ≢ TablesPresent.Nothing) }
+    ensures none { IfErr result (λ e. e ≡ OpenFault.NotADesk →
+        ShowsNoDesk S.Store connection.old connection.new) }
+    ensures newer { IfErr result (λ e. e ≢ OpenFault.OldSchema) }
+    ensures cause { IfErr result (BlamesDatabase S.Store connection.old connection.new) }
+    ensures reads { OnlyReads S.Store connection.old connection.new }
+{
+    let Some(made) = find_tables(connection)? else {
+        return Err(OpenFault::NotADesk);
+    };
+    if made == TablesPresent::Nothing {
+        return Ok((made, false));
+    }
+    let old = has_old_rows(connection, made)?;
+    Ok((made, old))
+}
+
+/// The world that the database stands for, in which there are no rows of schema 1.
+pub(crate) fn world_of<S: Alter>(
+    alloc: Global,
+    connection: &mut Connection<S>,
+    made: TablesPresent,
+) -> Result<(GhostState, MemoryIndex, bool), OpenFault>
+    requires part { ShowsPart S.Store connection.old made }
+    requires new { Holds S.Store connection.old (HasNewRows made) }
+    requires unlimited { connection.old.step_limit ≡ None }
+    ensures set_up { IsSetUp S.Store connection.old connection.new result (λ found. found.0.world)
+        (λ found. BeginsWith S.Store connection.old connection.new found.0.world)
+        (ShowsNoDesk S.Store connection.old connection.new)
+        (StaysShown S.Store connection.old connection.new) }
+    ensures bounded { IfOk result (λ found. Knows found.1 found.0.world) }
+    ensures crash { MayBecome S.Store connection.old connection.new IsCompletedAs }
+{
+    match made {
+        TablesPresent::All => load_tables(alloc, connection, TablesPresent::All),
+        TablesPresent::Nothing => Ok((create_tables(connection)?, MemoryIndex::new(alloc), false)),
+        TablesPresent::Packed => ordered_in(alloc, connection),
+        made => completed_in(alloc, connection, made),
+    }
+}
+
+/// The empty world, over a database that gets a desk's tables and had none.
+pub fn create_tables<S: Alter>(connection: &mut Connection<S>) -> Result<GhostState, OpenFault>
+    requires blank { ShowsPart S.Store connection.old TablesPresent.Nothing }
+    requires unlimited { connection.old.step_limit ≡ None }
+    ensures set_up { IsSetUp S.Store connection.old connection.new result (λ kept. kept.world)
+        (λ kept. kept.world ≡ record { operators = []; plans = [] }) ⊥
+        (StaysShown S.Store connection.old connection.new) }
+    ensures faults { (state S.Store connection.old).faults ≤ (state S.Store connection.new).faults }
+    ensures crash { MayBecome S.Store connection.old connection.new IsCompletedAs }
+{
+    complete_tables(connection, TablesPresent::Nothing)?;
+    Ok(GhostState::new())
+}
+
+// The world whose rows the tables have, which get what is missing of them.
+// Long: which tables there are is reported by five facts; one record says how it may end.
+#[tactic(auto, using(crate::proofs::lemmas::Opening::some_operators))]
+fn completed_in<S: Alter>(
+    alloc: Global,
+    connection: &mut Connection<S>,
+    made: TablesPresent,
+) -> Result<(GhostState, MemoryIndex, bool), OpenFault>
+    requires part { ShowsPart S.Store connection.old made }
+    requires new { Holds S.Store connection.old (HasNewRows made) }
+    requires missing { made ≢ TablesPresent.All }
+    requires ordered { made ≢ TablesPresent.Packed }
+    requires some { made ≢ TablesPresent.Nothing }
+    requires unlimited { connection.old.step_limit ≡ None }
+    ensures set_up { IsSetUp S.Store connection.old connection.new result (λ found. found.0.world)
+        (λ found. BeginsCompleted S.Store connection.old connection.new found.0.world)
+        (HadNone S.Store connection.old connection.new made)
+        (StaysShown S.Store connection.old connection.new) }
+    ensures bounded { IfOk result (λ found. Knows found.1 found.0.world) }
+    ensures crash { MayBecome S.Store connection.old connection.new IsCompletedAs }
+{
+    let found = load_tables(alloc, connection, made)?;
+    complete_tables(connection, made)?;
+    Ok(found)
+}
+
+// The world whose rows the tables have, so far as they are made.
+fn load_tables<S: Alter>(
+    alloc: Global,
+    connection: &mut Connection<S>,
+    made: TablesPresent,
+) -> Result<(GhostState, MemoryIndex, bool), OpenFault>
+    requires part { ShowsOperators S.Store connection.old made }
+    requires new { Holds S.Store connection.old (HasNewRows made) }
+    ensures read { IsRead S.Store connection.old connection.new result made
+        (λ tables found. IsContentOf tables found.0.world) AreNoContent }
+    ensures bounded { IfOk result (λ found. Knows found.1 found.0.world) }
+    ensures live { OnOk result (IsOpenIfClean S.Store connection.new) }
+{
+    let (content, known) = content_found(alloc, connection, made)?;
+    let is_enrolled = !content.operators.is_empty();
+    Ok((GhostState::of(&content), known, is_enrolled))
+}
+
+/// The content whose rows the tables have, so far as they are made, and what is known of its plans.
+pub(crate) fn content_found<S: Alter>(
+    alloc: Global,
+    connection: &mut Connection<S>,
+    made: TablesPresent,
+) -> Result<(Content, MemoryIndex), OpenFault>
+    requires part { ShowsOperators S.Store connection.old made }
+    requires new { Holds S.Store connection.old (HasNewRows made) }
+    ensures read { IsRead S.Store connection.old connection.new result made
+        (λ tables found. IsContentOf tables found.0) AreNoContent }
+    ensures content { IfOk result (λ found. IsContent found.0) }
+    ensures few { IfOk result (λ found. HaveFewRows found.0.plans) }
+    ensures bounded { IfOk result (λ found. Knows found.1 found.0) }
+    ensures live { OnOk result (IsOpenIfClean S.Store connection.new) }
+{
+    one_shape();
+    let (heads, covered) = heads_in(alloc, connection, made)?;
+    let (operators, plans) = parts_of(alloc, &heads, covered)?;
+    let mut check = SpanCheck::new(alloc, plans);
+    take_spans(connection, WholeTable::Spans, made, &mut check)?;
+    content_with(alloc, operators, check)
+}
+
+/// The operators and plans of rows that are those of a content, but for those of spans and of covers.
+pub(crate) fn uncovered_parts(
+    alloc: Global,
+    heads: &TableRows,
+) -> Result<(Vec<ListedOperator>, Vec<FiledPlan>), OpenFault>
+    ensures value { IfOk result (λ found. AreParts heads.now found.0.items found.1.items) }
+    ensures few { IfOk result (λ found. length (volume_rows found.1.items) < 2 ^ 63) }
+    ensures none { IfErr result (λ e. e ≡ OpenFault.NotADesk → (w : World) (spans : List Values)
+        → IsContent w → ¬ AreRows (record heads.now { spans = spans }) w) }
+    ensures fault { IfErr result (λ e. (e ≢ OpenFault.Store) × (e ≢ OpenFault.OldSchema)) }
+{
+    one_shape();
+    let operators = operators_in(alloc, &heads.operators)?;
+    let plans = plans_in(alloc, &heads.plans, &heads.volumes)?;
+    if !are_in_order(&operators, &plans) {
+        return Err(OpenFault::NotADesk);
+    }
+    Ok((operators, plans))
+}
+
+// The operators and plans of rows that are those of a content, but for those of spans, if the covers are
+// those of the volumes.
+fn parts_of(
+    alloc: Global,
+    heads: &TableRows,
+    covered: bool,
+) -> Result<(Vec<ListedOperator>, Vec<FiledPlan>), OpenFault>
+    ensures value { IfOk result (λ found. AreParts heads.now found.0.items found.1.items) }
+    ensures agree { OnOk result (IsTrue covered) }
+    ensures few { IfOk result (λ found. length (volume_rows found.1.items) < 2 ^ 63) }
+    ensures none { IfErr result (λ e. e ≡ OpenFault.NotADesk → (w : World) (spans : List Values)
+        → IsContent w → AreRows (record heads.now { spans = spans }) w → ¬ IsTrue covered) }
+    ensures fault { IfErr result (λ e. (e ≢ OpenFault.Store) × (e ≢ OpenFault.OldSchema)) }
+{
+    let (operators, plans) = uncovered_parts(alloc, heads)?;
+    if !covered {
+        return Err(OpenFault::NotADesk);
+    }
+    Ok((operators, plans))
+}
+
+// Whether operators and plans are those of one content.
+fn are_in_order(operators: &[ListedOperator], plans: &[FiledPlan]) -> bool
+    ensures { IsTrue result ↔ AreListedInOrder operators.now plans.now }
+{
+    if !names_ascend(operators) {
+        return false;
+    }
+    if !keys_ascend(plans) {
+        return false;
+    }
+    are_shared(operators, plans)
+}
+
+/// The content of these operators, and of plans against which all rows of spans were held; and what is known
+/// of it.
+pub(crate) fn content_with(
+    alloc: Global,
+    operators: Vec<ListedOperator>,
+    check: SpanCheck,
+) -> Result<(Content, MemoryIndex), OpenFault>
+    requires taken { (rows : List Values) × AreHeld check rows }
+    ensures value { IfOk result (λ found. (found.0.operators ≡ operators.items)
+        × (found.0.plans ≡ check.plans.items)) }
+    ensures agree { (rows : List Values) → AreHeld check rows
+        → OnOk result (AreSpanRows check.plans.items rows) }
+    ensures bounded { AreListedInOrder operators.items check.plans.items
+        → IfOk result (λ found. Knows found.1 found.0) }
+    ensures none { IfErr result (λ e. e ≡ OpenFault.NotADesk → (rows : List Values)
+        → AreHeld check rows → ¬ AreSpanRows check.plans.items rows) }
+    ensures fault { IfErr result (λ e. (e ≢ OpenFault.Store) × (e ≢ OpenFault.OldSchema)) }
+{
+    one_list_of_ranges();
+    let mut check = check;
+    if !check.agrees()? {
+        return Err(OpenFault::NotADesk);
+    }
+    let known = MemoryIndex {
+        span_bounds: check.span_bounds,
+        live: live_among(alloc, &check.plans)?,
+        roll: roll_of(alloc, &operators, &check.plans)?,
+    };
+    let content = Content {
+        operators,
+        spans: check.count,
+        plans: check.plans,
+    };
+    Ok((content, known))
+}
+
+/// The rows of the tables of schema 2 but for spans, each by the columns of its key; of those that aren't
+/// made none. Rows of `volume2` come without their covers, and with them whether each had that of its volume.
+#[tactic(auto, using(crate::proofs::lemmas::Frame::reads_then, crate::proofs::lemmas::Opening::part_on))]
+pub(crate) fn heads_in<S: Alter>(
+    alloc: Global,
+    connection: &mut Connection<S>,
+    made: TablesPresent,
+) -> Result<(TableRows, bool), OpenFault>
+    requires part { ShowsOperators S.Store connection.old made }
+    ensures value { HasCleanDisk (state S.Store connection.new) → IfOk result (λ found.
+        AreSortedHeads (tables_at made (state S.Store connection.old).now.trees) found.0 found.1) }
+    ensures open { WasOpen S.Store connection.old connection.new result }
+    ensures live { OnOk result (IsOpenIfClean S.Store connection.new) }
+    ensures fault { IfErr result (λ e. (e ≢ OpenFault.NotADesk) × (e ≢ OpenFault.OldSchema)) }
+    ensures cause { IfErr result (BlamesReading S.Store connection.old connection.new) }
+    ensures reads { OnlyReads S.Store connection.old connection.new }
+{
+    let operators = all_rows(alloc, connection, WholeTable::Operators, made)?;
+    let plans = all_rows(alloc, connection, WholeTable::Plans, made)?;
+    let mut check = CoverCheck::new(alloc);
+    take_volumes(connection, made, &mut check)?;
+    let spans = Vec::new(alloc);
+    let heads = TableRows {
+        operators,
+        plans,
+        volumes: check.volumes,
+        spans,
+    };
+    Ok((heads, check.agree))
+}
+
+/// Span bounds, with that of the span of a row.
+pub(crate) fn length_with(span_bounds: &SpanBounds, row: &Row) -> SpanBounds
+    ensures kept { Keeps span_bounds.now result }
+    ensures known { IsKnownRow result row.now }
+{
+    match (row.get_ref(3), row.get_ref(4)) {
+        (Ok(ValueRef::Int(first)), Ok(ValueRef::Int(last))) => span_bounds.with(first, last),
+        _ => *span_bounds,
+    }
+}

@@ -1,0 +1,155 @@
+//! What a database holds, in either schema, read without a change.
+
+ghost use Rattle.std.specs.Prelude.{◌≡◌, ◌≢◌, false, IfOk, IfErr};
+ghost use Rattle.desk_rules.specs.Plan.{is_live};
+ghost use Rattle.desk_sql.specs.Frames.{OnlyReads};
+ghost use Rattle.desk_sql.specs.Finding.{Holds};
+ghost use Rattle.desk_store.specs.World.{World};
+ghost use Rattle.desk_store.specs.Content.{IsContent};
+ghost use Rattle.row_codec.specs.Known.{Knows};
+ghost use Rattle.table_load.specs.Opening.{BlamesDatabase, HasRowsOld};
+ghost use Rattle.table_load.specs.OpeningSteps.{IsRead, ShowsPart};
+ghost use Rattle.table_load.specs.Writable.{HaveFewRows};
+ghost use Rattle.table_load.specs.HeldContent as spec;
+ghost use Rattle.table_load.specs.HeldContent.{AreHoldingsOf, AreNoContentIn, IsContentIn, ShowsContent, ShowsNone};
+
+use crate::fault::OpenFault;
+use crate::finding::{content_found, tables_found};
+use crate::moving::load_old_tables;
+use desk_rules::words::Usage;
+use desk_sql::TablesPresent;
+use row_codec::content::Content;
+use row_codec::counting::{Counted, most_of};
+use row_codec::exact::FiledPlan;
+use row_codec::known::MemoryIndex;
+use sqlite::Connection;
+use sqlite_trees::store::Alter;
+use std::alloc::Global;
+
+/// What a database holds.
+#[derive(Clone, Copy, Debug, PartialEq, Eq)]
+pub struct DbStats {
+    /// Whether the rows are those of schema 1.
+    pub is_old: bool,
+    /// How many operators there are.
+    pub operators: usize,
+    /// How many plans there are, closed ones too.
+    pub plans: usize,
+    /// How many of them are not closed.
+    pub live: usize,
+    /// How many rows of spans there are.
+    pub spans: usize,
+    /// How many of them are those of the operator that has most.
+    pub most_spans: usize,
+    /// How many cells the plans of the operator have that has most of those, closed ones too.
+    pub most_cells: usize,
+}
+
+/// How many operators and plans a database holds, in either schema. It makes and changes nothing.
+///
+/// # Errors
+///
+/// `OutOfMemory` if memory runs out. `Store` if SQLite refuses for another cause. `NotADesk` if there is no
+/// table, if there are other tables than a desk's, or if the rows are those of no content in either schema.
+pub fn look_into<S: Alter>(
+    alloc: Global,
+    connection: &mut Connection<S>,
+) -> Result<DbStats, OpenFault>
+    requires settled { connection.old.in_transaction ≡ false }
+    ensures value { IfOk result (λ holdings. (w : World) × AreHoldingsOf holdings w
+        × ShowsContent S.Store connection.old connection.new holdings.is_old w) }
+    ensures none { IfErr result (λ e. e ≡ OpenFault.NotADesk →
+        ShowsNone S.Store connection.old connection.new) }
+    ensures newer { IfErr result (λ e. e ≢ OpenFault.OldSchema) }
+    ensures cause { IfErr result (BlamesDatabase S.Store connection.old connection.new) }
+    ensures reads { OnlyReads S.Store connection.old connection.new }
+{
+    let (content, _, old) = read_content(alloc, connection)?;
+    Ok(holdings_of(&content, old))
+}
+
+/// How many operators, plans, spans and cells a content has, and whether it was read in schema 1.
+pub fn holdings_of(content: &Content, is_old: bool) -> DbStats
+    requires { IsContent content.now }
+    ensures counted { AreHoldingsOf result content.now }
+    ensures schema { result.is_old ≡ is_old }
+{
+    DbStats {
+        is_old,
+        operators: content.operators.len(),
+        plans: content.plans.len(),
+        live: live_count(&content.plans),
+        spans: content.spans,
+        most_spans: most_of(Counted::Spans, &content.plans),
+        most_cells: most_of(Counted::Cells, &content.plans),
+    }
+}
+
+/// The content whose rows a database has, what is known of its plans, and whether the rows are those of
+/// schema 1.
+///
+/// # Errors
+///
+/// Those of `look_into`.
+// Long: the value, what is known of it, and each fault by when it is reported.
+pub fn read_content<S: Alter>(
+    alloc: Global,
+    connection: &mut Connection<S>,
+) -> Result<(Content, MemoryIndex, bool), OpenFault>
+    requires settled { connection.old.in_transaction ≡ false }
+    ensures value { IfOk result (λ found.
+        ShowsContent S.Store connection.old connection.new found.2 found.0) }
+    ensures content { IfOk result (λ found. IsContent found.0) }
+    ensures few { IfOk result (λ found. HaveFewRows found.0.plans) }
+    ensures bounded { IfOk result (λ found. Knows found.1 found.0) }
+    ensures none { IfErr result (λ e. e ≡ OpenFault.NotADesk →
+        ShowsNone S.Store connection.old connection.new) }
+    ensures newer { IfErr result (λ e. e ≢ OpenFault.OldSchema) }
+    ensures cause { IfErr result (BlamesDatabase S.Store connection.old connection.new) }
+    ensures reads { OnlyReads S.Store connection.old connection.new }
+{
+    let (made, old) = tables_found(connection)?;
+    if made == TablesPresent::Nothing {
+        return Err(OpenFault::NotADesk);
+    }
+    let (content, known) = content_at(alloc, connection, made, old)?;
+    Ok((content, known, old))
+}
+
+// The content whose rows the tables have, in schema 1 if that has rows, else in schema 2.
+#[tactic(auto, using(crate::proofs::lemmas::Opening::some_operators))]
+fn content_at<S: Alter>(
+    alloc: Global,
+    connection: &mut Connection<S>,
+    made: TablesPresent,
+    old: bool,
+) -> Result<(Content, MemoryIndex), OpenFault>
+    requires part { ShowsPart S.Store connection.old made }
+    requires rows { Holds S.Store connection.old (HasRowsOld made old) }
+    requires some { made ≢ TablesPresent.Nothing }
+    ensures read { IsRead S.Store connection.old connection.new result made
+        (λ tables found. IsContentIn old tables found.0) (AreNoContentIn old) }
+    ensures content { IfOk result (λ found. IsContent found.0) }
+    ensures few { IfOk result (λ found. HaveFewRows found.0.plans) }
+    ensures bounded { IfOk result (λ found. Knows found.1 found.0) }
+{
+    if old {
+        load_old_tables(alloc, connection, made)
+    } else {
+        content_found(alloc, connection, made)
+    }
+}
+
+// How many plans are not closed.
+fn live_count(plans: &[FiledPlan]) -> usize
+    ensures { result ≡ spec.live_count plans.now }
+{
+    plans.iter().filter(|plan| is_live(plan)).count()
+}
+
+/// Whether a plan is not closed.
+pub(crate) fn is_live(plan: &FiledPlan) -> bool
+    ensures { result ≡ is_live plan.now.row.usage }
+{
+    plan.row.usage != Usage::Closed
+}

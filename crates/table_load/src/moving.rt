@@ -1,0 +1,377 @@
+//! How a content of schema 1 is moved to schema 2.
+
+ghost use Rattle.std.specs.Prelude.{◌≡◌, ◌≢◌, ◌↔◌, ◌<◌, ◌-◌, ◌^◌, List, ◌∷◌, true, false, IfOk, IfErr, OnOk, OnErr, IsTrue, length, None};
+ghost use Rattle.std.specs.List.{AllByRecursion};
+ghost use Rattle.sqlite.specs.State.{HasCleanDisk, KeepsCommit};
+ghost use Rattle.sqlite.specs.Held.{state};
+ghost use Rattle.sqlite_value.specs.Order.{Row as Values};
+ghost use Rattle.desk_sql.specs.Rows.{IsDesk, tables_at, tables_of};
+ghost use Rattle.desk_sql.specs.QueryEnds.{WasOpen};
+ghost use Rattle.desk_sql.specs.Effects.{IsReady, StaysShown, IsOpenIfClean, Makes, Commits, MayMake, IsUnderWay};
+ghost use Rattle.desk_sql.specs.Making.{MayComplete};
+ghost use Rattle.desk_sql.specs.Frames.{IsOver, OnlyReads, Remembers};
+ghost use Rattle.desk_sql.specs.Finding.{Holds};
+ghost use Rattle.desk_sql.specs.Refusals.{IsRefusal};
+ghost use Rattle.desk_store.specs.World.{Filed, World};
+ghost use Rattle.desk_store.specs.Content.{IsContent};
+ghost use Rattle.table_load.specs.CutShort.{IsMovedAs, IsMovedOn, MayBecome};
+ghost use Rattle.row_codec.specs.Known.{Knows};
+ghost use Rattle.row_codec.specs.Tables as tables;
+ghost use Rattle.table_load.specs.Opening.{AreRows, BlamesReading, HasRowsOld};
+ghost use Rattle.table_load.specs.OpeningSteps.{BeginsAllMoved, HadNoOld, IsAdded, IsOpening, IsRead, IsSetUp};
+ghost use Rattle.table_load.specs.OpeningSteps.{IsAtRest, ShowsOperators, ShowsPart};
+ghost use Rattle.table_load.specs.OpeningSteps.{MakesWhole};
+ghost use Rattle.table_load.specs.Moving.{AddsPlanRows, AddsPlansRows, MovesRows, RemovesOldRows, AreNoOldContent};
+ghost use Rattle.table_load.specs.Moving.{BeginsMoved, KeepsRows, IsOldArea, IsOldContent};
+ghost use Rattle.table_load.specs.Moving.{HasNoNewRows};
+ghost use Rattle.table_load.specs.Moving.{AreOldParts, AreSortedOld, IsOldContentOf, IsOldShape};
+ghost use Rattle.table_load.specs.Moving.{ShowsNoContent};
+ghost use Rattle.table_load.specs.Writable.{AreAwaited, AreWritable, HasSpansToIndex, HaveFewRows};
+
+use crate::fault::OpenFault;
+use crate::finding::{content_with, tables_found, uncovered_parts, world_of};
+use crate::ordering::unpack;
+use crate::spans::{SpanCheck, take_spans};
+use desk_changes::{empty_old_spans, empty_old_volumes, insert_spans, insert_volumes};
+use desk_sql::laws::committed_and_sound;
+use desk_sql::{TablesPresent, WholeTable, all_rows, complete_tables, has_new_rows};
+use operator_index::ListedOperator;
+use row_codec::canon::canons_of;
+use row_codec::content::{Content, TableRows};
+use row_codec::exact::FiledPlan;
+use row_codec::kept::GhostState;
+use row_codec::known::MemoryIndex;
+use row_codec::records::{asked_of, span_rows, volume_rows};
+use s2_cover::laws::{canonical_list_is, one_canonical_list, one_list_of_ranges};
+use sqlite::{Connection, Error, Transaction};
+use sqlite_trees::store::Alter;
+use std::alloc::{AllocError, Global};
+use volume4d::laws::{covers_are_few, one_shape};
+use volume4d::{Footprint, Volume};
+
+// The most volumes of a plan in schema 1.
+const OLD_MAX_VOLUMES: usize = 8;
+
+// The most cells of the canonical cover of a rectangle in schema 1.
+const OLD_MAX_COVER: usize = 256;
+
+/// The world that the database stands for, in either schema, what is known of its plans, and how many plans
+/// were moved from schema 1 to schema 2. In schema 2 it is as `load_world` has it, and none were moved.
+///
+/// # Errors
+///
+/// `OutOfMemory` if memory runs out. `Store` if SQLite refuses for another cause. `NotADesk` if there are
+/// other tables, or if the rows are those of no content in either schema. The rows are then what they were.
+pub fn moved_world_in<S: Alter>(
+    alloc: Global,
+    connection: &mut Connection<S>,
+) -> Result<(GhostState, MemoryIndex, u32), OpenFault>
+    requires rest { IsAtRest connection.old }
+    ensures opened { IsOpening S.Store connection.old connection.new result (λ moved. moved.0.world)
+        (λ moved. BeginsMoved S.Store connection.old connection.new moved.0.world moved.2)
+        (ShowsNoContent S.Store connection.old connection.new) ⊥
+        (KeepsRows S.Store connection.old connection.new) }
+    ensures bounded { IfOk result (λ moved. Knows moved.1 moved.0.world) }
+    ensures crash { MayBecome S.Store connection.old connection.new IsMovedOn }
+{
+    let (made, old) = tables_found(connection)?;
+    if old {
+        return move_tables(alloc, connection, made);
+    }
+    let (kept, known, _) = world_of(alloc, connection, made)?;
+    Ok((kept, known, 0))
+}
+
+// The world whose rows the tables of schema 1 have, which are moved.
+#[tactic(auto, using(crate::proofs::lemmas::Opening::some_operators))]
+fn move_tables<S: Alter>(
+    alloc: Global,
+    connection: &mut Connection<S>,
+    made: TablesPresent,
+) -> Result<(GhostState, MemoryIndex, u32), OpenFault>
+    requires part { ShowsPart S.Store connection.old made }
+    requires rows { Holds S.Store connection.old (HasRowsOld made true) }
+    requires some { made ≢ TablesPresent.Nothing }
+    requires unlimited { connection.old.step_limit ≡ None }
+    ensures set_up { IsSetUp S.Store connection.old connection.new result (λ moved. moved.0.world)
+        (λ moved. BeginsAllMoved S.Store connection.old connection.new moved.0.world moved.2)
+        (HadNoOld S.Store connection.old connection.new made)
+        (KeepsRows S.Store connection.old connection.new) }
+    ensures bounded { IfOk result (λ moved. Knows moved.1 moved.0.world) }
+    ensures crash { MayBecome S.Store connection.old connection.new IsMovedAs }
+{
+    let (content, known) = load_old_tables(alloc, connection, made)?;
+    make_whole(connection, made)?;
+    rewrite(alloc, connection, &content.plans)?;
+    let count = u32::try_from(content.plans.len()).unwrap_or(u32::MAX);
+    Ok((GhostState::of(&content), known, count))
+}
+
+// Makes what is missing of a desk's tables, in its own order. The rows that there are stay.
+fn make_whole<S: Alter>(
+    connection: &mut Connection<S>,
+    made: TablesPresent,
+) -> Result<(), OpenFault>
+    requires part { ShowsPart S.Store connection.old made }
+    requires empty { Holds S.Store connection.old (λ db. HasNoNewRows (tables_at made db.trees)) }
+    ensures done { MakesWhole S.Store connection.old connection.new result made }
+    ensures kept { OnErr result (StaysShown S.Store connection.old connection.new) }
+    ensures cause { Holds S.Store connection.old (HasSpansToIndex made)
+        → IfErr result (BlamesReading S.Store connection.old connection.new) }
+    ensures fault { IfErr result (λ e. (e ≢ OpenFault.NotADesk) × (e ≢ OpenFault.OldSchema)) }
+    ensures over { IsOver S.Store connection.old connection.new }
+    ensures crash { MayComplete S.Store made connection.old connection.new }
+{
+    if made == TablesPresent::All {
+        return Ok(());
+    }
+    if made == TablesPresent::Packed {
+        return unpack(connection);
+    }
+    complete_tables(connection, made)?;
+    Ok(())
+}
+
+// The rows of schema 1 go, and those of schema 2 of these plans come, as one transaction.
+fn rewrite<S: Alter>(
+    alloc: Global,
+    connection: &mut Connection<S>,
+    plans: &[FiledPlan],
+) -> Result<(), OpenFault>
+    requires ready { IsReady S.Store connection.old IsDesk }
+    ensures done { HasCleanDisk (state S.Store connection.new)
+        → OnOk result (Commits S.Store connection.old connection.new (MovesRows plans.now)) }
+    ensures kept { OnErr result (StaysShown S.Store connection.old connection.new) }
+    ensures cause { Holds S.Store connection.old (λ db. AreAwaited plans.now (tables_of db.trees))
+        → IfErr result (BlamesReading S.Store connection.old connection.new) }
+    ensures fault { IfErr result (λ e. (e ≢ OpenFault.NotADesk) × (e ≢ OpenFault.OldSchema)) }
+    ensures over { IsOver S.Store connection.old connection.new }
+    ensures crash { MayMake S.Store connection.old connection.new (MovesRows plans.now) }
+{
+    covers_are_few();
+    committed_and_sound(connection);
+    let mut tx = connection.transaction();
+    empty_old_tables(&mut tx)?;
+    write_plans(alloc, &mut tx, plans)?;
+    tx.commit()?;
+    Ok(())
+}
+
+// The rows of schema 1 go.
+fn empty_old_tables<S: Alter>(tx: &mut Transaction<'_, S>) -> Result<(), Error>
+    requires desk { Holds S.Store tx.old.conn.now IsDesk }
+    ensures same_reference { tx.new.conn.ghost_name ≡ tx.old.conn.ghost_name }
+    ensures done { HasCleanDisk (state S.Store tx.new.conn.now)
+        → OnOk result (Makes S.Store tx.old.conn.now tx.new.conn.now RemovesOldRows) }
+    ensures undone { HasCleanDisk (state S.Store tx.new.conn.now)
+        → OnErr result (KeepsCommit (state S.Store tx.old.conn.now)
+        (state S.Store tx.new.conn.now)) }
+    ensures cause { IsUnderWay S.Store tx.old.conn.now → HasCleanDisk (state S.Store tx.new.conn.now)
+        → IfErr result (IsRefusal S.Store tx.old.conn.now tx.new.conn.now) }
+    ensures remembered { Remembers S.Store tx.old.conn.now tx.new.conn.now }
+{
+    empty_old_volumes(tx)?;
+    empty_old_spans(tx)
+}
+
+/// Adds the rows of plans in schema 2.
+pub fn write_plans<S: Alter>(
+    alloc: Global,
+    tx: &mut Transaction<'_, S>,
+    plans: &[FiledPlan],
+) -> Result<(), OpenFault>
+    requires under_way { IsUnderWay S.Store tx.old.conn.now }
+    ensures same_reference { tx.new.conn.ghost_name ≡ tx.old.conn.ghost_name }
+    ensures added { IsAdded S.Store tx.old.conn.now tx.new.conn.now result (AddsPlansRows plans.now) }
+    ensures cause { AreWritable plans.now (state S.Store tx.old.conn.now).now
+        → IfErr result (BlamesReading S.Store tx.old.conn.now tx.new.conn.now) }
+{
+    'plans: for plan in plans {
+        write_plan(alloc, tx, plan)?;
+    }
+    Ok(())
+}
+
+// Adds the rows of a plan in schema 2.
+fn write_plan<S: Alter>(
+    alloc: Global,
+    tx: &mut Transaction<'_, S>,
+    plan: &FiledPlan,
+) -> Result<(), OpenFault>
+    requires under_way { IsUnderWay S.Store tx.old.conn.now }
+    ensures same_reference { tx.new.conn.ghost_name ≡ tx.old.conn.ghost_name }
+    ensures added { IsAdded S.Store tx.old.conn.now tx.new.conn.now result (AddsPlanRows plan.now) }
+    ensures cause { (later : List Filed) → AreWritable (plan.now ∷ later) (state S.Store tx.old.conn.now).now
+        → IfErr result (BlamesReading S.Store tx.old.conn.now tx.new.conn.now) }
+    ensures left { (later : List Filed) → AreWritable (plan.now ∷ later) (state S.Store tx.old.conn.now).now
+        → HasCleanDisk (state S.Store tx.new.conn.now)
+        → OnOk result (AreWritable later (state S.Store tx.new.conn.now).now) }
+{
+    one_list_of_ranges();
+    let mut buffer = [0u8; 36];
+    let id = plan.row.id.encode(&mut buffer);
+    let operator = plan.operator.as_str();
+    let asked = asked_of(alloc, plan.row.area.volumes())?;
+    let canon = canons_of(alloc, plan.row.area.volumes())?;
+    let volumes = volume_rows(alloc, operator, id, &plan.row, &asked, &canon)?;
+    let spans = span_rows(alloc, operator, id, &plan.row)?;
+    insert_volumes(tx, &volumes)?;
+    insert_spans(tx, &spans)?;
+    Ok(())
+}
+
+/// The content whose rows the tables of schema 1 have, and what is known of its plans.
+pub(crate) fn load_old_tables<S: Alter>(
+    alloc: Global,
+    connection: &mut Connection<S>,
+    made: TablesPresent,
+) -> Result<(Content, MemoryIndex), OpenFault>
+    requires part { ShowsOperators S.Store connection.old made }
+    ensures read { IsRead S.Store connection.old connection.new result made
+        (λ tables found. IsOldContentOf tables found.0) AreNoOldContent }
+    ensures content { IfOk result (λ found. IsContent found.0) }
+    ensures few { IfOk result (λ found. HaveFewRows found.0.plans) }
+    ensures bounded { IfOk result (λ found. Knows found.1 found.0) }
+{
+    one_shape();
+    let heads = old_heads_alone(alloc, connection, made)?;
+    let (operators, plans) = old_parts_of(alloc, &heads)?;
+    let mut check = SpanCheck::new(alloc, plans);
+    take_spans(connection, WholeTable::OldSpans, made, &mut check)?;
+    content_with(alloc, operators, check)
+}
+
+// The rows of schema 1's tables but for spans, where the tables that schema 2 has alone have no row.
+// Long: the value, and each fault by when it is reported.
+fn old_heads_alone<S: Alter>(
+    alloc: Global,
+    connection: &mut Connection<S>,
+    made: TablesPresent,
+) -> Result<TableRows, OpenFault>
+    requires part { ShowsOperators S.Store connection.old made }
+    ensures value { HasCleanDisk (state S.Store connection.new) → IfOk result (λ heads.
+        HasNoNewRows (tables_at made (state S.Store connection.old).now.trees)
+        × AreSortedOld (tables_at made (state S.Store connection.old).now.trees) heads) }
+    ensures open { WasOpen S.Store connection.old connection.new result }
+    ensures live { OnOk result (IsOpenIfClean S.Store connection.new) }
+    ensures none { IfErr result (λ e. e ≡ OpenFault.NotADesk → HasCleanDisk (state S.Store connection.new)
+        → ¬ HasNoNewRows (tables_at made (state S.Store connection.old).now.trees)) }
+    ensures newer { IfErr result (λ e. e ≢ OpenFault.OldSchema) }
+    ensures cause { IfErr result (BlamesReading S.Store connection.old connection.new) }
+    ensures reads { OnlyReads S.Store connection.old connection.new }
+{
+    if !are_new_empty(connection, made)? {
+        return Err(OpenFault::NotADesk);
+    }
+    old_heads_in(alloc, connection, made)
+}
+
+/// Whether the tables that schema 2 has alone have no row.
+#[tactic(auto, using(crate::proofs::lemmas::Frame::reads_then))]
+pub(crate) fn are_new_empty<S: Alter>(
+    connection: &mut Connection<S>,
+    made: TablesPresent,
+) -> Result<bool, OpenFault>
+    requires part { ShowsPart S.Store connection.old made }
+    ensures value { HasCleanDisk (state S.Store connection.new) → IfOk result (λ empty.
+        IsTrue empty ↔ HasNoNewRows (tables_at made (state S.Store connection.old).now.trees)) }
+    ensures fault { IfErr result (λ e. (e ≢ OpenFault.NotADesk)
+        × (e ≢ OpenFault.OldSchema)) }
+    ensures cause { IfErr result (BlamesReading S.Store connection.old connection.new) }
+    ensures reads { OnlyReads S.Store connection.old connection.new }
+{
+    let has_rows = has_new_rows(connection, made)?;
+    Ok(!has_rows)
+}
+
+/// The rows of schema 1's tables but for spans, each by the columns of its key; of those that aren't made
+/// none.
+#[tactic(auto, using(crate::proofs::lemmas::Frame::reads_then, crate::proofs::lemmas::Opening::part_on))]
+pub(crate) fn old_heads_in<S: Alter>(
+    alloc: Global,
+    connection: &mut Connection<S>,
+    made: TablesPresent,
+) -> Result<TableRows, OpenFault>
+    requires part { ShowsOperators S.Store connection.old made }
+    ensures value { HasCleanDisk (state S.Store connection.new) → IfOk result
+        (AreSortedOld (tables_at made (state S.Store connection.old).now.trees)) }
+    ensures open { WasOpen S.Store connection.old connection.new result }
+    ensures live { OnOk result (IsOpenIfClean S.Store connection.new) }
+    ensures fault { IfErr result (λ e. (e ≢ OpenFault.NotADesk) × (e ≢ OpenFault.OldSchema)) }
+    ensures cause { IfErr result (BlamesReading S.Store connection.old connection.new) }
+    ensures reads { OnlyReads S.Store connection.old connection.new }
+{
+    let operators = all_rows(alloc, connection, WholeTable::Operators, made)?;
+    let plans = all_rows(alloc, connection, WholeTable::Plans, made)?;
+    let volumes = all_rows(alloc, connection, WholeTable::OldVolumes, made)?;
+    let spans = Vec::new(alloc);
+    Ok(TableRows {
+        operators,
+        plans,
+        volumes,
+        spans,
+    })
+}
+
+// The operators and plans of rows that are those of a content of schema 1, but for those of spans.
+fn old_parts_of(
+    alloc: Global,
+    heads: &TableRows,
+) -> Result<(Vec<ListedOperator>, Vec<FiledPlan>), OpenFault>
+    ensures value { IfOk result (λ found. AreOldParts heads.now found.0.items found.1.items) }
+    ensures few { IfOk result (λ found. length (tables.volume_rows found.1.items) < 2 ^ 63) }
+    ensures none { IfErr result (λ e. e ≡ OpenFault.NotADesk → (w : World) (spans : List Values)
+        → IsOldContent w → ¬ AreRows (record heads.now { spans = spans }) w) }
+    ensures fault { IfErr result (λ e. (e ≢ OpenFault.Store) × (e ≢ OpenFault.OldSchema)) }
+{
+    one_shape();
+    let (operators, plans) = uncovered_parts(alloc, heads)?;
+    if !are_old(&plans)? {
+        return Err(OpenFault::NotADesk);
+    }
+    Ok((operators, plans))
+}
+
+/// Whether plans are within the limits of schema 1.
+pub(crate) fn are_old(plans: &[FiledPlan]) -> Result<bool, AllocError>
+    ensures { IfOk result (λ are. IsTrue are ↔ AllByRecursion (λ p. IsOldArea p.row.area) plans.now) }
+{
+    let mut left = plans;
+    'plan: while let Some((plan, later)) = left.split_first() {
+        if !is_old_area(plan.row.area.volumes())? {
+            return Ok(false);
+        }
+        left = later;
+    }
+    Ok(true)
+}
+
+// Whether the volumes of a plan are within the limits of schema 1.
+fn is_old_area(volumes: &[Volume]) -> Result<bool, AllocError>
+    ensures { IfOk result (λ is. IsTrue is ↔ IsOldArea volumes.now) }
+{
+    if volumes.len() > OLD_MAX_VOLUMES {
+        return Ok(false);
+    }
+    let mut left = volumes;
+    'volume: while let Some((volume, later)) = left.split_first() {
+        if !is_old_volume(volume)? {
+            return Ok(false);
+        }
+        left = later;
+    }
+    Ok(true)
+}
+
+// Whether a volume's footprint is within the limits of schema 1.
+fn is_old_volume(volume: &Volume) -> Result<bool, AllocError>
+    ensures { IfOk result (λ is. IsTrue is ↔ IsOldShape volume.now.footprint) }
+{
+    if let Footprint::Cells(_) = volume.footprint() {
+        return Ok(true);
+    }
+    one_canonical_list();
+    canonical_list_is();
+    let cover = volume.cover()?;
+    Ok(cover.cells().len() <= OLD_MAX_COVER)
+}

@@ -1,0 +1,323 @@
+//! Which part of a database is that of no desk: what an administrator is shown of files that were refused.
+//! It is found afterwards, by the tests that refuse a database, in their order. Nothing is changed.
+
+ghost use Rattle.std.specs.Prelude.{◌≡◌, ◌≢◌, ◌⊎◌, List, true, false, IfErr, IfOk, IfSome, OnOk};
+ghost use Rattle.sqlite_value.specs.Order.{Row as Values};
+ghost use Rattle.sqlite_wal.specs.Files.{image_at};
+ghost use Rattle.sqlite.specs.Files.{over_files};
+ghost use Rattle.sqlite.specs.Held.{IsNew};
+ghost use Rattle.desk_sql.specs.Frames.{OnlyReads};
+ghost use Rattle.desk_sql.specs.Rows.{tables_at};
+ghost use Rattle.table_load.specs.Files.{IsUnreached};
+ghost use Rattle.table_load.specs.Naming as spec;
+ghost use Rattle.table_load.specs.Naming.{AreGoodHeads, ArePlanHeads, FailsHeads, FailsOldSpans, FailsSpans};
+ghost use Rattle.table_load.specs.Naming.{FailsMoving, FailsNew, FailsOld, FailsPart};
+ghost use Rattle.table_load.specs.Naming.{IsPlanHead, NamesIn, ShowsPartOf};
+ghost use Rattle.table_load.specs.SpansHeld.{AreHeld};
+ghost use Rattle.table_load.specs.OpeningSteps.{ShowsOperators, ShowsPart};
+
+use crate::connecting::connect_there;
+use crate::fault::OpenFault;
+use crate::finding::{heads_in, tables_found};
+use crate::moving::{are_new_empty, are_old, old_heads_in};
+use crate::path::NotOpened;
+use crate::spans::{SpanCheck, take_spans};
+use desk_rules::decide::MAX_PRIORITY;
+use desk_sql::{TablesPresent, WholeTable};
+use row_codec::content::{
+    TableRows, are_shared, keys_ascend, names_ascend, operators_in, plans_in,
+};
+use row_codec::exact::{FiledPlan, PLAN_WIDTH, RowFault, is_keyed, operator_in};
+use row_codec::values::{count_at, head_in, id_in};
+use sqlite::{Connection, FileFrom, FileStore, Row, Start};
+use sqlite_disk::Disk;
+use sqlite_trees::store::Alter;
+use std::alloc::Global;
+use volume4d::laws::one_shape;
+
+/// A part of a database that is that of no desk.
+#[derive(Clone, Copy, Debug, PartialEq, Eq)]
+pub enum InvalidPart {
+    /// There is no table.
+    NoTable,
+    /// There are other tables than a desk's.
+    OtherTables,
+    /// There are rows of schema 1 and rows of schema 2.
+    BothSchemas,
+    /// A row of `operator`.
+    Operator,
+    /// A row of `plan`.
+    Plan,
+    /// The plans of an operator, which are more than it may have; or plans of no operator.
+    Plans,
+    /// The rows of `volume2`.
+    Volume,
+    /// The covers in `volume2`.
+    Cover,
+    /// The rows of `span2`.
+    Span,
+    /// The rows of `volume`, of schema 1.
+    OldVolume,
+    /// The rows of `span`, of schema 1.
+    OldSpan,
+    /// A plan of schema 1, which is beyond the limits of that.
+    OldPlan,
+}
+
+/// What was named of files, and the connection that read them. Nothing can be done with that but to drop it.
+#[derive(Drop)]
+pub struct Named<D: Disk> {
+    part: Option<InvalidPart>,
+    connection: Connection<FileStore<D>>,
+}
+
+impl<D: Disk> Named<D> {
+    /// The first part that is that of no desk. None if there is none, or if the database can't be read.
+    pub fn part(&self) -> Option<InvalidPart>
+        ensures { result ≡ self.now.part }
+    {
+        self.part
+    }
+}
+
+/// What is named of the files at a path, which are only read; `start` stands for what they held.
+///
+/// # Errors
+///
+/// That the files were not opened.
+pub fn part_at<S: Start>(
+    rt: &HostRuntime,
+    path: &str,
+    start: S,
+) -> Result<Named<FileFrom<S>>, NotOpened<FileFrom<S>>>
+    ensures named { IfOk result (λ it. NamesIn (image_at S.Start) it.part it.connection) }
+    ensures unread { IfErr result (IsUnreached (image_at S.Start)) }
+{
+    match connect_there(rt, path, start) {
+        Ok(connection) => Ok(part_in(rt.alloc(), connection)),
+        Err(unreached) => Err(unreached),
+    }
+}
+
+// What is named of the files of a connection, on whatever disk they are.
+fn part_in<D: Disk + Drop>(alloc: Global, mut connection: Connection<FileStore<D>>) -> Named<D>
+    requires { IsNew connection }
+    ensures reads { OnlyReads over_files connection result.connection }
+    ensures shows { ShowsPartOf over_files connection result.connection result.part FailsPart }
+{
+    let part = first_fault(alloc, &mut connection);
+    Named { part, connection }
+}
+
+/// The first part of a database that is that of no desk. None if there is none, or if the database can't be
+/// read.
+#[tactic(auto, using(crate::proofs::lemmas::Opening::some_operators, crate::proofs::NamedLemmas::new_named, crate::proofs::NamedLemmas::old_named))]
+pub fn first_fault<S: Alter>(alloc: Global, connection: &mut Connection<S>) -> Option<InvalidPart>
+    requires settled { connection.old.in_transaction ≡ false }
+    ensures reads { OnlyReads S.Store connection.old connection.new }
+    ensures shows { ShowsPartOf S.Store connection.old connection.new result FailsPart }
+{
+    let (made, old) = match tables_found(connection) {
+        Ok(found) => found,
+        Err(OpenFault::NotADesk) => return Some(InvalidPart::OtherTables),
+        Err(_) => return None,
+    };
+    if made == TablesPresent::Nothing {
+        return Some(InvalidPart::NoTable);
+    }
+    if old {
+        old_fault(alloc, connection, made)
+    } else {
+        new_fault(alloc, connection, made)
+    }
+}
+
+// The first part of tables without rows of schema 1.
+#[tactic(auto, using(crate::proofs::lemmas::Frame::reads_then, crate::proofs::lemmas::Opening::part_on))]
+fn new_fault<S: Alter>(
+    alloc: Global,
+    connection: &mut Connection<S>,
+    made: TablesPresent,
+) -> Option<InvalidPart>
+    requires part { ShowsOperators S.Store connection.old made }
+    ensures reads { OnlyReads S.Store connection.old connection.new }
+    ensures shows { ShowsPartOf S.Store connection.old connection.new result (λ db.
+        FailsNew (tables_at made db.trees)) }
+{
+    let Ok((heads, covered)) = heads_in(alloc, connection, made) else {
+        return None;
+    };
+    let plans = match plans_of(alloc, &heads, InvalidPart::Volume) {
+        Ok(plans) => plans,
+        Err(part) => return part,
+    };
+    let mut check = SpanCheck::new(alloc, plans);
+    match take_spans(connection, WholeTable::Spans, made, &mut check) {
+        Ok(()) => fault_of_spans(check, covered),
+        Err(_) => None,
+    }
+}
+
+// The first part of tables with rows of schema 1.
+#[tactic(auto, using(crate::proofs::lemmas::Opening::some_operators, crate::proofs::NamedLemmas::moving_named))]
+fn old_fault<S: Alter>(
+    alloc: Global,
+    connection: &mut Connection<S>,
+    made: TablesPresent,
+) -> Option<InvalidPart>
+    requires part { ShowsPart S.Store connection.old made }
+    requires some { made ≢ TablesPresent.Nothing }
+    ensures reads { OnlyReads S.Store connection.old connection.new }
+    ensures shows { ShowsPartOf S.Store connection.old connection.new result (λ db.
+        FailsMoving (tables_at made db.trees)) }
+{
+    match are_new_empty(connection, made) {
+        Ok(true) => {}
+        Ok(false) => return Some(InvalidPart::BothSchemas),
+        Err(_) => return None,
+    }
+    old_part(alloc, connection, made)
+}
+
+// The first part of the rows of schema 1.
+#[tactic(auto, using(crate::proofs::lemmas::Frame::reads_then, crate::proofs::lemmas::Opening::part_on))]
+fn old_part<S: Alter>(
+    alloc: Global,
+    connection: &mut Connection<S>,
+    made: TablesPresent,
+) -> Option<InvalidPart>
+    requires part { ShowsOperators S.Store connection.old made }
+    ensures reads { OnlyReads S.Store connection.old connection.new }
+    ensures shows { ShowsPartOf S.Store connection.old connection.new result (λ db.
+        FailsOld (tables_at made db.trees)) }
+{
+    let Ok(heads) = old_heads_in(alloc, connection, made) else {
+        return None;
+    };
+    let plans = match plans_of(alloc, &heads, InvalidPart::OldVolume) {
+        Ok(plans) => plans,
+        Err(part) => return part,
+    };
+    let mut check = SpanCheck::new(alloc, plans);
+    match take_spans(connection, WholeTable::OldSpans, made, &mut check) {
+        Ok(()) => fault_of_old_spans(check),
+        Err(_) => None,
+    }
+}
+
+// The spans, which were held against the plans, or the covers, of which it is known whether they agree.
+fn fault_of_spans(mut check: SpanCheck, covered: bool) -> Option<InvalidPart>
+    ensures { (rows : List Values) → AreHeld check rows
+        → IfSome result (FailsSpans check.plans.items rows covered) }
+{
+    match check.agrees() {
+        Ok(true) => {}
+        Ok(false) => return Some(InvalidPart::Span),
+        Err(_) => return None,
+    }
+    if covered {
+        None
+    } else {
+        Some(InvalidPart::Cover)
+    }
+}
+
+// The spans of schema 1, which were held against the plans, or the limits of these.
+fn fault_of_old_spans(mut check: SpanCheck) -> Option<InvalidPart>
+    ensures { (rows : List Values) → AreHeld check rows
+        → IfSome result (FailsOldSpans check.plans.items rows) }
+{
+    match check.agrees() {
+        Ok(true) => {}
+        Ok(false) => return Some(InvalidPart::OldSpan),
+        Err(_) => return None,
+    }
+    match are_old(&check.plans) {
+        Ok(false) => Some(InvalidPart::OldPlan),
+        _ => None,
+    }
+}
+
+// The plans of rows, or the first part of them but for spans and covers; none if memory runs out.
+fn plans_of(
+    alloc: Global,
+    rows: &TableRows,
+    volume: InvalidPart,
+) -> Result<Vec<FiledPlan>, Option<InvalidPart>>
+    ensures ok { IfOk result (λ plans. AreGoodHeads rows.now plans.items) }
+    ensures fault { IfErr result (λ named. IfSome named (FailsHeads rows.now volume)) }
+{
+    one_shape();
+    let operators = match operators_in(alloc, &rows.operators) {
+        Ok(operators) => operators,
+        Err(fault) => return Err(if_no_desk(fault, InvalidPart::Operator)),
+    };
+    let plans = match plans_in(alloc, &rows.plans, &rows.volumes) {
+        Ok(plans) => plans,
+        Err(fault) => return Err(if_no_desk(fault, plan_or(volume, &rows.plans))),
+    };
+    if !names_ascend(&operators) {
+        return Err(Some(InvalidPart::Operator));
+    }
+    if !keys_ascend(&plans) {
+        return Err(Some(InvalidPart::Plan));
+    }
+    if !are_shared(&operators, &plans) {
+        return Err(Some(InvalidPart::Plans));
+    }
+    Ok(plans)
+}
+
+// The part whose rows were not read, if they are no desk's.
+fn if_no_desk(fault: RowFault, part: InvalidPart) -> Option<InvalidPart>
+    ensures { result ≡ spec.if_no_desk fault part }
+{
+    match fault {
+        RowFault::NoDesk => Some(part),
+        RowFault::OutOfMemory => None,
+    }
+}
+
+// The plans, if one of these rows of `plan` is none; else the volumes.
+fn plan_or(volume: InvalidPart, heads: &[Row]) -> InvalidPart
+    ensures { (result ≡ volume) ⊎ ((result ≡ InvalidPart.Plan) × (¬ ArePlanHeads heads.now)) }
+{
+    match test_heads(heads) {
+        Err(RowFault::NoDesk) => InvalidPart::Plan,
+        _ => volume,
+    }
+}
+
+// Whether each of these rows is one of `plan`, whatever its volumes are.
+fn test_heads(heads: &[Row]) -> Result<(), RowFault>
+    ensures are { OnOk result (ArePlanHeads heads.now) }
+    ensures none { IfErr result (λ e. e ≡ RowFault.NoDesk → ¬ ArePlanHeads heads.now) }
+{
+    let mut left = heads;
+    'head: while let Some((head, later)) = left.split_first() {
+        test_head(head)?;
+        left = later;
+    }
+    Ok(())
+}
+
+// Whether a row is one of `plan`, whatever its volumes are.
+fn test_head(head: &Row) -> Result<(), RowFault>
+    ensures is { OnOk result (IsPlanHead head.now) }
+    ensures none { IfErr result (λ e. e ≡ RowFault.NoDesk → ¬ IsPlanHead head.now) }
+{
+    let Some(operator) = operator_in(head) else {
+        return Err(RowFault::NoDesk);
+    };
+    head_in(head)?;
+    if count_at(head, 2)? > MAX_PRIORITY {
+        return Err(RowFault::NoDesk);
+    }
+    let id = id_in(head)?;
+    let mut buffer = [0u8; 36];
+    if is_keyed(head, operator.as_str(), id.encode(&mut buffer), PLAN_WIDTH) {
+        Ok(())
+    } else {
+        Err(RowFault::NoDesk)
+    }
+}

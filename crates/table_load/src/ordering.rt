@@ -1,0 +1,96 @@
+//! How a packed file, whose tables come before all indexes, is put into a desk's own order.
+
+ghost use Rattle.std.specs.Prelude.{◌≡◌, ◌≢◌, IfOk, IfErr, OnOk, OnErr, None};
+ghost use Rattle.sqlite.specs.State.{HasCleanDisk};
+ghost use Rattle.sqlite.specs.Held.{state};
+ghost use Rattle.desk_sql.specs.Effects.{Commits, MayMake, StaysShown};
+ghost use Rattle.desk_sql.specs.Finding.{Holds};
+ghost use Rattle.desk_sql.specs.Frames.{IsOver};
+ghost use Rattle.desk_sql.specs.Unpacking.{RemakesTables};
+ghost use Rattle.table_load.specs.CutShort.{IsCompletedAs, MayBecome};
+ghost use Rattle.row_codec.specs.Known.{Knows};
+ghost use Rattle.table_load.specs.Moving.{OrdersRows};
+ghost use Rattle.table_load.specs.Opening.{BlamesReading, HasNewRows};
+ghost use Rattle.table_load.specs.OpeningSteps.{BeginsOrdered, HadNone, IsSetUp, ShowsPart};
+ghost use Rattle.table_load.specs.Writable.{HasSpansToIndex, IsToOrder};
+
+use crate::fault::OpenFault;
+use crate::finding::content_found;
+use crate::moving::write_plans;
+use desk_sql::laws::committed_and_sound;
+use desk_sql::{TablesPresent, rebuild_tables};
+use row_codec::exact::FiledPlan;
+use row_codec::kept::GhostState;
+use row_codec::known::MemoryIndex;
+use sqlite::Connection;
+use sqlite_trees::store::Alter;
+use std::alloc::Global;
+use volume4d::laws::covers_are_few;
+
+/// The world whose rows a packed file has, in which there are no rows of schema 1. Its tables come into a
+/// desk's own order.
+pub(crate) fn ordered_in<S: Alter>(
+    alloc: Global,
+    connection: &mut Connection<S>,
+) -> Result<(GhostState, MemoryIndex, bool), OpenFault>
+    requires part { ShowsPart S.Store connection.old TablesPresent.Packed }
+    requires new { Holds S.Store connection.old (HasNewRows TablesPresent.Packed) }
+    requires unlimited { connection.old.step_limit ≡ None }
+    ensures set_up { IsSetUp S.Store connection.old connection.new result (λ found. found.0.world)
+        (λ found. BeginsOrdered S.Store connection.old connection.new found.0.world)
+        (HadNone S.Store connection.old connection.new TablesPresent.Packed)
+        (StaysShown S.Store connection.old connection.new) }
+    ensures bounded { IfOk result (λ found. Knows found.1 found.0.world) }
+    ensures crash { MayBecome S.Store connection.old connection.new IsCompletedAs }
+{
+    let (content, known) = content_found(alloc, connection, TablesPresent::Packed)?;
+    put_in_order(alloc, connection, &content.plans)?;
+    let is_enrolled = !content.operators.is_empty();
+    Ok((GhostState::of(&content), known, is_enrolled))
+}
+
+// The tables come into a desk's own order, with the rows of these plans in `volume2` and `span2`, as one
+// transaction.
+fn put_in_order<S: Alter>(
+    alloc: Global,
+    connection: &mut Connection<S>,
+    plans: &[FiledPlan],
+) -> Result<(), OpenFault>
+    requires part { ShowsPart S.Store connection.old TablesPresent.Packed }
+    ensures done { HasCleanDisk (state S.Store connection.new)
+        → OnOk result (Commits S.Store connection.old connection.new (OrdersRows plans.now)) }
+    ensures kept { OnErr result (StaysShown S.Store connection.old connection.new) }
+    ensures cause { Holds S.Store connection.old (IsToOrder plans.now)
+        → IfErr result (BlamesReading S.Store connection.old connection.new) }
+    ensures fault { IfErr result (λ e. (e ≢ OpenFault.NotADesk) × (e ≢ OpenFault.OldSchema)) }
+    ensures over { IsOver S.Store connection.old connection.new }
+    ensures crash { MayMake S.Store connection.old connection.new (OrdersRows plans.now) }
+{
+    covers_are_few();
+    committed_and_sound(connection);
+    let mut tx = connection.transaction();
+    rebuild_tables(&mut tx)?;
+    write_plans(alloc, &mut tx, plans)?;
+    tx.commit()?;
+    Ok(())
+}
+
+/// The tables of a packed file come into a desk's own order, without the rows of `volume2` and `span2`, as
+/// one transaction.
+pub(crate) fn unpack<S: Alter>(connection: &mut Connection<S>) -> Result<(), OpenFault>
+    requires part { ShowsPart S.Store connection.old TablesPresent.Packed }
+    ensures done { HasCleanDisk (state S.Store connection.new)
+        → OnOk result (Commits S.Store connection.old connection.new RemakesTables) }
+    ensures kept { OnErr result (StaysShown S.Store connection.old connection.new) }
+    ensures cause { Holds S.Store connection.old (HasSpansToIndex TablesPresent.Packed)
+        → IfErr result (BlamesReading S.Store connection.old connection.new) }
+    ensures fault { IfErr result (λ e. (e ≢ OpenFault.NotADesk) × (e ≢ OpenFault.OldSchema)) }
+    ensures over { IsOver S.Store connection.old connection.new }
+    ensures crash { MayMake S.Store connection.old connection.new RemakesTables }
+{
+    committed_and_sound(connection);
+    let mut tx = connection.transaction();
+    rebuild_tables(&mut tx)?;
+    tx.commit()?;
+    Ok(())
+}

@@ -1,0 +1,146 @@
+//! What asks for the files at a path, and reports if they were not opened: nothing else makes an `NotOpened`.
+
+ghost use Rattle.std.specs.Prelude.{◌≡◌, IfErr, IfOk, IsTrue, None, true, false};
+ghost use Rattle.std.specs.Option.{IsSomeAnd};
+ghost use Rattle.sqlite_wal.specs.Files.{image_at};
+ghost use Rattle.sqlite_std_file.specs.File.{file_is_usable, IsFresh};
+ghost use Rattle.sqlite.specs.Files.{image_of, IsCleanLeft, LeavesFiles};
+ghost use Rattle.sqlite.specs.Held.{IsNew};
+ghost use Rattle.table_load.specs.Files.{Finds, IsUnread, IsUnreached, log_frames};
+
+use crate::fault::OpenFault;
+use sqlite::{Connection, FileFrom, FileStore, Files, Leftover, Options, Start};
+use sqlite_disk::Disk;
+use sqlite_std_file::OpenError;
+use std::alloc::Global;
+use std::fs::{exists, metadata};
+use std::hash::{BuildHasher, RandomState};
+use std::io::ErrorKind;
+use std::snapshot::Snapshot;
+
+// Whether a new file gets the sums of SQLite's cksumvfs at the ends of its pages.
+const NEW_HAS_SUMS: bool = true;
+
+// How many frames the log holds before it is copied into the database file: what 20 to 60 changes write.
+const LOG_FRAMES: usize = 320;
+
+/// Files that were not opened, so that nothing in them was read. Only what opens files makes one, so what has
+/// one has tried.
+#[derive(Drop)]
+pub struct NotOpened<D: Disk> {
+    fault: OpenFault,
+    // What is left of the files, if both were there. They are closed, and clauses alone read what it was.
+    left: Option<Snapshot<Leftover<D>>>,
+}
+
+impl<D: Disk> NotOpened<D> {
+    /// Why they were not opened.
+    pub fn fault(&self) -> OpenFault
+        ensures { result ≡ self.now.fault }
+    {
+        self.fault
+    }
+}
+
+/// A connection to the database in two files. If there is none, what is left of the files is reported.
+pub(crate) fn over_pair<D: Disk + Drop>(
+    alloc: Global,
+    files: Files<D>,
+    options: Options,
+) -> Result<Connection<FileStore<D>>, NotOpened<D>>
+    requires log { IsTrue (D.Disk.is_usable files.log) }
+    requires db { IsTrue (D.Disk.is_usable files.db) }
+    ensures found { IfOk result (Finds (image_of D.Disk files)) }
+    ensures fresh { IfOk result IsNew }
+    ensures unread { IfErr result (λ it. IsUnread it.fault) }
+    ensures left { IfErr result (λ it. IsSomeAnd it.left (λ s.
+        IsCleanLeft s.value → LeavesFiles files s.value)) }
+{
+    match Connection::open_files_with(alloc, files, options, NEW_HAS_SUMS) {
+        Ok(connection) => Ok(connection),
+        Err((error, left)) => Err(NotOpened {
+            fault: OpenFault::from(error),
+            left: Some(Snapshot::of(&left)),
+        }),
+    }
+}
+
+/// Nothing, if files are there already.
+///
+/// # Errors
+///
+/// `Store` if there is no file at the path, or an empty one.
+pub(crate) fn find_file<D: Disk>(rt: &HostRuntime, path: &str) -> Result<(), NotOpened<D>>
+    ensures fault { IfErr result (λ it. IsUnread it.fault) }
+    ensures left { IfErr result (λ it. it.left ≡ None) }
+{
+    match metadata(rt, path) {
+        Ok(found) if found.len() > 0 => Ok(()),
+        _ => Err(unopened(OpenFault::Store)),
+    }
+}
+
+/// Nothing, if nothing is there.
+///
+/// # Errors
+///
+/// `Store` if there is something at the path.
+pub(crate) fn find_nothing<D: Disk>(rt: &HostRuntime, path: &str) -> Result<(), NotOpened<D>>
+    ensures fault { IfErr result (λ it. IsUnread it.fault) }
+    ensures left { IfErr result (λ it. it.left ≡ None) }
+{
+    match exists(rt, path) {
+        Ok(false) => Ok(()),
+        _ => Err(unopened(OpenFault::Store)),
+    }
+}
+
+/// The two files at a path. Names that SQLite reads otherwise than as a path are refused.
+pub(crate) fn open_pair<S: Start>(
+    rt: &HostRuntime,
+    path: &str,
+    start: S,
+) -> Result<Files<FileFrom<S>>, NotOpened<FileFrom<S>>>
+    ensures log { IfOk result (λ files. IsTrue (file_is_usable S.Start files.log)) }
+    ensures db { IfOk result (λ files. IsTrue (file_is_usable S.Start files.db)) }
+    ensures fresh { IfOk result (λ files. IsFresh true files.log × IsFresh false files.db) }
+    ensures unread { IfErr result (IsUnreached (image_at S.Start)) }
+{
+    if path == ":memory:" || path.starts_with("file:") {
+        return Err(unopened(OpenFault::Store));
+    }
+    match sqlite_std_file::open(rt, path, start) {
+        Ok(files) => Ok(files),
+        Err(OpenError::OutOfMemory) => Err(unopened(OpenFault::OutOfMemory)),
+        Err(OpenError::Io(error)) if error.kind() == ErrorKind::OutOfMemory => {
+            Err(unopened(OpenFault::OutOfMemory))
+        }
+        Err(_) => Err(unopened(OpenFault::Store)),
+    }
+}
+
+/// The options of a desk's files: the seed of the log's salts is drawn by the operating system.
+pub(crate) fn options<D: Disk>(rt: &HostRuntime) -> Result<Options, NotOpened<D>>
+    ensures frames { IfOk result (λ options. options.checkpoint_frames ≡ log_frames) }
+    ensures fault { IfErr result (λ it. IsUnread it.fault) }
+    ensures left { IfErr result (λ it. it.left ≡ None) }
+{
+    match RandomState::new(rt) {
+        Ok(random) => {
+            let seed = random.hash_one(&0u8);
+            Ok(Options {
+                checkpoint_frames: LOG_FRAMES,
+                ..Options::new(seed)
+            })
+        }
+        Err(_) => Err(unopened(OpenFault::Store)),
+    }
+}
+
+// Files that were not opened, for this cause, since they were not both there.
+fn unopened<D: Disk>(fault: OpenFault) -> NotOpened<D>
+    ensures fault { result.fault ≡ fault }
+    ensures left { result.left ≡ None }
+{
+    NotOpened { fault, left: None }
+}

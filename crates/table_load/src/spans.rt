@@ -1,0 +1,298 @@
+//! The rows of a table of spans, taken one at a time in the order of their key and held against the plans.
+
+ghost use Rattle.std.specs.Prelude.{◌≡◌, ◌≢◌, ◌↔◌, ◌<◌, ◌+◌, ◌-◌, ◌^◌, true, false, IsTrue, IfOk, IfErr, OnOk};
+ghost use Rattle.std.specs.Prelude.{List, [], ◌∷◌, ◌++◌, drop};
+ghost use Rattle.sqlite_value.specs.Order.{Row as Columns};
+ghost use Rattle.desk_rules.specs.Plan as plan_spec;
+ghost use Rattle.desk_store.specs.World.{Filed};
+ghost use Rattle.sqlite.specs.State.{HasCleanDisk};
+ghost use Rattle.sqlite.specs.Held.{state};
+ghost use Rattle.desk_sql.specs.Rows.{Lists, tables_at};
+ghost use Rattle.desk_sql.specs.Queries.{key_cells, rows_read, table_read};
+ghost use Rattle.desk_sql.specs.Effects.{StaysOpen};
+ghost use Rattle.desk_sql.specs.Frames.{OnlyReads};
+ghost use Rattle.table_load.specs.Opening.{BlamesReading};
+ghost use Rattle.row_codec.specs.Tables.{AreSpanRows};
+ghost use Rattle.table_load.specs.SpanChecks.{
+  AreAwaited,
+  AwaitsAlike,
+  IsEntered,
+  IsFound,
+  IsNextRow,
+  IsSlabFound,
+  after_plan,
+};
+ghost use Rattle.table_load.specs.SpansHeld.{AreHeld};
+ghost use Rattle.table_load.specs.OpeningSteps.{ShowsPart};
+
+use crate::fault::OpenFault;
+use crate::finding::length_with;
+use crate::looking::is_live;
+use desk_sql::{RowVisitor, TablesPresent, WholeTable, each_row};
+use row_codec::exact::{FiledPlan, is_slab_row};
+use row_codec::span_bounds::SpanBounds;
+use s2_cover::laws::one_list_of_ranges;
+use sqlite::{Connection, Error, ErrorCode, Row};
+use sqlite_trees::store::Alter;
+use std::alloc::{AllocError, Global};
+use std::marker::Model;
+use volume4d::Slab;
+
+// As many rows are not counted any more, since no content has them.
+const TOO_MANY: usize = (1 << 63) - 1;
+
+/// Where the rows of plans, by their key, are: the slab whose row is the next.
+#[derive(Drop)]
+pub struct Cursor {
+    // the plan under way, and the place of the next of its volumes
+    plan: usize,
+    place: usize,
+    // the slabs of a volume before that, its place, and the next of them
+    slabs: Vec<Slab>,
+    shown: usize,
+    next: usize,
+}
+
+impl Model for Cursor {
+    ghost use Rattle.table_load.specs.SpanChecks.{Place};
+
+    ghost Value = { Place };
+
+    ghost view = { λ c. record {
+      plan = c.plan;
+      place = c.place;
+      slabs = c.slabs.items;
+      shown = c.shown;
+      next = c.next;
+    } };
+}
+
+impl Cursor {
+    /// Before all rows.
+    fn new(alloc: Global) -> Cursor
+        ensures { result ≡ record { plan = 0; place = 0; slabs = []; shown = 0; next = 0 } }
+    {
+        Cursor {
+            plan: 0,
+            place: 0,
+            slabs: Vec::new(alloc),
+            shown: 0,
+            next: 0,
+        }
+    }
+
+    // Goes on to a slab of a plan, if one is left.
+    fn find_in(&mut self, plan: &FiledPlan) -> Result<bool, AllocError>
+        requires live { plan_spec.is_live plan.now.row.usage ≡ true }
+        ensures same { OnOk result ((later : List Filed) (rows : List Columns)
+            → AreAwaited (plan.now ∷ later) (drop self.old.next self.old.slabs) self.old.shown
+            self.old.place rows
+            ↔ AreAwaited (plan.now ∷ later) (drop self.new.next self.new.slabs) self.new.shown
+            self.new.place rows) }
+        ensures found { IfOk result (IsSlabFound plan.now self.new) }
+        ensures plan { self.new.plan ≡ self.old.plan }
+    {
+        one_list_of_ranges();
+        while self.next >= self.slabs.len() {
+            let Some(volume) = plan.row.area.volumes().get(self.place) else {
+                return Ok(false);
+            };
+            self.slabs = volume.slabs()?;
+            self.next = 0;
+            self.shown = self.place;
+            self.place += 1;
+        }
+        Ok(true)
+    }
+
+    // Goes on to the plan after the one under way.
+    fn pass(&mut self)
+        requires { self.old.plan < 2 ^ 64 - 1 }
+        ensures { self.new ≡ after_plan self.old }
+    {
+        self.plan += 1;
+        self.place = 0;
+        self.slabs.clear();
+        self.next = 0;
+    }
+
+    // Goes on to a slab of the plan under way, or else to the plan after it.
+    fn enter(&mut self, plan: &FiledPlan) -> Result<bool, AllocError>
+        requires { self.old.plan < 2 ^ 64 - 1 }
+        ensures same { OnOk result ((plans : List Filed)
+            → drop self.old.plan plans ≡ plan.now ∷ drop (self.old.plan + 1) plans
+            → AwaitsAlike plans self.old self.new) }
+        ensures found { IfOk result (IsEntered plan.now self.old self.new) }
+    {
+        if !is_live(plan) {
+            self.pass();
+            return Ok(false);
+        }
+        if self.find_in(plan)? {
+            return Ok(true);
+        }
+        self.pass();
+        Ok(false)
+    }
+
+    // Goes on to the next slab, if one is left.
+    fn find(&mut self, plans: &[FiledPlan]) -> Result<bool, AllocError>
+        ensures same { OnOk result (AwaitsAlike plans.now self.old self.new) }
+        ensures found { IfOk result (IsFound plans.now self.new) }
+    {
+        while let Some(plan) = plans.get(self.plan) {
+            if self.enter(plan)? {
+                return Ok(true);
+            }
+        }
+        Ok(false)
+    }
+
+    // Whether a row is the next, which is passed then.
+    fn take(&mut self, plans: &[FiledPlan], row: &Row) -> Result<bool, AllocError>
+        ensures { IfOk result (IsNextRow plans.now self.old self.new row.now) }
+    {
+        if !self.find(plans)? {
+            return Ok(false);
+        }
+        let Some(plan) = plans.get(self.plan) else {
+            return Ok(false);
+        };
+        let Some(slab) = self.slabs.get(self.next) else {
+            return Ok(false);
+        };
+        let mut buffer = [0u8; 36];
+        let id = plan.row.id.encode(&mut buffer);
+        if !is_slab_row(plan, id, self.shown, slab, row) {
+            return Ok(false);
+        }
+        self.next += 1;
+        Ok(true)
+    }
+}
+
+/// Rows of spans, by their key, held against plans. No row is kept.
+#[derive(Drop)]
+pub struct SpanCheck {
+    pub plans: Vec<FiledPlan>,
+    cursor: Cursor,
+    // whether the rows so far are the plans'
+    agree: bool,
+    pub count: usize,
+    pub span_bounds: SpanBounds,
+}
+
+impl SpanCheck {
+    /// Of no row yet.
+    pub fn new(alloc: Global, plans: Vec<FiledPlan>) -> SpanCheck
+        ensures plans { result.plans.items ≡ plans.items }
+        ensures fresh { AreHeld result [] }
+    {
+        SpanCheck {
+            plans,
+            cursor: Cursor::new(alloc),
+            agree: true,
+            count: 0,
+            span_bounds: SpanBounds::new(),
+        }
+    }
+
+    // Takes the next row.
+    fn add(&mut self, row: &Row) -> Result<(), AllocError>
+        ensures taken { OnOk result ((rows : List Columns) → AreHeld self.old rows
+            → AreHeld self.new (rows ++ row.now ∷ [])) }
+        ensures plans { self.new.plans.items ≡ self.old.plans.items }
+    {
+        if self.count >= TOO_MANY {
+            return Err(AllocError);
+        }
+        self.count += 1;
+        self.span_bounds = length_with(&self.span_bounds, row);
+        if self.agree {
+            self.agree = self.cursor.take(&self.plans, row)?;
+        }
+        Ok(())
+    }
+
+    /// Whether the rows that were taken are all rows of the plans.
+    ///
+    /// # Errors
+    ///
+    /// `AllocError` if memory runs out.
+    pub(crate) fn agrees(&mut self) -> Result<bool, AllocError>
+        ensures agree { IfOk result (λ agree. (rows : List Columns) → AreHeld self.old rows
+            → IsTrue agree ↔ AreSpanRows self.old.plans.items rows) }
+        ensures plans { self.new.plans.items ≡ self.old.plans.items }
+        ensures count { self.new.count ≡ self.old.count }
+        ensures span_bounds { self.new.span_bounds ≡ self.old.span_bounds }
+    {
+        if !self.agree {
+            return Ok(false);
+        }
+        Ok(!self.cursor.find(&self.plans)?)
+    }
+}
+
+impl RowVisitor for SpanCheck {
+    ghost use Rattle.std.specs.Prelude.{◌≡◌};
+    ghost use Rattle.sqlite.specs.declared.error.Error.TheVariants.{SqliteFailure};
+    ghost use Rattle.sqlite.specs.declared.error.ErrorCode.TheVariants.{OutOfMemory};
+    ghost use Rattle.table_load.specs.SpansHeld.{AreHeld};
+
+    ghost has_taken = { AreHeld };
+
+    ghost keeps = { λ first now. now.plans.items ≡ first.plans.items };
+
+    ghost refuses = { λ taken row e. e ≡ SqliteFailure OutOfMemory };
+
+    fn take(&mut self, row: &Row) -> Result<(), Error> {
+        self.add(row)?;
+        Ok(())
+    }
+}
+
+/// Takes all rows of a table, so far as it is made, one at a time by its key.
+///
+/// # Errors
+///
+/// `OutOfMemory` if memory runs out, or if there are 2 ^ 63 rows. `Store` if SQLite refuses for another
+/// cause.
+// Long: the value, and apart from it what holds whatever the disk returned.
+pub(crate) fn take_spans<S: Alter>(
+    connection: &mut Connection<S>,
+    table: WholeTable,
+    made: TablesPresent,
+    check: &mut SpanCheck,
+) -> Result<(), OpenFault>
+    requires part { ShowsPart S.Store connection.old made }
+    requires fresh { AreHeld check.old [] }
+    ensures value { HasCleanDisk (state S.Store connection.new) → OnOk result ((rows : List Columns)
+        × Lists (key_cells (table_read table))
+        (rows_read table (tables_at made (state S.Store connection.old).now.trees)) rows
+        × AreHeld check.new rows) }
+    ensures taken { OnOk result ((rows : List Columns) × AreHeld check.new rows) }
+    ensures plans { OnOk result (check.new.plans.items ≡ check.old.plans.items) }
+    ensures live { OnOk result (StaysOpen S.Store connection.old connection.new) }
+    ensures fault { IfErr result (λ e. (e ≢ OpenFault.NotADesk) × (e ≢ OpenFault.OldSchema)) }
+    ensures cause { IfErr result (BlamesReading S.Store connection.old connection.new) }
+    ensures reads { OnlyReads S.Store connection.old connection.new }
+{
+    match each_row(connection, table, made, check) {
+        Ok(()) => Ok(()),
+        Err(e) => Err(fault_of(e)),
+    }
+}
+
+/// What an opening answers where not all rows were taken; so many that they are not counted are as memory
+/// that ran out.
+pub(crate) fn fault_of(error: Error) -> OpenFault
+    ensures store { result ≡ OpenFault.Store → (error ≢ Error.SqliteFailure ErrorCode.OutOfMemory)
+        × (error ≢ Error.SqliteFailure ErrorCode.TooBig) }
+    ensures other { (result ≢ OpenFault.NotADesk) × (result ≢ OpenFault.OldSchema) }
+{
+    match error {
+        Error::SqliteFailure(ErrorCode::OutOfMemory) => OpenFault::OutOfMemory,
+        Error::SqliteFailure(ErrorCode::TooBig) => OpenFault::OutOfMemory,
+        _ => OpenFault::Store,
+    }
+}
