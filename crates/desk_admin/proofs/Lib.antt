@@ -1,3 +1,4 @@
 pub mod UnopenedLemmas
 mod KeepLemmas
+mod ReorderLemmas
 mod ScratchLemmas

@@ -1,5 +1,6 @@
 -- Causes: what an administrator is shown of a file that can't be opened.
-use Rattle.std.specs.Prelude.{ℕ, List, codes, Option, None, Some}
+use Rattle.std.specs.Prelude.{◌≡◌, ◌⊎◌, ℕ, List, codes, Option, None, Some}
+use Rattle.db_file.specs.Orders.{order_text}
 use Rattle.table_load.specs.declared.naming.InvalidPart.{InvalidPart}
 use Rattle.table_load.specs.declared.naming.InvalidPart.TheVariants as part
 
@@ -22,3 +23,8 @@ part_text part.OldPlan = codes "plans beyond the limits of schema 1 in volume"
 abbrev pub named_text : Option InvalidPart → List ℕ
 named_text None = codes "no table, other tables than a desk's, or rows of no content"
 named_text (Some it) = part_text it
+
+-- a text is reported of a file that holds no desk: its tables stand in another order, a part of it is named,
+-- or none is
+abbrev pub IsNoDeskText : List ℕ → Type 0
+IsNoDeskText text = (text ≡ order_text) ⊎ ((part : Option InvalidPart) × (text ≡ named_text part))

@@ -18,6 +18,10 @@ open_failure opening.Store = failure.Store
 open_failure opening.NotADesk = failure.NotADesk
 open_failure opening.OldSchema = failure.OldSchema
 
+-- so a program ends at a database that can't be opened
+abbrev pub IsOpenFailure : ErrorCode → Type 0
+IsOpenFailure f = (fault : OpenFault) × (f ≡ open_failure fault)
+
 -- the failure is that of this fault, and no files were asked for
 pub record IsUnreadFor {D : Type 0} {g : disk.Ghosts D} (it : OpenError D g)
     (fault : OpenFault) : Type 0 where

@@ -5,6 +5,7 @@ ghost use Rattle.std.specs.Prelude.{◌≡◌, IfErr, IfOk, None};
 ghost use Rattle.desk_program.specs.Outside.{bytes_written};
 ghost use Rattle.host_files.specs.Reporting.{Reports};
 ghost use Rattle.desk_admin.specs.Causes as spec;
+ghost use Rattle.desk_admin.specs.Causes.{IsNoDeskText};
 
 use db_file::order_text;
 use desk_cli::{Database, ErrorCode};
@@ -80,7 +81,9 @@ pub fn report_cause<E: Write>(
 }
 
 // Why a file holds no desk, if that is found once more.
-fn desk_cause(host: LocalHost<'_>, path: &str) -> &'static str {
+fn desk_cause(host: LocalHost<'_>, path: &str) -> &'static str
+    ensures { IsNoDeskText result.now }
+{
     if read_mode(host.rt, path, false) == ReadMode::OtherOrder {
         return order_text();
     }

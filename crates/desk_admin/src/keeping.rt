@@ -219,7 +219,9 @@ pub fn look_in<F: Start>(
     ensures looks { IfOk result (λ found. IsReadAs (image_at F.Start) found.0 found.1) }
     ensures fault { IfErr result (FailsToRead (image_at F.Start)) }
 {
-    let bulk = bulk_of(host, path)?;
+    let log = name_with(host.alloc(), path, "-wal")?;
+    // No connection has the file yet: that it is closed here would take the connection's lock away.
+    let bulk = bulk_at(&host, path, &log, has_checksums(host.rt, path));
     match look_at(host.rt, path, start) {
         Ok((connection, holdings)) => Ok((connection, reported_of(&holdings, bulk))),
         Err(refused) => Err(OpenError::of(refused)),
@@ -247,15 +249,7 @@ fn reported_of(holdings: &DbStats, bulk: FileStats) -> CheckedFile
     }
 }
 
-// How large a file and its log are, and whether its pages have sums; nothing if it can't be looked at. To be
-// called while no connection has it: that this closes the file would take the connection's lock away.
-fn bulk_of(host: LocalHost<'_>, path: &str) -> Result<FileStats, AllocError> {
-    let log = name_with(host.alloc(), path, "-wal")?;
-    let has_checksums = has_checksums(host.rt, path);
-    Ok(bulk_at(&host, path, &log, has_checksums))
-}
-
-// The same, of the files of any machine, if it is known whether its pages have sums.
+// How large a file and its log are; nothing if they can't be looked at. Whether its pages have sums is known.
 fn bulk_at<F: HostFiles>(files: &F, path: &str, log: &str, has_checksums: bool) -> FileStats
     ensures sums { result.has_checksums ≡ has_checksums }
     ensures sizes { IfSome (F.answers files.now) (λ it. (result.size ≡ found_size (it.found path.now))

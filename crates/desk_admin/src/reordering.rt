@@ -1,15 +1,17 @@
 //! The file that a line opens, put in order before that if its tables stand in another, once a scratch copy
 //! of it was read as a desk's.
 
-ghost use Rattle.std.specs.Prelude.{◌≡◌, IfErr, IfOk, OnErr, OnOk, false, true};
+ghost use Rattle.std.specs.Prelude.{◌≡◌, IfErr, IfNone, IfOk, Ok, OnErr, OnOk, false, true};
 ghost use Rattle.sqlite_wal.specs.Files.{image_at};
 ghost use Rattle.sqlite_wal.specs.Recovery.{Image};
+ghost use Rattle.desk_cli.specs.Lines.{file_of};
 ghost use Rattle.desk_program.specs.Outside.{bytes_written};
 ghost use Rattle.desk_admin.specs.FilesReported.{FailsToRead, IsReadAs};
 ghost use Rattle.host_files.specs.FolderSteps.{steps_of};
 ghost use Rattle.desk_admin.specs.Reordering as spec;
 ghost use Rattle.desk_admin.specs.Reordering.{IsAdmitted, IsOrderedByScratch, IsOrderedOr, IsReorderReported, IsReordered};
 ghost use Rattle.desk_admin.specs.Reordering.{IsReorderedIf};
+ghost use Rattle.desk_admin.specs.Unopened.{IsOpenFailure};
 ghost use Rattle.desk_host.specs.Scratch.{AreTwins};
 ghost use Rattle.host_files.specs.Reporting.{IsWrittenIfRoom, Reports};
 
@@ -48,11 +50,15 @@ pub struct ReorderTarget<'p> {
 /// # Errors
 ///
 /// Why it can't be put in order, which is reported.
+#[tactic(auto, using(crate::proofs::ReorderLemmas::reorder_fails))]
 pub fn reorder_for(
     host: LocalHost<'_>,
     database: &Database,
     takes_old: bool,
-) -> Result<(), ErrorCode> {
+) -> Result<(), ErrorCode>
+    ensures memory { IfNone (file_of database.now) (result ≡ Ok (tt {0})) }
+    ensures fault { IfErr result IsOpenFailure }
+{
     let Some(path) = database.path() else {
         return Ok(());
     };

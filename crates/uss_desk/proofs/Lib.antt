@@ -1,2 +1,3 @@
+mod LogLemmas
 mod RunLemmas
 mod WatchLemmas

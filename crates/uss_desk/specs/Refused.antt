@@ -1,5 +1,5 @@
--- Refused: why nothing goes on from a folder of records.
-use Rattle.std.specs.Prelude.{◌≡◌, ◌⊎◌, ⊤, ℕ, true, List, Option, None, Some, Result, Ok, Err}
+-- Refused: why nothing goes on from a folder of records, and why a file is refused for its log.
+use Rattle.std.specs.Prelude.{◌≡◌, ◌⊎◌, ⊤, ℕ, Bool, true, false, List, Option, None, Some, Result, Ok, Err}
 use Rattle.std.specs.declared.io.Error.{Error}
 use Rattle.desk_cli.specs.declared.failure.ErrorCode.{ErrorCode}
 use Rattle.desk_cli.specs.declared.failure.ErrorCode.TheVariants as failure
@@ -46,3 +46,9 @@ abbrev pub HandsOn : Result ⊤ Error → LocalJournal → LocalJournal → Resu
 HandsOn (Ok done) old new result = (result ≡ Ok (tt {0})) × (new ≡ old)
 HandsOn (Err e) old new result =
     (result ≡ Err (record { error = e })) × (new ≡ record old { is_reported = true })
+
+-- a file is refused for its log: that is damaged, and the file is not copied; or the log can't be read, or is
+-- there without its file; or memory ran out
+abbrev pub IsLogRefused : Bool → ErrorCode → Type 0
+IsLogRefused copied f =
+    ((copied ≡ false) × (f ≡ failure.DamagedLog)) ⊎ ((f ≡ failure.Memory) ⊎ (f ≡ failure.Store))
