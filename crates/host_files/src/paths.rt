@@ -73,14 +73,16 @@ pub fn paths_at<'r>(
     rt: &'r HostRuntime,
     database: &'r Database,
 ) -> Result<LocalOpenPaths<'r>, ErrorCode>
-    ensures { IfOk result (λ paths. IsUnheldAt (unwrap_or (file_of database.entry.now) []) paths) }
+    ensures unheld { IfOk result (λ paths. IsUnheldAt (unwrap_or (file_of database.entry.now) []) paths) }
+    ensures fault { IfErr result (λ f. f ≡ Memory) }
 {
     paths_beside(rt, database.path().unwrap_or(""))
 }
 
 // The paths of a file.
 fn paths_beside<'r>(rt: &'r HostRuntime, file: &'r str) -> Result<LocalOpenPaths<'r>, ErrorCode>
-    ensures { IfOk result (λ paths. IsUnheldAt file.entry.now paths) }
+    ensures unheld { IfOk result (λ paths. IsUnheldAt file.entry.now paths) }
+    ensures fault { IfErr result (λ f. f ≡ Memory) }
 {
     Ok(LocalOpenPaths {
         rt,

@@ -1,9 +1,10 @@
 //! The plans of a database of schema 1 moved to schema 2.
 
-ghost use Rattle.std.specs.Prelude.{◌≡◌};
+ghost use Rattle.std.specs.Prelude.{◌≡◌, ◌⊎◌, IfErr, false};
 ghost use Rattle.desk_program.specs.Outside.{bytes_written, ended};
-ghost use Rattle.desk_admin.specs.Unopened.{or_failure};
+ghost use Rattle.desk_admin.specs.Unopened.{IsOpenFailure, or_failure};
 ghost use Rattle.uss_desk.specs.OpenedLines.{IsMoveReported};
+ghost use Rattle.uss_desk.specs.Refused.{IsLogRefused};
 
 use crate::closing::{close_after, status_closed};
 use crate::opening::{FileDesk, MovedDesk, open_old};
@@ -25,7 +26,10 @@ use std::io::Write;
 ///
 /// Why its log refuses it; `Memory` if memory runs out before the database is opened; why its file can't be
 /// put in order.
-pub fn migrate_here(host: LocalHost<'_>, database: &Database) -> Result<u8, ErrorCode> {
+#[tactic(auto, using(crate::proofs::LogLemmas::log_refuses))]
+pub fn migrate_here(host: LocalHost<'_>, database: &Database) -> Result<u8, ErrorCode>
+    ensures { IfErr result (λ f. IsLogRefused false f ⊎ IsOpenFailure f) }
+{
     let mut errors = host.errors();
     check_before(host.rt, database, false, &mut errors)?;
     let paths = paths_at(host.rt, database)?;

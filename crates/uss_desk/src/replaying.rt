@@ -1,11 +1,13 @@
 //! A record played at the desk that was opened over the database that the words name.
 
+ghost use Rattle.std.specs.Prelude.{IfErr, false};
 ghost use Rattle.sqlite.specs.Files.{over_files};
 ghost use Rattle.desk_cli.specs.Exits.{ending};
 ghost use Rattle.desk_wire.specs.Passage.{passage};
 ghost use Rattle.uss_desk.specs.Guarding.{IsPastOf, Past};
 ghost use Rattle.uss_desk.specs.OpenedLines.{AreReadsTested, StaysGuarded};
 ghost use Rattle.uss_desk.specs.RecordsPlayed.{IsReplayRun};
+ghost use Rattle.uss_desk.specs.Refused.{IsLogRefused};
 
 use crate::closing::{close_after, status_closed};
 use crate::opening::{DeskAt, Opened, open_database};
@@ -28,7 +30,10 @@ use std::io::{BufReader, Read, Write};
 /// # Errors
 ///
 /// Why the log of its file refuses that; `Memory` if memory runs out before the database is opened.
-pub fn replay_here(host: LocalHost<'_>, words: &ReplayArgs) -> Result<u8, ErrorCode> {
+#[tactic(auto, using(crate::proofs::LogLemmas::log_refuses))]
+pub fn replay_here(host: LocalHost<'_>, words: &ReplayArgs) -> Result<u8, ErrorCode>
+    ensures { IfErr result (IsLogRefused false) }
+{
     let (mut output, mut errors) = (host.output(), host.errors());
     check_before(host.rt, &words.database, false, &mut errors)?;
     let Ok(mut input) = BufReader::new(host.alloc(), host.input()) else {
