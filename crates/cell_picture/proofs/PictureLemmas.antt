@@ -1,6 +1,57 @@
--- Numbers of a picture.
-use Rattle.std.proofs.Common.{◌≡◌, ◌-◌, ◌*◌, ◌/◌, ◌%◌, ℕ, arith}
+-- Numbers of a picture, and the lines of its squares.
+use Rattle.std.proofs.Common.{◌≡◌, ◌∙◌, ◌+◌, ◌-◌, ◌*◌, ◌/◌, ◌%◌, ◌++◌, ℕ, List, [], add-one, ap, append_assoc, arith, refl, sym}
 use Rattle.std.proofs.lemmas.Nat.{div-add-mod'}
+use Rattle.cell_picture.specs.Frame.{product64}
+use Rattle.cell_picture.specs.Picture.{level, levels, upright, uprights}
 
 pub floored : (number step : ℕ) → number - number % step ≡ number / step * step
 floored number step = omega (arith, div-add-mod' number step)
+
+pub no_upright : (step height : ℕ) → [] ≡ uprights step height 0
+unfolding uprights
+no_upright step height = refl
+
+pub one_upright : (step height n : ℕ) (old new : List ℕ) → old ≡ uprights step height n
+    → new ≡ old ++ upright (product64 n step) height → new ≡ uprights step height (n + 1)
+unfolding uprights
+one_upright step height n old new before next =
+    next ∙ ap (λ text. text ++ upright (product64 n step) height) before
+    ∙ ap (uprights step height) (sym (add-one n))
+
+pub no_level : (step width height : ℕ) → [] ≡ levels step width height 0
+unfolding levels
+no_level step width height = refl
+
+pub one_level : (step width height n : ℕ) (old new : List ℕ) → old ≡ levels step width height n
+    → new ≡ old ++ level (height - product64 n step) width → new ≡ levels step width height (n + 1)
+unfolding levels
+one_level step width height n old new before next =
+    next ∙ ap (λ text. text ++ level (height - product64 n step) width) before
+    ∙ ap (levels step width height) (sym (add-one n))
+
+-- parts one after the other
+pub three : (a b c t u v : List ℕ) → t ≡ a → u ≡ t ++ b → v ≡ u ++ c → v ≡ a ++ (b ++ c)
+three a b c t u v is first second =
+    second ∙ ap (λ x. x ++ c) (first ∙ ap (λ x. x ++ b) is) ∙ append_assoc a b c
+
+pub four : (a b c d t u v w : List ℕ) → t ≡ a → u ≡ t ++ b → v ≡ u ++ c → w ≡ v ++ d
+    → w ≡ a ++ (b ++ (c ++ d))
+four a b c d t u v w is first second third =
+    three a b (c ++ d) t u w is first
+    (third ∙ ap (λ x. x ++ d) second ∙ append_assoc u c d)
+
+pub five : (a b c d e t u v w x : List ℕ) → t ≡ a → u ≡ t ++ b → v ≡ u ++ c → w ≡ v ++ d → x ≡ w ++ e
+    → x ≡ a ++ (b ++ (c ++ (d ++ e)))
+five a b c d e t u v w x is first second third last =
+    four a b c (d ++ e) t u v x is first second
+    (last ∙ ap (λ y. y ++ e) third ∙ append_assoc v d e)
+
+pub six : (a b c d e f t u v w x y : List ℕ) → t ≡ a → u ≡ t ++ b → v ≡ u ++ c → w ≡ v ++ d → x ≡ w ++ e
+    → y ≡ x ++ f → y ≡ a ++ (b ++ (c ++ (d ++ (e ++ f))))
+six a b c d e f t u v w x y is first second third fourth last =
+    five a b c d (e ++ f) t u v w y is first second third
+    (last ∙ ap (λ z. z ++ f) fourth ∙ append_assoc w e f)
+
+-- a part that is pushed, by what it says
+pub pushed : (t b s c u : List ℕ) → u ≡ t ++ b → b ≡ s → s ≡ c → u ≡ t ++ c
+pushed t b s c u is view text = is ∙ ap (λ x. t ++ x) (view ∙ text)

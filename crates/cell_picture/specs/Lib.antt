@@ -1,1 +1,3 @@
+-- Read first: Picture, Frame.
+pub mod Frame
 pub mod Picture

@@ -1,20 +1,15 @@
 //! Pictures of covers (SVG): the squares of the face round a rectangle, the cells of its cover, the order in
 //! which the curve goes through them, and below what the lines mean.
 
-ghost use Rattle.std.specs.Prelude.{◌≡◌, ◌<◌, ◌≤◌, ◌+◌, ◌-◌, ◌*◌, ◌/◌, ◌^◌, max, min};
+ghost use Rattle.std.specs.Prelude.{◌≡◌, ◌∷◌, ◌<◌, ◌/◌, IfOk, string_bytes};
+ghost use Rattle.cell_picture.specs.Frame.{place_of};
 ghost use Rattle.cell_picture.specs.Picture as spec;
-ghost use Rattle.cell_picture.specs.Picture.{floor_of, sum64};
+ghost use Rattle.cell_picture.specs.Picture.{IsPicture};
 
+use crate::frame::{Frame, GridSquare, WIDTH};
 use s2_cellid::CellId;
 use s2_cover::Rect;
-use s2_hilbert::{FACE_SIDE, LEAF_LEVEL, leaf_at};
 use std::alloc::{AllocError, Global};
-
-/// About how many squares are drawn along a rectangle.
-const SQUARES: u64 = 32;
-
-/// How many pixels a picture is wide.
-const WIDTH: u64 = 720;
 
 /// How the parts of a picture look.
 const STYLE: &str = "<style>\
@@ -40,167 +35,74 @@ const LEGEND: &str = "\
 /// How many pixels the legend is high.
 const LEGEND_HEIGHT: u64 = 90;
 
-// The part of a face that a picture shows, in leaves: `i` runs to the right, `j` upwards.
-#[derive(Clone, Copy)]
-struct Frame {
-    // The least coordinates that are shown.
-    i: u64,
-    j: u64,
-    // How many leaves are shown.
-    width: u64,
-    height: u64,
-    // The side of the squares that are drawn.
-    step: u64,
-}
-
-// A square of leaves, by its place in a picture: `y` runs downwards.
-#[derive(Clone, Copy)]
-struct GridSquare {
-    x: u64,
-    y: u64,
-    side: u64,
-}
-
 /// A picture of a rectangle and the cells of its cover, which are in the order of the curve.
 ///
 /// # Errors
 ///
 /// `AllocError` if memory runs out.
-pub fn picture_of(alloc: Global, rect: &Rect, cells: &[CellId]) -> Result<String, AllocError> {
+pub fn picture_of(alloc: Global, rect: &Rect, cells: &[CellId]) -> Result<String, AllocError>
+    ensures { IfOk result (λ text. IsPicture rect.now cells.now (string_bytes text)) }
+{
     let frame = Frame::round(rect);
     let mut text = head_of(alloc, &frame, rect)?;
     text.push_str(&squares_of(alloc, &frame)?)?;
-    for cell in cells {
-        text.push_str(&cell_of(alloc, &frame, cell)?)?;
-    }
+    text.push_str(&cells_of(alloc, &frame, cells)?)?;
     text.push_str(&asked_of(alloc, &frame, rect)?)?;
     text.push_str(&curve_of(alloc, &frame, cells)?)?;
     text.push_str(&tail_of(alloc, &frame)?)?;
     Ok(text)
 }
 
-impl Frame {
-    // The rectangle with a quarter of it on each side, as far as the face goes.
-    fn round(rect: &Rect) -> Frame
-        ensures { 0 < result.step }
-    {
-        let i_length = u64::from(rect.i_max().saturating_sub(rect.i_min()));
-        let j_length = u64::from(rect.j_max().saturating_sub(rect.j_min()));
-        let length = i_length.max(j_length);
-        let step = step_for(length, side_of(rect.level()));
-        let margin = (length / 4).max(step);
-        let (i, width) = shown(rect.i_min(), rect.i_max(), margin, step);
-        let (j, height) = shown(rect.j_min(), rect.j_max(), margin, step);
-        Frame {
-            i,
-            j,
-            width,
-            height,
-            step,
-        }
-    }
-
-    // The place of a cell.
-    fn place_of(&self, cell: &CellId) -> GridSquare
-        ensures { result ≡ spec.place_of self.now cell.now }
-    {
-        let side = side_of(cell.level());
-        let leaf = leaf_at(cell.first());
-        let i = floor(u64::from(leaf.i), side);
-        let j = floor(u64::from(leaf.j), side);
-        GridSquare {
-            x: i.saturating_sub(self.i),
-            y: self.down(j.saturating_add(side)),
-            side,
-        }
-    }
-
-    // How thick a line of one pixel is.
-    fn line(&self) -> u64
-        ensures { result ≡ max (self.now.width / WIDTH) 1 }
-    {
-        (self.width / WIDTH).max(1)
-    }
-
-    // How many pixels the part is high.
-    fn tall(&self) -> u64
-        ensures { 0 < self.now.width
-            → result ≡ min (self.now.height * WIDTH) (2 ^ 64 - 1) / self.now.width }
-    {
-        let high = self.height.saturating_mul(WIDTH);
-        high.checked_div(self.width).unwrap_or(0)
-    }
-
-    // How far below the upper edge a coordinate `j` is.
-    fn down(&self, j: u64) -> u64
-        ensures { result ≡ sum64 self.now.j self.now.height - j }
-    {
-        self.j.saturating_add(self.height).saturating_sub(j)
-    }
-}
-
-// How many leaves a square of a level has along a side; a level is at most 30.
-fn side_of(level: u8) -> u64
-    ensures value { result ≡ 2 ^ (30 - level) }
-    ensures some { 0 < result }
+// The beginning of the picture, and of the part of the face in it.
+fn head_of(alloc: Global, frame: &Frame, rect: &Rect) -> Result<String, AllocError>
+    ensures { IfOk result (λ text. string_bytes text ≡ spec.head_text frame.now rect.now) }
 {
-    1 << LEAF_LEVEL.saturating_sub(level)
-}
-
-// The side of the squares that are drawn along so many leaves: that of the level, or so many times
-// larger, by a power of two, that they can be told apart.
-fn step_for(length: u64, side: u64) -> u64
-    requires { 0 < side }
-    ensures { 0 < result }
-{
-    (length / SQUARES).next_power_of_two().max(side)
-}
-
-// The greatest multiple of a step up to a number.
-#[tactic(auto, using(crate::proofs::PictureLemmas::floored))]
-fn floor(number: u64, step: u64) -> u64
-    requires { 0 < step }
-    ensures { result ≡ floor_of number step }
-{
-    number.saturating_sub(number % step)
-}
-
-// The least coordinate that is shown, and how many are, of those with a margin round the given ones.
-fn shown(least: u32, greatest: u32, margin: u64, step: u64) -> (u64, u64)
-    requires { 0 < step }
-    ensures from { result.0 ≡ floor_of (least - margin) step }
-    ensures count { result.1
-        ≡ min (sum64 (floor_of (sum64 greatest margin) step) step) (2 ^ 30) - result.0 }
-{
-    let from = floor(u64::from(least).saturating_sub(margin), step);
-    let last = u64::from(greatest).saturating_add(margin);
-    let to = floor(last, step)
-        .saturating_add(step)
-        .min(u64::from(FACE_SIDE));
-    (from, to.saturating_sub(from))
-}
-
-// The beginning of the picture, and of the part of the face in it, whose coordinates are leaves.
-fn head_of(alloc: Global, frame: &Frame, rect: &Rect) -> Result<String, AllocError> {
-    let Frame { width, height, .. } = *frame;
-    let line = frame.line();
-    let tall = frame.tall();
-    let whole = tall.saturating_add(LEGEND_HEIGHT);
-    let mut text = format!(in alloc;
-        "<svg xmlns=\"http://www.w3.org/2000/svg\" width=\"{WIDTH}\" viewBox=\"0 0 {WIDTH} {whole}\">\n"
-    )?;
+    let mut text = opening_of(alloc, frame.tall().saturating_add(LEGEND_HEIGHT))?;
     text.push_str(&title_of(alloc, rect)?)?;
     text.push_str(STYLE)?;
-    text.push_str(&format!(in alloc;
-        "<svg width=\"{WIDTH}\" height=\"{tall}\" viewBox=\"0 0 {width} {height}\" \
-        stroke-width=\"{line}\">\n\
-        <rect class=\"face\" width=\"{width}\" height=\"{height}\"/>\n"
-    )?)?;
+    text.push_str(&part_start(alloc, frame)?)?;
+    text.push_str(&face_of(alloc, frame)?)?;
     Ok(text)
 }
 
+// The beginning of a picture that is so many pixels high.
+#[tactic(auto, unfolding(crate::specs::Picture::opening_text))]
+fn opening_of(alloc: Global, whole: u64) -> Result<String, AllocError>
+    ensures { IfOk result (λ text. string_bytes text ≡ spec.opening_text whole) }
+{
+    format!(in alloc;
+        "<svg xmlns=\"http://www.w3.org/2000/svg\" width=\"{WIDTH}\" viewBox=\"0 0 {WIDTH} {whole}\">\n"
+    )
+}
+
+// The beginning of the part of the face, whose coordinates are leaves.
+#[tactic(auto, unfolding(crate::specs::Picture::part_start))]
+fn part_start(alloc: Global, frame: &Frame) -> Result<String, AllocError>
+    ensures { IfOk result (λ text. string_bytes text ≡ spec.part_start frame.now) }
+{
+    let Frame { width, height, .. } = *frame;
+    let line = frame.line();
+    let tall = frame.tall();
+    format!(in alloc;
+        "<svg width=\"{WIDTH}\" height=\"{tall}\" viewBox=\"0 0 {width} {height}\" \
+        stroke-width=\"{line}\">\n"
+    )
+}
+
+// The ground of the face.
+#[tactic(auto, unfolding(crate::specs::Picture::face_text))]
+fn face_of(alloc: Global, frame: &Frame) -> Result<String, AllocError>
+    ensures { IfOk result (λ text. string_bytes text ≡ spec.face_text frame.now) }
+{
+    let Frame { width, height, .. } = *frame;
+    format!(in alloc; "<rect class=\"face\" width=\"{width}\" height=\"{height}\"/>\n")
+}
+
 // What the picture shows.
-fn title_of(alloc: Global, rect: &Rect) -> Result<String, AllocError> {
+#[tactic(auto, unfolding(crate::specs::Picture::title_text))]
+fn title_of(alloc: Global, rect: &Rect) -> Result<String, AllocError>
+    ensures { IfOk result (λ text. string_bytes text ≡ spec.title_text rect.now) }
+{
     let face = rect.face();
     let level = rect.level();
     format!(in alloc;
@@ -210,7 +112,9 @@ fn title_of(alloc: Global, rect: &Rect) -> Result<String, AllocError> {
 
 // The end of the picture: that of the part of the face, and what its lines mean. Browsers draw no text as
 // large as leaves are.
-fn tail_of(alloc: Global, frame: &Frame) -> Result<String, AllocError> {
+fn tail_of(alloc: Global, frame: &Frame) -> Result<String, AllocError>
+    ensures { IfOk result (λ text. string_bytes text ≡ spec.tail_text frame.now) }
+{
     let tall = frame.tall();
     let mut text = format!(in alloc;
         "</svg>\n<g transform=\"translate(0 {tall})\" stroke-width=\"2\">\n"
@@ -223,6 +127,7 @@ fn tail_of(alloc: Global, frame: &Frame) -> Result<String, AllocError> {
 // The squares of the face.
 fn squares_of(alloc: Global, frame: &Frame) -> Result<String, AllocError>
     requires { 0 < frame.now.step }
+    ensures { IfOk result (λ text. string_bytes text ≡ spec.squares_text frame.now) }
 {
     let Frame {
         width,
@@ -239,28 +144,59 @@ fn squares_of(alloc: Global, frame: &Frame) -> Result<String, AllocError>
 
 fn upright_lines(alloc: Global, width: u64, height: u64, step: u64) -> Result<String, AllocError>
     requires { 0 < step }
+    ensures { IfOk result (λ text. string_bytes text ≡ spec.uprights step height (width / step)) }
 {
     let mut text = String::new(alloc);
     for place in 0..width / step {
         let x = place.saturating_mul(step);
-        text.push_str(&format!(in alloc; "M{x} 0V{height}")?)?;
+        text.push_str(&upright_line(alloc, x, height)?)?;
     }
     Ok(text)
 }
 
+#[tactic(auto, unfolding(crate::specs::Picture::upright))]
+fn upright_line(alloc: Global, x: u64, height: u64) -> Result<String, AllocError>
+    ensures { IfOk result (λ text. string_bytes text ≡ spec.upright x height) }
+{
+    format!(in alloc; "M{x} 0V{height}")
+}
+
 fn level_lines(alloc: Global, width: u64, height: u64, step: u64) -> Result<String, AllocError>
     requires { 0 < step }
+    ensures { IfOk result (λ text. string_bytes text ≡ spec.levels step width height (height / step)) }
 {
     let mut text = String::new(alloc);
     for place in 0..height / step {
         let y = height.saturating_sub(place.saturating_mul(step));
-        text.push_str(&format!(in alloc; "M0 {y}H{width}")?)?;
+        text.push_str(&level_line(alloc, y, width)?)?;
+    }
+    Ok(text)
+}
+
+#[tactic(auto, unfolding(crate::specs::Picture::level))]
+fn level_line(alloc: Global, y: u64, width: u64) -> Result<String, AllocError>
+    ensures { IfOk result (λ text. string_bytes text ≡ spec.level y width) }
+{
+    format!(in alloc; "M0 {y}H{width}")
+}
+
+// The cells, one after the other.
+fn cells_of(alloc: Global, frame: &Frame, cells: &[CellId]) -> Result<String, AllocError>
+    ensures { IfOk result (λ text. string_bytes text ≡ spec.cells_text frame.now cells.now) }
+{
+    let mut text = String::new(alloc);
+    for cell in cells {
+        text.push_str(&cell_of(alloc, frame, cell)?)?;
     }
     Ok(text)
 }
 
 // A cell, with its token.
-fn cell_of(alloc: Global, frame: &Frame, cell: &CellId) -> Result<String, AllocError> {
+#[tactic(auto, unfolding(crate::specs::Picture::cell_text))]
+fn cell_of(alloc: Global, frame: &Frame, cell: &CellId) -> Result<String, AllocError>
+    ensures { IfOk result (λ text. string_bytes text
+        ≡ spec.cell_text (place_of frame.now cell.now) cell.now) }
+{
     let GridSquare { x, y, side } = frame.place_of(cell);
     format!(in alloc;
         "<rect class=\"cell\" x=\"{x}\" y=\"{y}\" width=\"{side}\" height=\"{side}\">\
@@ -269,7 +205,10 @@ fn cell_of(alloc: Global, frame: &Frame, cell: &CellId) -> Result<String, AllocE
 }
 
 // The rectangle as it was asked for.
-fn asked_of(alloc: Global, frame: &Frame, rect: &Rect) -> Result<String, AllocError> {
+#[tactic(auto, unfolding(crate::specs::Picture::asked_text))]
+fn asked_of(alloc: Global, frame: &Frame, rect: &Rect) -> Result<String, AllocError>
+    ensures { IfOk result (λ text. string_bytes text ≡ spec.asked_text frame.now rect.now) }
+{
     let x = u64::from(rect.i_min()).saturating_sub(frame.i);
     let y = frame.down(u64::from(rect.j_max()).saturating_add(1));
     let width = u64::from(rect.i_max().saturating_sub(rect.i_min())).saturating_add(1);
@@ -282,38 +221,75 @@ fn asked_of(alloc: Global, frame: &Frame, rect: &Rect) -> Result<String, AllocEr
 }
 
 // The way of the curve from cell to cell, dashed where it goes through leaves outside of all cells.
-fn curve_of(alloc: Global, frame: &Frame, cells: &[CellId]) -> Result<String, AllocError> {
-    let mut way = String::from_str(alloc, "<path class=\"way\" d=\"")?;
+fn curve_of(alloc: Global, frame: &Frame, cells: &[CellId]) -> Result<String, AllocError>
+    ensures { IfOk result (λ text. string_bytes text ≡ spec.curve_text frame.now cells.now) }
+{
+    let mut text = String::from_str(alloc, "<path class=\"way\" d=\"")?;
+    text.push_str(&steps_of(alloc, frame, cells, true)?)?;
     let dash = frame.line().saturating_mul(4);
-    let mut jumps = format!(in alloc; "<path class=\"jump\" stroke-dasharray=\"{dash}\" d=\"")?;
-    for (from, to) in cells.iter().zip(cells.iter().skip(1)) {
-        let line = line_between(alloc, frame.place_of(from), frame.place_of(to))?;
-        if from.last().saturating_add(1) == to.first() {
-            way.push_str(&line)?;
-        } else {
-            jumps.push_str(&line)?;
-        }
+    text.push_str(&format!(in alloc;
+        "\"/>\n<path class=\"jump\" stroke-dasharray=\"{dash}\" d=\""
+    )?)?;
+    text.push_str(&steps_of(alloc, frame, cells, false)?)?;
+    text.push_str("\"/>\n")?;
+    Ok(text)
+}
+
+// The lines from cell to cell, where the curve goes on (`on`) or where it doesn't.
+fn steps_of(alloc: Global, frame: &Frame, cells: &[CellId], on: bool) -> Result<String, AllocError>
+    ensures { IfOk result (λ text. string_bytes text ≡ spec.steps_text frame.now on cells.now) }
+{
+    match cells.split_first() {
+        Some((first, others)) => steps_from(alloc, frame, first, others, on),
+        None => Ok(String::new(alloc)),
     }
-    way.push_str("\"/>\n")?;
-    jumps.push_str("\"/>\n")?;
-    way.push_str(&jumps)?;
-    Ok(way)
+}
+
+// Those from a cell along others.
+fn steps_from(
+    alloc: Global,
+    frame: &Frame,
+    first: &CellId,
+    others: &[CellId],
+    on: bool,
+) -> Result<String, AllocError>
+    ensures { IfOk result (λ text. string_bytes text
+        ≡ spec.steps_from frame.now on first.now others.now) }
+{
+    let mut text = String::new(alloc);
+    let mut from = *first;
+    for to in others {
+        text.push_str(&step_of(alloc, frame, &from, to, on)?)?;
+        from = *to;
+    }
+    Ok(text)
+}
+
+// The line from a cell to another, if the curve goes on there (`on`) or if it doesn't; or nothing.
+fn step_of(
+    alloc: Global,
+    frame: &Frame,
+    from: &CellId,
+    to: &CellId,
+    on: bool,
+) -> Result<String, AllocError>
+    ensures { IfOk result (λ text. string_bytes text ≡ spec.step_text frame.now on from.now to.now) }
+{
+    let goes_on = from.last().saturating_add(1) == to.first();
+    let is_drawn = if on { goes_on } else { !goes_on };
+    if is_drawn {
+        line_between(alloc, frame.place_of(from), frame.place_of(to))
+    } else {
+        Ok(String::new(alloc))
+    }
 }
 
 // A line from the middle of one square to that of another.
-fn line_between(alloc: Global, from: GridSquare, to: GridSquare) -> Result<String, AllocError> {
+#[tactic(auto, unfolding(crate::specs::Picture::line_text))]
+fn line_between(alloc: Global, from: GridSquare, to: GridSquare) -> Result<String, AllocError>
+    ensures { IfOk result (λ text. string_bytes text ≡ spec.line_text from to) }
+{
     let (x, y) = from.middle();
     let (x_to, y_to) = to.middle();
     format!(in alloc; "M{x} {y}L{x_to} {y_to}")
-}
-
-impl GridSquare {
-    // Its middle.
-    fn middle(self) -> (u64, u64)
-        ensures x { result.0 ≡ sum64 self.x (self.side / 2) }
-        ensures y { result.1 ≡ sum64 self.y (self.side / 2) }
-    {
-        let half = self.side / 2;
-        (self.x.saturating_add(half), self.y.saturating_add(half))
-    }
 }

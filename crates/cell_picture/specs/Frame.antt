@@ -1,0 +1,79 @@
+-- Frame: the part of a face that a picture shows, and the places of what is drawn in it.
+use Rattle.std.specs.Prelude.{◌≡◌, ℕ, ◌+◌, ◌-◌, ◌*◌, ◌/◌, ◌^◌, max, min}
+use Rattle.std.specs.Int.{IsNextPowerOfTwo}
+use Rattle.s2_hilbert.specs.Curve.{grid_leaf_at}
+use Rattle.s2_cellid.specs.Cell.{first_leaf, level_of}
+use Rattle.s2_cover.specs.Rectangles.{RectParts}
+use Rattle.cell_picture.specs.declared.frame.Frame.{Frame}
+use Rattle.cell_picture.specs.declared.frame.GridSquare.{GridSquare}
+use Rattle.cell_picture.specs.declared.frame.TheConstants.{SQUARES, WIDTH}
+
+-- a sum of numbers of 64 bits, up to the last of them
+abbrev pub sum64 : ℕ → ℕ → ℕ
+sum64 a b = min (a + b) (2 ^ 64 - 1)
+
+-- a product of them
+abbrev pub product64 : ℕ → ℕ → ℕ
+product64 a b = min (a * b) (2 ^ 64 - 1)
+
+-- the greatest multiple of a step up to a number
+abbrev pub floor_of : ℕ → ℕ → ℕ
+floor_of number step = number / step * step
+
+-- from the least to the greatest coordinate of a rectangle, the longer way of the two
+abbrev pub longer_side : RectParts → ℕ
+longer_side rect = max (rect.i_max - rect.i_min) (rect.j_max - rect.j_min)
+
+-- the side of the squares that are drawn: that of the rectangle's level, or a greater power of two, so that
+-- about as many squares as are wanted lie along the longer side
+abbrev pub IsStep : ℕ → ℕ → ℕ → Type 0
+IsStep way side step = (power : ℕ) × (IsNextPowerOfTwo (way / SQUARES) power × (step ≡ max power side))
+
+-- what is shown beside the rectangle: a quarter of it, or a square
+abbrev pub margin_of : RectParts → ℕ → ℕ
+margin_of rect step = max (longer_side rect / 4) step
+
+-- the least coordinate that is shown, and the one after the greatest, in whole squares of the face
+abbrev pub shown_from : ℕ → ℕ → ℕ → ℕ
+shown_from least margin step = floor_of (least - margin) step
+
+abbrev pub shown_to : ℕ → ℕ → ℕ → ℕ
+shown_to greatest margin step = min (sum64 (floor_of (sum64 greatest margin) step) step) (2 ^ 30)
+
+-- the part of the face that is shown of a rectangle
+pub record IsFrame (rect : RectParts) (frame : Frame) : Type 0 where
+  pub step : IsStep (longer_side rect) (2 ^ (30 - rect.level)) frame.step
+  pub i : frame.i ≡ shown_from rect.i_min (margin_of rect frame.step) frame.step
+  pub j : frame.j ≡ shown_from rect.j_min (margin_of rect frame.step) frame.step
+  pub width : frame.width ≡ shown_to rect.i_max (margin_of rect frame.step) frame.step - frame.i
+  pub height : frame.height ≡ shown_to rect.j_max (margin_of rect frame.step) frame.step - frame.j
+
+-- how far below the upper edge a coordinate `j` is
+abbrev pub down_to : Frame → ℕ → ℕ
+down_to frame j = sum64 frame.j frame.height - j
+
+-- the place of a cell: `y` runs downwards
+abbrev pub place_of : Frame → ℕ → GridSquare
+place_of frame cell =
+    let side = 2 ^ (30 - level_of cell) in
+    let leaf = grid_leaf_at (first_leaf cell) in
+    record {
+      x = floor_of leaf.i side - frame.i;
+      y = down_to frame (floor_of leaf.j side + side);
+      side = side;
+    }
+
+-- the middle of a place
+abbrev pub middle_x : GridSquare → ℕ
+middle_x place = sum64 place.x (place.side / 2)
+
+abbrev pub middle_y : GridSquare → ℕ
+middle_y place = sum64 place.y (place.side / 2)
+
+-- how thick a line of one pixel is, in leaves
+abbrev pub line_of : Frame → ℕ
+line_of frame = max (frame.width / WIDTH) 1
+
+-- how many pixels the part is high
+abbrev pub tall_of : Frame → ℕ
+tall_of frame = product64 frame.height WIDTH / frame.width
