@@ -31,12 +31,11 @@ use Rattle.live_index.specs.declared.fence.BoundingBox.{BoundingBox}
 use Rattle.live_index.specs.declared.near.NearPlans.{NearPlans}
 use Rattle.live_index.specs.declared.near.PlanKey.{PlanKey}
 use Rattle.live_index.specs.declared.near.Wanted.{Wanted}
-use Rattle.live_index.specs.declared.sought.Sought.{Sought}
+use Rattle.slab_regions.specs.declared.sought.Sought.{Sought}
 use Rattle.live_index.specs.declared.volume.LiveVolume.{LiveVolume}
 use Rattle.live_index.specs.Live.{AreLive, AreVolumes, AreVolumesOf, IsFenced, IsLiveVolume, is_volume_of, may_meet, gather}
 use Rattle.live_index.specs.Places.{key_cmp}
-use Rattle.live_index.specs.Regions.{HaveEach}
-use Rattle.live_index.specs.Sought.{meets, sought_has}
+use Rattle.slab_regions.specs.Sought.{meets, sought_has}
 use Rattle.live_index.specs.Near.{AddsPlans, AreNearPlans, AreWantedPlans, IsAnothers, LooksOn, TakesPlan, is_among, is_id, is_listed, is_missed_at, is_near_to, is_own_volume, is_wanted_volume, key_of, listed_level, listed_top}
 use Rattle.live_index.proofs.GatherLemmas.{all_at, gathered_more}
 use Rattle.live_index.proofs.lemmas.Live.{and_turned, same_key}
@@ -85,13 +84,6 @@ meeting slab sought x has here =
     let parts = and_parts (slab_has sought.whole x) (slabs_have sought.parts.now x) here in
     and_from (overlap slab sought.whole) (list_any (overlap slab) sought.parts.now)
     (overlapping slab sought.whole x has parts.0) (one_meets slab sought.parts.now x has parts.1)
-
--- one slab is sought
-pub one_has : (extent : Slab) (parts : List Slab) (x : Point) → parts ≡ extent ∷ [] → slab_has extent x ≡ true
-    → (slab_has extent x && slabs_have parts x) ≡ true
-one_has extent parts x is here =
-    and_from (slab_has extent x) (slabs_have parts x) here
-    (ap (λ ps. slabs_have ps x) is ∙ or_false (slab_has extent x) ∙ here)
 
 -- ---- keys, in order
 

@@ -16,8 +16,8 @@ use Rattle.live_index.specs.declared.chunk.Chunk.{Chunk}
 use Rattle.live_index.specs.declared.group.Group.{Group}
 use Rattle.live_index.specs.declared.places.Places.{Places}
 use Rattle.live_index.specs.Places.{places_at}
-use Rattle.live_index.specs.Sought.{meets}
-use Rattle.live_index.specs.declared.sought.Sought.{Sought}
+use Rattle.slab_regions.specs.Sought.{meets}
+use Rattle.slab_regions.specs.declared.sought.Sought.{Sought}
 use Rattle.live_index.specs.declared.live.LiveIndexBuilder.{LiveIndexBuilder}
 use Rattle.live_index.specs.declared.live.LiveIndex.{LiveIndex}
 

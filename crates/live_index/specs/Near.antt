@@ -14,9 +14,9 @@ use Rattle.live_index.specs.declared.volume.LiveVolume.{LiveVolume}
 use Rattle.live_index.specs.declared.near.NearPlans.{NearPlans}
 use Rattle.live_index.specs.declared.near.PlanKey.{PlanKey}
 use Rattle.live_index.specs.declared.near.Wanted.{Wanted}
-use Rattle.live_index.specs.declared.sought.Sought.{Sought}
+use Rattle.slab_regions.specs.declared.sought.Sought.{Sought}
 use Rattle.live_index.specs.Live.{is_volume_of}
-use Rattle.live_index.specs.Sought.{meets}
+use Rattle.slab_regions.specs.Sought.{meets}
 
 -- ---- what plans that are listed hold
 

@@ -41,7 +41,3 @@ group_has_theirs operator whole g =
 abbrev pub has_theirs : List ℕ → LiveIndex → Slab → Bool
 has_theirs operator kept whole = list_any (group_has_theirs operator whole) kept.groups.items
     || list_any (is_theirs operator whole) kept.unindexed.items
-
--- slabs have each point of others
-abbrev pub HaveEach : List Slab → List Slab → Type 0
-HaveEach some slabs = (x : Point) → slabs_have some x ≡ true → slabs_have slabs x ≡ true

@@ -7,16 +7,16 @@ ghost use Rattle.live_index.specs.Live.{AreFenced, IsFenced, IsLeft, IsWhole};
 ghost use Rattle.live_index.specs.Live.{chunk_has_plan, is_beside, volumes_in};
 ghost use Rattle.live_index.specs.Regions.{chunk_has_theirs};
 ghost use Rattle.live_index.specs.Near.{AddsPlans};
-ghost use Rattle.live_index.specs.Sought.{sought_has};
+ghost use Rattle.slab_regions.specs.Sought.{sought_has};
 
 use crate::changing::{leave, push_all};
 use crate::fence::BoundingBox;
 use crate::near::{NearPlans, PlanKey, Wanted, add_each};
 use crate::order::{Rank, put_in_order};
-use crate::sought::Sought;
 use crate::volume::LiveVolume;
 use desk_rules::operator::Operator;
 use desk_rules::plan_id::PlanId;
+use slab_regions::Sought;
 use std::alloc::{AllocError, Global};
 use std::slice;
 use volume4d::Slab;

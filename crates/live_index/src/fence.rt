@@ -8,8 +8,8 @@ ghost use Rattle.live_index.specs.Live as spec;
 ghost use Rattle.live_index.specs.Live.{IsFenced};
 ghost use Rattle.live_index.specs.declared.volume.LiveVolume.{LiveVolume as Live};
 
-use crate::sought::Sought;
 use crate::volume::LiveVolume;
+use slab_regions::Sought;
 use volume4d::Slab;
 
 /// Bounds round some volumes, and a priority that is none of theirs' lesser.

@@ -7,17 +7,17 @@ ghost use Rattle.live_index.specs.Live.{AreFenced, AreHedged, IsFenced, IsHedged
 ghost use Rattle.live_index.specs.Live.{group_has_plan, is_beside, volumes_in, volumes_under};
 ghost use Rattle.live_index.specs.Regions.{group_has_theirs};
 ghost use Rattle.live_index.specs.Near.{AddsPlans};
-ghost use Rattle.live_index.specs.Sought.{sought_has};
+ghost use Rattle.slab_regions.specs.Sought.{sought_has};
 
 use crate::chunk as chunks;
 use crate::chunk::{Chunk, FULL, PART, chunk_with, chunked};
 use crate::fence::BoundingBox;
 use crate::near::{NearPlans, PlanKey, Wanted};
 use crate::order::Rank;
-use crate::sought::Sought;
 use crate::volume::LiveVolume;
 use desk_rules::operator::Operator;
 use desk_rules::plan_id::PlanId;
+use slab_regions::Sought;
 use std::alloc::{AllocError, Global};
 use std::slice;
 use volume4d::Slab;

@@ -10,11 +10,9 @@ mod live;
 mod near;
 mod order;
 mod places;
-mod regions;
-mod sought;
 mod volume;
 
 pub use live::{LiveIndex, LiveIndexBuilder};
 pub use near::{PlanKey, Wanted};
-pub use regions::{push_clipped, whole_of};
+pub use slab_regions::{push_clipped, whole_of};
 pub use volume::LiveVolume;

@@ -12,7 +12,7 @@ ghost use Rattle.live_index.specs.Live.{gathered_in, is_beside, is_of_any, stays
 ghost use Rattle.live_index.specs.Live.{volumes_of, volumes_under};
 ghost use Rattle.live_index.specs.Regions.{HoldNothingBeside, has_theirs};
 ghost use Rattle.live_index.specs.Near.{AddsPlans, AreNearPlans, AreWantedPlans};
-ghost use Rattle.live_index.specs.Sought.{sought_has};
+ghost use Rattle.slab_regions.specs.Sought.{sought_has};
 ghost use Rattle.volume4d.specs.Slab.{slabs_have};
 
 use crate::changing::{brought_by, leave, push_all, push_plan};
@@ -20,13 +20,12 @@ use crate::group::{Group, add_near_in, grouped, insert, leave_all};
 use crate::near::{NearPlans, PlanKey, Wanted, add_each};
 use crate::order::put_in_order;
 use crate::places::{Places, places_of};
-use crate::regions::{at_most, joined, whole_of};
-use crate::sought::Sought;
 use crate::volume::LiveVolume;
 use desk_rules::operator::Operator;
 use desk_rules::plan::PlanRow;
 use desk_rules::plan_id::PlanId;
 use desk_store::Change;
+use slab_regions::{Sought, at_most, joined, whole_of};
 use std::alloc::{AllocError, Global};
 use volume4d::Slab;
 

@@ -2,12 +2,12 @@
 
 ghost use Rattle.std.specs.Prelude.{◌≡◌, ◌∷◌, [], true, IfOk, IfSome, OnOk};
 ghost use Rattle.live_index.specs.Near.{AddsPlans, LooksOn, TakesPlan, is_among};
-ghost use Rattle.live_index.specs.Sought.{sought_has};
+ghost use Rattle.slab_regions.specs.Sought.{sought_has};
 
-use crate::sought::Sought;
 use crate::volume::LiveVolume;
 use desk_rules::operator::Operator;
 use desk_rules::plan_id::PlanId;
+use slab_regions::Sought;
 use std::alloc::{AllocError, Global};
 use std::collections::BTreeSet;
 

@@ -9,10 +9,10 @@ ghost use Rattle.live_index.specs.Regions as regions;
 
 use crate::near::{PlanKey, Wanted};
 use crate::order::{Rank, place_of};
-use crate::sought::Sought;
 use desk_rules::operator::Operator;
 use desk_rules::plan::PlanRow;
 use desk_rules::plan_id::PlanId;
+use slab_regions::Sought;
 use std::alloc::AllocError;
 use volume4d::{Slab, Volume, bounds_of};
 

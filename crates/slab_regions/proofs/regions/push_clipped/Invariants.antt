@@ -2,7 +2,7 @@ use Rattle.std.proofs.Common.{◌≡◌, cond, None, take}
 use Rattle.volume4d.specs.Point.{Point}
 use Rattle.volume4d.specs.Slab.{slab_has, top_held}
 use Rattle.volume4d.specs.Level.{greater}
-use Rattle.live_index.proofs.regions.push_clipped.Given as goal
+use Rattle.slab_regions.proofs.regions.push_clipped.Given as goal
 
 abbrev pub invariant-loop-held : goal.invariant-loop-held
 invariant-loop-held l = (x : Point) → top_held l.helds.items x

@@ -1,5 +1,5 @@
-use Rattle.live_index.proofs.RegionLemmas.{same_slabs}
-use Rattle.live_index.proofs.regions.in_order.Goals as goal
+use Rattle.slab_regions.proofs.RegionLemmas.{same_slabs}
+use Rattle.slab_regions.proofs.regions.in_order.Goals as goal
 
 pub returns : goal.returns
 returns c =

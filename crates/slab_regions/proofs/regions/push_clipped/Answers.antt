@@ -1,6 +1,6 @@
 use Rattle.volume4d.specs.Slab.{slab_has, top_held}
-use Rattle.live_index.proofs.RegionLemmas.{clipped_more, clipped_none}
-use Rattle.live_index.proofs.regions.push_clipped.Goals as goal
+use Rattle.slab_regions.proofs.RegionLemmas.{clipped_more, clipped_none}
+use Rattle.slab_regions.proofs.regions.push_clipped.Goals as goal
 
 pub loop-held-init : goal.loop-held-init
 loop-held-init c = λ x. clipped_none (top_held c.args.helds.now.items x) (slab_has c.args.region.now x) x

@@ -3,7 +3,7 @@ use Rattle.std.proofs.lemmas.Iterator.{YieldsList-from_slice}
 use Rattle.std.proofs.lemmas.Iterator.Search.{any_from_yields_List}
 use Rattle.std.specs.List.{list_any}
 use Rattle.volume4d.specs.Bounds.{overlap}
-use Rattle.live_index.proofs.sought.Sought.meets.Goals as goal
+use Rattle.slab_regions.proofs.sought.Sought.meets.Goals as goal
 
 pub returns : goal.returns
 returns c =

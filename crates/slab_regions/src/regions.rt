@@ -4,7 +4,7 @@ ghost use Rattle.std.specs.Prelude.{◌≡◌, ◌∷◌, None, cond, IfOk, OnOk
 ghost use Rattle.volume4d.specs.Bounds.{HasAll};
 ghost use Rattle.volume4d.specs.Slab.{slab_has, slabs_have, top_held};
 ghost use Rattle.desk_store.specs.Rivals.{AddsLevel};
-ghost use Rattle.live_index.specs.Regions.{HaveEach};
+ghost use Rattle.slab_regions.specs.Regions.{HaveEach};
 
 use std::alloc::{AllocError, Global};
 use std::slice;
@@ -26,7 +26,7 @@ pub fn whole_of(first: &Slab, others: &[Slab]) -> Slab
 /// # Errors
 ///
 /// `AllocError` if memory runs out.
-pub(crate) fn at_most(alloc: Global, extents: &[Slab], most: usize) -> Result<Vec<Slab>, AllocError>
+pub fn at_most(alloc: Global, extents: &[Slab], most: usize) -> Result<Vec<Slab>, AllocError>
     ensures { IfOk result (λ fewer. HaveEach extents.now fewer.items) }
 {
     match extents.split_first() {
@@ -42,7 +42,7 @@ pub(crate) fn at_most(alloc: Global, extents: &[Slab], most: usize) -> Result<Ve
 /// # Errors
 ///
 /// `AllocError` if memory runs out.
-pub(crate) fn joined(alloc: Global, extents: Vec<Slab>) -> Result<Vec<Slab>, AllocError>
+pub fn joined(alloc: Global, extents: Vec<Slab>) -> Result<Vec<Slab>, AllocError>
     ensures { IfOk result (λ regions. HaveEach extents.items regions.items) }
 {
     let ordered = in_order(extents);

@@ -3,7 +3,7 @@
 ghost use Rattle.std.specs.Prelude.{◌≡◌, true};
 ghost use Rattle.volume4d.specs.Point.{Point};
 ghost use Rattle.volume4d.specs.Slab.{slab_has};
-ghost use Rattle.live_index.specs.Sought as spec;
+ghost use Rattle.slab_regions.specs.Sought as spec;
 
 use std::slice;
 use volume4d::Slab;
@@ -11,14 +11,14 @@ use volume4d::Slab;
 /// Some slabs, the parts, and one round them: what doesn't meet this one meets no part, and is passed over by
 /// one test.
 #[derive(Clone, Copy, Debug)]
-pub(crate) struct Sought<'a> {
-    pub(crate) whole: Slab,
-    pub(crate) parts: &'a [Slab],
+pub struct Sought<'a> {
+    pub whole: Slab,
+    pub parts: &'a [Slab],
 }
 
 impl Sought<'_> {
     /// One slab alone.
-    pub(crate) fn one(extent: &Slab) -> Sought<'_>
+    pub fn one(extent: &Slab) -> Sought<'_>
         ensures { (x : Point) → slab_has extent.now x ≡ true → spec.sought_has result x ≡ true }
     {
         Sought {
@@ -28,7 +28,7 @@ impl Sought<'_> {
     }
 
     /// Whether a slab meets the whole and one of the parts.
-    pub(crate) fn meets(&self, slab: &Slab) -> bool
+    pub fn meets(&self, slab: &Slab) -> bool
         ensures { result ≡ spec.meets self.now slab.now }
     {
         if !slab.overlaps(&self.whole) {

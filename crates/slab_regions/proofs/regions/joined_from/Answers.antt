@@ -1,8 +1,8 @@
 use Rattle.std.proofs.Common.{◌∙◌, ◌||◌, ap}
 use Rattle.volume4d.specs.Slab.{slab_has, slabs_have}
-use Rattle.live_index.proofs.RegionLemmas.{gathered_joined, gathered_pushed}
-use Rattle.live_index.proofs.regions.joined_from.Goals as goal
-use Rattle.live_index.proofs.regions.joined_from.Goals.{then-extent-region, else-extent-region+in_ok-push}
+use Rattle.slab_regions.proofs.RegionLemmas.{gathered_joined, gathered_pushed}
+use Rattle.slab_regions.proofs.regions.joined_from.Goals as goal
+use Rattle.slab_regions.proofs.regions.joined_from.Goals.{then-extent-region, else-extent-region+in_ok-push}
 
 pub loop-extent-preserved : goal.loop-extent-preserved
 loop-extent-preserved c =

@@ -1,5 +1,5 @@
-use Rattle.live_index.proofs.RegionLemmas.{whole_first, whole_on}
-use Rattle.live_index.proofs.regions.whole_of.Goals as goal
+use Rattle.slab_regions.proofs.RegionLemmas.{whole_first, whole_on}
+use Rattle.slab_regions.proofs.regions.whole_of.Goals as goal
 
 pub loop-extent-init : goal.loop-extent-init
 loop-extent-init c = whole_first c.args.first.now

@@ -5,7 +5,7 @@ use Rattle.volume4d.specs.declared.slab.Slab.{Slab}
 use Rattle.volume4d.specs.Bounds.{overlap}
 use Rattle.volume4d.specs.Point.{Point}
 use Rattle.volume4d.specs.Slab.{slab_has, slabs_have}
-use Rattle.live_index.specs.declared.sought.Sought.{Sought}
+use Rattle.slab_regions.specs.declared.sought.Sought.{Sought}
 
 -- a point of the whole is in one of the parts
 abbrev pub sought_has : Sought → Point → Bool
