@@ -1,6 +1,6 @@
 //! The operators that a desk has as it is opened, with which its record begins.
 
-ghost use Rattle.std.specs.Prelude.{◌≡◌, ◌↔◌, [], IfOk, IsTrue, None, is_none, map};
+ghost use Rattle.std.specs.Prelude.{◌≡◌, ◌↔◌, [], IfOk, IsTrue, None, false, is_none, map};
 ghost use Rattle.std.specs.Option.{IsSomeAnd};
 ghost use Rattle.sqlite.specs.Files.{file_state};
 ghost use Rattle.sqlite.specs.State.{HasCleanDisk};
@@ -39,7 +39,11 @@ impl NotedOperators {
 
     /// Notes the operators of a store, if they are wanted and there is memory for them; else none.
     pub fn note<D: Disk + Drop>(&mut self, store: &SqliteStore<FileStore<D>>)
-        ensures { HasNoted store.now self.new }
+        ensures noted { HasNoted store.now self.new }
+        ensures wanted { self.new.is_wanted ≡ self.old.is_wanted }
+        ensures unwanted { self.old.is_wanted ≡ false → self.new.operators ≡ None }
+        ensures empty { IsTrue self.old.is_wanted →
+            (IsTrue self.new.is_empty ↔ IsSomeAnd self.new.operators (λ all. all.items ≡ [])) }
     {
         self.operators = None;
         self.is_empty = !store.has_begun_enrolled();

@@ -22,7 +22,7 @@ returns-in-Ok-clause-opened g c =
 pub returns-in-Ok-clause-noted : goal.returns-in-Ok-clause-noted
 returns-in-Ok-clause-noted g c =
     subst (λ s. HasNoted s c.note.new.self) (sym (ap (λ d. d.store) c.new.ensures ∙ c.over.ensures))
-    c.note.ensures
+    c.note.ensures.noted
 
 pub returns-in-Err-clause-opened : goal.returns-in-Err-clause-opened
 returns-in-Err-clause-opened g c =
