@@ -5,7 +5,7 @@ ghost use Rattle.std.specs.Int.{IsInRange};
 ghost use Rattle.desk_cli.specs.Lines.{AreEnrolments, IsServe};
 
 use crate::given::{COMPLETED, FIRST_PUT, LATE};
-use desk_cli::{Database, DeskArgs, Enrolment, ErrorCode, Serve};
+use desk_cli::{Database, DeskArgs, Enrolment, ErrorCode, ServeArgs};
 use desk_program::{EnrolmentSource, LocalPort, serve};
 use desk_rules::operator::Operator;
 use desk_rules::terms::Terms;
