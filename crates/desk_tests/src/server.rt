@@ -67,7 +67,7 @@ fn read_by(alloc: Global, mut client: TcpStream) -> Result<Vec<u8>, Fail> {
 }
 
 // The line of `serve` at port 1 for so many connections, with no operator.
-pub fn serve_line(alloc: Global, connections: u32) -> Serve
+pub fn serve_line(alloc: Global, connections: u32) -> ServeArgs
     requires { IsInRange 1 1000000 connections }
     ensures { IsServe result }
 {
