@@ -219,7 +219,7 @@ fn is_too_old(takes_old: bool, is_old: bool) -> bool
     is_old
 }
 
-// Reports that a file was put in order. A fault of the writer is passed over, and so is want of memory.
+// Reports that a file was put in order. A fault of the writer is passed over, and so is lack of memory.
 fn report_reordered<E: Write>(alloc: Global, path: &str, errors: &mut E)
     ensures { IsWrittenIfRoom (spec.reordered_line path.now) (bytes_written E.Write errors.old errors.new) }
 {

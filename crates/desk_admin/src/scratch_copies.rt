@@ -269,7 +269,7 @@ fn report_tested<E: Write>(alloc: Global, path: &str, way: ReadMode, status: u8,
 }
 
 // Reports of a file how many of its pages lack their sums, and what its rows are. A fault of the writer is
-// passed over, and so is want of memory.
+// passed over, and so is lack of memory.
 fn report_rows<E: Write>(alloc: Global, path: &str, pages: u64, rows: Rows, errors: &mut E)
     ensures { IsWrittenIfRoom (spec.rows_line path.now pages rows)
         (bytes_written E.Write errors.old errors.new) }
@@ -280,7 +280,7 @@ fn report_rows<E: Write>(alloc: Global, path: &str, pages: u64, rows: Rows, erro
 }
 
 // Reports that the tables of a file stand in another order. A fault of the writer is passed over, and so is
-// want of memory.
+// lack of memory.
 fn report_order<E: Write>(alloc: Global, path: &str, errors: &mut E)
     ensures { IsWrittenIfRoom (spec.order_line path.now) (bytes_written E.Write errors.old errors.new) }
 {

@@ -177,8 +177,8 @@ fn numbers_in(head: &Row) -> Result<(u32, u32), StoreFault>
     Ok((priority, aircraft))
 }
 
-// What comes of a change that was asked for: where it was committed, the world after it follows. An error of
-// input and output is reported as this.
+// If SQLite committed the change, the kept world becomes `next`, and `answer` is the answer. If not, it stays,
+// and SQLite's error is the fault: `reported` for an error of input and output.
 fn follow<T: Copy>(
     kept: &mut GhostState,
     committed: Result<(), Error>,

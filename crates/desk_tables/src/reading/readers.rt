@@ -148,7 +148,7 @@ fn plan_of_rows(alloc: Global, head: &Row, rows: &[Row]) -> Result<PlanRow, Stor
     plan_in(head, area)
 }
 
-// The plans of a listing, if it was taken to its end; an error of input and output is reported as this.
+// The plans of a listing, if it was taken to its end; `reported` for an error of input and output.
 fn collected(
     taken: Result<(), Error>,
     collector: PlanCollector,
@@ -169,7 +169,7 @@ fn collected(
     }
 }
 
-// The slabs of spans that were handed over, if all were; an error of input and output is reported as this.
+// The slabs of spans that were handed over, if all were; `reported` for an error of input and output.
 pub(crate) fn held_by(
     handed: Result<(), Error>,
     rivals: SpanCollector,
