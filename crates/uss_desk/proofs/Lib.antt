@@ -1,3 +1,4 @@
 mod LogLemmas
 mod RunLemmas
 mod WatchLemmas
+mod FinishLemmas

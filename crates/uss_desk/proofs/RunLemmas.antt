@@ -87,7 +87,9 @@ pub is_closed : {D : Type 0} {g : disk.Ghosts D} (desk : Parts (Shown (FileStore
     → IfErr closed.files (IsLeftUnclosed store.held) → IsClosed (Some desk) status end (Some closed)
 is_closed {D} {g} desk store closed status end same ended copied left = (
   ended,
-  subst (λ s. IfOk closed.files (λ files. AreClean g files.log files.db → IsCopied s.held files)) same
-      copied,
-  subst (λ s. IfErr closed.files (IsLeftUnclosed s.held)) same left,
+  (
+    subst (λ s. IfOk closed.files (λ files. AreClean g files.log files.db → IsCopied s.held files)) same
+        copied,
+    subst (λ s. IfErr closed.files (IsLeftUnclosed s.held)) same left,
+  ),
 )

@@ -8,6 +8,7 @@ pub mod RecordsPlayed
 pub mod RecordedPlays
 pub mod Watching
 pub mod FilesLeft
+pub mod Finishing
 pub mod Sessions
 pub mod WordsRefused
 pub mod Refused

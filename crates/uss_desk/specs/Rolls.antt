@@ -1,13 +1,14 @@
 -- Rolls: the operators that a desk over files has as it is opened, with which its record begins.
-use Rattle.std.specs.Prelude.{◌≡◌, ⊤, List, IfOk, IfSome, map}
+use Rattle.std.specs.Prelude.{◌≡◌, ⊤, List, Result, IfOk, IfSome, map}
 use Rattle.sqlite_disk.specs.declared.Disk as disk
 use Rattle.sqlite_store.specs.declared.store.FileStore.{FileStore}
 use Rattle.sqlite.specs.Files.{file_state}
 use Rattle.sqlite.specs.State.{HasCleanDisk}
 use Rattle.desk_store.specs.World.{Listed, World}
+use Rattle.desk_run.specs.DeskWorld.{Parts}
 use Rattle.desk_cli.specs.declared.line.Enrolment.{Enrolment}
 use Rattle.desk_tables.specs.Store.{Shown}
-use Rattle.uss_desk.specs.OpenedFor.{FileDesk, OpenedDesk}
+use Rattle.uss_desk.specs.OpenedFor.{OpenedDesk}
 use Rattle.uss_desk.specs.declared.opening.Opened.TheVariants as opened
 use Rattle.uss_desk.specs.declared.rolls.NotedOperators.{NotedOperators}
 
@@ -25,7 +26,9 @@ HasNoted store roll = HasCleanDisk (file_state store.held)
     → IfSome roll.operators (λ all. AreOperatorsOf store.world all.items)
 
 -- so of a desk over files that was opened
-abbrev pub HasNotedDesk : {D : Type 0} {g : disk.Ghosts D} → FileDesk g → NotedOperators → Type 0
+abbrev pub HasNotedDesk :
+    {D : Type 0} {g : disk.Ghosts D} {E : Type 0} → Result (Parts (Shown (FileStore D g))) E → NotedOperators
+    → Type 0
 HasNotedDesk desk roll = IfOk desk (λ it. HasNoted it.store roll)
 
 -- of a desk in memory nothing is noted

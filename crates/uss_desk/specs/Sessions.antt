@@ -1,13 +1,14 @@
 -- Sessions: what a command has before its desk is opened, and of which desk it is reported that it has no
 -- operator.
-use Rattle.std.specs.Prelude.{◌≡◌, Bool, true, false, List, [], Option, None, Some, option_map}
+use Rattle.std.specs.Prelude.{◌≡◌, true, List, [], Option, None, Some, option_map}
 use Rattle.std.specs.Prelude.{string_bytes, unwrap_or}
-use Rattle.std.specs.Option.{IsSomeAnd, is_some}
+use Rattle.std.specs.Option.{IsSomeAnd}
 use Rattle.desk_cli.specs.Lines.{file_of}
 use Rattle.desk_cli.specs.declared.line.DeskArgs.{DeskArgs}
 use Rattle.desk_cli.specs.declared.line.Enrolment.{Enrolment}
 use Rattle.host_files.specs.Paths.{IsUnheldAt}
 use Rattle.host_files.specs.declared.paths.LocalOpenPaths.{LocalOpenPaths}
+use Rattle.uss_desk.specs.declared.recording.PendingRecovery.{PendingRecovery}
 use Rattle.uss_desk.specs.declared.recording.RecordFolder.{RecordFolder}
 use Rattle.uss_desk.specs.declared.session.Session.{Session}
 
@@ -23,10 +24,10 @@ pub record IsPrepared (words : DeskArgs) (enrolments : List Enrolment) (session 
     pub unnoted : IsSomeAnd session.roll.operators (λ all. all.items ≡ [])
     pub unheld : IsUnheldAt (unwrap_or (file_of words.database) []) paths
 
--- the last record of a journal left something undone; a command without a journal has no record
-abbrev pub has_undone : Option RecordFolder → Bool
-has_undone None = false
-has_undone (Some folder) = is_some folder.undone
+-- what the last record of a journal left undone; a command without a journal has no record
+abbrev pub undone_of : Option RecordFolder → Option PendingRecovery
+undone_of None = None
+undone_of (Some folder) = folder.undone
 
 -- it is known that the desk has no operator, and the command names none
 pub record IsUnenrolled (session : Session) : Type 0 where

@@ -6,11 +6,16 @@ ghost use Rattle.std.specs.Prelude.{None, Ok, OnErr, OnOk, Some, option_map};
 ghost use Rattle.std.specs.Option.{IsSomeAnd, is_some};
 ghost use Rattle.sqlite.specs.Files.{over_files};
 ghost use Rattle.desk_cli.specs.Lines.{line_of};
+ghost use Rattle.uss_desk.specs.FilesLeft as files;
+ghost use Rattle.uss_desk.specs.FilesLeft.{FailsClosed};
+ghost use Rattle.uss_desk.specs.Finishing.{Finishes, IsDone, IsNumbered, IsUnfinished, KeepsAlone};
+ghost use Rattle.uss_desk.specs.Finishing.{left_undone};
 ghost use Rattle.uss_desk.specs.LineRecord as spec;
 ghost use Rattle.uss_desk.specs.LineRecord.{BeginsAlone, LeavesNothing};
 ghost use Rattle.uss_desk.specs.OpenedLines.{AreReadsTested, RemembersDesk};
 ghost use Rattle.uss_desk.specs.Refused.{GoesOnUnless, HandsOn, IsKeptOut, IsUnbegun, IsUndoneAt, IsUnfound};
 ghost use Rattle.uss_desk.specs.Refused.{MayGoOn};
+ghost use Rattle.uss_desk.specs.Rolls.{HasNoted, HasNotedDesk};
 
 use crate::closing::close_after;
 use crate::opening::{DeskAt, opened_anew};
@@ -307,6 +312,9 @@ impl<'s> RecordFolder<'s> {
         mut desk: DeskAt<D, N>,
         roll: &mut NotedOperators,
     ) -> Result<DeskAt<D, N>, ErrorCode>
+        ensures finishes { Finishes over_files self.old.undone roll.old desk result }
+        ensures left { self.new.undone ≡ None }
+        ensures noted { HasNoted desk.store roll.old → HasNotedDesk result roll.new }
         ensures tested { AreReadsTested (Ok desk) → AreReadsTested result }
     {
         let Some(undone) = self.undone.take() else {
@@ -326,7 +334,12 @@ impl<'s> RecordFolder<'s> {
         desk: &mut DeskAt<D, N>,
         roll: &mut NotedOperators,
     ) -> Result<(), ErrorCode>
-        ensures { RemembersDesk over_files desk.old desk.new }
+        ensures done { OnOk result (IsDone over_files (left_undone undone.entry roll.old) desk.old desk.new) }
+        ensures remembered { RemembersDesk over_files desk.old desk.new }
+        ensures kept { OnOk result (KeepsAlone over_files desk.old desk.new) }
+        ensures cause { IfErr result (IsUnfinished undone.entry.tail.asked) }
+        ensures undone { self.new.undone ≡ self.old.undone }
+        ensures number { OnOk result (IsNumbered undone.entry.tail.asked self.old.number self.new.number) }
     {
         self.hold()?;
         let (host, path) = (self.host, self.path);
@@ -439,7 +452,9 @@ fn failure_closed<D: Disk + Drop, N: OpenPaths + Drop>(
     file: &str,
     desk: DeskAt<D, N>,
     failure: ErrorCode,
-) -> ErrorCode {
+) -> ErrorCode
+    ensures { FailsClosed desk failure result }
+{
     if is_closed(close_after(1, Some(desk), &mut host.errors())) {
         return failure;
     }
@@ -447,7 +462,9 @@ fn failure_closed<D: Disk + Drop, N: OpenPaths + Drop>(
 }
 
 // Whether a desk was closed, on whatever disk it was.
-fn is_closed<D: Disk + Drop, E>(ended: (ExitReport<E>, Option<CloseReport<D>>)) -> bool {
+fn is_closed<D: Disk + Drop, E>(ended: (ExitReport<E>, Option<CloseReport<D>>)) -> bool
+    ensures { result ≡ files.is_closed ended.1 }
+{
     match ended.1 {
         Some(closed) => closed.are_at_paths && closed.files.is_ok(),
         None => false,

@@ -1,11 +1,15 @@
 //! A command of a desk: what it needs is got ready, its desk is opened, and then it is carried out there. No
 //! clause reports what the operating system did.
 
-ghost use Rattle.std.specs.Prelude.{◌≡◌, ◌↔◌, [], IfOk, IsTrue, None};
+ghost use Rattle.std.specs.Prelude.{◌≡◌, ◌↔◌, [], Err, IfErr, IfOk, IsTrue, None};
+ghost use Rattle.std.specs.Option.{is_some};
+ghost use Rattle.sqlite.specs.Files.{over_files};
 ghost use Rattle.desk_cli.specs.Lines.{IsLine, file_of, line_of};
 ghost use Rattle.host_files.specs.Reporting.{IsWrittenIfRoom, unenrolled_line};
 ghost use Rattle.desk_program.specs.Outside.{bytes_written};
+ghost use Rattle.uss_desk.specs.Finishing.{Finishes};
 ghost use Rattle.uss_desk.specs.OpenedLines.{AreReadsTested};
+ghost use Rattle.uss_desk.specs.Rolls.{HasNotedDesk};
 ghost use Rattle.uss_desk.specs.Sessions as spec;
 ghost use Rattle.uss_desk.specs.Sessions.{IsPrepared, IsUnenrolled};
 
@@ -82,7 +86,7 @@ impl<'s> Session<'s> {
 
     // Whether the last record left something undone, so that the desk's file has to be there.
     fn has_undone(&self) -> bool
-        ensures { result ≡ spec.has_undone self.now.folder }
+        ensures { result ≡ is_some (spec.undone_of self.now.folder) }
     {
         match &self.folder {
             Some(folder) => folder.has_undone(),
@@ -95,6 +99,10 @@ impl<'s> Session<'s> {
         &mut self,
         opened: Result<DeskAt<D, N>, ErrorCode>,
     ) -> Result<DeskAt<D, N>, ErrorCode>
+        ensures finishes { IfOk opened (λ desk.
+            Finishes over_files (spec.undone_of self.old.folder) self.old.roll desk result) }
+        ensures unopened { IfErr opened (λ failure. result ≡ Err failure) }
+        ensures noted { HasNotedDesk opened self.old.roll → HasNotedDesk result self.new.roll }
         ensures tested { AreReadsTested opened → AreReadsTested result }
     {
         let Some(folder) = &mut self.folder else {

@@ -1,8 +1,25 @@
+use Rattle.std.proofs.Common.{Err, Ok, subst}
+use Rattle.sqlite.specs.Files.{over_files}
+use Rattle.uss_desk.specs.Finishing.{Finishes, left_undone}
+use Rattle.uss_desk.proofs.FinishLemmas.{finished, still_unfinished}
 use Rattle.uss_desk.proofs.RunLemmas.{tested_anew}
 use Rattle.uss_desk.proofs.recording.RecordFolder.finish.Goals as goal
 
-pub returns-in-Ok : goal.returns-in-Ok
-returns-in-Ok g c = record {
-  tested = tested_anew c.args.desk c.recover.new.desk c.opened_anew.result c.recover.ensures
-      c.opened_anew.ensures.same;
-}
+pub returns-in-Ok-clause-finishes : goal.returns-in-Ok-clause-finishes
+returns-in-Ok-clause-finishes g c =
+    subst (λ left. Finishes over_files left c.args.roll.now c.args.desk (Ok c.opened_anew.result))
+    c.in-Some.ensures.value
+    (finished over_files (left_undone c.in-Some.undone c.args.roll.now) c.args.desk c.recover.new.desk
+    c.opened_anew.result c.in-Ok.ensures.done c.in-Ok.ensures.kept c.opened_anew.ensures.same)
+
+pub returns-in-Ok-clause-tested : goal.returns-in-Ok-clause-tested
+returns-in-Ok-clause-tested g c =
+    tested_anew c.args.desk c.recover.new.desk c.opened_anew.result c.recover.ensures.remembered
+    c.opened_anew.ensures.same
+
+pub returns-in-Err-clause-finishes : goal.returns-in-Err-clause-finishes
+returns-in-Err-clause-finishes g c =
+    subst (λ left. Finishes over_files left c.args.roll.now c.args.desk (Err c.failure_closed.result))
+    c.in-Some.ensures.value
+    (still_unfinished c.in-Some.undone.tail.asked c.recover.new.desk c.in-Err.failure c.failure_closed.result
+    c.failure_closed.ensures c.in-Err.ensures.cause)

@@ -1,0 +1,69 @@
+-- Finishing: what the last record of a journal left undone is done at the desk that was opened.
+use Rattle.std.specs.Prelude.{◌≡◌, ◌⊎◌, ℕ, List, [], Option, None, Some, IsSome, Result, Ok, Err}
+use Rattle.std.specs.Global.{Vec}
+use Rattle.sqlite_trees.specs.declared.store.Store.{Ghosts}
+use Rattle.desk_store.specs.Crashes.{LeavesOnly}
+use Rattle.desk_rules.specs.Terms.{no_terms}
+use Rattle.desk_rules.specs.declared.terms.Terms.{Terms}
+use Rattle.desk_run.specs.DeskWorld.{Parts}
+use Rattle.desk_wire.specs.Passage.{course}
+use Rattle.desk_cli.specs.declared.line.Enrolment.{Enrolment}
+use Rattle.desk_cli.specs.declared.failure.ErrorCode.{ErrorCode}
+use Rattle.desk_cli.specs.declared.failure.ErrorCode.TheVariants as failure
+use Rattle.desk_recording.specs.Recovering.{Recovers, Undone, missing_of, undone}
+use Rattle.desk_recording.specs.Tail.{unanswered_in}
+use Rattle.desk_tables.specs.Leaving.{MayLeave}
+use Rattle.desk_tables.specs.Store.{Shown}
+use Rattle.uss_desk.specs.LineRecord.{next_number}
+use Rattle.uss_desk.specs.OpenedFor.{load_world}
+use Rattle.uss_desk.specs.OpenedLines.{IsSound}
+use Rattle.uss_desk.specs.Refused.{IsUnfound}
+use Rattle.uss_desk.specs.declared.recording.PendingRecovery.{PendingRecovery}
+use Rattle.uss_desk.specs.declared.rolls.NotedOperators.{NotedOperators}
+
+-- the operators of a roll: none, if they are not noted
+abbrev pub operators_in : Option (Vec Enrolment) → List Enrolment
+operators_in None = []
+operators_in (Some all) = all.items
+
+-- what a record leaves undone at a desk that has the operators of the roll
+abbrev pub left_undone : PendingRecovery → NotedOperators → Undone
+left_undone left roll =
+    undone left.tail.terms (missing_of (operators_in roll.operators) left.tail.operators.items)
+    (unanswered_in left.tail.asked)
+
+-- why it is not done: a file, the desk's store or memory fails; and a request that is to be asked again can't
+-- be kept, or its second is no moment
+abbrev pub IsUnfinished : {A : Type 0} → Option A → ErrorCode → Type 0
+IsUnfinished asked f = IsUnfound f ⊎ (IsSome asked × ((f ≡ failure.Broken) ⊎ (f ≡ failure.Clock)))
+
+-- the number of the folder's last record: one more, if a request is asked again
+abbrev pub IsNumbered : {A : Type 0} → Option A → ℕ → ℕ → Type 0
+IsNumbered None old new = new ≡ old
+IsNumbered (Some asked) old new = next_number old ≡ Ok new
+
+-- a start finds the desk's content alone, if it found alone what the desk had
+abbrev pub KeepsAlone : {S : Type 0} → Ghosts S → Parts (Shown S) → Parts (Shown S) → Type 0
+KeepsAlone g old new =
+    IsSound g new → LeavesOnly old.store.world (MayLeave g old.store.held)
+    → LeavesOnly new.store.world (MayLeave g new.store.held)
+
+-- what is undone is done at a desk; of the steps of its record nothing is known
+abbrev pub IsDone : {S : Type 0} → Ghosts S → Undone → Parts (Shown S) → Parts (Shown S) → Type 0
+IsDone g u old new =
+    Recovers (IsSound g new) u (course (load_world old) (load_world new)) (course None None) (Ok (tt {0}))
+
+-- so it is at a desk that is then as one that was just opened: the terms on which it planned are dropped
+pub record IsFinished {S : Type 0} (g : Ghosts S) (u : Undone) (opened after : Parts (Shown S)) : Type 0 where
+  pub terms : Terms
+  pub done : IsDone g u opened (record { store = after.store; terms = terms })
+  pub anew : after.terms ≡ no_terms
+  pub kept : KeepsAlone g opened after
+
+-- nothing was undone, and the desk is what was opened; or it is finished; or why it is not
+abbrev pub Finishes :
+    {S : Type 0} → Ghosts S → Option PendingRecovery → NotedOperators → Parts (Shown S)
+    → Result (Parts (Shown S)) ErrorCode → Type 0
+Finishes g None roll opened result = result ≡ Ok opened
+Finishes g (Some left) roll opened (Ok after) = IsFinished g (left_undone left roll) opened after
+Finishes g (Some left) roll opened (Err f) = IsUnfinished left.tail.asked f
