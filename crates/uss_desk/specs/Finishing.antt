@@ -12,7 +12,7 @@ use Rattle.desk_cli.specs.declared.failure.ErrorCode.{ErrorCode}
 use Rattle.desk_cli.specs.declared.failure.ErrorCode.TheVariants as failure
 use Rattle.desk_recording.specs.Recovering.{Recovers, Undone, missing_of, undone}
 use Rattle.desk_recording.specs.Tail.{unanswered_in}
-use Rattle.desk_tables.specs.Leaving.{MayLeave}
+use Rattle.table_load.specs.Leaving.{MayLeave}
 use Rattle.desk_tables.specs.Store.{Shown}
 use Rattle.uss_desk.specs.LineRecord.{next_number}
 use Rattle.uss_desk.specs.OpenedFor.{load_world}
