@@ -1,5 +1,6 @@
 -- With which failures a file is not put in order.
-use Rattle.std.proofs.Common.{◌≡◌, ⊤, ℕ, Bool, List, Option, None, Some, Result, Ok, Err, IfErr, inl, inr, sym, subst}
+use Rattle.std.specs.Bool.{⊤}
+use Rattle.std.proofs.Common.{◌≡◌, ℕ, Bool, List, Option, None, Some, Result, Ok, Err, IfErr, inl, inr, sym, subst}
 use Rattle.sqlite_disk.specs.declared.Disk as disk
 use Rattle.sqlite_wal.specs.Recovery.{Image}
 use Rattle.sqlite_store.specs.declared.store.FileStore.{FileStore}

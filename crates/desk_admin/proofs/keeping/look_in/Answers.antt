@@ -7,7 +7,7 @@ returns-in-Ok-clause-looks g c =
     read_as (image_at g.F.Start) c.in-Ok.connection c.reported_of.result c.in-Ok.holdings
     c.reported_of.ensures.schema c.reported_of.ensures.counted c.in-Ok.ensures.looks
 
-pub returns-in-Err-clause-fault : goal.returns-in-Err-clause-fault
-returns-in-Err-clause-fault g c =
+pub returns-clause-fault : goal.returns-clause-fault
+returns-clause-fault g c =
     refused_fails (image_at g.F.Start) c.of.result c.in-Err.refused c.of.ensures.failure
     c.of.ensures.refused c.in-Err.ensures.fault
