@@ -22,7 +22,7 @@ use Rattle.volume4d.specs.Slab.{slab_has, slabs_have}
 use Rattle.volume4d.specs.Shared.{corner_of}
 use Rattle.volume4d.specs.Meeting.{IsFirstPoint}
 use Rattle.volume4d.specs.declared.sweep.Lane.{Lane}
-use Rattle.volume4d.specs.Sweep.{placed_have, Ascend, IsLate, AddsFirst}
+use Rattle.volume4d.specs.Sweep.{items_have, Ascend, IsLate, AddsFirst}
 use Rattle.volume4d.specs.Lanes.{is_alike, alike_have, KeepsFrom, IsReached, BeginsReached, lanes_have, LanesAscend, AreOf, IsCovered}
 use Rattle.volume4d.proofs.Corners.{corner_position, corner_position_is, corner_up_to, corner_left, corner_right, not_before}
 use Rattle.volume4d.proofs.FirstPoints.{first_point_same}
@@ -401,7 +401,7 @@ all_met old n other found first over =
 module _ {A : Type 0} (slab_of : A → Slab) (f : Point → Bool) where
   -- what the sweep keeps: the first point so far, and for what is still to come what is left in the lanes
   pub record IsSweeping (theirs : List A) (n : ℕ) (lanes : List Lane) (first : Option Point) : Type 0 where
-    pub met : IsFirstPoint (λ x. f x && placed_have slab_of (take n theirs) x) first
+    pub met : IsFirstPoint (λ x. f x && items_have slab_of (take n theirs) x) first
     pub rest : (x : Point) (d : A) → n < length theirs
         → (slab_of (get_or theirs n d)).first ≤ position_of x.leaf → lanes_have lanes x ≡ f x
     pub order : LanesAscend lanes
@@ -411,17 +411,17 @@ module _ {A : Type 0} (slab_of : A → Slab) (f : Point → Bool) where
       → n < length theirs → item ≡ get_or theirs n item → Ascend slab_of theirs
       → IsSweeping theirs n lanes first
       → ((x : Point) → (slab_of item).first ≤ position_of x.leaf → IsLate first x)
-      → IsFirstPoint (λ x. f x && placed_have slab_of theirs x) first
+      → IsFirstPoint (λ x. f x && items_have slab_of theirs x) first
   sweep_stops theirs n item lanes first below is up so_far late =
       first_point_same _ _
-      (λ x. sym (and-or_distrib_left (f x) (placed_have slab_of (take n theirs) x)
-      (placed_have slab_of (drop n theirs) x))
+      (λ x. sym (and-or_distrib_left (f x) (items_have slab_of (take n theirs) x)
+      (items_have slab_of (drop n theirs) x))
       ∙ ap (λ b. f x && b) (sym (in_parts slab_of n theirs x)))
       first
-      (found_stays (λ x. f x && placed_have slab_of (take n theirs) x)
-      (λ x. f x && placed_have slab_of (drop n theirs) x) first so_far.met
+      (found_stays (λ x. f x && items_have slab_of (take n theirs) x)
+      (λ x. f x && items_have slab_of (drop n theirs) x) first so_far.met
       (λ x h. late x (later_begin slab_of theirs n item x below is up
-      (and_parts (f x) (placed_have slab_of (drop n theirs) x) h).1)))
+      (and_parts (f x) (items_have slab_of (drop n theirs) x) h).1)))
 
   pub sweep_goes_on : (theirs : List A) (n : ℕ) (item : A) (lanes more : List Lane)
       (first next : Option Point) → n < length theirs → item ≡ get_or theirs n item → Ascend slab_of theirs
@@ -431,9 +431,9 @@ module _ {A : Type 0} (slab_of : A → Slab) (f : Point → Bool) where
       → IsSweeping theirs (n + 1) more next
   sweep_goes_on theirs n item lanes more first next below is up so_far order kept adds = record {
     met = first_point_same _ _
-        (λ x. ap (λ b. (f x && placed_have slab_of (take n theirs) x) || b) (own x)
+        (λ x. ap (λ b. (f x && items_have slab_of (take n theirs) x) || b) (own x)
         ∙ one_more_placed slab_of f theirs n item x below is)
-        next (adds (λ x. f x && placed_have slab_of (take n theirs) x) so_far.met);
+        next (adds (λ x. f x && items_have slab_of (take n theirs) x) so_far.met);
     rest = λ x d inside later. let here = from_next x d inside later in kept x here ∙ still x here;
     order = order;
   } where

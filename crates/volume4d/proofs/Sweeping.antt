@@ -14,7 +14,7 @@ use Rattle.volume4d.specs.declared.slab.Slab.{Slab}
 use Rattle.volume4d.specs.Point.{Point}
 use Rattle.volume4d.specs.Slab.{slab_has}
 use Rattle.volume4d.specs.Meeting.{IsFirstPoint}
-use Rattle.volume4d.specs.Sweep.{placed_have, Ascend, IsLate, AreLate}
+use Rattle.volume4d.specs.Sweep.{items_have, Ascend, IsLate, AreLate}
 use Rattle.volume4d.proofs.FirstPoints.{first_point_same}
 use Rattle.volume4d.proofs.lemmas.Slab.{IsIn-from_has}
 
@@ -57,25 +57,25 @@ found_stays f g (Some p) first late = (
 -- one more of a list
 pub one_more_placed : {A : Type 0} (slab_of : A → Slab) (f : Point → Bool) (list : List A) (n : ℕ) (item : A)
     (x : Point) → n < length list → item ≡ get_or list n item
-    → ((f x && placed_have slab_of (take n list) x) || (f x && slab_has (slab_of item) x))
-    ≡ (f x && placed_have slab_of (take (n + 1) list) x)
+    → ((f x && items_have slab_of (take n list) x) || (f x && slab_has (slab_of item) x))
+    ≡ (f x && items_have slab_of (take (n + 1) list) x)
 one_more_placed slab_of f list n item x below is =
-    sym (and-or_distrib_left (f x) (placed_have slab_of (take n list) x) (slab_has (slab_of item) x))
+    sym (and-or_distrib_left (f x) (items_have slab_of (take n list) x) (slab_has (slab_of item) x))
     ∙ ap (λ b. f x && b) (sym (list_any_more (λ a. slab_has (slab_of a) x) list n item below
-    ∙ ap (λ a. placed_have slab_of (take n list) x || slab_has (slab_of a) x) (sym is)))
+    ∙ ap (λ a. items_have slab_of (take n list) x || slab_has (slab_of a) x) (sym is)))
 
 module _ {A : Type 0} (slab_of : A → Slab) where
   -- a list in two parts
   pub in_parts : (n : ℕ) (list : List A) (x : Point)
-      → placed_have slab_of list x
-      ≡ (placed_have slab_of (take n list) x || placed_have slab_of (drop n list) x)
+      → items_have slab_of list x
+      ≡ (items_have slab_of (take n list) x || items_have slab_of (drop n list) x)
   in_parts n list x =
-      ap (λ l. placed_have slab_of l x) (sym (take-append-drop n list))
+      ap (λ l. items_have slab_of l x) (sym (take-append-drop n list))
       ∙ list_any-append (λ a. slab_has (slab_of a) x) (take n list) (drop n list)
 
   -- all points of an ascending list from a place on are at or after the first leaf of the slab there
   pub later_begin : (list : List A) (n : ℕ) (item : A) (x : Point) → n < length list
-      → item ≡ get_or list n item → Ascend slab_of list → placed_have slab_of (drop n list) x ≡ true
+      → item ≡ get_or list n item → Ascend slab_of list → items_have slab_of (drop n list) x ≡ true
       → (slab_of item).first ≤ position_of x.leaf
   later_begin list n item x below is up has =
       let one = Any-from_list_any (λ a. slab_has (slab_of a) x) (drop n list) has in
@@ -95,9 +95,9 @@ module _ {A : Type 0} (slab_of : A → Slab) where
 -- one more of theirs, where all are compared
 pub one_more_of_theirs : {A : Type 0} (slab_of : A → Slab) (f : Point → Bool) (list : List A) (n : ℕ)
     (item : A) (o : Option Point) → n < length list → item ≡ get_or list n item
-    → IsFirstPoint (λ x. (f x && placed_have slab_of (take n list) x)
+    → IsFirstPoint (λ x. (f x && items_have slab_of (take n list) x)
     || (f x && slab_has (slab_of item) x)) o
-    → IsFirstPoint (λ x. f x && placed_have slab_of (take (n + 1) list) x) o
+    → IsFirstPoint (λ x. f x && items_have slab_of (take (n + 1) list) x) o
 one_more_of_theirs slab_of f list n item o below is =
     first_point_same _ _ (λ x. one_more_placed slab_of f list n item x below is) o
 

@@ -10,8 +10,8 @@ use Rattle.volume4d.specs.Slab.{slab_has}
 use Rattle.volume4d.specs.Meeting.{IsFirstPoint}
 
 -- one of those that stand where slabs stand has the point
-abbrev pub placed_have : {A : Type 0} → (A → Slab) → List A → Point → Bool
-placed_have slab_of list x = list_any (λ a. slab_has (slab_of a) x) list
+abbrev pub items_have : {A : Type 0} → (A → Slab) → List A → Point → Bool
+items_have slab_of list x = list_any (λ a. slab_has (slab_of a) x) list
 
 -- their first leaves do not fall along the list
 abbrev pub Ascend : {A : Type 0} → (A → Slab) → List A → Type 0

@@ -42,11 +42,10 @@ impl Area {
     pub fn try_new(volumes: Vec<Volume>) -> Option<Area>
         ensures { result ≡ (if is_area volumes.items then Some volumes.items else None) }
     {
-        if is_count(volumes.len()) {
-            Some(Area { volumes })
-        } else {
-            None
+        if volumes.is_empty() || volumes.len() > MAX_VOLUMES {
+            return None;
         }
+        Some(Area { volumes })
     }
 
     /// The volumes, in the order given to `try_new`.
@@ -69,7 +68,7 @@ impl Area {
             slabs_have slabs.items x ≡ area_has self.now x) }
         ensures filled { IfOk result (λ slabs. AreFilled slabs.items) }
     {
-        ascending(*self.volumes.allocator(), &self.volumes)
+        sorted_slabs(*self.volumes.allocator(), &self.volumes)
     }
 
     /// How many slabs the area has: one for each range of each of its volumes.
@@ -77,7 +76,12 @@ impl Area {
         ensures value { result ≡ area_spans self.now }
         ensures few { result ≤ max_volumes * max_cover }
     {
-        spans_in(&self.volumes)
+        let mut spans = 0;
+        let volumes: &[Volume] = &self.volumes;
+        for volume in volumes {
+            spans += volume.span_count();
+        }
+        spans
     }
 
     /// How many cells the area has: for each of its volumes those of its cell list, or of the canonical cover
@@ -86,7 +90,12 @@ impl Area {
         ensures value { result ≡ area_cells self.now }
         ensures few { result ≤ max_volumes * max_cover }
     {
-        cells_in(&self.volumes)
+        let mut cells = 0;
+        let volumes: &[Volume] = &self.volumes;
+        for volume in volumes {
+            cells += volume.cell_count();
+        }
+        cells
     }
 
     /// The smallest slab that has all points of the area.
@@ -123,11 +132,11 @@ impl Area {
 }
 
 // The slabs of volumes, ascending by their first leaves.
-fn ascending(alloc: Global, volumes: &[Volume]) -> Result<Vec<Slab>, AllocError>
+fn sorted_slabs(alloc: Global, volumes: &[Volume]) -> Result<Vec<Slab>, AllocError>
     ensures ranges { IfOk result (λ slabs. AreSortedSlabs volumes.now slabs.items) }
     ensures filled { 0 < length volumes.now → IfOk result (λ slabs. AreFilled slabs.items) }
 {
-    Ok(in_order(slabs_of(alloc, volumes)?))
+    Ok(sort_by_first(slabs_of(alloc, volumes)?))
 }
 
 // The slabs of volumes, one volume after the other.
@@ -144,7 +153,7 @@ fn slabs_of(alloc: Global, volumes: &[Volume]) -> Result<Vec<Slab>, AllocError>
 
 // The same slabs, ascending by their first leaves.
 #[tactic(auto, using(crate::proofs::Filled::filled_again))]
-fn in_order(mut slabs: Vec<Slab>) -> Vec<Slab>
+fn sort_by_first(mut slabs: Vec<Slab>) -> Vec<Slab>
     ensures same { IsPermutation slabs.items result.items }
     ensures order { IsNonDecreasingBy (λ s. s.first) result.items }
     ensures filled { AreFilled slabs.items → AreFilled result.items }
@@ -171,40 +180,4 @@ fn drop_ranges_of(volumes: &mut [Volume])
     for volume in volumes.iter_mut() {
         volume.drop_ranges();
     }
-}
-
-// Whether an area may have this many volumes.
-fn is_count(count: usize) -> bool
-    ensures { result ≡ within_volumes count }
-{
-    if count == 0 {
-        return false;
-    }
-    count <= MAX_VOLUMES
-}
-
-// How many slabs volumes have, of which there are as many as an area may have.
-fn spans_in(volumes: &[Volume]) -> u32
-    requires { length volumes.now ≤ max_volumes }
-    ensures value { result ≡ area_spans volumes.now }
-    ensures few { result ≤ max_volumes * max_cover }
-{
-    let mut spans = 0;
-    for volume in volumes {
-        spans += volume.span_count();
-    }
-    spans
-}
-
-// How many cells volumes have, of which there are as many as an area may have.
-fn cells_in(volumes: &[Volume]) -> u32
-    requires { length volumes.now ≤ max_volumes }
-    ensures value { result ≡ area_cells volumes.now }
-    ensures few { result ≤ max_volumes * max_cover }
-{
-    let mut cells = 0;
-    for volume in volumes {
-        cells += volume.cell_count();
-    }
-    cells
 }

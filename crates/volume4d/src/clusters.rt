@@ -28,20 +28,10 @@ fn cluster_len(slabs: &[Slab], gap: u64) -> usize
 {
     let mut reach = slabs[0].first;
     for (place, slab) in slabs.iter().enumerate() {
-        if is_far(reach, slab.first, gap) {
+        if reach < slab.first && slab.first - reach > gap {
             return place;
         }
         reach = reach.max(slab.last);
     }
     slabs.len()
-}
-
-// Whether a position lies after another, with a gap between them.
-fn is_far(reach: u64, first: u64, gap: u64) -> bool
-    ensures { IsTrue result → reach < first }
-{
-    if first <= reach {
-        return false;
-    }
-    first - reach > gap
 }

@@ -99,21 +99,8 @@ fn has_time(slab: &Slab, x: &Corner) -> bool
     ensures { result ≡ ((int_le slab.now.lower x.now.altitude && int_lt x.now.altitude slab.now.upper)
         && (int_le slab.now.start x.now.second && int_lt x.now.second slab.now.end)) }
 {
-    has_altitude(slab, x.altitude) && has_second(slab, x.second)
-}
-
-// Whether a slab has an altitude.
-fn has_altitude(slab: &Slab, altitude: i32) -> bool
-    ensures { result ≡ (int_le slab.now.lower altitude && int_lt altitude slab.now.upper) }
-{
-    slab.lower <= altitude && altitude < slab.upper
-}
-
-// Whether a slab has a second.
-fn has_second(slab: &Slab, second: i64) -> bool
-    ensures { result ≡ (int_le slab.now.start second && int_lt second slab.now.end) }
-{
-    slab.start <= second && second < slab.end
+    (slab.lower <= x.altitude && x.altitude < slab.upper)
+        && (slab.start <= x.second && x.second < slab.end)
 }
 
 /// The first of two points, either of which may be missing.

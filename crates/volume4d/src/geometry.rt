@@ -41,8 +41,8 @@ impl Slab {
     pub fn join(&self, other: &Slab) -> Slab
         ensures { IsJoin self.now other.now result }
     {
-        let (lower, upper) = altitudes_of_both(self, other);
-        let (start, end) = seconds_of_both(self, other);
+        let (lower, upper) = joined_altitudes(self, other);
+        let (start, end) = joined_seconds(self, other);
         Slab {
             first: self.first.min(other.first),
             last: self.last.max(other.last),
@@ -92,7 +92,7 @@ fn meet_on_ground(one: &Slab, other: &Slab) -> bool
 }
 
 // The lower and the upper bound of the altitudes of two slabs.
-fn altitudes_of_both(one: &Slab, other: &Slab) -> (i32, i32)
+fn joined_altitudes(one: &Slab, other: &Slab) -> (i32, i32)
     ensures lower { result.0 ≡ int_min one.now.lower other.now.lower }
     ensures upper { result.1 ≡ int_max one.now.upper other.now.upper }
 {
@@ -100,7 +100,7 @@ fn altitudes_of_both(one: &Slab, other: &Slab) -> (i32, i32)
 }
 
 // The start and the end of the seconds of two slabs.
-fn seconds_of_both(one: &Slab, other: &Slab) -> (i64, i64)
+fn joined_seconds(one: &Slab, other: &Slab) -> (i64, i64)
     ensures start { result.0 ≡ int_min one.now.start other.now.start }
     ensures end { result.1 ≡ int_max one.now.end other.now.end }
 {

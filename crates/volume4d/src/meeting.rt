@@ -142,18 +142,11 @@ fn raised(top: Option<u32>, held: &Held, x: &Corner) -> Option<u32>
     ensures { result
         ≡ greater top (level_where (slab_has held.now.slab x.now) held.now.priority) }
 {
-    if has(&held.slab, x) {
-        return Some(higher(top, held.priority));
+    if !has(&held.slab, x) {
+        return top;
     }
-    top
-}
-
-// The greater of a priority and one that may be missing.
-fn higher(top: Option<u32>, priority: u32) -> u32
-    ensures { Some result ≡ greater top (Some priority) }
-{
     match top {
-        Some(level) => level.max(priority),
-        None => priority,
+        Some(level) => Some(level.max(held.priority)),
+        None => Some(held.priority),
     }
 }

@@ -7,64 +7,64 @@ ghost use Rattle.volume4d.specs.declared.slab.Slab.{Slab};
 ghost use Rattle.volume4d.specs.Point.{Point};
 ghost use Rattle.volume4d.specs.Slab.{slab_has, slabs_have};
 ghost use Rattle.volume4d.specs.Meeting.{IsFirstPoint};
-ghost use Rattle.volume4d.specs.Sweep.{placed_have, Ascend, IsPassed, AreLate, AddsFirst};
+ghost use Rattle.volume4d.specs.Sweep.{items_have, Ascend, IsPassed, AreLate, AddsFirst};
 ghost use Rattle.volume4d.specs.Lanes.{is_alike, alike_have, KeepsFrom, IsReached, BeginsReached};
 ghost use Rattle.volume4d.specs.Lanes.{lanes_have, LanesAscend, AreOf, IsCovered};
 
 use crate::area::MAX_VOLUMES;
 use crate::corner::{Corner, earlier, least_corner};
 use crate::geometry::{meet_in_height, meet_in_time};
-use crate::placed::Placed;
+use crate::has_slab::HasSlab;
 use crate::slab::Slab;
 
-// All slabs of a volume have its window, so an area has at most so many.
+// An area has at most so many windows, since all slabs of a volume have the window of the volume.
 const MAX_LANES: usize = MAX_VOLUMES;
 
-// A window of altitudes and seconds, and what is left of slabs, of which those in the window are looked at.
+// A window of altitudes and seconds, and the rest of a list of slabs. Only slabs with this window matter.
 #[derive(Clone, Copy, Debug)]
 pub(crate) struct Lane<'a> {
     window: Slab,
     left: &'a [Slab],
 }
 
-/// The first point that one of the slabs shares with one of the others. The pairs of slabs compared
-/// are added to the count.
-pub(crate) fn first_shared<T: Placed>(
+/// The first point that a slab of `mine` shares with one of `theirs`. Adds the number of pairs of slabs that
+/// it compares to `pairs`.
+pub(crate) fn first_shared<T: HasSlab>(
     mine: &[Slab],
     theirs: &[T],
     pairs: &mut u128,
 ) -> Option<Corner>
-    ensures { IsFirstPoint (λ x. slabs_have mine.now x && placed_have T.slab_of theirs.now x) result }
+    ensures { IsFirstPoint (λ x. slabs_have mine.now x && items_have T.slab_of theirs.now x) result }
 {
     if theirs.is_empty() {
         return None;
     }
     match first_ascending(mine, theirs, pairs) {
         Some(first) => first,
-        None => first_of_all(mine, theirs, pairs),
+        None => first_of_all_pairs(mine, theirs, pairs),
     }
 }
 
-// The first shared point, if both lists ascend and there is room for a lane for each window.
-fn first_ascending<T: Placed>(
+// The first shared point by a sweep, or `None` if a list does not ascend or `mine` have more than 32 windows.
+fn first_ascending<T: HasSlab>(
     mine: &[Slab],
     theirs: &[T],
     pairs: &mut u128,
 ) -> Option<Option<Corner>>
     ensures { IfSome result (IsFirstPoint
-        (λ x. slabs_have mine.now x && placed_have T.slab_of theirs.now x)) }
+        (λ x. slabs_have mine.now x && items_have T.slab_of theirs.now x)) }
 {
-    if !ascend(mine) {
+    if !is_ascending(mine) {
         return None;
     }
-    if !ascend(theirs) {
+    if !is_ascending(theirs) {
         return None;
     }
     sweep(mine, theirs, pairs)
 }
 
-// Whether the first leaves do not fall along a list.
-fn ascend<T: Placed>(list: &[T]) -> bool
+// Whether no slab of a list begins before the slab ahead of it.
+fn is_ascending<T: HasSlab>(list: &[T]) -> bool
     ensures { IsTrue result → Ascend T.slab_of list.now }
 {
     let mut first = 0;
@@ -78,24 +78,24 @@ fn ascend<T: Placed>(list: &[T]) -> bool
     true
 }
 
-// The first shared point of two lists that ascend, or `None` if there is no room for a lane for each window.
-fn sweep<T: Placed>(mine: &[Slab], theirs: &[T], pairs: &mut u128) -> Option<Option<Corner>>
+// The first shared point of two ascending lists, or `None` if `mine` have more windows than there are lanes.
+fn sweep<T: HasSlab>(mine: &[Slab], theirs: &[T], pairs: &mut u128) -> Option<Option<Corner>>
     requires mine { Ascend (λ s. s) mine.now }
     requires theirs { Ascend T.slab_of theirs.now }
     ensures { IfSome result (IsFirstPoint
-        (λ x. slabs_have mine.now x && placed_have T.slab_of theirs.now x)) }
+        (λ x. slabs_have mine.now x && items_have T.slab_of theirs.now x)) }
 {
     let mut lanes = [Lane {
         window: Slab::empty(),
         left: mine,
     }; MAX_LANES];
-    let count = lanes_of(mine, &mut lanes)?;
+    let count = fill_lanes(mine, &mut lanes)?;
     Some(first_along(&mut lanes[..count], theirs, pairs))
 }
 
-// Makes the first ones of some lanes those of the windows that `mine` have, and gives their number, or `None`
+// Makes a lane for each window of `mine`, from the first lane on. Returns the number of windows, or `None`
 // if there are more windows than lanes.
-fn lanes_of<'a>(mine: &'a [Slab], lanes: &mut [Lane<'a>]) -> Option<usize>
+fn fill_lanes<'a>(mine: &'a [Slab], lanes: &mut [Lane<'a>]) -> Option<usize>
     requires { AreOf mine.now lanes.old }
     ensures within { IfSome result (λ count. count ≤ length lanes.new) }
     ensures covered { IfSome result (λ count. All (IsCovered (take count lanes.new)) mine.now) }
@@ -103,14 +103,14 @@ fn lanes_of<'a>(mine: &'a [Slab], lanes: &mut [Lane<'a>]) -> Option<usize>
 {
     let mut count = 0;
     for slab in mine {
-        count = with_lane(mine, lanes, count, slab)?;
+        count = add_lane(mine, lanes, count, slab)?;
     }
     Some(count)
 }
 
-// Makes a lane of a slab's window behind the first ones, if none of these has it, and gives their number, or
-// `None` if there is none left.
-fn with_lane<'a>(
+// Makes a lane for the window of `slab` behind the first `count` lanes, if none of these has that window.
+// Returns the new count, or `None` if no lane is free.
+fn add_lane<'a>(
     mine: &'a [Slab],
     lanes: &mut [Lane<'a>],
     count: usize,
@@ -124,7 +124,7 @@ fn with_lane<'a>(
     ensures covered { IfSome result (λ more. IsCovered (take more lanes.new) slab.now) }
     ensures of { AreOf mine.now lanes.new }
 {
-    if is_among(lanes.split_at(count).0, slab) {
+    if has_lane(lanes.split_at(count).0, slab) {
         return Some(count);
     }
     if count >= lanes.len() {
@@ -137,8 +137,8 @@ fn with_lane<'a>(
     Some(count + 1)
 }
 
-// Whether one of some lanes is in a slab's window.
-fn is_among(lanes: &[Lane], slab: &Slab) -> bool
+// Whether one of the lanes has the window of `slab`.
+fn has_lane(lanes: &[Lane], slab: &Slab) -> bool
     ensures { result ≡ list_any (λ l. is_alike l.window slab.now) lanes.now }
 {
     for lane in lanes {
@@ -159,12 +159,12 @@ fn are_alike(window: &Slab, slab: &Slab) -> bool
         && window.end == slab.end
 }
 
-// The first point that lanes share with others, which ascend. What is left in the lanes has each point of
-// theirs with the first leaf of the slab of `theirs` that is looked at, or with a later one.
-fn first_along<T: Placed>(lanes: &mut [Lane], theirs: &[T], pairs: &mut u128) -> Option<Corner>
+// The first point that slabs of the lanes share with `theirs`, which ascend. Each lane drops slabs that end
+// before the current slab of `theirs`: later ones can't meet them.
+fn first_along<T: HasSlab>(lanes: &mut [Lane], theirs: &[T], pairs: &mut u128) -> Option<Corner>
     requires lanes { LanesAscend lanes.old }
     requires theirs { Ascend T.slab_of theirs.now }
-    ensures { IsFirstPoint (λ x. lanes_have lanes.old x && placed_have T.slab_of theirs.now x) result }
+    ensures { IsFirstPoint (λ x. lanes_have lanes.old x && items_have T.slab_of theirs.now x) result }
 {
     let mut first = None;
     for item in theirs {
@@ -177,8 +177,8 @@ fn first_along<T: Placed>(lanes: &mut [Lane], theirs: &[T], pairs: &mut u128) ->
     first
 }
 
-// The first of a point that was found and of those that lanes share with a slab, up to whose first leaf the
-// lanes are moved.
+// The first point of `found` and those that the lanes share with `other`. The lanes drop slabs that end
+// before `other`.
 fn first_across(
     lanes: &mut [Lane],
     other: &Slab,
@@ -198,8 +198,8 @@ fn first_across(
     first
 }
 
-// The first of a point that was found and of those that a lane shares with a slab, up to whose first leaf it
-// is moved if they have altitudes and seconds in common.
+// The first point of `found` and those that a lane shares with `other`. If their windows meet, the lane drops
+// slabs that end before `other`.
 fn first_in_lane(
     lane: &mut Lane,
     other: &Slab,
@@ -213,15 +213,15 @@ fn first_in_lane(
     ensures first { AddsFirst (λ x. alike_have lane.old.window lane.old.left.now x && slab_has other.now x)
         found result }
 {
-    if is_beside(&lane.window, other) {
+    if is_apart(&lane.window, other) {
         return found;
     }
-    lane.left = left_at(lane.left, &lane.window, other.first);
-    earlier(found, first_left(lane.left, &lane.window, other, pairs))
+    lane.left = without_skipped(lane.left, &lane.window, other.first);
+    earlier(found, first_of_head(lane.left, &lane.window, other, pairs))
 }
 
 // Whether two slabs have no second or no altitude in common.
-fn is_beside(window: &Slab, other: &Slab) -> bool
+fn is_apart(window: &Slab, other: &Slab) -> bool
     ensures { IsTrue result → (slabs : List Slab) (x : Point)
         → (alike_have window.now slabs x && slab_has other.now x) ≡ false }
 {
@@ -231,8 +231,8 @@ fn is_beside(window: &Slab, other: &Slab) -> bool
     !meet_in_height(window, other)
 }
 
-// The slabs but for the first ones that are in another window or over at a position.
-fn left_at<'a>(slabs: &'a [Slab], window: &Slab, position: u64) -> &'a [Slab]
+// The slabs without those at the front that have another window or end before `position`.
+fn without_skipped<'a>(slabs: &'a [Slab], window: &Slab, position: u64) -> &'a [Slab]
     requires { Ascend (λ s. s) slabs.now }
     ensures order { Ascend (λ s. s) result.now }
     ensures left { KeepsFrom window.now position slabs.now result.now }
@@ -240,7 +240,7 @@ fn left_at<'a>(slabs: &'a [Slab], window: &Slab, position: u64) -> &'a [Slab]
 {
     let mut left = slabs;
     while let Some((slab, others)) = left.split_first() {
-        if !is_behind(window, slab, position) {
+        if !is_skipped(window, slab, position) {
             return left;
         }
         left = others;
@@ -248,32 +248,32 @@ fn left_at<'a>(slabs: &'a [Slab], window: &Slab, position: u64) -> &'a [Slab]
     left
 }
 
-// Whether a slab is in another window or over at a position.
-fn is_behind(window: &Slab, slab: &Slab, position: u64) -> bool
+// Whether a slab has another window or ends before `position`.
+fn is_skipped(window: &Slab, slab: &Slab, position: u64) -> bool
     ensures passed { IsTrue result → (x : Point) → position ≤ position_of x.leaf
         → (is_alike window.now slab.now && slab_has slab.now x) ≡ false }
     ensures reached { result ≡ false → IsReached window.now position slab.now }
 {
-    if is_over(slab, position) {
+    if ends_before(slab, position) {
         return true;
     }
     !are_alike(window, slab)
 }
 
-// The first point that slabs in a window share with another: the first of them has it, if one does.
-fn first_left(left: &[Slab], window: &Slab, other: &Slab, pairs: &mut u128) -> Option<Corner>
+// The first point that the slabs with this window share with `other`. If one shares a point, the first does.
+fn first_of_head(left: &[Slab], window: &Slab, other: &Slab, pairs: &mut u128) -> Option<Corner>
     requires order { Ascend (λ s. s) left.now }
     requires begins { BeginsReached window.now other.now.first left.now }
     ensures { IsFirstPoint (λ x. alike_have window.now left.now x && slab_has other.now x) result }
 {
     match left.split_first() {
-        Some((slab, _)) => compare_begun(slab, other, pairs),
+        Some((slab, _)) => compare_if_begun(slab, other, pairs),
         None => None,
     }
 }
 
-// The first point that two slabs share, which are not compared if the first begins behind the other.
-fn compare_begun(slab: &Slab, other: &Slab, pairs: &mut u128) -> Option<Corner>
+// The first point that two slabs share. They are compared only if `slab` doesn't begin behind `other`.
+fn compare_if_begun(slab: &Slab, other: &Slab, pairs: &mut u128) -> Option<Corner>
     ensures { IsFirstPoint (λ x. slab_has slab.now x && slab_has other.now x) result }
 {
     if slab.first > other.last {
@@ -282,7 +282,7 @@ fn compare_begun(slab: &Slab, other: &Slab, pairs: &mut u128) -> Option<Corner>
     compare(slab, other, pairs)
 }
 
-// Whether a position is after that of the point found.
+// Whether `position` is after the point found, if there is one.
 #[tactic(auto, using(crate::proofs::Sweeping::late_after))]
 fn is_after(position: u64, first: &Option<Corner>) -> bool
     ensures { IsTrue result → AreLate position first.now }
@@ -293,7 +293,7 @@ fn is_after(position: u64, first: &Option<Corner>) -> bool
     }
 }
 
-// Whether a position is after that of a point.
+// Whether `position` is after that of a point.
 #[tactic(auto, using(s2_hilbert::proofs::lemmas::Curve::position_undone))]
 fn is_beyond(position: u64, corner: &Corner) -> bool
     ensures { result ≡ nat_lt (position_of corner.now.leaf) position }
@@ -301,8 +301,8 @@ fn is_beyond(position: u64, corner: &Corner) -> bool
     corner.pos < position
 }
 
-// Whether a slab has no point at the position or after it.
-fn is_over(slab: &Slab, position: u64) -> bool
+// Whether a slab has no point at `position` or after it.
+fn ends_before(slab: &Slab, position: u64) -> bool
     ensures over { IsTrue result → IsPassed position slab.now }
     ensures some { result ≡ false → slab.now.first ≤ slab.now.last }
     ensures reaches { result ≡ false → position ≤ slab.now.last }
@@ -313,19 +313,19 @@ fn is_over(slab: &Slab, position: u64) -> bool
     slab.last < position
 }
 
-// The first shared point of two lists in any order, each pair compared.
-fn first_of_all<T: Placed>(mine: &[Slab], theirs: &[T], pairs: &mut u128) -> Option<Corner>
-    ensures { IsFirstPoint (λ x. slabs_have mine.now x && placed_have T.slab_of theirs.now x) result }
+// The first shared point of two lists in any order. Compares each pair.
+fn first_of_all_pairs<T: HasSlab>(mine: &[Slab], theirs: &[T], pairs: &mut u128) -> Option<Corner>
+    ensures { IsFirstPoint (λ x. slabs_have mine.now x && items_have T.slab_of theirs.now x) result }
 {
     let mut first = None;
     for item in theirs {
-        first = earlier(first, first_in(mine, item.slab(), pairs));
+        first = earlier(first, first_shared_with(mine, item.slab(), pairs));
     }
     first
 }
 
-// The first point that one of the slabs shares with another, each compared.
-fn first_in(mine: &[Slab], other: &Slab, pairs: &mut u128) -> Option<Corner>
+// The first point that a slab of `mine` shares with `other`. Compares each pair.
+fn first_shared_with(mine: &[Slab], other: &Slab, pairs: &mut u128) -> Option<Corner>
     ensures { IsFirstPoint (λ x. slabs_have mine.now x && slab_has other.now x) result }
 {
     let mut first = None;
@@ -335,7 +335,7 @@ fn first_in(mine: &[Slab], other: &Slab, pairs: &mut u128) -> Option<Corner>
     first
 }
 
-// The first point that two slabs share; one more pair is compared.
+// The first point that two slabs share. Adds one to `pairs`.
 fn compare(slab: &Slab, other: &Slab, pairs: &mut u128) -> Option<Corner>
     ensures { IsFirstPoint (λ x. slab_has slab.now x && slab_has other.now x) result }
 {

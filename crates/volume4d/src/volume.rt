@@ -26,13 +26,13 @@ use std::alloc::{AllocError, Global};
 use std::marker::Model;
 
 /// A footprint with altitudes and times (`Volume4D` of ASTM F3548-21), always within the desk's
-/// limits. It keeps the ranges of its footprint's leaves, so that they are computed once, until it is
-/// reported to drop them.
+/// limits. It keeps the ranges of its footprint's leaves, so that they are computed once, until
+/// `drop_ranges`.
 #[derive(Debug, Drop)]
 pub struct Volume {
     footprint: Footprint,
     window: Window,
-    // how many ranges the footprint's leaves are, and these, if they are kept
+    // the number of ranges of the footprint's leaves, and the ranges themselves, if they are kept
     count: u32,
     ranges: Option<Ranges>,
     // how many cells the footprint has
@@ -126,7 +126,7 @@ impl Volume {
     {
         match &self.ranges {
             Some(ranges) => slabs_over(self.alloc, ranges, self.window),
-            None => slabs_over(self.alloc, &self.ranges_anew()?, self.window),
+            None => slabs_over(self.alloc, &self.recompute_ranges()?, self.window),
         }
     }
 
@@ -158,7 +158,7 @@ impl Volume {
     {
         match &self.ranges {
             Some(ranges) => Cover::of_ranges(self.alloc, ranges),
-            None => Cover::of_ranges(self.alloc, &self.ranges_anew()?),
+            None => Cover::of_ranges(self.alloc, &self.recompute_ranges()?),
         }
     }
 
@@ -185,7 +185,7 @@ impl Volume {
     }
 
     // The ranges of the footprint's leaves, computed again.
-    fn ranges_anew(&self) -> Result<Ranges, AllocError>
+    fn recompute_ranges(&self) -> Result<Ranges, AllocError>
         ensures { IfOk result (HasRanges self.now.footprint) }
     {
         match self.footprint.ranges(self.alloc) {

@@ -9,7 +9,7 @@ use Rattle.volume4d.proofs.sweep.first_along.Goals as goal
 
 pub returns-then-is_after : goal.returns-then-is_after
 returns-then-is_after g c =
-    sweep_stops g.T.Placed.slab_of (lanes_have c.args.lanes.now) c.args.theirs.now c.loop-item.item-index
+    sweep_stops g.T.HasSlab.slab_of (lanes_have c.args.lanes.now) c.args.theirs.now c.loop-item.item-index
     c.item-item.result c.loop-item.lanes c.loop-item.first c.loop-item-test.true c.item-item.is
     c.requires.theirs c.loop-item.invariant
     (λ x later. c.if-is_after.ensures refl x
@@ -19,7 +19,7 @@ pub loop-item-preserved : goal.loop-item-preserved
 loop-item-preserved g c =
     let lanes = c.loop-item.lanes in
     let more = c.first_across-first.new.lanes in
-    sweep_goes_on g.T.Placed.slab_of (lanes_have c.args.lanes.now) c.args.theirs.now c.loop-item.item-index
+    sweep_goes_on g.T.HasSlab.slab_of (lanes_have c.args.lanes.now) c.args.theirs.now c.loop-item.item-index
     c.item-item.result lanes more c.loop-item.first c.first_across-first.result c.loop-item-test.true
     c.item-item.is c.requires.theirs c.loop-item.invariant c.first_across-first.ensures.order
     (subst (λ s. (x : Point) → s.first ≤ position_of x.leaf → lanes_have more x ≡ lanes_have lanes x)

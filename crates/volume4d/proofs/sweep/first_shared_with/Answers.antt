@@ -1,7 +1,7 @@
 use Rattle.std.proofs.Common.{◌&&◌, take}
 use Rattle.volume4d.specs.Slab.{slab_has, slabs_have}
 use Rattle.volume4d.proofs.FirstPoints.{one_more_of_mine}
-use Rattle.volume4d.proofs.sweep.first_in.Goals as goal
+use Rattle.volume4d.proofs.sweep.first_shared_with.Goals as goal
 
 pub loop-slab-preserved : goal.loop-slab-preserved
 loop-slab-preserved c =

@@ -1,6 +1,6 @@
 use Rattle.std.proofs.Common.{rules}
 use Rattle.std.proofs.lemmas.List.Sorted.{IsNonDecreasingBy-from_sort_by_key}
-use Rattle.volume4d.proofs.area.in_order.Goals as goal
+use Rattle.volume4d.proofs.area.sort_by_first.Goals as goal
 
 pub returns-clause-order : goal.returns-clause-order
 returns-clause-order c =

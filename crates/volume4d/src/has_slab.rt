@@ -1,22 +1,22 @@
-//! What stands where a slab stands.
+//! The trait of slabs and of what has a slab, so that one sweep serves both.
 
 ghost use Rattle.std.specs.Prelude.{◌≡◌};
 
 use crate::slab::{Held, Slab};
 
-/// What has the points of a slab.
-pub(crate) trait Placed {
+/// A slab, or a slab with a priority.
+pub(crate) trait HasSlab {
     ghost use Rattle.volume4d.specs.declared.slab.Slab.{Slab};
 
-    /// The slab that has the same points.
+    /// The slab of a value.
     ghost slab_of: { Self → Slab };
 
-    /// The slab that has the same points.
+    /// The slab.
     fn slab(&self) -> &Slab
         ensures { result.now ≡ slab_of self.now };
 }
 
-impl Placed for Slab {
+impl HasSlab for Slab {
     ghost slab_of = { λ s. s };
 
     fn slab(&self) -> &Slab {
@@ -24,7 +24,7 @@ impl Placed for Slab {
     }
 }
 
-impl Placed for Held {
+impl HasSlab for Held {
     ghost slab_of = { λ h. h.slab };
 
     fn slab(&self) -> &Slab {

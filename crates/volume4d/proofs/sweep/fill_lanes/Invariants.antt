@@ -1,7 +1,7 @@
 use Rattle.std.proofs.Common.{◌≤◌, length, take}
 use Rattle.std.specs.Prelude.{All}
 use Rattle.volume4d.specs.Lanes.{AreOf, IsCovered}
-use Rattle.volume4d.proofs.sweep.lanes_of.Given as goal
+use Rattle.volume4d.proofs.sweep.fill_lanes.Given as goal
 
 -- each slab so far has a lane
 abbrev pub invariant-loop-slab : goal.invariant-loop-slab

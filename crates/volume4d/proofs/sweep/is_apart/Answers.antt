@@ -1,6 +1,6 @@
 use Rattle.std.proofs.Common.{◌∙◌, sym}
 use Rattle.volume4d.proofs.LaneLemmas.{beside_in_height, beside_in_time, not_true}
-use Rattle.volume4d.proofs.sweep.is_beside.Goals as goal
+use Rattle.volume4d.proofs.sweep.is_apart.Goals as goal
 
 pub returns-then-not-meet_in_time : goal.returns-then-not-meet_in_time
 returns-then-not-meet_in_time c = λ beside slabs x.
