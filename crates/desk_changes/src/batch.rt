@@ -71,7 +71,7 @@ pub fn remove_plans<S: Alter>(
     ensures remembered { Remembers S.Store tx.old.conn.now tx.new.conn.now }
 {
     // Refused on a connection that is shut, also if there are no ids.
-    let _statement = tx.prepare(RowChange::RemovePlan { operator, id: "" }.text())?;
+    tx.prepare(RowChange::RemovePlan { operator, id: "" }.text())?;
     'ids: for id in ids {
         remove_one(tx, operator, id)?;
     }

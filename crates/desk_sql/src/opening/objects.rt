@@ -240,16 +240,17 @@ static PACKED: [DeskObject; 8] = [
 pub(crate) fn objects(made: TablesPresent) -> &'static [DeskObject]
     ensures { schema_from result.now ≡ schema_of made }
 {
-    match made {
-        TablesPresent::Nothing => &[],
-        TablesPresent::Operators => &OWN[..1],
-        TablesPresent::Plans => &OWN[..2],
-        TablesPresent::OldVolumes => &OWN[..3],
-        TablesPresent::OldSpans => &OWN[..4],
-        TablesPresent::OldIndex => &OWN[..5],
-        TablesPresent::Volumes => &OWN[..6],
-        TablesPresent::Spans => &OWN[..7],
-        TablesPresent::All => &OWN,
-        TablesPresent::Packed => &PACKED,
-    }
+    let count = match made {
+        TablesPresent::Nothing => 0,
+        TablesPresent::Operators => 1,
+        TablesPresent::Plans => 2,
+        TablesPresent::OldVolumes => 3,
+        TablesPresent::OldSpans => 4,
+        TablesPresent::OldIndex => 5,
+        TablesPresent::Volumes => 6,
+        TablesPresent::Spans => 7,
+        TablesPresent::All | TablesPresent::Packed => 8,
+    };
+    let order = if made.is_packed() { &PACKED } else { &OWN };
+    order.split_at(count).0
 }

@@ -13,11 +13,11 @@ use Rattle.desk_changes.proofs.ClearLemmas.{none_removed, one_removed}
 use Rattle.desk_sql.proofs.lemmas.Leaving.{remembers_then}
 use Rattle.desk_changes.proofs.batch.remove_plans.Goals as goal
 
-pub returns-in_err-_statement-clause-undone : goal.returns-in_err-_statement-clause-undone
-returns-in_err-_statement-clause-undone g c clean =
+pub returns-in_err-prepare-clause-undone : goal.returns-in_err-prepare-clause-undone
+returns-in_err-prepare-clause-undone g c clean =
     let it : KeepsCommit (state g.S.Store c.args.tx.now.conn.now)
     (state g.S.Store c.prepare.new.self.conn.now) =
-    keeps_unprepared _ _ _ [] _ (c.in_err-_statement.ensures.err clean []) in
+    keeps_unprepared _ _ _ [] _ (c.in_err-prepare.ensures.err clean []) in
     search (rules, it)
 
 pub ids-init : goal.ids-init
@@ -26,7 +26,7 @@ ids-init g c = (
   begins_prepared g.S.Store c.args.tx.now.conn.now c.prepare.new.self.conn.now
       (RemovesPlans c.args.operator.now (map string_bytes (take 0 c.args.ids.now)))
       (none_removed c.args.operator.now) c.requires.desk c.requires.sound c.requires.begun
-      (λ clean. (c.in_ok-_statement.ensures.ok clean).1) c.prepare.ensures.survives,
+      (λ clean. (c.in_ok-prepare.ensures.ok clean).1) c.prepare.ensures.survives,
 )
 
 pub ids-preserved : goal.ids-preserved
@@ -46,14 +46,14 @@ ids-preserved g c =
           c.in_ok-remove_one.ensures.changed.done,
     )
 
-pub returns-in_err-_statement-clause-cause : goal.returns-in_err-_statement-clause-cause
-returns-in_err-_statement-clause-cause g c clean live =
+pub returns-in_err-prepare-clause-cause : goal.returns-in_err-prepare-clause-cause
+returns-in_err-prepare-clause-cause g c clean live =
     let it : IsRefusal g.S.Store c.args.tx.now.conn.now c.prepare.new.self.conn.now
-    c.in_err-_statement.field-0.0 =
+    c.in_err-prepare.field-0.0 =
     refused_unprepared g.S.Store c.args.tx.now.conn.now c.prepare.new.self.conn.now
     c.text.result.now _ _ c.text.ensures.sure
     c.requires.desk (omega (arith, c.prepare.ensures.survives.clean, clean)) live _
-    (c.in_err-_statement.ensures.err clean (key_row c.args.operator.now [])) in
+    (c.in_err-prepare.ensures.err clean (key_row c.args.operator.now [])) in
     search (rules, it)
 
 pub returns-in_err-remove_one-clause-cause : goal.returns-in_err-remove_one-clause-cause
