@@ -1,7 +1,7 @@
 use Rattle.std.proofs.Common.{arith}
 use Rattle.s2_cover.proofs.Sights.{after_all, within_all, across_low, across_high}
-use Rattle.s2_cover.proofs.sight.along.Goals as goal
-use Rattle.s2_cover.proofs.sight.along.Goals.{else-least-low-via-then-least-low+else-high-greatest, else-least-low-via-else-least-low}
+use Rattle.s2_cover.proofs.sight.compare_range.Goals as goal
+use Rattle.s2_cover.proofs.sight.compare_range.Goals.{else-least-low-via-then-least-low+else-high-greatest, else-least-low-via-else-least-low}
 
 pub returns-then-greatest-low-clause-saw : goal.returns-then-greatest-low-clause-saw
 returns-then-greatest-low-clause-saw c =
