@@ -2,8 +2,8 @@ use Rattle.std.proofs.Common.{◌∙◌}
 use Rattle.volume4d.specs.Slab.{top_held}
 use Rattle.desk_store.proofs.PlanLemmas.{overlaps_at}
 use Rattle.desk_store.proofs.RivalLemmas.{slab_adds, slab_outside}
-use Rattle.desk_store.proofs.plan.push_helds.Goals as goal
-use Rattle.desk_store.proofs.plan.push_helds.Goals.{then-overlaps_one+in_ok-push, else-overlaps_one}
+use Rattle.desk_store.proofs.plan.push_overlapping.Goals as goal
+use Rattle.desk_store.proofs.plan.push_overlapping.Goals.{then-overlaps_one+in_ok-push, else-overlaps_one}
 
 pub loop-slab-preserved : goal.loop-slab-preserved
 loop-slab-preserved c = λ x inside.

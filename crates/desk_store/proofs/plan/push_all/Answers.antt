@@ -1,6 +1,6 @@
 use Rattle.volume4d.specs.Slab.{top_held}
 use Rattle.desk_store.proofs.RivalLemmas.{slab_adds}
-use Rattle.desk_store.proofs.plan.push_each.Goals as goal
+use Rattle.desk_store.proofs.plan.push_all.Goals as goal
 
 pub loop-slab-preserved : goal.loop-slab-preserved
 loop-slab-preserved c = λ x.

@@ -1,7 +1,7 @@
 use Rattle.std.proofs.Common.{take}
 use Rattle.std.specs.List.{AllByRecursion}
 use Rattle.s2_cellid.specs.Cell.{IsCellId}
-use Rattle.desk_store.proofs.limits.cells_within.Given as goal
+use Rattle.desk_store.proofs.limits.cells_are_valid.Given as goal
 
 -- the cells so far
 abbrev pub invariant-loop-cell : goal.invariant-loop-cell
