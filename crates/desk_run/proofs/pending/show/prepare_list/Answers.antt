@@ -1,6 +1,6 @@
 use Rattle.std.proofs.Common.{refl}
 use Rattle.desk_run.proofs.CallLemmas.{list_ready}
-use Rattle.desk_run.proofs.pending.show.ready_list.Goals as goal
+use Rattle.desk_run.proofs.pending.show.prepare_list.Goals as goal
 
 pub returns-clause-value : goal.returns-clause-value
 returns-clause-value g c = λ honest.

@@ -2,7 +2,7 @@ use Rattle.std.proofs.Common.{◌∙◌, ap}
 use Rattle.volume4d.specs.Slab.{top_held}
 use Rattle.volume4d.proofs.lemmas.Level.{top_held-nil}
 use Rattle.desk_run.proofs.ListingLemmas.{in_the_way_at}
-use Rattle.desk_run.proofs.pending.listing.in_the_way.Goals as goal
+use Rattle.desk_run.proofs.pending.listing.blocking_slabs.Goals as goal
 
 pub returns : goal.returns
 returns c = λ levels here x has.

@@ -2,7 +2,7 @@ use Rattle.std.proofs.Common.{w64}
 use Rattle.std.proofs.lemmas.Int.{to_z-of_z}
 use Rattle.desk_store.proofs.lemmas.Fault.{was_honest}
 use Rattle.desk_run.proofs.CallLemmas.{put_ready}
-use Rattle.desk_run.proofs.pending.put.ready_put.Goals as goal
+use Rattle.desk_run.proofs.pending.put.prepare_put.Goals as goal
 
 pub returns-clause-value : goal.returns-clause-value
 returns-clause-value g c = λ honest.

@@ -1,12 +1,12 @@
 use Rattle.std.proofs.Common.{◌∙◌, ap, sym}
 use Rattle.desk_run.proofs.ClearLemmas.{id_added, id_passed}
-use Rattle.desk_run.proofs.pending.clear.ids_within.Goals.{then-branch+in_ok-push, else-branch}
-use Rattle.desk_run.proofs.pending.clear.ids_within.Goals as goal
+use Rattle.desk_run.proofs.pending.clear.ids_sharing_point.Goals.{then-branch+in_ok-push, else-branch}
+use Rattle.desk_run.proofs.pending.clear.ids_sharing_point.Goals as goal
 
 pub loop-row-preserved : goal.loop-row-preserved
 loop-row-preserved c = λ extent slabs.
     let row = c.row-item.result in
-    let found = c.in_ok-is_within.ensures extent slabs in
+    let found = c.in_ok-shares_point.ensures extent slabs in
     let before = c.loop-row.invariant extent slabs in
     let rows = c.args.rows.now in
     let n = c.loop-row.row-index in

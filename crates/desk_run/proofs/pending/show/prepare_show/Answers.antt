@@ -1,6 +1,6 @@
 use Rattle.desk_store.proofs.lemmas.Fault.{was_honest}
 use Rattle.desk_run.proofs.CallLemmas.{show_ready}
-use Rattle.desk_run.proofs.pending.show.ready_show.Goals as goal
+use Rattle.desk_run.proofs.pending.show.prepare_show.Goals as goal
 
 pub returns-clause-value : goal.returns-clause-value
 returns-clause-value g c = λ honest.

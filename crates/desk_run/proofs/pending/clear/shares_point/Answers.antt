@@ -1,6 +1,6 @@
 use Rattle.std.proofs.Common.{◌∙◌, ◌∷◌, [], ap}
 use Rattle.volume4d.specs.Slab.{slabs_have}
-use Rattle.desk_run.proofs.pending.clear.is_within.Goals as goal
+use Rattle.desk_run.proofs.pending.clear.shares_point.Goals as goal
 
 pub returns : goal.returns
 returns c = λ extent slabs.

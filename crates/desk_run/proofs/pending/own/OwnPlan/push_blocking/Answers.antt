@@ -3,12 +3,12 @@ use Rattle.std.proofs.lemmas.Result.{on_ok_weaker}
 use Rattle.volume4d.specs.Level.{greater, level_where}
 use Rattle.volume4d.specs.Slab.{slabs_have, top_held}
 use Rattle.desk_run.proofs.ListingLemmas.{apart_plans, counted, uncounted, unheld}
-use Rattle.desk_run.proofs.pending.own.OwnPlan.push_onto.Goals as goal
+use Rattle.desk_run.proofs.pending.own.OwnPlan.push_blocking.Goals as goal
 
-pub returns-then-not-counts : goal.returns-then-not-counts
-returns-then-not-counts c =
+pub returns-then-not-may_block : goal.returns-then-not-may_block
+returns-then-not-may_block c =
     rw (← c.self.view_is, ← c.mine.view_is) (λ x has.
-    uncounted c.args.least c.mine.inside.row.id c.self.inside.row x _ (sym c.if-not-counts.ensures))
+    uncounted c.args.least c.mine.inside.row.id c.self.inside.row x _ (sym c.if-not-may_block.ensures))
 
 pub returns-then-not-overlaps : goal.returns-then-not-overlaps
 returns-then-not-overlaps c =
@@ -27,5 +27,5 @@ returns c =
     ∙ ap (greater (top_held c.args.theirs.now.items x))
     (ap (λ b. level_where b row.priority)
     (ap (λ ss. slabs_have ss x) c.deref-3.ensures.value ∙ c.self.invariant.points x)
-    ∙ counted c.args.least c.mine.inside.row.id row x (sym c.if-not-counts.ensures)))
+    ∙ counted c.args.least c.mine.inside.row.id row x (sym c.if-not-may_block.ensures)))
     c.push_slabs.ensures)

@@ -1,6 +1,6 @@
 use Rattle.desk_store.proofs.lemmas.Fault.{was_honest}
 use Rattle.desk_run.proofs.CallLemmas.{delete_ready}
-use Rattle.desk_run.proofs.pending.delete.ready_delete.Goals as goal
+use Rattle.desk_run.proofs.pending.delete.prepare_delete.Goals as goal
 
 pub returns-clause-value : goal.returns-clause-value
 returns-clause-value g c = λ honest. delete_ready (g.S.PlanStore.content c.args.store.now) c.args.operator.now

@@ -1,7 +1,7 @@
 use Rattle.std.proofs.Common.{subst}
 use Rattle.volume4d.specs.Sweep.{Ascend}
 use Rattle.desk_run.proofs.ListingLemmas.{over, tail_ascends}
-use Rattle.desk_run.proofs.pending.near.after.Goals as goal
+use Rattle.desk_run.proofs.pending.near.skip_before.Goals as goal
 
 pub loop-first-preserved : goal.loop-first-preserved
 loop-first-preserved c =
