@@ -72,7 +72,7 @@ impl Widened {
     /// The squares of the rectangle's level that it touches.
     pub(crate) fn of_rect(rect: &Rect) -> Widened
         ensures value { result ≡ widened rect.now }
-        ensures is { IsWide result }
+        ensures valid { IsWide result }
         ensures rect { IsRect rect.now }
     {
         let side = side_of(rect.level());

@@ -87,7 +87,7 @@ impl Ranges {
 
 // The positions of a cell's leaves, from its first leaf to its last.
 fn span_of(cell: &CellId) -> Span
-    ensures is { IsSpan result }
+    ensures valid { IsSpan result }
     ensures first { result.first ≡ first_leaf cell.now }
     ensures leaves { (p : ℕ) → span_has result p ≡ cell_has cell.now p }
 {

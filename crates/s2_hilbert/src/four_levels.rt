@@ -40,7 +40,7 @@ pub fn place_on_face(turn: u8, i: u32, j: u32) -> u64
 pub fn point_on_face(turn: u8, along: u64) -> (u32, u32)
     requires turn { turn < 4 }
     requires along { along < curve.leaf_count 0 }
-    ensures undone { curve.place grid.leaf_level turn result.0 result.1 ≡ along }
+    ensures inverse { curve.place grid.leaf_level turn result.0 result.1 ≡ along }
     ensures i_below { result.0 < grid.side_of 0 }
     ensures j_below { result.1 < grid.side_of 0 }
 {

@@ -3,7 +3,7 @@ use Rattle.std.specs.Option.{option_and_then}
 use Rattle.operator_index.specs.declared.account.OperatorEntry.{OperatorEntry}
 use Rattle.operator_index.specs.Roll.{account_in, plans_or_none}
 use Rattle.operator_index.proofs.lemmas.Roll.{absent, written_same}
-use Rattle.operator_index.proofs.roll.open.Goals as goal
+use Rattle.operator_index.proofs.roll.ensure_account.Goals as goal
 
 pub returns-clause-kept : goal.returns-clause-kept
 returns-clause-kept c = λ ls ps h.
