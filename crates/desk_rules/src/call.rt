@@ -35,11 +35,11 @@ pub struct Asked {
 }
 
 impl Call {
-    /// An equal call.
+    /// A copy of the call.
     ///
     /// # Errors
     ///
-    /// `AllocError` for want of memory.
+    /// `AllocError` if memory runs out.
     pub fn copy(&self) -> Result<Call, AllocError>
         ensures { IfOk result (λ copy. copy ≡ self.now) }
     {
@@ -55,11 +55,11 @@ impl Call {
 }
 
 impl Asked {
-    /// An equal call of the same operator.
+    /// A copy of the call, of the same operator.
     ///
     /// # Errors
     ///
-    /// `AllocError` for want of memory.
+    /// `AllocError` if memory runs out.
     pub fn copy(&self) -> Result<Asked, AllocError>
         ensures { IfOk result (λ copy. copy ≡ self.now) }
     {

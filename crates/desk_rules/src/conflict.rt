@@ -11,15 +11,13 @@ ghost use Rattle.desk_rules.specs.Sharing as spec;
 
 use volume4d::{Held, Meeting, Slab, first_meeting, meet};
 
-/// The conflict of an area with other plans: its first blocked point, or `None` if no point is
-/// blocked.
+/// The conflict of an area with other plans: its first blocked point, or `None` if no point is blocked.
 ///
-/// `mine` are the area's slabs. `theirs` are slabs of the other plans: at each point of the area their
-/// greatest priority is the greatest of all other plans, if that is at least the least that blocks the
-/// area; elsewhere they hold nothing.
+/// `mine` are the area's slabs. `theirs` are slabs of the other plans: at each point of the area, their
+/// greatest priority has to be the greatest that other plans hold there, or none if that is too low to block
+/// the area.
 ///
-/// If `mine` are but some of an area's slabs, and `theirs` hold those levels at their points, it is the
-/// first blocked point among these.
+/// If `mine` are only some of the area's slabs, the result is the first blocked point among these.
 pub fn first_conflict(mine: &[Slab], theirs: &[Held]) -> Option<Meeting>
     ensures area { (permitted : List ℕ) (area : List Block) (levels : Point → Option ℕ) (priority : ℕ) →
         AreSlabsOf mine.now area →
@@ -32,7 +30,7 @@ pub fn first_conflict(mine: &[Slab], theirs: &[Held]) -> Option<Meeting>
     first_meeting(mine, theirs)
 }
 
-/// Whether two areas share a point, by their slabs.
+/// Whether two areas share a point; `mine` and `theirs` are their slabs.
 pub fn share_a_point(mine: &[Slab], theirs: &[Slab]) -> bool
     ensures { (area other : List Block) → AreSlabsOf mine.now area → AreSlabsOf theirs.now other →
         result ≡ spec.share_a_point area other }

@@ -1,4 +1,4 @@
-//! The order of refusals.
+//! The verdict on a request, by the order of refusals.
 
 ghost use Rattle.std.specs.Prelude.{◌≡◌, ◌∷◌, [], ◌&&◌, None, pos, ◌+ℤ◌, ◌-ℤ◌, int_le, int_lt, nat_le, nat_lt, is_none};
 ghost use Rattle.std.specs.Option.{option_copied};
@@ -42,14 +42,14 @@ pub struct Verdict {
     pub effect: Effect,
 }
 
-/// What counts of an operator for the verdict on its request, beside the plan that the request names.
+/// What the verdict on a request depends on beside the request and the stored plan that it names.
 #[derive(Clone, Copy, Debug, PartialEq, Eq)]
 pub struct Standing {
-    /// How many plans it has, closed ones included.
+    /// How many plans the operator has, closed ones included.
     pub own_rows: u32,
-    /// The greatest priority that it may use.
+    /// The greatest priority that the operator may use.
     pub ceiling: u32,
-    /// Which limits its plans would exceed, with the requested one in place of the stored one.
+    /// Which limits the operator's plans would exceed, with the requested one in place of the stored one.
     pub excess: Excess,
 }
 
@@ -89,8 +89,8 @@ pub fn decide(
     decide_under(call, moment, states_of(stored), &standing, meeting)
 }
 
-/// The verdict on a request, as `decide` gives it, by the states of the operator's plan with its id, of an
-/// operator of this standing: it is refused too where the operator's plans would exceed a limit of the terms.
+/// The verdict on a request, like that of `decide`, under terms that may limit an operator's spans and cells.
+/// `stored` are the states of the operator's plan with the request's id.
 #[tactic(auto, unfolding(crate::specs::Outcome::outcome_under))]
 pub fn decide_under(
     call: &PutCall,
@@ -106,14 +106,14 @@ pub fn decide_under(
             result: result_for(note),
             status: status_from(stored),
             note: Some(note),
-            meeting: shown(note, meeting),
+            meeting: shown_conflict(note, meeting),
             effect: Effect::Nothing,
         },
         None => completed(call.style, transition_from(stored, call)),
     }
 }
 
-// The verdict on a request that is carried out.
+// The verdict on a request that no rule refuses.
 fn completed(style: Style, step: Step) -> Verdict
     ensures { result ≡ record {
       result = results.Completed;
@@ -132,7 +132,8 @@ fn completed(style: Style, step: Step) -> Verdict
     }
 }
 
-// The reason of the first refusal that applies, or `None` if none does.
+// The first reason to refuse a request, in the order of `Note`, or `None`. `blocked` says whether the
+// requested area has a conflict.
 #[tactic(auto, unfolding(crate::specs::Outcome::note_from))]
 fn note_for(
     call: &PutCall,
@@ -143,7 +144,7 @@ fn note_for(
 ) -> Option<Note>
     ensures { result ≡ note_from call.now moment stored standing.now blocked }
 {
-    if !offers(call.style, call.usage, call.aircraft) {
+    if !is_offered(call.style, call.usage, call.aircraft) {
         return Some(Note::Style);
     }
     match transition_from(stored, call) {
@@ -169,7 +170,7 @@ fn note_for(
     }
 }
 
-// The first of the operator's limits that a request to store a plan would break, or `None` if it breaks none.
+// The first limit of the operator that a request to store a plan would exceed, or `None`.
 fn over_limit(priority: u32, stored: Option<States>, standing: &Standing) -> Option<Note>
     ensures { result ≡ first_note (note_where (nat_lt standing.now.ceiling priority) notes.Priority
         ∷ note_where (is_none stored && nat_le max_plans standing.now.own_rows) notes.PlansLimit
@@ -191,7 +192,7 @@ fn over_limit(priority: u32, stored: Option<States>, standing: &Standing) -> Opt
     None
 }
 
-// Whether the request is for a new plan and the operator has as many as it may have.
+// Whether the request is for a new plan and the operator already has `MAX_PLANS` plans.
 fn is_full(stored: Option<States>, own_rows: u32) -> bool
     ensures { result ≡ (is_none stored && nat_le max_plans own_rows) }
 {
@@ -202,7 +203,7 @@ fn is_full(stored: Option<States>, own_rows: u32) -> bool
 }
 
 // Whether the desk supports the style for the requested states.
-fn offers(style: Style, usage: Usage, aircraft: Aircraft) -> bool
+fn is_offered(style: Style, usage: Usage, aircraft: Aircraft) -> bool
     ensures { result ≡ is_offered style usage aircraft }
 {
     match (style, usage, aircraft) {
@@ -212,7 +213,7 @@ fn offers(style: Style, usage: Usage, aircraft: Aircraft) -> bool
     }
 }
 
-// Whether some volume's end is at or before the moment.
+// Whether some volume ends at or before `moment`.
 #[tactic(auto, unfolding(crate::specs::Outcome::has_ended))]
 fn any_ended(volumes: &[Volume], moment: i64) -> bool
     ensures { result ≡ has_ended volumes.now moment }
@@ -220,28 +221,28 @@ fn any_ended(volumes: &[Volume], moment: i64) -> bool
     volumes.iter().any(|volume| ends_by(volume, moment))
 }
 
-// Whether a volume's end is at or before the moment.
+// Whether a volume ends at or before `moment`.
 fn ends_by(volume: &Volume, moment: i64) -> bool
     ensures { result ≡ int_le volume.now.window.end moment }
 {
     volume.window().end() <= moment
 }
 
-// Whether a volume starts more than `HORIZON` after the moment.
+// Whether a volume starts more than `HORIZON` seconds after `moment`.
 fn starts_beyond(volume: &Volume, moment: i64) -> bool
     ensures { result ≡ int_lt (moment +ℤ pos max_ahead) volume.now.window.start }
 {
     moment < earliest_request(volume)
 }
 
-// The earliest second at which a volume may be requested.
+// The earliest Unix second at which a volume may be requested.
 fn earliest_request(volume: &Volume) -> i64
     ensures { result ≡ volume.now.window.start -ℤ pos max_ahead }
 {
     volume.window().start() - HORIZON
 }
 
-// Whether some volume starts more than `HORIZON` after the moment.
+// Whether some volume starts more than `HORIZON` seconds after `moment`.
 #[tactic(auto, unfolding(crate::specs::Outcome::is_beyond_horizon))]
 fn any_beyond(volumes: &[Volume], moment: i64) -> bool
     ensures { result ≡ is_beyond_horizon volumes.now moment }
@@ -249,7 +250,7 @@ fn any_beyond(volumes: &[Volume], moment: i64) -> bool
     volumes.iter().any(|volume| starts_beyond(volume, moment))
 }
 
-// The result of a refused request.
+// The result of a request that is refused for the reason `note`.
 fn result_for(note: Note) -> PlanResult
     ensures { result ≡ refused_result note }
 {
@@ -274,14 +275,14 @@ pub fn status_from(stored: Option<States>) -> PlanStatus
         None => PlanStatus::NotPlanned,
         Some(states) => match states.usage {
             Usage::Planned => PlanStatus::Planned,
-            Usage::InUse => in_use(states.aircraft),
+            Usage::InUse => status_in_use(states.aircraft),
             Usage::Closed => PlanStatus::Closed,
         },
     }
 }
 
-// The status of a plan in use.
-fn in_use(aircraft: Aircraft) -> PlanStatus
+// The status of a plan in use, by the state of its aircraft.
+fn status_in_use(aircraft: Aircraft) -> PlanStatus
     ensures { result ≡ status_in_use aircraft }
 {
     match aircraft {
@@ -290,7 +291,7 @@ fn in_use(aircraft: Aircraft) -> PlanStatus
     }
 }
 
-// The status of the plan after a step that is carried out.
+// The status of the plan after `step`, if no rule refuses it.
 fn status_after(step: Step) -> PlanStatus
     ensures { result ≡ step_status step }
 {
@@ -303,7 +304,7 @@ fn status_after(step: Step) -> PlanStatus
     }
 }
 
-// The change to the stored plan by a step that is carried out.
+// The change to the stored plan by `step`, if no rule refuses it; a hypothetical request changes nothing.
 fn effect_of(style: Style, step: Step) -> Effect
     ensures { result ≡ styled_effect style (step_effect step) }
 {
@@ -319,8 +320,8 @@ fn effect_of(style: Style, step: Step) -> Effect
     }
 }
 
-// The blocked point that a refusal names, if it names one.
-fn shown(note: Note, meeting: Option<Meeting>) -> Option<Meeting>
+// The blocked point that is reported beside `note`: only a `Conflict` has one.
+fn shown_conflict(note: Note, meeting: Option<Meeting>) -> Option<Meeting>
     ensures { result ≡ shown_conflict note meeting }
 {
     match note {

@@ -17,7 +17,7 @@ pub fn one_conflict()
         IsConflict permitted area levels priority b → a ≡ b }
 {}
 
-/// The definition by a search gives the conflict.
+/// `conflict`, which searches point by point, returns the conflict.
 pub fn conflict_is_found()
     ensures { (permitted : List ℕ) (area : List Block) (levels : Point → Option ℕ) (priority : ℕ) →
         IsConflict permitted area levels priority (conflict permitted area levels priority) }
@@ -43,7 +43,7 @@ pub fn same_levels_same_conflict()
         → IsConflict permitted area g priority spot }
 {}
 
-/// The test of a shared point says whether there is one.
+/// `share_a_point` says whether two areas share a point.
 pub fn shared_point_is_found()
     ensures { (area other : List Block) → (share_a_point area other ≡ true) ↔ HaveAPoint area other }
 {}

@@ -1,4 +1,4 @@
-//! The rules of the planning desk, which know of no store: plans and their words, the state table,
+//! The rules of the planning desk, independent of any storage: plans and their states, the state table,
 //! permitted priorities, conflicts and the order of refusals.
 #![tactic(auto)]
 

@@ -16,7 +16,7 @@ const MAX_NAME: usize = 32;
 /// An operator's name: 1 to 32 bytes of `a-z`, `0-9` and `-`.
 #[derive(Clone, Copy, Debug)]
 pub struct Operator {
-    // the name, and zeros after it
+    // the name, padded with zeros
     bytes: [u8; MAX_NAME],
     len: usize,
 }
@@ -42,7 +42,7 @@ impl Model for Operator {
 }
 
 impl Operator {
-    /// The operator with this name, or `None` if it is not a valid name.
+    /// The operator called `name`, or `None` if that is not a valid name.
     pub fn try_new(name: &[u8]) -> Option<Operator>
         ensures { result ≡ (if is_operator_name name.now then Some name.now else None) }
     {
@@ -135,7 +135,7 @@ impl Ord for Operator {
     }
 }
 
-// Whether bytes are a valid name.
+// Whether `name` is a valid name: 1 to 32 bytes of `a-z`, `0-9` and `-`.
 fn is_name(name: &[u8]) -> bool
     ensures { result ≡ is_operator_name name.now }
 {
@@ -148,14 +148,14 @@ fn is_name(name: &[u8]) -> bool
     are_name_bytes(name)
 }
 
-// Whether all bytes may stand in a name.
+// Whether a name may have all of these bytes.
 fn are_name_bytes(bytes: &[u8]) -> bool
     ensures { result ≡ list_all spec.is_name_byte bytes.now }
 {
     bytes.iter().all(|byte| is_name_byte(*byte))
 }
 
-// The name, and zeros after it.
+// The name, padded with zeros to 32 bytes.
 fn padded(name: &[u8]) -> [u8; MAX_NAME]
     requires { length name.now ≤ max_name_length }
     ensures { result ≡ name.now ++ replicate (max_name_length - length name.now) 0 }
@@ -165,7 +165,7 @@ fn padded(name: &[u8]) -> [u8; MAX_NAME]
     bytes
 }
 
-// Whether a byte may stand in a name.
+// Whether a name may have this byte: `a-z`, `0-9` or `-`.
 fn is_name_byte(byte: u8) -> bool
     ensures { result ≡ spec.is_name_byte byte }
 {

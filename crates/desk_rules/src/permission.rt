@@ -1,4 +1,4 @@
-//! Equal priorities by permission.
+//! The priorities at which plans of equal priority may share points.
 
 ghost use Rattle.std.specs.Prelude.{◌≡◌, ◌-◌, ◌≤◌, ◌++◌, length, replicate, IsTrue, []};
 ghost use Rattle.desk_rules.specs.Limits.{max_permitted, max_priority};
@@ -17,7 +17,7 @@ pub const MAX_PERMITTED: usize = 32;
 /// same priority. ASTM F3548-21 leaves it to the regulator which these are.
 #[derive(Clone, Copy, Debug)]
 pub struct Permitted {
-    // the priorities, ascending, and zeros after them
+    // the priorities, ascending, padded with zeros
     priorities: [u32; MAX_PERMITTED],
     count: usize,
 }
@@ -64,11 +64,11 @@ impl Permitted {
         }
     }
 
-    /// These priorities are permitted.
+    /// Permits these priorities: at most 32, ascending, each at most 1,000.
     ///
     /// # Errors
     ///
-    /// `TooMany`; `Range`; `Order`.
+    /// The first fault that applies, in the order of `PermitFault`.
     pub fn try_new(priorities: &[u32]) -> Result<Permitted, PermitFault>
         ensures { result ≡ permitted_in priorities.now }
     {
@@ -87,7 +87,7 @@ impl Permitted {
         })
     }
 
-    /// Whether a priority is permitted.
+    /// Whether plans of this priority may share points.
     pub fn has(&self, priority: u32) -> bool
         ensures value { result ≡ is_permitted self.now priority }
         ensures low { IsTrue result → priority ≤ max_priority }
@@ -113,21 +113,21 @@ impl fmt::Display for PermitFault {
 
 impl Error for PermitFault {}
 
-// Whether each is a priority that a plan may have.
+// Whether each priority is at most 1,000, the greatest that a plan may have.
 fn are_priorities(priorities: &[u32]) -> bool
     ensures { result ≡ spec.are_priorities priorities.now }
 {
     priorities.iter().all(|priority| *priority <= MAX_PRIORITY)
 }
 
-// Whether each is less than the next.
+// Whether each priority is less than the next.
 fn are_ascending(priorities: &[u32]) -> bool
     ensures { result ≡ spec.are_ascending priorities.now }
 {
     priorities.is_sorted_by(|low, high| low < high)
 }
 
-// The priorities, and zeros after them.
+// The priorities, padded with zeros to 32 numbers.
 fn padded(priorities: &[u32]) -> [u32; MAX_PERMITTED]
     requires { length priorities.now ≤ max_permitted }
     ensures { result ≡ priorities.now ++ replicate (max_permitted - length priorities.now) 0 }

@@ -27,7 +27,7 @@ pub struct PlanRow {
     pub area: Area,
 }
 
-/// The states of a plan: what the state table and the order of refusals ask of a stored one.
+/// The states of a plan: all of a stored plan that the state table and the order of refusals depend on.
 #[derive(Clone, Copy, Debug, PartialEq, Eq)]
 pub struct States {
     /// Whether the flight is planned, in use or closed.
@@ -55,7 +55,7 @@ pub struct PutCall {
 }
 
 impl PlanRow {
-    /// An equal row.
+    /// A copy of the plan.
     ///
     /// # Errors
     ///
@@ -113,7 +113,7 @@ pub fn states_of(stored: Option<&PlanRow>) -> Option<States>
 }
 
 impl PutCall {
-    /// An equal request.
+    /// A copy of the request.
     ///
     /// # Errors
     ///

@@ -17,7 +17,7 @@ pub enum Reply {
     Plans(Vec<Shown>),
     /// The plan asked for.
     Plan(Shown),
-    /// The reply to a request to plan or to close.
+    /// The result of a request to plan, change or close.
     Answered(PutReply),
     /// How many plans were removed.
     Cleared(u32),
@@ -35,7 +35,7 @@ pub struct Shown {
     pub conflict: Option<Meeting>,
 }
 
-/// The reply to a request to plan or to close.
+/// The result of a request to plan, change or close.
 #[derive(Clone, Copy, Debug, PartialEq, Eq)]
 pub struct PutReply {
     /// Whether the request was carried out.
@@ -49,7 +49,7 @@ pub struct PutReply {
 }
 
 impl Reply {
-    /// A reply that says the same.
+    /// A copy of the reply, which is reported the same.
     ///
     /// # Errors
     ///
@@ -68,7 +68,7 @@ impl Reply {
 }
 
 impl Shown {
-    /// An equal value.
+    /// A copy of the plan as it is shown.
     ///
     /// # Errors
     ///
@@ -84,7 +84,7 @@ impl Shown {
     }
 }
 
-// A copy of the list.
+// A copy of a list of plans as they are shown.
 fn copies(plans: &Vec<Shown>) -> Result<Vec<Shown>, AllocError>
     ensures { IfOk result (λ copies. copies.items ≡ plans.now.items) }
 {

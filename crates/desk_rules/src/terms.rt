@@ -1,4 +1,4 @@
-//! The terms on which a desk plans.
+//! The terms of a desk: its settings.
 
 ghost use Rattle.std.specs.Prelude.{◌≡◌};
 ghost use Rattle.desk_rules.specs.Terms as spec;
@@ -6,23 +6,23 @@ ghost use Rattle.desk_rules.specs.Terms.{excess_of, no_excess, no_terms};
 
 use crate::permission::Permitted;
 
-/// The greatest number of spans that an administrator may name as the most of an operator's live plans.
+/// The greatest limit that an administrator may set on the spans of an operator's live plans.
 pub const MAX_SPANS: u32 = 5_000_000;
 
-/// The greatest number of cells that an administrator may name as the most of an operator's plans.
+/// The greatest limit that an administrator may set on the cells of an operator's plans.
 pub const MAX_TOTAL_CELLS: u32 = 5_000_000;
 
-/// The terms on which a desk plans, the same for all operators: its administrator names them, and no request
-/// changes them.
+/// The settings of a desk, the same for all operators. Its administrator sets them, and no request changes
+/// them.
 #[derive(Clone, Copy, Debug)]
 pub struct Terms {
-    /// The priorities of which plans may share points.
+    /// The priorities at which plans of equal priority may share points.
     pub permitted: Permitted,
-    /// The most spans that an operator's live plans may have together, or `None` if any number will do. A
+    /// The most spans that an operator's live plans may have together, or `None` if there is no limit. A
     /// plan has a span for each range of each of its volumes along the S2 curve.
     pub spans: Option<u32>,
-    /// The most cells that an operator's plans may have together, closed ones too, or `None` if any number
-    /// will do. A plan has the cells of each of its volumes: those of its cell list, or of the canonical
+    /// The most cells that an operator's plans may have together, closed ones too, or `None` if there is no
+    /// limit. A plan has the cells of each of its volumes: those of its cell list, or of the canonical
     /// cover of its rectangle.
     pub cells: Option<u32>,
 }
@@ -30,9 +30,9 @@ pub struct Terms {
 /// Which limits an operator's plans would exceed.
 #[derive(Clone, Copy, Debug, PartialEq, Eq)]
 pub struct Excess {
-    /// Whether its live plans would have more spans than they may have.
+    /// Whether the operator's live plans would have more spans than the limit.
     pub spans: bool,
-    /// Whether its plans would have more cells than they may have.
+    /// Whether the operator's plans would have more cells than the limit.
     pub cells: bool,
 }
 
@@ -49,7 +49,7 @@ impl Excess {
 }
 
 impl Terms {
-    /// No priority is permitted, and an operator's plans may have any number of spans and of cells.
+    /// No priority is permitted, and spans and cells have no limit.
     pub fn none() -> Terms
         ensures { result ≡ no_terms }
     {
@@ -60,8 +60,8 @@ impl Terms {
         }
     }
 
-    /// Which of the limits so many spans of an operator's live plans, and so many cells of all its plans,
-    /// exceed.
+    /// Which limits an operator exceeds whose live plans have `spans` spans and whose plans, closed ones too,
+    /// have `cells` cells.
     pub fn excess(&self, spans: u64, cells: u64) -> Excess
         ensures { result ≡ excess_of self.now spans cells }
     {
@@ -72,7 +72,7 @@ impl Terms {
     }
 }
 
-// Whether a count is greater than a limit, if there is one.
+// Whether `count` is greater than the limit `most`; `None` is no limit.
 fn exceeds(most: Option<u32>, count: u64) -> bool
     ensures { result ≡ spec.exceeds most count }
 {

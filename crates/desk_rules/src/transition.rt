@@ -7,7 +7,7 @@ ghost use Rattle.desk_rules.specs.States.{step_of, step_from, step_from_none, st
 use crate::plan::{PlanRow, PutCall, States, states_of};
 use crate::words::{Aircraft, Note, PlanStatus, Usage};
 
-/// What the state table says of a request.
+/// What the state table says about a request.
 #[derive(Clone, Copy, Debug, PartialEq, Eq)]
 pub enum Step {
     /// The request is refused.
@@ -24,14 +24,14 @@ pub enum Step {
     Keep,
 }
 
-/// The step from the stored plan with the request's id, or from no plan, to the requested states.
+/// The step from `stored`, the plan with the request's id, or from no plan, to the requested states.
 pub fn transition(stored: Option<&PlanRow>, call: &PutCall) -> Step
     ensures { result ≡ step_of (option_copied stored.entry) call.now }
 {
     transition_from(states_of(stored), call)
 }
 
-/// The step from the states of the stored plan with the request's id, or from no plan, to the requested
+/// The step from `stored`, the states of the plan with the request's id, or from no plan, to the requested
 /// states.
 pub fn transition_from(stored: Option<States>, call: &PutCall) -> Step
     ensures { result ≡ step_from stored call.now }
@@ -42,7 +42,7 @@ pub fn transition_from(stored: Option<States>, call: &PutCall) -> Step
     }
 }
 
-// From the states of a stored plan.
+// The step if the stored plan has the states `stored` and `craft`.
 fn from_states(stored: Usage, craft: Aircraft, usage: Usage, aircraft: Aircraft) -> Step
     ensures { result ≡ step_from_states stored craft usage aircraft }
 {
@@ -54,7 +54,7 @@ fn from_states(stored: Usage, craft: Aircraft, usage: Usage, aircraft: Aircraft)
     }
 }
 
-// If no plan is stored.
+// The step if no plan is stored.
 fn from_none(usage: Usage, aircraft: Aircraft) -> Step
     ensures { result ≡ step_from_none usage aircraft }
 {
@@ -66,7 +66,7 @@ fn from_none(usage: Usage, aircraft: Aircraft) -> Step
     }
 }
 
-// If the stored plan is planned.
+// The step if the stored plan is planned.
 fn from_planned(usage: Usage, aircraft: Aircraft) -> Step
     ensures { result ≡ step_from_planned usage aircraft }
 {
@@ -79,7 +79,7 @@ fn from_planned(usage: Usage, aircraft: Aircraft) -> Step
     }
 }
 
-// If the stored plan is in use, and its aircraft needs no contingency procedure.
+// The step if the stored plan is in use, and its aircraft needs no contingency procedure.
 fn from_use(usage: Usage, aircraft: Aircraft) -> Step
     ensures { result ≡ step_from_use usage aircraft }
 {
@@ -91,7 +91,7 @@ fn from_use(usage: Usage, aircraft: Aircraft) -> Step
     }
 }
 
-// If the stored plan is in use, and its aircraft needs a contingency procedure.
+// The step if the stored plan is in use, and its aircraft needs a contingency procedure.
 fn from_contingency(usage: Usage, aircraft: Aircraft) -> Step
     ensures { result ≡ step_from_contingency usage aircraft }
 {
@@ -102,7 +102,7 @@ fn from_contingency(usage: Usage, aircraft: Aircraft) -> Step
     }
 }
 
-// If the stored plan is closed.
+// The step if the stored plan is closed.
 fn from_closed(usage: Usage) -> Step
     ensures { result ≡ step_from_closed usage }
 {

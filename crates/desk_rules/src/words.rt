@@ -16,8 +16,7 @@ pub enum Usage {
 }
 
 impl Usage {
-    /// Whether a plan in this state holds the points of its area: it does while it is planned or in
-    /// use.
+    /// Whether a plan in this state holds the points of its area: while it is planned or in use.
     pub fn is_live(&self) -> bool
         ensures { result ≡ spec.is_live self.now }
     {
@@ -43,7 +42,7 @@ pub enum Aircraft {
 /// How a request is to be carried out, `execution_style` of flight_planning v1.
 #[derive(Clone, Copy, Debug, PartialEq, Eq)]
 pub enum Style {
-    /// Nothing is stored: the answer says what `IfAllowed` would do.
+    /// Nothing is stored: the answer is that to `IfAllowed`.
     Hypothetical,
     /// The request is carried out if the rules allow it.
     IfAllowed,
@@ -77,7 +76,7 @@ pub enum PlanResult {
     NotSupported,
 }
 
-/// Why a request was refused. If several reasons apply, the desk names the first in the order of the
+/// Why a request was refused. If several reasons apply, the desk reports the first in the order of the
 /// variants; at most one of `State`, `Closed` and `NotPlanned` applies.
 #[derive(Clone, Copy, Debug, PartialEq, Eq)]
 pub enum Note {
@@ -89,17 +88,17 @@ pub enum Note {
     Closed,
     /// There is no plan to close.
     NotPlanned,
-    /// A volume ends at or before the moment of the request.
+    /// A volume ends at or before the Unix second of the request.
     Ended,
-    /// A volume starts more than 2,592,000 s after the moment of the request.
+    /// A volume starts more than 2,592,000 s after the request.
     Horizon,
     /// The priority is above the operator's ceiling.
     Priority,
-    /// The operator already has as many plans as it may have.
+    /// The operator already has 200 plans.
     PlansLimit,
-    /// The operator's live plans would have more spans than they may have.
+    /// The operator's live plans would have more spans than the limit.
     SpansLimit,
-    /// The operator's plans would have more cells than they may have.
+    /// The operator's plans would have more cells than the limit.
     CellsLimit,
     /// Another plan blocks a point of the area.
     Conflict,

@@ -11,7 +11,7 @@ abbrev pub fault_of : StoreFault → DeskFault
 fault_of store.OutOfMemory = OutOfMemory
 fault_of store.Store = Store
 
--- want of memory, or a failing store: neither says anything of the call
+-- out of memory, or a failing store: neither depends on the rules
 abbrev pub IsBreakdown : DeskFault → Type 0
 IsBreakdown fault = (fault ≡ OutOfMemory) ⊎ (fault ≡ Store)
 

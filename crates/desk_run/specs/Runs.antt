@@ -40,7 +40,7 @@ call_outcome (Err OutOfMemory) = Err OutOfMemory
 call_outcome (Err Store) = Err Store
 call_outcome (Err Ceiling) = Err Ceiling
 
--- what stops a run before its end: want of memory, or a store that failed, with a call left that
+-- what stops a run before its end: out of memory, or a store that failed, with a call left that
 -- has no outcome
 pub record IsRunStopped (fault : DeskFault) (answered asked : ℕ) : Type 0 where
   pub breakdown : IsBreakdown fault

@@ -18,11 +18,11 @@ use std::marker::Model;
 
 /// A desk over a store.
 ///
-/// What a call answers, and what it changes, is claimed where the store is honest as the call ends. That
-/// a fault leaves the content as it was holds whether the store is honest or not.
+/// The replies and changes of a call are guaranteed if the storage is still intact ("honest") as the call
+/// ends. In any case, a call that returns an error leaves the content unchanged.
 ///
-/// What a crash leaves is the content before the call in which it came or the one after it; once the call
-/// has answered, the one after it.
+/// After a crash within a call, a start finds the content before the call or the one after it; once the call
+/// has returned a reply, the one after it.
 #[derive(Drop)]
 pub struct Desk<S> {
     store: S,
@@ -40,8 +40,7 @@ impl<S> Model for Desk<S> {
 }
 
 impl<S> Desk<S> {
-    /// A desk over a store, at which no priority is permitted, and an operator's live plans may have any
-    /// number of spans.
+    /// A desk over `store` with no terms: no priority is permitted, and spans and cells have no limit.
     pub fn new(store: S) -> Desk<S>
         ensures { result ≡ record { store = store; terms = no_terms } }
     {
@@ -51,15 +50,15 @@ impl<S> Desk<S> {
         }
     }
 
-    /// The store.
+    /// Returns the store, without the terms.
     pub fn into_store(self) -> S
         ensures { result ≡ self.store }
     {
         self.store
     }
 
-    /// Permits these priorities, and no others: a plan may share points with others of the same
-    /// priority where that is permitted. The content stays.
+    /// Permits these priorities, and no others: plans of an equal priority may share points if it is
+    /// permitted. Stored plans stay as they are.
     pub fn permit(&mut self, permitted: Permitted)
         ensures { self.new ≡ record {
           store = self.old.store;
@@ -69,7 +68,7 @@ impl<S> Desk<S> {
         self.terms.permitted = permitted;
     }
 
-    /// Plans on these terms from here on. The content stays.
+    /// Replaces the terms for later calls. Stored plans stay as they are.
     pub fn set_terms(&mut self, terms: Terms)
         ensures { self.new ≡ record { store = self.old.store; terms = terms } }
     {
@@ -87,11 +86,12 @@ impl<S: PlanStore> Desk<S> {
     ghost use Rattle.desk_run.specs.Verdicts.{step_by};
     ghost use Rattle.desk_run.specs.Calls.{ReportsReply, Prepares, CanCommit, reply_in, world_committed};
 
-    /// Lists the operator under a ceiling of at most 1,000; its plans stay.
+    /// Enrols the operator with a ceiling of at most 1,000, or replaces its ceiling. Its plans stay.
     ///
     /// # Errors
     ///
-    /// `Ceiling` above 1,000, else `OutOfMemory` or `Store` where the store gave up: nothing changed.
+    /// `Ceiling` if `ceiling` is above 1,000; `OutOfMemory`; `Store` if the store failed. Nothing has changed
+    /// then.
     pub fn enrol(&mut self, operator: &Operator, ceiling: u32) -> Result<(), DeskFault>
         ensures ok { IsHonest (S.doubt self.new.store) → OnOk result (world_of S.content self.new
             ≡ enrolled (world_of S.content self.old) operator.now ceiling) }
@@ -112,12 +112,13 @@ impl<S: PlanStore> Desk<S> {
         Ok(())
     }
 
-    /// Gets a reply ready at a moment (a Unix second), and changes nothing.
+    /// Prepares the reply to a call at `moment` (a Unix second), and the change for `commit`. Changes
+    /// nothing.
     ///
     /// # Errors
     ///
-    /// `UnknownOperator` and `NoSuchPlan` where the verdict on the call says so; `OutOfMemory`; `Store`
-    /// where the store failed.
+    /// `UnknownOperator` if the operator isn't enrolled; `NoSuchPlan` if it has no plan with the id of the
+    /// call; `OutOfMemory`; `Store` if the store failed.
     pub fn prepare(
         &mut self,
         alloc: Global,
@@ -135,11 +136,12 @@ impl<S: PlanStore> Desk<S> {
         prepare_over(alloc, &mut self.store, &self.terms, moment, asked)
     }
 
-    /// Makes the change that goes with a reply, and hands the reply back; a refusal drops it.
+    /// Makes the change of a prepared call, if there is one, and returns its reply. On an error the reply is
+    /// dropped.
     ///
     /// # Errors
     ///
-    /// `OutOfMemory`, or `Store` where the store failed: nothing changed.
+    /// `OutOfMemory`; `Store` if the store failed. Nothing has changed then.
     pub fn commit(&mut self, pending: Pending) -> Result<Reply, DeskFault>
         requires { IsHonest (S.doubt self.old.store) →
             CanCommit (world_of S.content self.old) pending }
@@ -158,11 +160,11 @@ impl<S: PlanStore> Desk<S> {
         Ok(reply)
     }
 
-    /// Answers a call at a moment (a Unix second), and makes its change.
+    /// Answers a call at `moment` (a Unix second), and makes its change.
     ///
     /// # Errors
     ///
-    /// Those of `prepare`: nothing changed.
+    /// Those of `prepare`. Nothing has changed then.
     pub fn call(&mut self, alloc: Global, moment: i64, asked: &Asked) -> Result<Reply, DeskFault>
         ensures reported { IsHonest (S.doubt self.new.store) →
             ReportsReply (world_of S.content self.old) moment asked.now result }

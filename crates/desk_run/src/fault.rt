@@ -5,18 +5,18 @@ use std::alloc::AllocError;
 use std::error::Error;
 use std::fmt;
 
-/// Why a call has no reply. The desk's content is what it was.
+/// Why a call has no reply. The operators and plans are unchanged.
 #[derive(Clone, Copy, Debug, PartialEq, Eq)]
 pub enum DeskFault {
-    /// A growth was refused.
+    /// Memory ran out.
     OutOfMemory,
     /// The store failed.
     Store,
     /// The operator is not enrolled.
     UnknownOperator,
-    /// The operator has no plan of the id.
+    /// The operator has no plan with this id.
     NoSuchPlan,
-    /// A ceiling above 1,000.
+    /// The ceiling is above 1,000.
     Ceiling,
 }
 

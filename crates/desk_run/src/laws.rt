@@ -20,7 +20,7 @@ pub fn others_are_kept()
         side (step w operator moment call) other ≡ side w other }
 {}
 
-/// What a request leaves its operator is decided by what that operator owns, what others hold and the
+/// An operator's ceiling and plans after its request depend only on those before, on what others hold, and on
 /// the desk's terms, which stay.
 pub fn own_is_decided()
     ensures { (w : DeskWorld) (operator : List ℕ) (moment : ℤ) (call : Call) →
@@ -28,21 +28,21 @@ pub fn own_is_decided()
         ≡ side_left (side w operator) (held_in w operator) moment call }
 {}
 
-/// Closing a plan that is closed leaves an equal world.
+/// Closing a closed plan changes nothing.
 pub fn closing_a_closed_plan_changes_nothing()
     ensures { (w : DeskWorld) (operator id : List ℕ) (moment : ℤ) (row : PlanRow) → IsWorld w.content →
         stored_of id (plans_of operator w.content) ≡ Some row → row.usage ≡ usage.Closed →
         step w operator moment (Delete id) ≡ w }
 {}
 
-/// A call that makes no change leaves the desk's world as it was.
+/// A call that makes no change leaves the state of the desk unchanged.
 pub fn without_a_change_all_stays()
     ensures { (w : DeskWorld) (operator : List ℕ) (moment : ℤ) (call : Call) →
         makes_change w operator moment call ≡ false → step w operator moment call ≡ w }
 {}
 
-/// Repeated: a call, and an enrolment, made twice in a row leaves what it leaves once. (The second answer may
-/// be another: a plan that is closed then can't be changed, and a clear finds none.)
+/// A call and an enrolment are idempotent: made twice in a row, they result in the same state as made once.
+/// (The second answer may differ: a plan that is now closed can't be changed, and a clear finds no plan.)
 pub fn repeated()
     ensures call { (w : DeskWorld) (operator : List ℕ) (moment : ℤ) (call : Call) →
         step (step w operator moment call) operator moment call ≡ step w operator moment call }
@@ -50,10 +50,10 @@ pub fn repeated()
         enrolled (enrolled w name ceiling) name ceiling ≡ enrolled w name ceiling }
 {}
 
-/// Two runs, from worlds in which an operator owns the same on the same terms,
-/// with the same calls of that operator in the same order and at the same moments. If others hold the
-/// same before each of these calls, then the operator is answered the same and owns the same after each of
-/// them and at the end, whatever calls of others stand between.
+/// Noninterference: take two runs with the same calls of an operator in the same order and at the same
+/// moments, from states in which it owns the same, on the same terms. If others hold the same before each of
+/// these calls, then the operator is answered the same, and owns the same after each of them and at the end,
+/// whatever calls others make in between.
 pub fn two_runs()
     ensures { (operator : List ℕ) (v w : DeskWorld) (calls others : List TimedCall) →
         OwnAlike operator v w → calls_of operator calls ≡ calls_of operator others →

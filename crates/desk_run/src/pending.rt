@@ -1,4 +1,4 @@
-//! Replies that are ready, and the changes that go with them.
+//! Calls that are prepared: each has its reply, and its change to be committed.
 
 ghost use Rattle.std.specs.Prelude.{◌≡◌, IfOk, IfErr};
 ghost use Rattle.desk_store.specs.StoreFrames.{OnlyReads};
@@ -8,14 +8,14 @@ ghost use Rattle.desk_run.specs.DeskWorld.{with_content};
 ghost use Rattle.desk_run.specs.Calls.{IsSamePending, Prepares, has_change, reply_in};
 
 use crate::fault::DeskFault;
-use clear::ready_clear;
-use delete::ready_delete;
+use clear::prepare_clear;
+use delete::prepare_delete;
 use desk_rules::call::{Asked, Call};
 use desk_rules::reply::Reply;
 use desk_rules::terms::Terms;
 use desk_store::{Change, PlanStore};
-use put::ready_put;
-use show::{ready_list, ready_show};
+use put::prepare_put;
+use show::{prepare_list, prepare_show};
 use std::alloc::{AllocError, Global};
 
 mod clear;
@@ -29,7 +29,7 @@ mod put;
 mod show;
 mod windows;
 
-/// A reply that is ready, and the change that goes with it.
+/// A prepared call: its reply, and the change to be committed with it, if there is one.
 #[derive(Debug, Drop)]
 pub struct Pending {
     pub(crate) reply: Reply,
@@ -37,21 +37,21 @@ pub struct Pending {
 }
 
 impl Pending {
-    /// The reply that is ready.
+    /// The reply to the call.
     pub fn reply(&self) -> &Reply
         ensures { result.now ≡ reply_in self.now }
     {
         &self.reply
     }
 
-    /// Whether a change goes with it: a plan is to be stored or closed, or some are to be taken out.
+    /// Whether there is a change to commit: a plan is to be stored or closed, or plans are to be removed.
     pub fn has_change(&self) -> bool
         ensures { result ≡ has_change self.now }
     {
         self.change.is_some()
     }
 
-    /// A reply that says the same, with a change that asks for the same.
+    /// A copy of the reply and the change.
     ///
     /// # Errors
     ///
@@ -70,7 +70,8 @@ impl Pending {
     }
 }
 
-// Gets a reply ready over a store, at a desk on these terms.
+// Prepares the reply to a call at `moment` (a Unix second), and its change, at a desk with these terms.
+// Changes nothing.
 pub fn prepare_over<S: PlanStore>(
     alloc: Global,
     store: &mut S,
@@ -92,10 +93,10 @@ pub fn prepare_over<S: PlanStore>(
             reply: Reply::Ready,
             change: None,
         }),
-        Call::List => ready_list(alloc, store, &terms.permitted, operator),
-        Call::Show(id) => ready_show(alloc, store, &terms.permitted, operator, id),
-        Call::Put(put) => ready_put(alloc, store, terms, moment, operator, put, ceiling),
-        Call::Delete(id) => ready_delete(store, operator, id),
-        Call::Clear(extent) => ready_clear(alloc, store, operator, extent),
+        Call::List => prepare_list(alloc, store, &terms.permitted, operator),
+        Call::Show(id) => prepare_show(alloc, store, &terms.permitted, operator, id),
+        Call::Put(put) => prepare_put(alloc, store, terms, moment, operator, put, ceiling),
+        Call::Delete(id) => prepare_delete(store, operator, id),
+        Call::Clear(extent) => prepare_clear(alloc, store, operator, extent),
     }
 }

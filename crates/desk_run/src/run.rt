@@ -1,4 +1,4 @@
-//! Runs: lists of calls, answered one after the other.
+//! Runs: lists of calls that are answered one after the other.
 
 ghost use Rattle.std.specs.Prelude.{◌≡◌, ◌≤◌, length, map, Some, IfOk, OnErr};
 ghost use Rattle.desk_store.specs.StoreFrames.{Remembers};
@@ -15,28 +15,28 @@ use desk_rules::reply::Reply;
 use desk_store::PlanStore;
 use std::alloc::{AllocError, Global};
 
-/// What a call of a run came to.
+/// The outcome of a call of a run.
 #[derive(Debug, Drop)]
 pub enum Outcome {
-    /// It has a reply.
+    /// The call has this reply.
     Reply(Reply),
-    /// Its operator is not enrolled.
+    /// The operator is not enrolled.
     UnknownOperator,
-    /// Its operator has no plan of the id.
+    /// The operator has no plan with the id of the call.
     NoSuchPlan,
 }
 
-/// What a run came to.
+/// The result of a run.
 #[derive(Debug, Drop)]
 pub struct Ran {
     /// The outcomes of the calls answered, in their order.
     pub outcomes: Vec<Outcome>,
-    /// The fault at which it stopped; the call that met it changed nothing.
+    /// The error that stopped the run, if it didn't reach its end. The call with this error changed nothing.
     pub stopped: Option<DeskFault>,
 }
 
 impl Outcome {
-    /// An outcome that is reported as this one is.
+    /// A copy of the outcome, which is reported the same.
     ///
     /// # Errors
     ///
@@ -53,7 +53,7 @@ impl Outcome {
 }
 
 impl Ran {
-    /// Outcomes that are reported as these are, and the same fault.
+    /// A copy of the result, whose outcomes are reported the same.
     ///
     /// # Errors
     ///
@@ -71,12 +71,11 @@ impl Ran {
 }
 
 impl<S: PlanStore> Desk<S> {
-    /// Answers calls, each at its moment (a Unix second), until one meets a
-    /// want of memory or a store that fails.
+    /// Answers calls, each at its moment (a Unix second), until memory runs out or the store fails in one.
     ///
     /// # Errors
     ///
-    /// `AllocError` where the room for all outcomes was refused: nothing changed.
+    /// `AllocError` if there is no memory for the list of outcomes. Nothing has changed then.
     pub fn run(&mut self, alloc: Global, calls: &[(i64, Asked)]) -> Result<Ran, AllocError>
         ensures ran { IsHonest (S.doubt self.new.store) → IfOk result (λ ran.
             IsRun (world_of S.content self.old) calls.now ran (world_of S.content self.new)) }
@@ -102,7 +101,7 @@ fn copies(outcomes: &Vec<Outcome>) -> Result<Vec<Outcome>, AllocError>
     Ok(copies)
 }
 
-// Answers calls at a desk.
+// Answers calls at a desk, as `Desk::run` says.
 fn run_over<S: PlanStore>(
     alloc: Global,
     desk: &mut Desk<S>,
@@ -133,7 +132,7 @@ fn run_over<S: PlanStore>(
     })
 }
 
-// The outcome of a call, or the fault that stops a run.
+// The outcome of a call, or the error that stops a run: `OutOfMemory` or `Store`.
 fn outcome_of(answered: Result<Reply, DeskFault>) -> Result<Outcome, DeskFault>
     ensures { result ≡ spec.call_outcome answered }
 {

@@ -1,4 +1,4 @@
--- What a start may find after a crash: a content, or None for what is no desk's.
+-- What a start may find after a crash: a content, or None for an invalid database.
 use Rattle.std.specs.Prelude.{◌≡◌, ◌⊎◌, Option, Some}
 use Rattle.desk_store.specs.World.{World}
 

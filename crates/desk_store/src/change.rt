@@ -1,4 +1,4 @@
-//! The changes that a store is asked for.
+//! The changes that a store can make.
 
 ghost use Rattle.std.specs.Prelude.{◌≡◌, IfOk};
 ghost use Rattle.desk_store.specs.ChangeParts.{parts_in};
@@ -8,25 +8,25 @@ use desk_rules::plan::PlanRow;
 use desk_rules::plan_id::PlanId;
 use std::alloc::AllocError;
 
-/// A change of a store's content.
+/// A change of the operators and plans in a store.
 #[derive(Debug, Drop)]
 pub enum Change {
-    /// The operator is listed under this ceiling; its plans stay.
+    /// Enrols the operator with this ceiling, or replaces its ceiling. Its plans stay.
     Enrol {
         operator: Operator,
         ceiling: u32,
     },
-    /// The row is stored for its id, in place of the one stored before.
+    /// Stores the row, in place of the operator's plan with its id, if there is one.
     Put {
         operator: Operator,
         row: PlanRow,
     },
-    /// The plan of the id gets the usage `Closed`; all else of it stays.
+    /// Gives the operator's plan with this id the usage `Closed`. All else of the plan stays.
     Close {
         operator: Operator,
         id: PlanId,
     },
-    /// The plans of these ids are taken out.
+    /// Removes the operator's plans with these ids.
     Clear {
         operator: Operator,
         ids: Vec<PlanId>,
@@ -34,11 +34,11 @@ pub enum Change {
 }
 
 impl Change {
-    /// A change that asks for the same.
+    /// A copy of the change.
     ///
     /// # Errors
     ///
-    /// `AllocError` for want of memory.
+    /// `AllocError` if memory runs out.
     pub fn copy(&self) -> Result<Change, AllocError>
         ensures { IfOk result (λ copy. parts_in copy ≡ parts_in self.now) }
     {

@@ -1,15 +1,15 @@
-//! Why a store did not do what it was asked.
+//! The errors of a store.
 
 use std::alloc::{AllocError, AllocFailed};
 use std::error::Error;
 use std::fmt;
 
-/// Why a store did not do what it was asked. Its content is what it was.
+/// Why a store did not answer a query or make a change. Its content is unchanged.
 #[derive(Clone, Copy, Debug, PartialEq, Eq)]
 pub enum StoreFault {
-    /// A growth was refused.
+    /// Memory ran out.
     OutOfMemory,
-    /// The place where the store keeps its content failed, or gave what no store writes there.
+    /// The storage failed, or returned data that no store writes.
     Store,
 }
 

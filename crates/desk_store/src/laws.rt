@@ -1,4 +1,4 @@
-//! Laws of what a store keeps. Each is the contract of a function that does nothing else.
+//! Laws of the content of a store. Each is the contract of a function that does nothing else.
 
 ghost use Rattle.std.specs.Prelude.{ℕ, ◌*◌, ◌≤◌, List};
 ghost use Rattle.volume4d.specs.VolumeLimits.{max_cover, max_volumes};
@@ -8,7 +8,7 @@ ghost use Rattle.desk_store.specs.World.{World, cells_beside, plans_of, spans_be
 
 use volume4d::laws;
 
-/// An operator's plans take at most 6,553,600 spans.
+/// An operator's live plans but the one with `id` have at most 6,553,600 spans, so 32 bits can count them.
 pub fn spans_are_few()
     ensures { (w : World) (operator id : List ℕ) → IsContent w
         → spans_beside id (plans_of operator w) ≤ max_plans * (max_volumes * max_cover) }
@@ -16,7 +16,7 @@ pub fn spans_are_few()
     laws::spans_are_few();
 }
 
-/// An operator's plans have at most 6,553,600 cells.
+/// An operator's plans but the one with `id` have at most 6,553,600 cells, so 32 bits can count them.
 pub fn cells_are_few()
     ensures { (w : World) (operator id : List ℕ) → IsContent w
         → cells_beside id (plans_of operator w) ≤ max_plans * (max_volumes * max_cover) }

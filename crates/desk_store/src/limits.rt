@@ -1,5 +1,5 @@
-//! The limits that a row keeps by the types of its parts, said as clauses. Each call here is made for its
-//! clause alone.
+//! Limits that the types of a row's parts guarantee, stated as clauses. These functions do nothing; each is
+//! called for its clause alone.
 
 ghost use Rattle.std.specs.Prelude.{IsTrue};
 ghost use Rattle.std.specs.List.{AllByRecursion};
@@ -15,60 +15,60 @@ use desk_rules::plan_id::PlanId;
 use s2_cellid::CellId;
 use volume4d::{Footprint, Volume};
 
-/// An operator has a valid name.
-pub(crate) fn name_within(operator: &Operator)
+/// Proves that an operator has a valid name.
+pub(crate) fn name_is_valid(operator: &Operator)
     ensures { IsTrue (is_operator_name operator.now) }
 {
     let _name = operator.as_str();
 }
 
-/// A row has an id of 16 bytes, and an area within the limits.
-pub(crate) fn row_within(row: &PlanRow)
+/// Proves that a row has an id of 16 bytes, and an area within the limits.
+pub(crate) fn row_is_valid(row: &PlanRow)
     ensures { IsPlan row.now }
 {
-    id_within(&row.id);
-    volumes_within(row.area.volumes());
+    id_is_valid(&row.id);
+    volumes_are_valid(row.area.volumes());
 }
 
-// An id has 16 bytes.
-fn id_within(id: &PlanId)
+// Proves that an id has 16 bytes.
+fn id_is_valid(id: &PlanId)
     ensures { IsId id.now }
 {
     let mut buffer = [0u8; 36];
     let _text = id.encode(&mut buffer);
 }
 
-// Volumes are within the limits.
-fn volumes_within(volumes: &[Volume])
+// Proves that each volume is within the limits.
+fn volumes_are_valid(volumes: &[Volume])
     ensures { AllByRecursion IsBlock volumes.now }
 {
     for volume in volumes {
-        volume_within(volume);
+        volume_is_valid(volume);
     }
 }
 
-// A volume is within the limits.
-fn volume_within(volume: &Volume)
+// Proves that a volume is within the limits.
+fn volume_is_valid(volume: &Volume)
     ensures { IsBlock volume.now }
 {
     let _window = volume.window();
-    footprint_within(volume.footprint());
+    footprint_is_valid(volume.footprint());
 }
 
-// The cells of a footprint are cells, and its rectangle is one.
-fn footprint_within(footprint: &Footprint)
+// Proves that the cells of a footprint have valid ids, or that its rectangle is valid.
+fn footprint_is_valid(footprint: &Footprint)
     ensures { HasValidParts (shape_of footprint.now) }
 {
     match footprint {
-        Footprint::Cells(cells) => cells_within(cells),
+        Footprint::Cells(cells) => cells_are_valid(cells),
         Footprint::Rectangle(rect) => {
             let _level = rect.level();
         }
     }
 }
 
-// Cells are cells.
-fn cells_within(cells: &[CellId])
+// Proves that each cell has a valid id.
+fn cells_are_valid(cells: &[CellId])
     ensures { AllByRecursion IsCellId cells.now }
 {
     for cell in cells {

@@ -21,7 +21,7 @@ ghost use Rattle.desk_store.specs.declared.change.Change.TheVariants as change;
 use crate::change::Change;
 use crate::fault::StoreFault;
 use crate::laws::{cells_are_few, spans_are_few};
-use crate::limits::{name_within, row_within};
+use crate::limits::{name_is_valid, row_is_valid};
 use crate::plan::Plan;
 use crate::sizes::Sizes;
 use crate::store::PlanStore;
@@ -35,15 +35,15 @@ use std::marker::Model;
 use std::slice;
 use volume4d::{Held, Slab};
 
-/// What a store in memory keeps of an operator.
+/// An enrolled operator's ceiling and the number of its plans, closed ones included.
 #[derive(Clone, Copy, Debug)]
 pub struct CeilingEntry {
     ceiling: u32,
     plan_count: u32,
 }
 
-/// Operators and plans in ordered lists in memory. It is always honest, and meets no fault of its own.
-/// Nothing of it is left for another start, so nothing is found.
+/// A store in ordered maps in memory. Its storage is always intact and never fails. The content is lost when
+/// the program ends, so there are no crash states.
 #[derive(Drop)]
 pub struct ListStore {
     operators: BTreeMap<Operator, CeilingEntry>,
@@ -64,7 +64,7 @@ impl Model for ListStore {
 }
 
 impl ListStore {
-    /// A store of no operators and no plans, which takes what it needs from the allocator.
+    /// A store without operators and plans, which takes its memory from `alloc`.
     pub fn new(alloc: Global) -> ListStore
         ensures { result ≡ record { operators = []; plans = [] } }
     {
@@ -155,13 +155,13 @@ impl PlanStore for ListStore {
 }
 
 impl ListStore {
-    // Lists an operator under a ceiling.
+    // Enrols an operator with a ceiling, or replaces its ceiling.
     fn enrol(&mut self, operator: Operator, ceiling: u32) -> Result<(), AllocError>
         requires { IsFitting (change.Enrol operator ceiling) self.old }
         ensures ok { OnOk result (self.new ≡ changed_by (change.Enrol operator ceiling) self.old) }
         ensures err { OnErr result (self.new ≡ self.old) }
     {
-        name_within(&operator);
+        name_is_valid(&operator);
         let plan_count = count_in(&self.operators, &operator);
         self.operators.insert(
             operator,
@@ -173,13 +173,13 @@ impl ListStore {
         Ok(())
     }
 
-    // Stores a row of an operator.
+    // Stores a row of an operator, in place of the plan with its id, if there is one.
     fn put(&mut self, operator: Operator, row: PlanRow) -> Result<(), AllocError>
         requires { IsFitting (change.Put operator row) self.old }
         ensures ok { OnOk result (self.new ≡ changed_by (change.Put operator row) self.old) }
         ensures err { OnErr result (self.new ≡ self.old) }
     {
-        row_within(&row);
+        row_is_valid(&row);
         let id = row.id;
         let plan = Plan::try_new(row)?;
         let before = self.plans.insert((operator, id), plan)?;
@@ -190,7 +190,7 @@ impl ListStore {
         Ok(())
     }
 
-    // Closes an operator's plan.
+    // Closes the operator's plan with this id.
     fn close(&mut self, operator: &Operator, id: &PlanId)
         requires { IsFitting (change.Close operator.now id.now) self.old }
         ensures { self.new ≡ changed_by (change.Close operator.now id.now) self.old }
@@ -200,7 +200,7 @@ impl ListStore {
         }
     }
 
-    // Takes out plans of an operator.
+    // Removes the operator's plans with these ids.
     fn clear(&mut self, operator: &Operator, ids: &Vec<PlanId>)
         requires { IsFitting (change.Clear operator.now ids.now) self.old }
         ensures { self.new ≡ changed_by (change.Clear operator.now ids.now) self.old }
@@ -215,7 +215,7 @@ type Operators = BTreeMap<Operator, CeilingEntry>;
 
 type Plans = BTreeMap<(Operator, PlanId), Plan>;
 
-// An operator's ceiling; none if it is not listed.
+// The operator's ceiling; `None` if it is not enrolled.
 fn ceiling_in(operators: &Operators, operator: &Operator) -> Option<u32>
     ensures { result ≡ ceiling_at operator.now operators.now.entries }
 {
@@ -223,7 +223,7 @@ fn ceiling_in(operators: &Operators, operator: &Operator) -> Option<u32>
     Some(enrolment.ceiling)
 }
 
-// How many plans an operator has by its count; none if it is not listed.
+// The number of plans in the operator's entry; 0 if it is not enrolled.
 fn count_in(operators: &Operators, operator: &Operator) -> u32
     ensures { result ≡ count_at operator.now operators.now.entries }
 {
@@ -233,7 +233,7 @@ fn count_in(operators: &Operators, operator: &Operator) -> u32
     }
 }
 
-// Replaces an operator's count.
+// Sets the number of plans in the operator's entry, if it is enrolled.
 fn set_count(operators: &mut Operators, operator: &Operator, count: u32)
     ensures { operators.new.entries ≡ with_count operator.now count operators.old.entries }
 {
@@ -242,14 +242,14 @@ fn set_count(operators: &mut Operators, operator: &Operator, count: u32)
     }
 }
 
-// Takes out the operator's plans of these ids.
+// Removes the operator's plans with these ids.
 fn remove_all(plans: &mut Plans, operator: &Operator, ids: &[PlanId])
     ensures { plans.new.entries ≡ without operator.now ids.now plans.old.entries }
 {
     plans.retain(|key, _| !is_among(operator, ids, key));
 }
 
-// The operator's plan of the id.
+// The operator's plan with this id, as a row.
 fn find_plan(plans: &Plans, operator: &Operator, id: &PlanId) -> Result<Option<PlanRow>, AllocError>
     ensures { IfOk result (λ row.
         row ≡ stored_of id.now (rows_by operator.now (filed_all plans.now.entries))) }
@@ -260,7 +260,7 @@ fn find_plan(plans: &Plans, operator: &Operator, id: &PlanId) -> Result<Option<P
     }
 }
 
-// The states of the operator's plan of the id.
+// The states of the operator's plan with this id.
 fn find_states(plans: &Plans, operator: &Operator, id: &PlanId) -> Option<States>
     ensures { result ≡ states_of
         (stored_of id.now (rows_by operator.now (filed_all plans.now.entries))) }
@@ -269,7 +269,7 @@ fn find_states(plans: &Plans, operator: &Operator, id: &PlanId) -> Option<States
     Some(plan.states())
 }
 
-// How many plans the operator has.
+// Counts the operator's plans, closed ones included.
 fn count_of(plans: &Plans, operator: &Operator) -> u32
     requires { length (rows_by operator.now (filed_all plans.now.entries)) ≤ max_plans }
     ensures { result ≡ length (rows_by operator.now (filed_all plans.now.entries)) }
@@ -283,7 +283,7 @@ fn count_of(plans: &Plans, operator: &Operator) -> u32
     count
 }
 
-// How much the operator's plans take, but for its plan with the id.
+// The sizes of the operator's plans, without the plan with the id `id`.
 fn sizes_of(plans: &Plans, operator: &Operator, id: &PlanId) -> Sizes
     requires spans { spans_beside id.now (rows_by operator.now (filed_all plans.now.entries)) < 2 ^ 32 }
     requires cells { cells_beside id.now (rows_by operator.now (filed_all plans.now.entries)) < 2 ^ 32 }
@@ -298,7 +298,7 @@ fn sizes_of(plans: &Plans, operator: &Operator, id: &PlanId) -> Sizes
     sizes
 }
 
-// How much a plan takes, if it isn't the one with the id.
+// The sizes of `plan`, or none if `key` has the id `id`.
 fn sizes_unless(id: &PlanId, key: &(Operator, PlanId), plan: &Plan) -> Sizes
     ensures spans { result.spans ≡ count_unless row_spans id.now (filed_of (key.now, plan.now)).row }
     ensures cells { result.cells ≡ count_unless row_cells id.now (filed_of (key.now, plan.now)).row }
@@ -309,7 +309,7 @@ fn sizes_unless(id: &PlanId, key: &(Operator, PlanId), plan: &Plan) -> Sizes
     }
 }
 
-// The operator's plans.
+// The operator's plans as rows, ascending by id.
 fn rows_of(alloc: Global, plans: &Plans, operator: &Operator) -> Result<Vec<PlanRow>, AllocError>
     ensures { IfOk result (λ rows.
         rows.items ≡ rows_by operator.now (filed_all plans.now.entries)) }
@@ -323,8 +323,8 @@ fn rows_of(alloc: Global, plans: &Plans, operator: &Operator) -> Result<Vec<Plan
     Ok(rows)
 }
 
-// The slabs that all live plans hold but the operator's own of the id, from a priority on, where
-// they meet one of the extents; ascending by their first leaves, so that they are met in one pass.
+// The slabs of live plans of priority `least` or a greater one that overlap one of `extents`, without those
+// of the operator's plan with this id. They ascend by first leaf, so that one pass can compare them.
 fn rivals_of(
     alloc: Global,
     plans: &Plans,
@@ -345,7 +345,7 @@ fn rivals_of(
     Ok(in_order(helds))
 }
 
-// The same slabs, ascending by their first leaves.
+// Sorts slabs by their first leaves.
 fn in_order(mut helds: Vec<Held>) -> Vec<Held>
     ensures same { (x : Point) → top_held result.items x ≡ top_held helds.items x }
     ensures order { IsNonDecreasingBy (λ h. h.slab.first) result.items }
@@ -354,8 +354,8 @@ fn in_order(mut helds: Vec<Held>) -> Vec<Held>
     helds
 }
 
-// Appends the slabs that a plan holds and that meet one of the extents, unless it is the operator's
-// own of the id or of a lower priority.
+// Appends the slabs of `plan` that overlap one of `extents`, unless it is closed, is the operator's own with
+// this id, or has a priority below `least`.
 fn push_rival(
     helds: &mut Vec<Held>,
     operator: &Operator,
@@ -374,10 +374,10 @@ fn push_rival(
     if !plan.is_rival(least) {
         return Ok(());
     }
-    plan.push_slabs(helds, extents)
+    plan.push_near(helds, extents)
 }
 
-// The slabs that the live plans of other operators hold; none if nothing is asked.
+// The slabs of the live plans of other operators; none if there are no extents.
 fn others_in(
     alloc: Global,
     plans: &Plans,
@@ -393,7 +393,7 @@ fn others_in(
     others_of(alloc, plans, operator)
 }
 
-// The slabs that the live plans of other operators hold.
+// The slabs of the live plans of other operators.
 fn others_of(alloc: Global, plans: &Plans, operator: &Operator) -> Result<Vec<Held>, AllocError>
     ensures { IfOk result (λ helds. (x : Point) →
         top_held helds.items x ≡ others_top operator.now (filed_all plans.now.entries) x) }
@@ -405,7 +405,7 @@ fn others_of(alloc: Global, plans: &Plans, operator: &Operator) -> Result<Vec<He
     Ok(helds)
 }
 
-// Appends the slabs that a plan holds, unless it is the operator's.
+// Appends the slabs of `plan` if it is live and another operator's.
 fn push_other(
     helds: &mut Vec<Held>,
     operator: &Operator,
@@ -418,17 +418,17 @@ fn push_other(
     if is_by(operator, key) {
         return Ok(());
     }
-    plan.push_held(helds)
+    plan.push_if_live(helds)
 }
 
-// Whether a plan is the operator's.
+// Whether the plan with this key belongs to the operator.
 fn is_by(operator: &Operator, key: &(Operator, PlanId)) -> bool
     ensures { result ≡ is_eq (text_cmp operator.now key.now.0) }
 {
     operator.cmp(&key.0).is_eq()
 }
 
-// Whether a plan is the operator's own of the id.
+// Whether the plan with this key is the operator's plan with the id `id`.
 fn is_own(operator: &Operator, id: &PlanId, key: &(Operator, PlanId)) -> bool
     ensures { result ≡
         (is_eq (text_cmp operator.now key.now.0) && is_eq (text_cmp id.now key.now.1)) }
@@ -439,7 +439,7 @@ fn is_own(operator: &Operator, id: &PlanId, key: &(Operator, PlanId)) -> bool
     id.cmp(&key.1).is_eq()
 }
 
-// Whether a plan is one of the operator's of these ids.
+// Whether the plan with this key is one of the operator's plans with these ids.
 fn is_among(operator: &Operator, ids: &[PlanId], key: &(Operator, PlanId)) -> bool
     ensures { result ≡ is_one_of operator.now ids.now key.now }
 {

@@ -19,8 +19,8 @@ use std::alloc::AllocError;
 use std::marker::Model;
 use volume4d::{Area, Held, Slab, bounds_of};
 
-/// A plan, but for its operator and its id, with the slabs of its area and bounds round them, which
-/// are made once.
+/// A stored plan without its operator and id, which are its key. The slabs of its area and the bounds of all
+/// slabs are computed once.
 #[derive(Drop)]
 pub struct Plan {
     priority: u32,
@@ -47,11 +47,11 @@ impl Model for Plan {
 }
 
 impl Plan {
-    /// The plan of a row.
+    /// Makes the plan of a row, without the row's id.
     ///
     /// # Errors
     ///
-    /// `AllocError` for want of memory.
+    /// `AllocError` if memory runs out.
     pub fn try_new(row: PlanRow) -> Result<Plan, AllocError>
         ensures { IfOk result (λ plan. plan ≡ parts_of row) }
     {
@@ -67,11 +67,11 @@ impl Plan {
         })
     }
 
-    /// The row of the plan with its id.
+    /// The plan as a row, with the id `id`.
     ///
     /// # Errors
     ///
-    /// `AllocError` for want of memory.
+    /// `AllocError` if memory runs out.
     pub fn row(&self, id: PlanId) -> Result<PlanRow, AllocError>
         ensures { IfOk result (λ row. row ≡ row_of id self.now) }
     {
@@ -94,8 +94,7 @@ impl Plan {
         }
     }
 
-    /// How much it takes: the spans of its area along the S2 curve until it is closed, and the cells of its
-    /// area.
+    /// The sizes of the plan: the spans of its area along the S2 curve if it is live, and its cells.
     pub fn sizes(&self) -> Sizes
         ensures spans { result.spans ≡ cond (is_live self.now.usage) (area_spans self.now.area) 0 }
         ensures cells { result.cells ≡ area_cells self.now.area }
@@ -110,21 +109,21 @@ impl Plan {
         }
     }
 
-    /// Gives it the usage `Closed`.
+    /// Gives the plan the usage `Closed`.
     pub fn close(&mut self)
         ensures { self.new ≡ closed_parts self.old }
     {
         self.usage = Usage::Closed;
     }
 
-    /// Whether its bounds have a point of one of some extents. Its area has none where they have none.
+    /// Whether the plan's bounds overlap one of `extents`. If not, no extent shares a point with the plan.
     pub fn may_meet(&self, extents: &[Slab]) -> bool
         ensures { result ≡ false → HasNoPoint self.now.area extents.now }
     {
         overlaps_one(&self.bounds, extents)
     }
 
-    /// Whether it is live and has a priority at least.
+    /// Whether the plan is live and has the priority `least` or a greater one.
     pub fn is_rival(&self, least: u32) -> bool
         ensures { result ≡ (is_live self.now.usage && nat_le least self.now.priority) }
     {
@@ -134,44 +133,44 @@ impl Plan {
         self.priority >= least
     }
 
-    /// Appends the slabs of its area that meet one of some extents, at its priority.
+    /// Appends the slabs of the plan's area that overlap one of `extents`, with its priority.
     ///
     /// # Errors
     ///
-    /// `AllocError` for want of memory.
-    pub fn push_slabs(&self, helds: &mut Vec<Held>, extents: &[Slab]) -> Result<(), AllocError>
+    /// `AllocError` if memory runs out.
+    pub fn push_near(&self, helds: &mut Vec<Held>, extents: &[Slab]) -> Result<(), AllocError>
         ensures { OnOk result (AddLevel extents.now helds.old.items helds.new.items
             (λ x. level_where (area_has self.now.area x) self.now.priority)) }
     {
-        push_helds(helds, &self.slabs, self.priority, extents)
+        push_overlapping(helds, &self.slabs, self.priority, extents)
     }
 
-    /// Appends the slabs that it holds, at its priority.
+    /// Appends all slabs of the plan's area with its priority if it is live, and none otherwise.
     ///
     /// # Errors
     ///
-    /// `AllocError` for want of memory.
-    pub fn push_held(&self, helds: &mut Vec<Held>) -> Result<(), AllocError>
+    /// `AllocError` if memory runs out.
+    pub fn push_if_live(&self, helds: &mut Vec<Held>) -> Result<(), AllocError>
         ensures { OnOk result (AddsLevel helds.old.items helds.new.items
             (λ x. level_where (is_live self.now.usage && area_has self.now.area x) self.now.priority)) }
     {
         if self.usage.is_live() {
-            push_each(helds, &self.slabs, self.priority)
+            push_all(helds, &self.slabs, self.priority)
         } else {
             Ok(())
         }
     }
 }
 
-// Whether a slab overlaps one of some others.
+// Whether `slab` overlaps one of `others`.
 fn overlaps_one(slab: &Slab, others: &[Slab]) -> bool
     ensures { result ≡ list_any (overlap slab.now) others.now }
 {
     others.iter().any(|other| slab.overlaps(other))
 }
 
-// Appends the slabs that meet one of some extents, at a priority.
-fn push_helds(
+// Appends those of `slabs` that overlap one of `extents`, with `priority`.
+fn push_overlapping(
     helds: &mut Vec<Held>,
     slabs: &[Slab],
     priority: u32,
@@ -191,8 +190,8 @@ fn push_helds(
     Ok(())
 }
 
-// Appends slabs, at a priority.
-fn push_each(helds: &mut Vec<Held>, slabs: &[Slab], priority: u32) -> Result<(), AllocError>
+// Appends all of `slabs`, with `priority`.
+fn push_all(helds: &mut Vec<Held>, slabs: &[Slab], priority: u32) -> Result<(), AllocError>
     ensures { OnOk result (AddsLevel helds.old.items helds.new.items
         (λ x. level_where (slabs_have slabs.now x) priority)) }
 {

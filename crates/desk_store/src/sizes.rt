@@ -1,29 +1,28 @@
-//! How much plans take.
+//! Quota usage: the numbers of spans and of cells that plans have.
 
 ghost use Rattle.std.specs.Prelude.{◌≡◌, ◌+◌, ◌<◌, ◌^◌};
 ghost use Rattle.desk_rules.specs.Plan.{row_cells, row_spans};
 
 use desk_rules::plan::PlanRow;
 
-/// How much plans take: the spans of those that are live, and the cells of all.
+/// The quota usage of plans: the spans of those that are live, and the cells of all.
 #[derive(Clone, Copy, Debug, PartialEq, Eq)]
 pub struct Sizes {
-    /// How many spans: one for each range of each of their volumes along the S2 curve.
+    /// The number of spans: one for each range of each live plan's volumes along the S2 curve.
     pub spans: u32,
-    /// How many cells: of each of their volumes those of its cell list, or of the canonical cover of its
-    /// rectangle.
+    /// The number of cells: those of each volume's cell list, or of the canonical cover of its rectangle.
     pub cells: u32,
 }
 
 impl Sizes {
-    /// What no plan takes.
+    /// The sizes of no plans: no spans and no cells.
     pub fn none() -> Sizes
         ensures { result ≡ record { spans = 0; cells = 0 } }
     {
         Sizes { spans: 0, cells: 0 }
     }
 
-    /// What a plan takes.
+    /// The sizes of one plan.
     pub fn of(row: &PlanRow) -> Sizes
         ensures { result ≡ record { spans = row_spans row.now; cells = row_cells row.now } }
     {
@@ -33,7 +32,7 @@ impl Sizes {
         }
     }
 
-    /// What both take together, where 32 bits can say it.
+    /// The sum of both; a number that exceeds 32 bits becomes `u32::MAX`.
     pub fn plus(self, other: Sizes) -> Sizes
         ensures spans { self.spans + other.spans < 2 ^ 32 → result.spans ≡ self.spans + other.spans }
         ensures cells { self.cells + other.cells < 2 ^ 32 → result.cells ≡ self.cells + other.cells }

@@ -17,38 +17,38 @@ use volume4d::{Held, Slab};
 
 /// Where a desk keeps its operators and plans.
 ///
-/// A store may lie on a disk, which may lose or change what was written. What a call answers is
-/// claimed where the store is honest as the call ends. That a reader, or a call that answers a fault,
-/// leaves the content as it was holds whether the store is honest or not.
+/// A store may be on a disk, which may lose or change what was written. The results of a call are guaranteed
+/// if the storage is still intact ("honest") as the call ends. In any case, a query, and a call that returns
+/// an error, leaves the content unchanged.
 ///
-/// What a crash leaves is claimed where the store is honest as well: a reader leaves what might have been
-/// found before it; a change leaves that or the changed content, and the changed content alone once it is
-/// made. A change that answers a fault may be found made at the next start, though it shows the content
-/// that it had.
+/// Crash states are guaranteed for intact storage only. After a crash in a query, a start finds a state that
+/// it could have found before; after one in a change, such a state or the changed content; and once a change
+/// has succeeded, the changed content only. A change that failed may still be found by the next start, though
+/// the running store doesn't show it.
 pub trait PlanStore {
     ghost use Rattle.desk_store.specs.StoreChange.{changed_by, IsFitting};
     ghost use Rattle.desk_store.specs.StoreFaults.{IsHonest, IsCounted};
     ghost use Rattle.desk_store.specs.Crashes.{LeavesOldOr, LeavesOnly};
 
-    /// The operators and plans that the store holds.
+    /// The operators and plans in the store.
     ghost content: { Self → World };
 
-    /// How much the store is in doubt: 0 while it is honest. It never falls.
+    /// 0 while the storage is intact: each read returned what was written. It never decreases.
     ghost doubt: { Self → ℕ };
 
-    /// How many faults of its own the store has met, in 64 bits, the last value standing for all above.
-    /// It never falls.
+    /// How many errors of its storage the store has met, up to the greatest number of 64 bits. It never
+    /// decreases.
     ghost faults: { Self → ℕ };
 
-    /// What a start may find if the program ends here, at a crash or otherwise: a content, where None stands
-    /// for what is no desk's. A clause that speaks of it is read as said of a crash within the call too.
+    /// The states that a start can find if the program stops now, by a crash or otherwise; None is an
+    /// invalid database. A clause about it holds for a crash within the call, too.
     ghost may_leave: { Self → Option World → Type 0 };
 
-    /// Each later read of the store's disk is tested, so that no lie of it is taken for the truth but one
-    /// that passes its test. What such a store means is said of each type of store.
+    /// Each later read is verified, so that changed data is accepted only if it passes the check. Each type
+    /// of store defines its check.
     ghost is_shielded: { Self → Type 0 };
 
-    /// The operator's ceiling, at most 1,000, or none where it is not enrolled.
+    /// The operator's ceiling, at most 1,000, or `None` if it is not enrolled.
     fn ceiling(&mut self, operator: &Operator) -> Result<Option<u32>, StoreFault>
         ensures value { IsHonest (doubt self.new) →
             IfOk result (λ ceiling. ceiling ≡ ceiling_of operator.now (content self.old)) }
@@ -56,29 +56,29 @@ pub trait PlanStore {
         ensures reads { OnlyReads content doubt faults may_leave is_shielded self.old self.new }
         ensures cause { IfErr result (IsCounted faults self.old self.new) };
 
-    /// The operator's plan of the id.
+    /// The operator's plan with this id, or `None` if there is none.
     fn plan(&mut self, operator: &Operator, id: &PlanId) -> Result<Option<PlanRow>, StoreFault>
         ensures value { IsHonest (doubt self.new) →
             IfOk result (λ row. row ≡ stored_of id.now (plans_of operator.now (content self.old))) }
         ensures reads { OnlyReads content doubt faults may_leave is_shielded self.old self.new }
         ensures cause { IfErr result (IsCounted faults self.old self.new) };
 
-    /// The states of the operator's plan of the id.
+    /// The states of the operator's plan with this id, or `None` if there is none.
     fn states(&mut self, operator: &Operator, id: &PlanId) -> Result<Option<States>, StoreFault>
         ensures value { IsHonest (doubt self.new) → IfOk result (λ found.
             found ≡ states_of (stored_of id.now (plans_of operator.now (content self.old)))) }
         ensures reads { OnlyReads content doubt faults may_leave is_shielded self.old self.new }
         ensures cause { IfErr result (IsCounted faults self.old self.new) };
 
-    /// How many plans the operator has, closed ones too.
+    /// How many plans the operator has, closed ones included.
     fn own_count(&mut self, operator: &Operator) -> Result<u32, StoreFault>
         ensures value { IsHonest (doubt self.new) →
             IfOk result (λ count. count ≡ length (plans_of operator.now (content self.old))) }
         ensures reads { OnlyReads content doubt faults may_leave is_shielded self.old self.new }
         ensures cause { IfErr result (IsCounted faults self.old self.new) };
 
-    /// How much the operator's plans take, but for its plan with this id: the spans of those that are live,
-    /// and the cells of all.
+    /// The sizes of the operator's plans, without its plan with this id: the spans of live plans, and the
+    /// cells of all.
     fn own_sizes(&mut self, operator: &Operator, id: &PlanId) -> Result<Sizes, StoreFault>
         ensures value { IsHonest (doubt self.new) → IfOk result (λ sizes.
             sizes ≡ sizes_beside id.now (plans_of operator.now (content self.old))) }
@@ -93,9 +93,9 @@ pub trait PlanStore {
         ensures reads { OnlyReads content doubt faults may_leave is_shielded self.old self.new }
         ensures cause { IfErr result (IsCounted faults self.old self.new) };
 
-    /// Slabs held by all live plans but the operator's own of the id: at each point of the extent the
-    /// greatest priority among the slabs is the greatest that these plans hold there, where that is at
-    /// least `least`, and there is none otherwise. Of points outside the extent they say nothing.
+    /// Slabs of live plans, without the operator's own plan with this id. At each point of the extent, the
+    /// greatest priority among the slabs is the greatest that these plans hold there if it is at least
+    /// `least`, and none otherwise. Outside the extent, the slabs mean nothing.
     fn rivals(
         &mut self,
         operator: &Operator,
@@ -108,9 +108,9 @@ pub trait PlanStore {
         ensures reads { OnlyReads content doubt faults may_leave is_shielded self.old self.new }
         ensures cause { IfErr result (IsCounted faults self.old self.new) };
 
-    /// Slabs held by all live plans but the operator's own of the id: at each point of the extents the
-    /// greatest priority among the slabs is the greatest that these plans hold there, where that is at
-    /// least `least`, and there is none otherwise. Of points outside the extents they say nothing.
+    /// Slabs of live plans, without the operator's own plan with this id. At each point of the extents, the
+    /// greatest priority among the slabs is the greatest that these plans hold there if it is at least
+    /// `least`, and none otherwise. Outside the extents, the slabs mean nothing.
     fn rivals_near(
         &mut self,
         operator: &Operator,
@@ -123,9 +123,9 @@ pub trait PlanStore {
         ensures reads { OnlyReads content doubt faults may_leave is_shielded self.old self.new }
         ensures cause { IfErr result (IsCounted faults self.old self.new) };
 
-    /// Slabs held by the live plans of all other operators: at each point of the extents the greatest
-    /// priority among the slabs is the greatest that these operators hold there. Of points outside the
-    /// extents they say nothing.
+    /// Slabs of the live plans of all other operators. At each point of the extents, the greatest priority
+    /// among the slabs is the greatest that these operators hold there. Outside the extents, the slabs mean
+    /// nothing.
     fn held_by_others(
         &mut self,
         operator: &Operator,
@@ -136,9 +136,9 @@ pub trait PlanStore {
         ensures reads { OnlyReads content doubt faults may_leave is_shielded self.old self.new }
         ensures cause { IfErr result (IsCounted faults self.old self.new) };
 
-    /// Makes the change, whole or not at all. The store may be asked for a change that fits its
-    /// content; a store that is not honest may be asked for any.
-    // Long: a store's own promise, each part of which a caller cites alone.
+    /// Makes the change, whole or not at all. The change has to fit the content if the storage is intact: for
+    /// example, the operator of a stored plan is enrolled.
+    // Long: callers cite each clause by itself.
     fn apply(&mut self, change: &Change) -> Result<(), StoreFault>
         requires { IsHonest (doubt self.old) → IsFitting change.now (content self.old) }
         ensures ok { IsHonest (doubt self.new) →

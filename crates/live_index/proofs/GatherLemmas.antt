@@ -110,10 +110,10 @@ module _ {C : Type 0} (vols : C → List LiveVolume) where
   put_there (x ∷ cs) (suc at) d a b h r =
       ap (λ vs. vols x ++ vs) (put_there cs at d a b (omega (arith, h)) r)
 
-  pub put_behind : (cs : List C) (at : ℕ) (d a b : C) → at < length cs
+  pub insert_after : (cs : List C) (at : ℕ) (d a b : C) → at < length cs
       → vols (get_or cs at d) ≡ vols a ++ vols b
       → gather vols (insert (set cs at a) (at + 1) b) ≡ gather vols cs
-  put_behind cs at d a b h r =
+  insert_after cs at d a b h r =
       ap (λ n. gather vols (insert (set cs at a) n b)) (sym (next_is at)) ∙ put_there cs at d a b h r
 
   -- ---- an empty one taken out

@@ -27,13 +27,13 @@ use Rattle.desk_store.specs.OwnRows as rows
 use Rattle.desk_store.specs.OwnRows.{other_level, others_top, rival_level, rivals_top}
 use Rattle.desk_store.proofs.lemmas.Order.{is_equal}
 use Rattle.desk_store.proofs.lemmas.Rival.{at_least_greater, others_top-cons, others_top-nil, held_by_others, rivals_top-cons, rivals_top-nil, held_by_rivals}
-use Rattle.live_index.specs.declared.fence.BoundingBox.{BoundingBox}
+use Rattle.live_index.specs.declared.bbox.BoundingBox.{BoundingBox}
 use Rattle.live_index.specs.declared.near.NearPlans.{NearPlans}
 use Rattle.live_index.specs.declared.near.PlanKey.{PlanKey}
 use Rattle.live_index.specs.declared.near.Wanted.{Wanted}
 use Rattle.slab_regions.specs.declared.sought.Sought.{Sought}
 use Rattle.live_index.specs.declared.volume.LiveVolume.{LiveVolume}
-use Rattle.live_index.specs.Live.{AreLive, AreVolumes, AreVolumesOf, IsFenced, IsLiveVolume, is_volume_of, may_meet, gather}
+use Rattle.live_index.specs.Live.{AreLive, AreVolumes, AreVolumesOf, IsInBox, IsLiveVolume, is_volume_of, may_meet, gather}
 use Rattle.live_index.specs.Places.{key_cmp}
 use Rattle.slab_regions.specs.Sought.{meets, sought_has}
 use Rattle.live_index.specs.Near.{AddsPlans, AreNearPlans, AreWantedPlans, IsAnothers, LooksOn, TakesPlan, is_among, is_id, is_listed, is_missed_at, is_near_to, is_own_volume, is_wanted_volume, key_of, listed_level, listed_top}
@@ -170,7 +170,7 @@ all_with P k (x ∷ xs) h hs = go (key_cmp k x) (all_with P k xs h hs.1) where
 -- ---- a volume's plan is taken
 
 pub takes_one : (live : LiveVolume) (old new : NearPlans) (k : PlanKey) → k ≡ key_of live
-    → new.keys.keys ≡ insert_key key_cmp old.keys.keys k → new.is_whole ≡ old.is_whole
+    → new.keys.keys ≡ insert_key key_cmp old.keys.keys k → new.is_complete ≡ old.is_complete
     → TakesPlan live old new
 takes_one live old new k mine is same = record {
   kept = λ other h. among other ∙ ap (λ b. b || is_volume_of k.operator k.id other) h;
@@ -195,7 +195,7 @@ takes_one live old new k mine is same = record {
 module _ (s : Wanted) where
   -- nothing is added, and nothing was missed if all are listed
   pub adds_nothing : (inside : Point → Bool) (lives : List LiveVolume) (a : NearPlans)
-      → (a.is_whole ≡ true → (x : Point) → inside x ≡ true
+      → (a.is_complete ≡ true → (x : Point) → inside x ≡ true
       → list_any (is_missed_at s a.keys.keys x) lives ≡ false) → AddsPlans s inside lives a a
   adds_nothing inside lives a none = record {
     kept = λ live h. h;
@@ -315,7 +315,7 @@ module _ (s : Wanted) where
         ∙ ap (λ t. slabs_have (take i extents) x || slab_has t x) (sym is)) ∙ here);
     another = λ h. two.another (one.another h);
   } where
-    go : (x : Point) → c.is_whole ≡ true → (h : Bool) → slabs_have (take i extents) x ≡ h
+    go : (x : Point) → c.is_complete ≡ true → (h : Bool) → slabs_have (take i extents) x ≡ h
         → (h || slab_has extent x) ≡ true → list_any (is_missed_at s c.keys.keys x) lives ≡ false
     go x e true k there = later_missed b.keys.keys c.keys.keys x lives two.kept (one.whole (two.still e) x k)
     go x e false k there = two.whole e x there
@@ -333,30 +333,30 @@ module _ (s : Wanted) where
   -- ---- chunks
 
   -- a volume that is wanted and has a point of what is sought is within a fence that may meet it
-  apart : (sought : Sought) (fence : BoundingBox) (live : LiveVolume) (ks : List PlanKey) (x : Point)
-      → IsFenced fence live → may_meet s.least sought fence ≡ false → sought_has sought x ≡ true
+  apart : (sought : Sought) (bbox : BoundingBox) (live : LiveVolume) (ks : List PlanKey) (x : Point)
+      → IsInBox bbox live → may_meet s.least sought bbox ≡ false → sought_has sought x ≡ true
       → is_missed_at s ks x live ≡ false
-  apart sought fence live ks x h far here =
+  apart sought bbox live ks x h far here =
       go (slab_has live.bounds x) (nat_le s.least live.priority) (not (is_own_volume s live))
       (not (is_among ks live)) refl refl where
         go : (b c d e : Bool) → slab_has live.bounds x ≡ b → nat_le s.least live.priority ≡ c
             → ((b && (c && d)) && e) ≡ false
         go false c d e has high = refl
         go true false d e has high = refl
-        go true true d e has high = absurd (true≢false (sym (and_from (nat_le s.least fence.top) _
-            (still_low s.least live.priority fence.top h.top high)
-            (meeting fence.bounds sought x (within_has live.bounds fence.bounds x h.within has) here)) ∙ far))
+        go true true d e has high = absurd (true≢false (sym (and_from (nat_le s.least bbox.top) _
+            (still_low s.least live.priority bbox.top h.top high)
+            (meeting bbox.bounds sought x (within_has live.bounds bbox.bounds x h.within has) here)) ∙ far))
 
-  pub adds_fenced : (sought : Sought) (fence : BoundingBox) (lives : List LiveVolume) (a : NearPlans)
-      → may_meet s.least sought fence ≡ false → AllByRecursion (IsFenced fence) lives
+  pub adds_fenced : (sought : Sought) (bbox : BoundingBox) (lives : List LiveVolume) (a : NearPlans)
+      → may_meet s.least sought bbox ≡ false → AllByRecursion (IsInBox bbox) lives
       → AddsPlans s (sought_has sought) lives a a
-  adds_fenced sought fence lives a far h =
+  adds_fenced sought bbox lives a far h =
       adds_nothing (sought_has sought) lives a (λ e x here. all_apart x here lives h) where
         all_apart : (x : Point) → sought_has sought x ≡ true → (ls : List LiveVolume)
-            → AllByRecursion (IsFenced fence) ls → list_any (is_missed_at s a.keys.keys x) ls ≡ false
+            → AllByRecursion (IsInBox bbox) ls → list_any (is_missed_at s a.keys.keys x) ls ≡ false
         all_apart x here [] k = refl
         all_apart x here (l ∷ ls) k =
-            λ i. apart sought fence l a.keys.keys x k.0 far here i || all_apart x here ls k.1 i
+            λ i. apart sought bbox l a.keys.keys x k.0 far here i || all_apart x here ls k.1 i
 
 -- ---- what plans that are listed hold
 
@@ -517,7 +517,7 @@ adds_next vols P s inside cs i one a b c below is first then whole =
 -- what was added to none, if all are listed
 pub near_plans : (s : Wanted) (inside : Point → Bool) (lives : List LiveVolume) (start near : NearPlans)
     (ks : List PlanKey) → start.keys.keys ≡ [] → AddsPlans s inside lives start near
-    → ks ≡ near.keys.keys → near.is_whole ≡ true → AreNearPlans s inside lives ks
+    → ks ≡ near.keys.keys → near.is_complete ≡ true → AreNearPlans s inside lives ks
 near_plans s inside lives start near ks none added same whole = record {
   whole = λ x here. ap (λ js. list_any (is_missed_at s js x) lives) same ∙ added.whole whole x here;
   another = subst (AllByRecursion (IsAnothers s)) (sym same)

@@ -16,11 +16,11 @@ use Rattle.desk_store.specs.World.{Filed, World, held, is_by, text_cmp}
 use Rattle.desk_store.specs.OwnRows.{other_level, others_top}
 use Rattle.desk_store.proofs.lemmas.Rival.{others_top-cons, others_top-nil, held_by_others}
 use Rattle.live_index.specs.declared.volume.LiveVolume.{LiveVolume}
-use Rattle.live_index.specs.declared.fence.BoundingBox.{BoundingBox}
+use Rattle.live_index.specs.declared.bbox.BoundingBox.{BoundingBox}
 use Rattle.live_index.specs.declared.chunk.Chunk.{Chunk}
 use Rattle.live_index.specs.declared.group.Group.{Group}
 use Rattle.live_index.specs.declared.live.LiveIndex.{LiveIndex}
-use Rattle.live_index.specs.Live.{AreHedged, AreKeptOnce, AreLive, AreVolumes, AreVolumesOf, IsFenced, IsHedged, IsLiveVolume, IsWhole, gather, volumes_in, volumes_of, volumes_under}
+use Rattle.live_index.specs.Live.{AreBoundedGroups, AreKeptOnce, AreLive, AreVolumes, AreVolumesOf, IsInBox, IsBoundedGroup, IsLiveVolume, IsBoundedChunk, gather, volumes_in, volumes_of, volumes_under}
 use Rattle.slab_regions.specs.Regions.{HaveEach}
 use Rattle.live_index.specs.Regions.{HoldNothingBeside, chunk_has_theirs, group_has_theirs, has_theirs, is_another, is_theirs, is_theirs_at}
 
@@ -49,15 +49,15 @@ module _ (o : List ℕ) (extent : Slab) (x : Point) (here : slab_has extent x �
       λ i. beside l parts.0 i || none_beside lives parts.1 i
 
   -- volumes within a fence that doesn't meet it
-  none_within : (fence : BoundingBox) (lives : List LiveVolume) → overlap fence.bounds extent ≡ false
-      → AllByRecursion (IsFenced fence) lives → list_any (is_theirs_at o x) lives ≡ false
-  none_within fence [] far h = refl
-  none_within fence (l ∷ lives) far h =
-      λ i. go (is_another o l) (slab_has l.bounds x) refl i || none_within fence lives far h.1 i where
+  none_within : (bbox : BoundingBox) (lives : List LiveVolume) → overlap bbox.bounds extent ≡ false
+      → AllByRecursion (IsInBox bbox) lives → list_any (is_theirs_at o x) lives ≡ false
+  none_within bbox [] far h = refl
+  none_within bbox (l ∷ lives) far h =
+      λ i. go (is_another o l) (slab_has l.bounds x) refl i || none_within bbox lives far h.1 i where
         go : (n b : Bool) → slab_has l.bounds x ≡ b → (n && b) ≡ false
         go false b e = refl
         go true false e = refl
-        go true true e = absurd (true≢false (sym (overlaps_round l.bounds fence.bounds extent h.0.within
+        go true true e = absurd (true≢false (sym (overlaps_round l.bounds bbox.bounds extent h.0.within
             (overlapping l.bounds extent x e here)) ∙ far))
 
   none_in : {C : Type 0} (vols : C → List LiveVolume) (P : C → Type 0) (has : C → Bool)
@@ -70,33 +70,33 @@ module _ (o : List ℕ) (extent : Slab) (x : Point) (here : slab_has extent x �
       list_any-append (is_theirs_at o x) (vols c) (gather vols cs)
       ∙ (λ i. each c h.0 parts.0 i || none_in vols P has each cs h.1 parts.1 i)
 
-  none_in_chunk : (c : Chunk) → IsWhole c → chunk_has_theirs o extent c ≡ false
+  none_in_chunk : (c : Chunk) → IsBoundedChunk c → chunk_has_theirs o extent c ≡ false
       → list_any (is_theirs_at o x) c.volumes.items ≡ false
-  none_in_chunk c whole far = go (overlap c.fence.bounds extent) refl far where
-    go : (b : Bool) → overlap c.fence.bounds extent ≡ b
+  none_in_chunk c whole far = go (overlap c.bbox.bounds extent) refl far where
+    go : (b : Bool) → overlap c.bbox.bounds extent ≡ b
         → (b && list_any (is_theirs o extent) c.volumes.items) ≡ false
         → list_any (is_theirs_at o x) c.volumes.items ≡ false
     go true e k = none_beside c.volumes.items k
-    go false e k = none_within c.fence c.volumes.items e whole
+    go false e k = none_within c.bbox c.volumes.items e whole
 
-  none_in_group : (g : Group) → IsHedged g → group_has_theirs o extent g ≡ false
+  none_in_group : (g : Group) → IsBoundedGroup g → group_has_theirs o extent g ≡ false
       → list_any (is_theirs_at o x) (volumes_in g.chunks.items) ≡ false
-  none_in_group g hedged far = go (overlap g.fence.bounds extent) refl far where
-    go : (b : Bool) → overlap g.fence.bounds extent ≡ b
+  none_in_group g group_bounded far = go (overlap g.bbox.bounds extent) refl far where
+    go : (b : Bool) → overlap g.bbox.bounds extent ≡ b
         → (b && list_any (chunk_has_theirs o extent) g.chunks.items) ≡ false
         → list_any (is_theirs_at o x) (volumes_in g.chunks.items) ≡ false
-    go true e k = none_in (λ c. c.volumes.items) IsWhole (chunk_has_theirs o extent) none_in_chunk
-        g.chunks.items hedged.each k
-    go false e k = none_within g.fence (volumes_in g.chunks.items) e hedged.all
+    go true e k = none_in (λ c. c.volumes.items) IsBoundedChunk (chunk_has_theirs o extent) none_in_chunk
+        g.chunks.items group_bounded.each k
+    go false e k = none_within g.bbox (volumes_in g.chunks.items) e group_bounded.all
 
-  none_kept : (kept : LiveIndex) → AreHedged kept.groups.items → has_theirs o kept extent ≡ false
+  none_kept : (kept : LiveIndex) → AreBoundedGroups kept.groups.items → has_theirs o kept extent ≡ false
       → list_any (is_theirs_at o x) (volumes_of kept) ≡ false
-  none_kept kept hedged far =
+  none_kept kept group_bounded far =
       let parts = either (list_any (group_has_theirs o extent) kept.groups.items)
       (list_any (is_theirs o extent) kept.unindexed.items) far in
       list_any-append (is_theirs_at o x) (volumes_under kept.groups.items) kept.unindexed.items
-      ∙ (λ i. none_in (λ g. volumes_in g.chunks.items) IsHedged (group_has_theirs o extent) none_in_group
-      kept.groups.items hedged parts.0 i || none_beside kept.unindexed.items parts.1 i)
+      ∙ (λ i. none_in (λ g. volumes_in g.chunks.items) IsBoundedGroup (group_has_theirs o extent) none_in_group
+      kept.groups.items group_bounded parts.0 i || none_beside kept.unindexed.items parts.1 i)
 
 -- ---- where no such volume lies others hold nothing
 
@@ -174,7 +174,7 @@ nothing_beside o w kept all extents near regions h have is each x here beside =
             → (slabs_have es x ≡ true → slabs_have (filter (has_theirs o kept) es) x ≡ false
             → list_any (is_theirs_at o x) (volumes_of kept) ≡ false)
             → list_any (is_theirs_at o x) (volumes_of kept) ≡ false
-        go false true f t m k ih = none_kept o e x t kept h.hedged f
+        go false true f t m k ih = none_kept o e x t kept h.group_bounded f
         go false false f t m k ih = ih m k
         go true c f t m k ih =
             let parts = either (slab_has e x) (slabs_have (filter (has_theirs o kept) es) x) k in

@@ -11,7 +11,7 @@ use Rattle.desk_store.specs.Changes.{filed_by}
 use Rattle.desk_store.specs.declared.change.Change.{Change}
 use Rattle.desk_store.specs.declared.change.Change.TheVariants.{Enrol, Put, Close, Clear}
 use Rattle.live_index.specs.declared.volume.LiveVolume.{LiveVolume}
-use Rattle.live_index.specs.declared.fence.BoundingBox.{BoundingBox}
+use Rattle.live_index.specs.declared.bbox.BoundingBox.{BoundingBox}
 use Rattle.live_index.specs.declared.chunk.Chunk.{Chunk}
 use Rattle.live_index.specs.declared.group.Group.{Group}
 use Rattle.live_index.specs.declared.places.Places.{Places}
@@ -69,17 +69,17 @@ chunk_has_plan operator id c = list_any (is_volume_of operator id) c.volumes.ite
 abbrev pub group_has_plan : List ℕ → List ℕ → Group → Bool
 group_has_plan operator id g = list_any (chunk_has_plan operator id) g.chunks.items
 
--- it lies within a fence, and has no greater priority
-pub record IsFenced (fence : BoundingBox) (live : LiveVolume) : Type 0 where
-  pub within : IsWithin live.bounds fence.bounds
-  pub top : live.priority ≤ fence.top
+-- a volume lies within a bounding box, and has no greater priority
+pub record IsInBox (bbox : BoundingBox) (live : LiveVolume) : Type 0 where
+  pub within : IsWithin live.bounds bbox.bounds
+  pub top : live.priority ≤ bbox.top
 
--- each volume of each chunk lies within its fence
-abbrev pub IsWhole : Chunk → Type 0
-IsWhole c = AllByRecursion (IsFenced c.fence) c.volumes.items
+-- each volume of a chunk lies within the chunk's bounding box
+abbrev pub IsBoundedChunk : Chunk → Type 0
+IsBoundedChunk c = AllByRecursion (IsInBox c.bbox) c.volumes.items
 
-abbrev pub AreFenced : List Chunk → Type 0
-AreFenced chunks = AllByRecursion IsWhole chunks
+abbrev pub AreBoundedChunks : List Chunk → Type 0
+AreBoundedChunks chunks = AllByRecursion IsBoundedChunk chunks
 
 -- the volumes of some things, one after the other
 abbrev pub gather : {C : Type 0} → (C → List LiveVolume) → List C → List LiveVolume
@@ -96,13 +96,13 @@ volumes_under groups = gather (λ g. volumes_in g.chunks.items) groups
 abbrev pub volumes_of : LiveIndex → List LiveVolume
 volumes_of kept = volumes_under kept.groups.items ++ kept.unindexed.items
 
--- each volume of a group lies within the fence of its chunk, and within that of the group
-pub record IsHedged (group : Group) : Type 0 where
-  pub each : AreFenced group.chunks.items
-  pub all : AllByRecursion (IsFenced group.fence) (volumes_in group.chunks.items)
+-- each volume of a group lies within the bounding box of its chunk, and within that of the group
+pub record IsBoundedGroup (group : Group) : Type 0 where
+  pub each : AreBoundedChunks group.chunks.items
+  pub all : AllByRecursion (IsInBox group.bbox) (volumes_in group.chunks.items)
 
-abbrev pub AreHedged : List Group → Type 0
-AreHedged groups = AllByRecursion IsHedged groups
+abbrev pub AreBoundedGroups : List Group → Type 0
+AreBoundedGroups groups = AllByRecursion IsBoundedGroup groups
 
 -- how many volumes of the operator's plan of the id there are
 abbrev pub count_of : List ℕ → List ℕ → List LiveVolume → ℕ
@@ -113,10 +113,11 @@ abbrev pub ArePlaced : Places → List LiveVolume → Type 0
 ArePlaced places lives =
     (operator id : List ℕ) → count_of operator id lives ≤ places_at operator id places
 
--- each live volume of a world is kept once, within the fences of its chunk and its group if it is in one
+-- each live volume of a world is kept once, within the bounding boxes of its chunk and its group if it is in
+-- one
 pub record AreKeptOnce (kept : LiveIndex) (w : World) : Type 0 where
   pub live : AreLive w (volumes_of kept)
-  pub hedged : AreHedged kept.groups.items
+  pub group_bounded : AreBoundedGroups kept.groups.items
   pub placed : ArePlaced kept.places (volumes_under kept.groups.items)
 
 -- the volumes of plans that were gathered
@@ -159,14 +160,14 @@ pub record IsLeft (operator id : List ℕ) (old new : List LiveVolume) (gone : �
 pub record HasLeft (stays : LiveVolume → Bool) (old new : LiveIndex) : Type 0 where
   pub same : ArePlaced old.places (volumes_under old.groups.items)
       → volumes_of new ≡ filter stays (volumes_of old)
-  pub hedged : AreHedged old.groups.items → AreHedged new.groups.items
+  pub group_bounded : AreBoundedGroups old.groups.items → AreBoundedGroups new.groups.items
   pub placed : ArePlaced old.places (volumes_under old.groups.items)
       → ArePlaced new.places (volumes_under new.groups.items)
   pub room : new.unindexed.cap ≡ old.unindexed.cap
   pub less : length new.unindexed.items ≤ length old.unindexed.items
 
--- ---- questions
+-- ---- queries
 
--- a fence has a priority at least, and meets what is sought
+-- a bounding box has a priority at least, and overlaps what is sought
 abbrev pub may_meet : ℕ → Sought → BoundingBox → Bool
-may_meet least sought fence = nat_le least fence.top && meets sought fence.bounds
+may_meet least sought bbox = nat_le least bbox.top && meets sought bbox.bounds

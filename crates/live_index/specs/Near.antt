@@ -85,8 +85,8 @@ pub record AddsPlans (wanted : Wanted) (inside : Point → Bool) (lives : List L
     (old new : NearPlans) : Type 0
   where
     pub kept : (live : LiveVolume) → is_among old.keys.keys live ≡ true → is_among new.keys.keys live ≡ true
-    pub still : new.is_whole ≡ true → old.is_whole ≡ true
-    pub whole : new.is_whole ≡ true → (x : Point) → inside x ≡ true
+    pub still : new.is_complete ≡ true → old.is_complete ≡ true
+    pub whole : new.is_complete ≡ true → (x : Point) → inside x ≡ true
         → list_any (is_missed_at wanted new.keys.keys x) lives ≡ false
     pub another : AllByRecursion (IsAnothers wanted) old.keys.keys
         → AllByRecursion (IsAnothers wanted) new.keys.keys
@@ -94,13 +94,13 @@ pub record AddsPlans (wanted : Wanted) (inside : Point → Bool) (lives : List L
 -- the same plans are listed, and all only if all were
 pub record LooksOn (old new : NearPlans) : Type 0 where
   pub same : new.keys.keys ≡ old.keys.keys
-  pub still : new.is_whole ≡ true → old.is_whole ≡ true
+  pub still : new.is_complete ≡ true → old.is_complete ≡ true
 
 -- a volume's plan is added, or not all are listed
 pub record TakesPlan (live : LiveVolume) (old new : NearPlans) : Type 0 where
   pub kept : (other : LiveVolume) → is_among old.keys.keys other ≡ true → is_among new.keys.keys other ≡ true
-  pub still : new.is_whole ≡ true → old.is_whole ≡ true
-  pub listed : new.is_whole ≡ true → is_among new.keys.keys live ≡ true
+  pub still : new.is_complete ≡ true → old.is_complete ≡ true
+  pub listed : new.is_complete ≡ true → is_among new.keys.keys live ≡ true
   pub another : (wanted : Wanted) → is_own_volume wanted live ≡ false
       → AllByRecursion (IsAnothers wanted) old.keys.keys → AllByRecursion (IsAnothers wanted) new.keys.keys
 

@@ -32,11 +32,11 @@ is_theirs_at operator x live = is_another operator live && slab_has live.bounds 
 -- such a volume is in a chunk, in a group, or among all that are kept
 abbrev pub chunk_has_theirs : List ℕ → Slab → Chunk → Bool
 chunk_has_theirs operator whole c =
-    overlap c.fence.bounds whole && list_any (is_theirs operator whole) c.volumes.items
+    overlap c.bbox.bounds whole && list_any (is_theirs operator whole) c.volumes.items
 
 abbrev pub group_has_theirs : List ℕ → Slab → Group → Bool
 group_has_theirs operator whole g =
-    overlap g.fence.bounds whole && list_any (chunk_has_theirs operator whole) g.chunks.items
+    overlap g.bbox.bounds whole && list_any (chunk_has_theirs operator whole) g.chunks.items
 
 abbrev pub has_theirs : List ℕ → LiveIndex → Slab → Bool
 has_theirs operator kept whole = list_any (group_has_theirs operator whole) kept.groups.items

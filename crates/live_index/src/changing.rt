@@ -1,4 +1,4 @@
-//! What a change does to a list of volumes of live plans.
+//! The effect of a change on a list of volumes of live plans.
 
 ghost use Rattle.std.specs.Prelude.{◌≡◌, ◌≤◌, ◌+◌, ◌++◌, length, IfOk, OnOk};
 ghost use Rattle.std.specs.List.{filter};
@@ -48,12 +48,15 @@ fn push_area(
     Ok(())
 }
 
-/// The volumes that a change brings.
+/// The volumes that a change adds: those of a live plan that it stores.
 ///
 /// # Errors
 ///
 /// `AllocError` if memory runs out.
-pub(crate) fn brought_by(alloc: Global, change: &Change) -> Result<Vec<LiveVolume>, AllocError>
+pub(crate) fn volumes_added_by(
+    alloc: Global,
+    change: &Change,
+) -> Result<Vec<LiveVolume>, AllocError>
     ensures { IfOk result (λ fresh. AreBrought change.now fresh.items) }
 {
     let mut fresh = Vec::new(alloc);
@@ -63,8 +66,8 @@ pub(crate) fn brought_by(alloc: Global, change: &Change) -> Result<Vec<LiveVolum
     Ok(fresh)
 }
 
-/// Takes out the volumes of an operator's plan.
-pub(crate) fn leave(volumes: &mut Vec<LiveVolume>, operator: &Operator, id: &PlanId)
+/// Removes the volumes of the operator's plan with this id.
+pub(crate) fn remove_plan(volumes: &mut Vec<LiveVolume>, operator: &Operator, id: &PlanId)
     ensures items { volumes.new.items ≡ filter (is_beside operator.now id.now) volumes.old.items }
     ensures room { volumes.new.cap ≡ volumes.old.cap }
     ensures fewer { length volumes.new.items ≤ length volumes.old.items }
@@ -72,7 +75,7 @@ pub(crate) fn leave(volumes: &mut Vec<LiveVolume>, operator: &Operator, id: &Pla
     volumes.retain(|live| !live.is_of(operator, id));
 }
 
-/// Appends volumes for which there is room.
+/// Appends volumes, for which capacity is reserved.
 pub(crate) fn push_all(volumes: &mut Vec<LiveVolume>, fresh: &[LiveVolume])
     requires { length volumes.old.items + length fresh.now ≤ volumes.old.cap }
     ensures { volumes.new.items ≡ volumes.old.items ++ fresh.now }

@@ -1,16 +1,16 @@
-//! Chunks of volumes, each within a fence of its own, so that most are passed over unread.
+//! Chunks of volumes, each within a bounding box of its own, so that a query skips most of them.
 
 ghost use Rattle.std.specs.Prelude.{◌≡◌, ◌+◌, ◌-◌, ◌≤◌, ◌∷◌, ◌++◌, ◌<◌, [], true, length, slice_get, IfOk, OnOk, OnErr, IfSome, IsPermutation};
 ghost use Rattle.std.specs.List.{AllByRecursion, filter};
 ghost use Rattle.live_index.specs.Live as spec;
-ghost use Rattle.live_index.specs.Live.{AreFenced, IsFenced, IsLeft, IsWhole};
+ghost use Rattle.live_index.specs.Live.{AreBoundedChunks, IsInBox, IsLeft, IsBoundedChunk};
 ghost use Rattle.live_index.specs.Live.{chunk_has_plan, is_beside, volumes_in};
 ghost use Rattle.live_index.specs.Regions.{chunk_has_theirs};
 ghost use Rattle.live_index.specs.Near.{AddsPlans};
 ghost use Rattle.slab_regions.specs.Sought.{sought_has};
 
-use crate::changing::{leave, push_all};
-use crate::fence::BoundingBox;
+use crate::bbox::BoundingBox;
+use crate::changing::{push_all, remove_plan};
 use crate::near::{NearPlans, PlanKey, Wanted, add_each};
 use crate::order::{Rank, put_in_order};
 use crate::volume::LiveVolume;
@@ -24,52 +24,52 @@ use volume4d::Slab;
 /// The most volumes of a chunk, and the most chunks of a group.
 pub(crate) const FULL: usize = 64;
 
-/// How many of them each has that is made of many.
+/// How many of them a chunk or a group gets when an index is built, so that it has room for more.
 pub(crate) const PART: usize = 48;
 
-/// Volumes within a fence.
+/// Volumes that are close to each other, within a bounding box.
 #[derive(Drop)]
 pub(crate) struct Chunk {
-    pub(crate) fence: BoundingBox,
-    // where it begins in the order, of which no clause speaks
+    pub(crate) bbox: BoundingBox,
+    // the least rank of its volumes, which no clause mentions
     pub(crate) low: Option<Rank>,
     volumes: Vec<LiveVolume>,
 }
 
 impl Chunk {
-    // Of some volumes.
+    // A chunk of these volumes, with capacity for `FULL` volumes.
     fn from_all(alloc: Global, lives: &[LiveVolume]) -> Result<Chunk, AllocError>
         ensures same { IfOk result (λ chunk. chunk.volumes.items ≡ lives.now) }
-        ensures fenced { IfOk result IsWhole }
+        ensures bounded { IfOk result IsBoundedChunk }
     {
         let mut volumes = Vec::new(alloc);
         volumes.reserve(FULL)?;
         volumes.extend_from_slice(lives)?;
         Ok(Chunk {
-            fence: BoundingBox::round_all(lives),
+            bbox: BoundingBox::around_all(lives),
             low: lives.first().map(|live| live.rank()),
             volumes,
         })
     }
 
-    // Adds a volume.
+    // Adds a volume, and widens the bounding box.
     fn push(&mut self, live: &LiveVolume) -> Result<(), AllocError>
         ensures same { OnOk result (self.new.volumes.items ≡ self.old.volumes.items ++ live.now ∷ []) }
-        ensures fenced { OnOk result (IsWhole self.old → IsWhole self.new) }
+        ensures bounded { OnOk result (IsBoundedChunk self.old → IsBoundedChunk self.new) }
         ensures err { OnErr result (self.new.volumes.items ≡ self.old.volumes.items) }
-        ensures still { OnErr result (self.new.fence ≡ self.old.fence) }
+        ensures still { OnErr result (self.new.bbox ≡ self.old.bbox) }
     {
         self.volumes.push(*live)?;
-        self.fence = self.fence.widened(live);
+        self.bbox = self.bbox.widened(live);
         self.low = self.low.min(Some(live.rank()));
         Ok(())
     }
 
-    // Chunks of those of its volumes that come first in the order, and of the others.
+    // Splits the chunk by rank: the first half of its volumes, and the others.
     fn halves(&self, alloc: Global) -> Result<(Chunk, Chunk), AllocError>
         ensures same { IfOk result (λ halves. IsPermutation self.now.volumes.items
             (halves.0.volumes.items ++ halves.1.volumes.items)) }
-        ensures fenced { IfOk result (λ halves. IsWhole halves.0 × IsWhole halves.1) }
+        ensures bounded { IfOk result (λ halves. IsBoundedChunk halves.0 × IsBoundedChunk halves.1) }
     {
         let mut lives = Vec::from_slice(alloc, &self.volumes)?;
         put_in_order(&mut lives);
@@ -80,18 +80,18 @@ impl Chunk {
         ))
     }
 
-    // Takes out the volumes of an operator's plan; how many.
-    fn leave(&mut self, operator: &Operator, id: &PlanId) -> usize
+    // Removes the volumes of the operator's plan with this id, and returns how many.
+    fn remove_plan(&mut self, operator: &Operator, id: &PlanId) -> usize
         ensures left { IsLeft operator.now id.now self.old.volumes.items self.new.volumes.items result }
-        ensures fenced { IsWhole self.new }
+        ensures bounded { IsBoundedChunk self.new }
     {
         let before = self.volumes.len();
-        leave(&mut self.volumes, operator, id);
-        self.fence = BoundingBox::round_all(&self.volumes);
+        remove_plan(&mut self.volumes, operator, id);
+        self.bbox = BoundingBox::around_all(&self.volumes);
         before.saturating_sub(self.volumes.len())
     }
 
-    // Whether it has room for the volumes of another, and would be at most half full.
+    // Whether there is capacity for the volumes of `next`, and the chunk would be at most half full then.
     fn has_room_for(&self, next: &Chunk) -> bool
         ensures { result ≡ true → length self.now.volumes.items + length next.now.volumes.items
             ≤ self.now.volumes.cap }
@@ -100,24 +100,24 @@ impl Chunk {
         sum <= FULL / 2 && sum <= self.volumes.capacity()
     }
 
-    // Adds the volumes of another, for which there is room.
+    // Adds the volumes of `next`, for which there is capacity.
     fn absorb(&mut self, next: &Chunk)
         requires { length self.old.volumes.items + length next.now.volumes.items ≤ self.old.volumes.cap }
         ensures same { self.new.volumes.items ≡ self.old.volumes.items ++ next.now.volumes.items }
-        ensures fenced { IsWhole self.old → IsWhole next.now → IsWhole self.new }
+        ensures bounded { IsBoundedChunk self.old → IsBoundedChunk next.now → IsBoundedChunk self.new }
     {
         push_all(&mut self.volumes, &next.volumes);
-        self.fence = self.fence.join(&next.fence);
+        self.bbox = self.bbox.join(&next.bbox);
     }
 
-    // Whether it has no volume.
+    // Whether the chunk has no volume.
     fn is_empty(&self) -> bool
         ensures { result ≡ true → self.now.volumes.items ≡ [] }
     {
         self.volumes.is_empty()
     }
 
-    // Whether it has a volume of a plan.
+    // Whether the chunk has a volume of a plan.
     fn has_plan(&self, plan: &PlanKey) -> bool
         ensures { result ≡ chunk_has_plan plan.now.operator plan.now.id self.now }
     {
@@ -126,29 +126,30 @@ impl Chunk {
             .any(|live| live.is_of(&plan.operator, &plan.id))
     }
 
-    // Adds the plans of the volumes that are near, if the fence says that one may be.
+    // Adds the wanted plans that have a volume near `sought`. Skips the volumes if the bounding box isn't
+    // near.
     fn add_near(
         &self,
         near: &mut NearPlans,
         wanted: &Wanted,
         sought: &Sought,
     ) -> Result<(), AllocError>
-        ensures { OnOk result (IsWhole self.now
+        ensures { OnOk result (IsBoundedChunk self.now
             → AddsPlans wanted.now (sought_has sought.now) self.now.volumes.items near.old near.new) }
     {
-        if !self.fence.may_meet(wanted.least, sought) {
+        if !self.bbox.may_meet(wanted.least, sought) {
             return Ok(());
         }
-        near.look();
+        near.count_search();
         add_each(near, &self.volumes, wanted, sought)
     }
 
-    /// Whether a volume of another operator is near an extent. If the fence doesn't meet it, no volume is
-    /// looked at.
+    /// Whether the bounds of another operator's volume overlap `extent`. Skips the volumes if the bounding
+    /// box doesn't overlap it.
     pub(crate) fn has_theirs(&self, operator: &Operator, extent: &Slab) -> bool
         ensures { result ≡ chunk_has_theirs operator.now extent.now self.now }
     {
-        if !self.fence.bounds.overlaps(extent) {
+        if !self.bbox.bounds.overlaps(extent) {
             return false;
         }
         self.volumes
@@ -157,7 +158,7 @@ impl Chunk {
     }
 }
 
-/// Adds the plans of the volumes of chunks that are near.
+/// Adds the wanted plans that have a volume near `sought` in one of the chunks.
 ///
 /// # Errors
 ///
@@ -168,7 +169,7 @@ pub(crate) fn add_near_in(
     wanted: &Wanted,
     sought: &Sought,
 ) -> Result<(), AllocError>
-    ensures { OnOk result (AreFenced chunks.now
+    ensures { OnOk result (AreBoundedChunks chunks.now
         → AddsPlans wanted.now (sought_has sought.now) (volumes_in chunks.now) near.old near.new) }
 {
     for chunk in chunks {
@@ -179,14 +180,14 @@ pub(crate) fn add_near_in(
 
 // ---- making and filling
 
-/// Volumes in chunks, those that follow each other together.
+/// Divides volumes into chunks, in their order.
 ///
 /// # Errors
 ///
 /// `AllocError` if memory runs out.
 pub(crate) fn chunked(alloc: Global, lives: &[LiveVolume]) -> Result<Vec<Chunk>, AllocError>
     ensures same { IfOk result (λ chunks. volumes_in chunks.items ≡ lives.now) }
-    ensures fenced { IfOk result (λ chunks. AreFenced chunks.items) }
+    ensures bounded { IfOk result (λ chunks. AreBoundedChunks chunks.items) }
 {
     let mut chunks = Vec::new(alloc);
     let mut rest = lives;
@@ -198,7 +199,7 @@ pub(crate) fn chunked(alloc: Global, lives: &[LiveVolume]) -> Result<Vec<Chunk>,
     Ok(chunks)
 }
 
-/// Adds a volume to the chunk where it stands in the order. One that is full is cut in two before.
+/// Adds a volume to its chunk by rank. A full chunk is split first.
 ///
 /// # Errors
 ///
@@ -211,32 +212,32 @@ pub(crate) fn insert(
     ensures added { OnOk result (IsPermutation (live.now ∷ volumes_in chunks.old.items)
         (volumes_in chunks.new.items)) }
     ensures kept { OnErr result (IsPermutation (volumes_in chunks.old.items) (volumes_in chunks.new.items)) }
-    ensures fenced { AreFenced chunks.old.items → AreFenced chunks.new.items }
+    ensures bounded { AreBoundedChunks chunks.old.items → AreBoundedChunks chunks.new.items }
 {
     make_room(alloc, chunks, &live.rank())?;
     add(alloc, chunks, live)
 }
 
-// Cuts the chunk where a volume of a rank would stand in two, if it is full.
+// Splits the chunk that a volume of this rank belongs to, if it is full.
 fn make_room(alloc: Global, chunks: &mut Vec<Chunk>, rank: &Rank) -> Result<(), AllocError>
     ensures same { IsPermutation (volumes_in chunks.old.items) (volumes_in chunks.new.items) }
-    ensures fenced { AreFenced chunks.old.items → AreFenced chunks.new.items }
+    ensures bounded { AreBoundedChunks chunks.old.items → AreBoundedChunks chunks.new.items }
 {
-    let at = last_upto(chunks, rank);
+    let at = last_at_or_before(chunks, rank);
     if at < chunks.len() && chunks[at].volumes.len() >= FULL {
         return cut(alloc, chunks, at);
     }
     Ok(())
 }
 
-// Adds a volume to the chunk where it stands in the order.
+// Adds a volume to its chunk by rank, or to a new one if there is none.
 fn add(alloc: Global, chunks: &mut Vec<Chunk>, live: &LiveVolume) -> Result<(), AllocError>
     ensures added { OnOk result (IsPermutation (live.now ∷ volumes_in chunks.old.items)
         (volumes_in chunks.new.items)) }
     ensures kept { OnErr result (IsPermutation (volumes_in chunks.old.items) (volumes_in chunks.new.items)) }
-    ensures fenced { AreFenced chunks.old.items → AreFenced chunks.new.items }
+    ensures bounded { AreBoundedChunks chunks.old.items → AreBoundedChunks chunks.new.items }
 {
-    let at = last_upto(chunks, &live.rank());
+    let at = last_at_or_before(chunks, &live.rank());
     if at < chunks.len() {
         return chunks[at].push(live);
     }
@@ -244,11 +245,11 @@ fn add(alloc: Global, chunks: &mut Vec<Chunk>, live: &LiveVolume) -> Result<(), 
     Ok(())
 }
 
-// Cuts a chunk in two.
+// Splits the chunk at `at` into two halves.
 fn cut(alloc: Global, chunks: &mut Vec<Chunk>, at: usize) -> Result<(), AllocError>
     requires { at < length chunks.old.items }
     ensures same { IsPermutation (volumes_in chunks.old.items) (volumes_in chunks.new.items) }
-    ensures fenced { AreFenced chunks.old.items → AreFenced chunks.new.items }
+    ensures bounded { AreBoundedChunks chunks.old.items → AreBoundedChunks chunks.new.items }
 {
     let (before, after) = chunks[at].halves(alloc)?;
     chunks.insert(at + 1, after)?;
@@ -256,8 +257,8 @@ fn cut(alloc: Global, chunks: &mut Vec<Chunk>, at: usize) -> Result<(), AllocErr
     Ok(())
 }
 
-// The last chunk that begins at a rank or before it, or else the first one.
-fn last_upto(chunks: &[Chunk], rank: &Rank) -> usize
+// The index of the last chunk that begins at `rank` or before, or 0 if there is none.
+fn last_at_or_before(chunks: &[Chunk], rank: &Rank) -> usize
     ensures { result ≤ length chunks.now - 1 }
 {
     chunks
@@ -265,24 +266,25 @@ fn last_upto(chunks: &[Chunk], rank: &Rank) -> usize
         .saturating_sub(1)
 }
 
-// ---- taking out
+// ---- removing
 
-/// Takes the volumes of a rank's plan out of a chunk that may have the rank, if one has some; how many at
-/// least.
-pub(crate) fn leave_at(chunks: &mut Vec<Chunk>, rank: &Rank) -> usize
+/// Removes the volumes of the rank's plan from the first chunk that may have the rank and has some. Returns
+/// how many were removed.
+pub(crate) fn remove_at(chunks: &mut Vec<Chunk>, rank: &Rank) -> usize
     ensures left { IsLeft rank.now.plan.operator rank.now.plan.id (volumes_in chunks.old.items)
         (volumes_in chunks.new.items) result }
-    ensures fenced { AreFenced chunks.old.items → AreFenced chunks.new.items }
+    ensures bounded { AreBoundedChunks chunks.old.items → AreBoundedChunks chunks.new.items }
 {
     let at = chunk_with(chunks, rank);
     if at < chunks.len() {
-        leave_chunk(chunks, &rank.plan.operator, &rank.plan.id, at)
+        remove_from_chunk(chunks, &rank.plan.operator, &rank.plan.id, at)
     } else {
         0
     }
 }
 
-/// The first chunk that may have a rank and has a volume of the rank's plan, or the number of all.
+/// The index of the first chunk that may have the rank and has a volume of the rank's plan, or else the
+/// number of chunks.
 pub(crate) fn chunk_with(chunks: &[Chunk], rank: &Rank) -> usize
     ensures bound { result ≤ length chunks.now }
     ensures found { IfSome (slice_get chunks.now result)
@@ -300,24 +302,24 @@ pub(crate) fn chunk_with(chunks: &[Chunk], rank: &Rank) -> usize
     at
 }
 
-// Takes those out of a chunk, and the chunk if nothing is left of it.
-fn leave_chunk(chunks: &mut Vec<Chunk>, operator: &Operator, id: &PlanId, at: usize) -> usize
+// Removes the volumes of the operator's plan from the chunk at `at`, and the chunk if it is empty then.
+fn remove_from_chunk(chunks: &mut Vec<Chunk>, operator: &Operator, id: &PlanId, at: usize) -> usize
     requires { at < length chunks.old.items }
     ensures left { IsLeft operator.now id.now (volumes_in chunks.old.items)
         (volumes_in chunks.new.items) result }
-    ensures fenced { AreFenced chunks.old.items → AreFenced chunks.new.items }
+    ensures bounded { AreBoundedChunks chunks.old.items → AreBoundedChunks chunks.new.items }
 {
-    let gone = chunks[at].leave(operator, id);
+    let gone = chunks[at].remove_plan(operator, id);
     drop_if_empty(chunks, at);
     merge(chunks, at);
     merge(chunks, at.saturating_sub(1));
     gone
 }
 
-// Joins a chunk and the next one, if both together are at most half full.
+// Merges the chunk at `at` with the next one, if both together are at most half full.
 fn merge(chunks: &mut Vec<Chunk>, at: usize)
     ensures same { volumes_in chunks.new.items ≡ volumes_in chunks.old.items }
-    ensures fenced { AreFenced chunks.old.items → AreFenced chunks.new.items }
+    ensures bounded { AreBoundedChunks chunks.old.items → AreBoundedChunks chunks.new.items }
 {
     if at < chunks.len().saturating_sub(1) && chunks[at].has_room_for(&chunks[at + 1]) {
         let next = chunks.remove(at + 1);
@@ -326,11 +328,11 @@ fn merge(chunks: &mut Vec<Chunk>, at: usize)
     }
 }
 
-// Drops a chunk without volumes.
+// Removes the chunk at `at` if it has no volumes.
 fn drop_if_empty(chunks: &mut Vec<Chunk>, at: usize)
     requires { at < length chunks.old.items }
     ensures same { volumes_in chunks.new.items ≡ volumes_in chunks.old.items }
-    ensures fenced { AreFenced chunks.old.items → AreFenced chunks.new.items }
+    ensures bounded { AreBoundedChunks chunks.old.items → AreBoundedChunks chunks.new.items }
 {
     if chunks[at].is_empty() {
         let empty = chunks.remove(at);
@@ -338,15 +340,15 @@ fn drop_if_empty(chunks: &mut Vec<Chunk>, at: usize)
     }
 }
 
-/// Takes the volumes of an operator's plan out of all chunks.
-pub(crate) fn leave_each(chunks: &mut Vec<Chunk>, operator: &Operator, id: &PlanId)
+/// Removes the volumes of the operator's plan with this id from all chunks.
+pub(crate) fn remove_from_all(chunks: &mut Vec<Chunk>, operator: &Operator, id: &PlanId)
     ensures same { volumes_in chunks.new.items
         ≡ filter (is_beside operator.now id.now) (volumes_in chunks.old.items) }
-    ensures fenced { AreFenced chunks.old.items → AreFenced chunks.new.items }
+    ensures bounded { AreBoundedChunks chunks.old.items → AreBoundedChunks chunks.new.items }
 {
     let mut at = 0;
     while at < chunks.len() {
-        leave(&mut chunks[at].volumes, operator, id);
+        remove_plan(&mut chunks[at].volumes, operator, id);
         at += 1;
     }
 }

@@ -1,10 +1,10 @@
-//! The volumes of live plans, kept in memory beside a store's tables: whose each is, its priority and bounds
-//! round it.
+//! An index in memory of the volumes of live plans, beside a store's tables: of each volume the operator, the
+//! plan, the priority and the bounds.
 #![tactic(auto)]
 
+mod bbox;
 mod changing;
 mod chunk;
-mod fence;
 mod group;
 mod live;
 mod near;

@@ -1,4 +1,4 @@
-//! The volumes of all live plans.
+//! The index of the volumes of all live plans.
 
 ghost use Rattle.std.specs.Prelude.{◌≡◌, ◌≤◌, ◌-◌, ◌++◌, not, ◌∷◌, [], List, length, IfOk, IfSome, OnOk};
 ghost use Rattle.std.specs.List.{filter};
@@ -6,7 +6,7 @@ ghost use Rattle.std.specs.List.Sorted.{IsStrictlySortedBy};
 ghost use Rattle.desk_store.specs.World.{Filed, World, filed_cmp};
 ghost use Rattle.desk_store.specs.Changes.{filed_by};
 ghost use Rattle.desk_store.specs.StoreChange.{changed_by};
-ghost use Rattle.live_index.specs.Live.{AreBrought, AreHedged, AreKeptOnce, ArePlaced, AreSettled};
+ghost use Rattle.live_index.specs.Live.{AreBrought, AreBoundedGroups, AreKeptOnce, ArePlaced, AreSettled};
 ghost use Rattle.live_index.specs.Live.{AreVolumes, HasLeft, HasRoomForVolumes};
 ghost use Rattle.live_index.specs.Live.{gathered_in, is_beside, is_of_any, stays_at};
 ghost use Rattle.live_index.specs.Live.{volumes_of, volumes_under};
@@ -15,8 +15,8 @@ ghost use Rattle.live_index.specs.Near.{AddsPlans, AreNearPlans, AreWantedPlans}
 ghost use Rattle.slab_regions.specs.Sought.{sought_has};
 ghost use Rattle.volume4d.specs.Slab.{slabs_have};
 
-use crate::changing::{brought_by, leave, push_all, push_plan};
-use crate::group::{Group, add_near_in, grouped, insert, leave_all};
+use crate::changing::{push_all, push_plan, remove_plan, volumes_added_by};
+use crate::group::{Group, add_near_in, grouped, insert, remove_all};
 use crate::near::{NearPlans, PlanKey, Wanted, add_each};
 use crate::order::put_in_order;
 use crate::places::{Places, places_of};
@@ -29,27 +29,27 @@ use slab_regions::{Sought, at_most, joined, whole_of};
 use std::alloc::{AllocError, Global};
 use volume4d::Slab;
 
-// So many extents are regions of their own at most.
+// The most extents that are searched one by one for regions; more are joined into one slab.
 const APART: usize = 1 << 10;
 
-// Of up to so many extents each is asked for at each volume.
+// The most extents that are compared one by one with each volume; more are joined into one slab.
 const PARTS: usize = 96;
 
-// So many chunks are looked into for more extents one by one, which takes a tenth of a second.
+// The most chunks that are searched if the extents are searched one by one, which takes a tenth of a second.
 const LOOKS: usize = 1 << 13;
 
-/// The volumes of all live plans, most of them in chunks.
+/// An index of the volumes of all live plans. Most of them are in groups of chunks.
 #[derive(Drop)]
 pub struct LiveIndex {
     groups: Vec<Group>,
-    // those that the last change brought
+    // the volumes that the last change added, which are in no chunk yet
     unindexed: Vec<LiveVolume>,
-    // where those in chunks stand
+    // the places in the order of chunks of each plan's volumes
     places: Places,
 }
 
 impl LiveIndex {
-    /// Of no plan.
+    /// The index of no plans.
     pub fn new(alloc: Global) -> LiveIndex
         ensures { AreKeptOnce result (record { operators = []; plans = [] }) }
     {
@@ -60,8 +60,8 @@ impl LiveIndex {
         }
     }
 
-    /// Regions that have each point of some extents at which plans of other operators may hold something:
-    /// none if no volume of theirs is near. They overlap no more along the curve.
+    /// Regions that have every point of `extents` at which live plans of other operators may be; none if
+    /// there are no such plans near. Regions don't overlap along the curve.
     ///
     /// # Errors
     ///
@@ -80,7 +80,7 @@ impl LiveIndex {
         joined(alloc, near)
     }
 
-    // Whether a volume of another operator is near an extent.
+    // Whether the bounds of another operator's volume overlap `extent`.
     fn has_theirs(&self, operator: &Operator, extent: &Slab) -> bool
         ensures { result ≡ has_theirs operator.now self.now extent.now }
     {
@@ -93,10 +93,9 @@ impl LiveIndex {
                 .any(|live| live.is_theirs(operator, extent))
     }
 
-    /// The plans of which one may hold a point of some extents, of those that are wanted; or none if they
-    /// have more rows than there is room for. Each volume is looked at once for up to `PARTS` extents. More
-    /// of them are asked one by one, as long as at most `LOOKS` chunks are looked into, and then as one slab
-    /// round all.
+    /// The wanted plans that may hold a point of `extents`; `None` if there are no extents, or if reading the
+    /// plans would cost more than `room` rows. Up to `PARTS` extents are searched at once, more one by one if
+    /// that takes at most `LOOKS` chunks, and else as one slab round all of them.
     ///
     /// # Errors
     ///
@@ -112,7 +111,7 @@ impl LiveIndex {
             → AreWantedPlans w wanted.now extents.now keys.items)) }
     {
         if PARTS < extents.len() {
-            let apart = self.near_apart(alloc, wanted, extents, room)?;
+            let apart = self.near_one_by_one(alloc, wanted, extents, room)?;
             if apart.is_some() {
                 return Ok(apart);
             }
@@ -120,30 +119,30 @@ impl LiveIndex {
         self.near_at_once(alloc, wanted, extents, room)
     }
 
-    // The plans whose volumes are wanted and near extents, which are asked one by one, if they have at most
-    // so many rows, and if at most `LOOKS` chunks are looked into.
-    fn near_apart(
+    // The wanted plans near `extents`, which are searched one by one. `None` if the plans cost more than
+    // `room` rows, or if more than `LOOKS` chunks are searched.
+    fn near_one_by_one(
         &self,
         alloc: Global,
         wanted: &Wanted,
         extents: &[Slab],
         room: usize,
     ) -> Result<Option<Vec<PlanKey>>, AllocError>
-        ensures { IfOk result (λ found. IfSome found (λ keys. AreHedged self.now.groups.items
+        ensures { IfOk result (λ found. IfSome found (λ keys. AreBoundedGroups self.now.groups.items
             → AreNearPlans wanted.now (slabs_have extents.now) (volumes_of self.now) keys.items)) }
     {
         let mut near = NearPlans::new(alloc, room, LOOKS);
         for extent in extents {
             self.add_near(&mut near, wanted, &Sought::one(extent))?;
-            if !near.is_whole {
+            if !near.is_complete {
                 return Ok(None);
             }
         }
-        near.if_whole(alloc)
+        near.if_complete(alloc)
     }
 
-    // The plans whose volumes are wanted and near extents, which are asked all at once, if they have at most
-    // so many rows. Those near a slab round all are reported, if there are more than `PARTS` extents.
+    // The wanted plans near `extents`, which are searched all at once: near one slab round all if there are
+    // more than `PARTS`. `None` if the plans cost more than `room` rows, or if there are no extents.
     fn near_at_once(
         &self,
         alloc: Global,
@@ -151,7 +150,7 @@ impl LiveIndex {
         extents: &[Slab],
         room: usize,
     ) -> Result<Option<Vec<PlanKey>>, AllocError>
-        ensures { IfOk result (λ found. IfSome found (λ keys. AreHedged self.now.groups.items
+        ensures { IfOk result (λ found. IfSome found (λ keys. AreBoundedGroups self.now.groups.items
             → AreNearPlans wanted.now (slabs_have extents.now) (volumes_of self.now) keys.items)) }
     {
         let Some((first, others)) = extents.split_first() else {
@@ -164,24 +163,24 @@ impl LiveIndex {
         };
         let mut near = NearPlans::new(alloc, room, usize::MAX);
         self.add_near(&mut near, wanted, &sought)?;
-        near.if_whole(alloc)
+        near.if_complete(alloc)
     }
 
-    // Adds the plans of the volumes that are near.
+    // Adds the wanted plans that have a volume near `sought`.
     fn add_near(
         &self,
         near: &mut NearPlans,
         wanted: &Wanted,
         sought: &Sought,
     ) -> Result<(), AllocError>
-        ensures { OnOk result (AreHedged self.now.groups.items
+        ensures { OnOk result (AreBoundedGroups self.now.groups.items
             → AddsPlans wanted.now (sought_has sought.now) (volumes_of self.now) near.old near.new) }
     {
         add_near_in(near, &self.groups, wanted, sought)?;
         self.add_unindexed(near, wanted, sought)
     }
 
-    // Adds those of the volumes that are in no chunk.
+    // Adds the wanted plans that have an unindexed volume near `sought`.
     fn add_unindexed(
         &self,
         near: &mut NearPlans,
@@ -194,7 +193,8 @@ impl LiveIndex {
         add_each(near, &self.unindexed, wanted, sought)
     }
 
-    /// The volumes that a change brings, for which there is room then.
+    /// Prepares for `follow`: moves the unindexed volumes into chunks, and returns the volumes that the
+    /// change adds, with capacity reserved for them.
     ///
     /// # Errors
     ///
@@ -206,13 +206,13 @@ impl LiveIndex {
         ensures settled { OnOk result (AreSettled self.new) }
     {
         self.settle(alloc)?;
-        let fresh = brought_by(alloc, change)?;
+        let fresh = volumes_added_by(alloc, change)?;
         self.unindexed.reserve(fresh.len())?;
         Ok(fresh)
     }
 
-    /// Takes out the volumes of the plans that a change names, and adds those that it brings, for which there
-    /// is room.
+    /// Updates the index after a change: removes the volumes of the plans that it names, and adds `fresh`,
+    /// those that it adds. It needs no allocation, and so can't fail.
     pub fn follow(&mut self, change: &Change, fresh: &[LiveVolume])
         requires room { HasRoomForVolumes self.old (length fresh.now) }
         requires brought { AreBrought change.now fresh.now }
@@ -220,45 +220,45 @@ impl LiveIndex {
             ≡ filter (stays_at change.now) (volumes_of self.old) ++ fresh.now }
         ensures kept { (w : World) → AreKeptOnce self.old w → AreKeptOnce self.new (changed_by change.now w) }
     {
-        self.take_out(change);
+        self.remove_named(change);
         push_all(&mut self.unindexed, fresh);
     }
 
-    // Takes out the volumes of the plans that a change names.
-    fn take_out(&mut self, change: &Change)
+    // Removes the volumes of the plans that a change names.
+    fn remove_named(&mut self, change: &Change)
         ensures { HasLeft (stays_at change.now) self.old self.new }
     {
         match change {
             Change::Enrol { .. } => {}
-            Change::Put { operator, row } => self.leave(operator, &row.id),
-            Change::Close { operator, id } => self.leave(operator, id),
-            Change::Clear { operator, ids } => self.leave_each(operator, ids),
+            Change::Put { operator, row } => self.remove_plan(operator, &row.id),
+            Change::Close { operator, id } => self.remove_plan(operator, id),
+            Change::Clear { operator, ids } => self.remove_plans(operator, ids),
         }
     }
 
-    // Takes out the volumes of an operator's plans of these ids.
-    fn leave_each(&mut self, operator: &Operator, ids: &[PlanId])
+    // Removes the volumes of the operator's plans with these ids.
+    fn remove_plans(&mut self, operator: &Operator, ids: &[PlanId])
         ensures { HasLeft (λ live. not (is_of_any operator.now ids.now live)) self.old self.new }
     {
         for id in ids {
-            self.leave(operator, id);
+            self.remove_plan(operator, id);
         }
     }
 
-    // Takes out the volumes of an operator's plan.
-    fn leave(&mut self, operator: &Operator, id: &PlanId)
+    // Removes the volumes of the operator's plan with this id.
+    fn remove_plan(&mut self, operator: &Operator, id: &PlanId)
         ensures { HasLeft (is_beside operator.now id.now) self.old self.new }
     {
-        leave(&mut self.unindexed, operator, id);
+        remove_plan(&mut self.unindexed, operator, id);
         let key = PlanKey {
             operator: *operator,
             id: *id,
         };
-        leave_all(&mut self.groups, &key, self.places.of(&key));
+        remove_all(&mut self.groups, &key, self.places.of(&key));
         self.places.forget(&key);
     }
 
-    // Puts those that the last change brought into chunks.
+    // Moves the unindexed volumes into chunks.
     fn settle(&mut self, alloc: Global) -> Result<(), AllocError>
         ensures kept { (w : World) → AreKeptOnce self.old w → AreKeptOnce self.new w }
         ensures settled { OnOk result (AreSettled self.new) }
@@ -269,7 +269,7 @@ impl LiveIndex {
         Ok(())
     }
 
-    // Puts the last of them into a chunk.
+    // Moves the last unindexed volume into a chunk, if there is one.
     fn settle_one(&mut self, alloc: Global) -> Result<(), AllocError>
         ensures kept { (w : World) → AreKeptOnce self.old w → AreKeptOnce self.new w }
         ensures fewer { OnOk result (length self.new.unindexed.items ≡ length self.old.unindexed.items - 1) }
@@ -285,14 +285,14 @@ impl LiveIndex {
     }
 }
 
-/// Gathers the volumes of plans, one plan after the other.
+/// Collects the volumes of plans for a new index, plan by plan.
 #[derive(Drop)]
 pub struct LiveIndexBuilder {
     volumes: Vec<LiveVolume>,
 }
 
 impl LiveIndexBuilder {
-    /// Of no plan.
+    /// A builder without plans.
     pub fn new(alloc: Global) -> LiveIndexBuilder
         ensures { AreVolumes [] (gathered_in result) }
     {
@@ -301,7 +301,7 @@ impl LiveIndexBuilder {
         }
     }
 
-    /// Adds the volumes of one more plan of an operator, if it is live.
+    /// Adds the volumes of an operator's plan, if it is live.
     ///
     /// # Errors
     ///
@@ -313,7 +313,7 @@ impl LiveIndexBuilder {
         push_plan(&mut self.volumes, operator, row)
     }
 
-    /// The volumes of the plans, in chunks.
+    /// The index of the volumes that were added.
     ///
     /// # Errors
     ///

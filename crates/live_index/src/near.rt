@@ -1,4 +1,4 @@
-//! The plans whose volumes are near extents, as long as they have few rows.
+//! A collector of the plans whose volumes are near extents, as long as reading them costs few rows.
 
 ghost use Rattle.std.specs.Prelude.{◌≡◌, ◌∷◌, [], true, IfOk, IfSome, OnOk};
 ghost use Rattle.live_index.specs.Near.{AddsPlans, LooksOn, TakesPlan, is_among};
@@ -11,8 +11,8 @@ use slab_regions::Sought;
 use std::alloc::{AllocError, Global};
 use std::collections::BTreeSet;
 
-// What one more question costs, as so many rows.
-const QUESTION: usize = 10;
+// What one more query costs, in rows.
+const QUERY_COST: usize = 10;
 
 /// The key of a plan.
 #[derive(Clone, Copy, Debug, PartialEq, Eq, PartialOrd, Ord)]
@@ -21,8 +21,8 @@ pub struct PlanKey {
     pub id: PlanId,
 }
 
-/// Whose volumes are wanted: those of plans of priority `least` or a greater one, but for the operator's plan
-/// with this id, or, if there is no id, for all of its plans.
+/// Which plans are wanted: those of priority `least` or a greater one, except the operator's plan with this
+/// id, or, without an id, except all of the operator's plans.
 #[derive(Clone, Copy, Debug)]
 pub struct Wanted {
     pub operator: Operator,
@@ -30,20 +30,21 @@ pub struct Wanted {
     pub least: u32,
 }
 
-/// Plans that are near, each once.
+/// The keys of plans that have a volume near a search (its bounds overlap `Sought`), each once, up to a limit
+/// of rows and of chunks searched.
 #[derive(Drop)]
 pub(crate) struct NearPlans {
     keys: BTreeSet<PlanKey>,
-    // how many rows more they may have
+    // how many more rows reading plans may cost
     room: usize,
-    // how many chunks more may be looked into
+    // how many more chunks may be searched
     looks: usize,
-    // whether all that were near are listed; if not, nothing more is
-    pub(crate) is_whole: bool,
+    // false once a limit is exceeded: a plan that is near may be missing, and no more are added
+    pub(crate) is_complete: bool,
 }
 
 impl NearPlans {
-    /// None yet, with room for those of so many rows. So many chunks are looked into at most.
+    /// No plans yet, with the limits of `room` rows and `looks` chunks.
     pub(crate) fn new(alloc: Global, room: usize, looks: usize) -> NearPlans
         ensures keys { result.keys.keys ≡ [] }
     {
@@ -51,19 +52,19 @@ impl NearPlans {
             keys: BTreeSet::new(alloc),
             room,
             looks,
-            is_whole: true,
+            is_complete: true,
         }
     }
 
-    /// Counts a chunk that is looked into.
-    pub(crate) fn look(&mut self)
+    /// Counts a chunk that is searched.
+    pub(crate) fn count_search(&mut self)
         ensures { LooksOn self.old self.new }
     {
-        self.is_whole = self.is_whole && self.looks > 0;
+        self.is_complete = self.is_complete && self.looks > 0;
         self.looks = self.looks.saturating_sub(1);
     }
 
-    /// Adds the plan of a volume, if that is near.
+    /// Adds the plan of `live`, if it is wanted and the volume is near `sought`.
     ///
     /// # Errors
     ///
@@ -77,7 +78,7 @@ impl NearPlans {
         ensures { OnOk result (AddsPlans wanted.now (sought_has sought.now) (live.now ∷ []) self.old
             self.new) }
     {
-        if !self.is_whole {
+        if !self.is_complete {
             return Ok(());
         }
         if !live.is_near_to(wanted, sought) {
@@ -89,20 +90,20 @@ impl NearPlans {
         self.take(live)
     }
 
-    // Whether the plan of a volume is listed.
+    // Whether the plan of `live` was added already.
     fn has(&self, live: &LiveVolume) -> bool
         ensures { result ≡ is_among self.now.keys.keys live.now }
     {
         self.keys.contains(&live.key())
     }
 
-    // Adds the plan of a volume, if there is room for it.
+    // Adds the plan of `live`, unless the limit of rows is exceeded then.
     fn take(&mut self, live: &LiveVolume) -> Result<(), AllocError>
         ensures { OnOk result (TakesPlan live.now self.old self.new) }
     {
-        let rows = live.rows.saturating_add(QUESTION);
+        let rows = live.rows.saturating_add(QUERY_COST);
         if self.room < rows {
-            self.is_whole = false;
+            self.is_complete = false;
             return Ok(());
         }
         self.room -= rows;
@@ -110,16 +111,16 @@ impl NearPlans {
         Ok(())
     }
 
-    /// The plans, if all that were near are listed.
+    /// The keys of the plans, or `None` if a limit was exceeded.
     ///
     /// # Errors
     ///
     /// `AllocError` if memory runs out.
-    pub(crate) fn if_whole(self, alloc: Global) -> Result<Option<Vec<PlanKey>>, AllocError>
+    pub(crate) fn if_complete(self, alloc: Global) -> Result<Option<Vec<PlanKey>>, AllocError>
         ensures { IfOk result (λ found. IfSome found (λ keys.
-            (keys.items ≡ self.keys.keys) × (self.is_whole ≡ true))) }
+            (keys.items ≡ self.keys.keys) × (self.is_complete ≡ true))) }
     {
-        if !self.is_whole {
+        if !self.is_complete {
             return Ok(None);
         }
         let mut keys = Vec::new(alloc);
@@ -130,7 +131,7 @@ impl NearPlans {
     }
 }
 
-/// Adds the plans of volumes that are near.
+/// Adds the wanted plans that have one of the volumes `lives` near `sought`.
 ///
 /// # Errors
 ///

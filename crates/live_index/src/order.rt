@@ -1,5 +1,4 @@
-//! An order of volumes in which those that follow each other lie close together in time, on the ground and
-//! in height.
+//! An order of volumes in which neighbours are close together in time, on the ground and in height.
 
 ghost use Rattle.std.specs.Prelude.{◌≡◌, ◌+◌, ◌*◌, ◌%◌, ◌^◌, bit_and, IsPermutation};
 
@@ -7,8 +6,8 @@ use crate::near::PlanKey;
 use crate::volume::LiveVolume;
 use volume4d::Slab;
 
-/// Where a volume stands in that order: by its place, and among those of one place by its plan. So the
-/// volumes of a plan are found, however many of other plans have the same place.
+/// The key of a volume in that order: its place, and then its plan, so that a plan's volumes are found even
+/// if many other plans have volumes at the same place.
 #[derive(Clone, Copy, Debug, PartialEq, Eq, PartialOrd, Ord)]
 pub(crate) struct Rank {
     pub(crate) place: u128,
@@ -16,7 +15,7 @@ pub(crate) struct Rank {
 }
 
 impl Rank {
-    /// That of a plan's volume at a place.
+    /// The rank of a plan's volume at a place.
     pub(crate) fn of(plan: &PlanKey, place: u128) -> Rank
         ensures place { result.place ≡ place }
         ensures plan { result.plan ≡ plan.now }
@@ -25,8 +24,8 @@ impl Rank {
     }
 }
 
-/// The place of a slab in that order: of its start, its first leaf and its lowest altitude one bit each in
-/// turn, the greatest first (a Z-order curve), and then its first leaf.
+/// The place of a slab in that order: the bits of its start, its first leaf and its lowest altitude in turn,
+/// the highest first (a Z-order curve), and in the last 64 bits its first leaf.
 pub(crate) fn place_of(slab: &Slab) -> u128
     ensures { result % 2 ^ 64 ≡ slab.now.first }
 {
@@ -37,14 +36,14 @@ pub(crate) fn place_of(slab: &Slab) -> u128
     joined(turns, slab.first)
 }
 
-// A number of which these are the first and the last 64 bits.
+// The number with the upper 64 bits `high` and the lower 64 bits `low`.
 fn joined(high: u64, low: u64) -> u128
     ensures { result ≡ high * 2 ^ 64 + low }
 {
     (u128::from(high) << 64) | u128::from(low)
 }
 
-// The last 21 bits of a number, each the last of three.
+// Spreads the lowest 21 bits of a number: two zero bits before each.
 #[tactic(auto, using(crate::proofs::OrderLemmas::masked))]
 fn spread(number: u64) -> u64
     ensures { bit_and result 0x1249_2492_4924_9249 ≡ result }
@@ -57,7 +56,7 @@ fn spread(number: u64) -> u64
     (bits | (bits << 2)) & 0x1249_2492_4924_9249
 }
 
-/// Puts volumes in that order.
+/// Sorts volumes by rank.
 pub(crate) fn put_in_order(lives: &mut [LiveVolume])
     ensures { IsPermutation lives.old lives.new }
 {

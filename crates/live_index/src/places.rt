@@ -1,4 +1,4 @@
-//! Where the volumes of each plan stand in chunks.
+//! The places of each plan's volumes in the order of chunks.
 
 ghost use Rattle.std.specs.Prelude.{◌≡◌, ◌≤◌, [], length, None, IsSome, IfOk, OnOk};
 ghost use Rattle.live_index.specs.Live.{ArePlaced};
@@ -10,14 +10,14 @@ use crate::volume::LiveVolume;
 use std::alloc::{AllocError, Global};
 use std::collections::BTreeMap;
 
-/// Of each plan the places of its volumes in the order of chunks. Clauses say of them only how many they are.
+/// The places of each plan's volumes in the order of chunks. Clauses say only how many each plan has.
 #[derive(Drop)]
 pub(crate) struct Places {
     plans: BTreeMap<PlanKey, Vec<u128>>,
 }
 
 impl Places {
-    /// Of no plan.
+    /// No places, of no plans.
     pub(crate) fn new(alloc: Global) -> Places
         ensures { result.plans.entries ≡ [] }
     {
@@ -26,7 +26,7 @@ impl Places {
         }
     }
 
-    /// Those of a plan.
+    /// The places of a plan's volumes; none if the plan is unknown.
     pub(crate) fn of(&self, key: &PlanKey) -> &[u128]
         ensures { length result.now ≡ places_in key.now self.now.plans.entries }
     {
@@ -36,7 +36,7 @@ impl Places {
         }
     }
 
-    /// Adds that of a volume.
+    /// Adds the place of a volume to those of its plan.
     ///
     /// # Errors
     ///
@@ -47,11 +47,11 @@ impl Places {
             self.new.plans.entries) }
     {
         let key = live.key();
-        open(alloc, &mut self.plans, &key)?;
+        ensure_list(alloc, &mut self.plans, &key)?;
         push(&mut self.plans, &key, live.place)
     }
 
-    /// Forgets those of a plan.
+    /// Removes the places of a plan.
     pub(crate) fn forget(&mut self, key: &PlanKey)
         ensures others { AreOthers key.now self.old.plans.entries self.new.plans.entries }
         ensures gone { list_of key.now self.new.plans.entries ≡ None }
@@ -64,8 +64,8 @@ impl Places {
 
 type Lists = BTreeMap<PlanKey, Vec<u128>>;
 
-// Gives a plan a list, if it has none.
-fn open(alloc: Global, plans: &mut Lists, key: &PlanKey) -> Result<(), AllocError>
+// Gives a plan an empty list of places, if it has no list.
+fn ensure_list(alloc: Global, plans: &mut Lists, key: &PlanKey) -> Result<(), AllocError>
     ensures kept { AreNoFewer plans.old.entries plans.new.entries }
     ensures there { OnOk result (IsSome (list_of key.now plans.new.entries)) }
 {
@@ -88,7 +88,7 @@ fn push(plans: &mut Lists, key: &PlanKey, place: u128) -> Result<(), AllocError>
     Ok(())
 }
 
-/// Those of volumes.
+/// The places of volumes, by plan.
 ///
 /// # Errors
 ///

@@ -1,4 +1,4 @@
-//! A volume of a live plan.
+//! Volumes of live plans, as an index has them.
 
 ghost use Rattle.std.specs.Prelude.{◌≡◌, IfOk};
 ghost use Rattle.desk_store.specs.Changes.{filed_by};
@@ -16,7 +16,7 @@ use slab_regions::Sought;
 use std::alloc::AllocError;
 use volume4d::{Slab, Volume, bounds_of};
 
-/// A volume of a live plan: whose it is, the plan's priority, and bounds round the volume.
+/// A volume of a live plan: the operator, the plan's id and priority, and the bounds of the volume.
 #[derive(Clone, Copy, Debug)]
 pub struct LiveVolume {
     operator: Operator,
@@ -24,14 +24,14 @@ pub struct LiveVolume {
     pub(crate) priority: u32,
     // the smallest slab that has all its points
     pub(crate) bounds: Slab,
-    // about how many rows of spans the plan has, of which no clause speaks
+    // an estimate of the plan's rows of spans, which no clause mentions
     pub(crate) rows: usize,
-    // its place in the order of chunks, of which no clause speaks
+    // its place in the order of chunks, which no clause mentions
     pub(crate) place: u128,
 }
 
 impl LiveVolume {
-    /// A volume of an operator's plan.
+    /// The entry of `volume`, one of the plan `row` of the operator.
     ///
     /// # Errors
     ///
@@ -56,7 +56,7 @@ impl LiveVolume {
         })
     }
 
-    /// Whether it is of the operator's plan of the id.
+    /// Whether the volume belongs to the operator's plan with this id.
     pub(crate) fn is_of(&self, operator: &Operator, id: &PlanId) -> bool
         ensures { result ≡ spec.is_volume_of operator.now id.now self.now }
     {
@@ -66,7 +66,7 @@ impl LiveVolume {
         operator.cmp(&self.operator).is_eq()
     }
 
-    /// The key of its plan.
+    /// The key of the volume's plan.
     pub(crate) fn key(&self) -> PlanKey
         ensures { result ≡ near.key_of self.now }
     {
@@ -76,7 +76,7 @@ impl LiveVolume {
         }
     }
 
-    /// Where it stands in the order of chunks.
+    /// The rank of the volume in the order of chunks.
     pub(crate) fn rank(&self) -> Rank
         ensures place { result.place ≡ self.now.place }
         ensures plan { result.plan ≡ near.key_of self.now }
@@ -84,7 +84,8 @@ impl LiveVolume {
         Rank::of(&self.key(), self.place)
     }
 
-    // Whether it is of the operator's plan of the id, or if there is no id, of one of its plans.
+    // Whether the volume belongs to a plan that `wanted` leaves out: the operator's with that id, or any if
+    // there is no id.
     fn is_own(&self, wanted: &Wanted) -> bool
         ensures { result ≡ near.is_own_volume wanted.now self.now }
     {
@@ -94,7 +95,7 @@ impl LiveVolume {
         }
     }
 
-    /// Whether it is wanted, and its bounds meet what is sought.
+    /// Whether the volume's plan is wanted, and its bounds overlap `sought`.
     pub(crate) fn is_near_to(&self, wanted: &Wanted, sought: &Sought) -> bool
         ensures { result ≡ near.is_near_to wanted.now sought.now self.now }
     {
@@ -107,7 +108,7 @@ impl LiveVolume {
         !self.is_own(wanted)
     }
 
-    /// Whether it is another operator's, and its bounds meet a slab.
+    /// Whether the volume belongs to another operator, and its bounds overlap `whole`.
     pub(crate) fn is_theirs(&self, operator: &Operator, whole: &Slab) -> bool
         ensures { result ≡ regions.is_theirs operator.now whole.now self.now }
     {

@@ -1,4 +1,4 @@
--- The roll of a store's operators: the ceiling of each, and the states and the sizes of its plans.
+-- The index of a store's operators: the ceiling of each, and the states and the sizes of its plans.
 use Rattle.std.specs.Prelude.{◌≡◌, ◌≢◌, ⊤, ℕ, ◌+◌, ◌≤◌, Bool, false, not, cond, List, [], ◌∷◌, Option, Some, None, map, length}
 use Rattle.std.specs.List.{filter, find, list_any, sum_by}
 use Rattle.std.specs.Option.{option_and_then, option_map}
@@ -73,7 +73,7 @@ pub record AreAccountsOf (operators : List Listed) (plans : List Filed) (account
 abbrev pub accounts_of : OperatorIndex → Accounts
 accounts_of roll = roll.accounts.entries
 
--- a roll has what a world has
+-- an index has what a world has
 abbrev pub IsRollOf : World → OperatorIndex → Type 0
 IsRollOf w roll = AreAccountsOf w.operators w.plans (accounts_of roll)
 

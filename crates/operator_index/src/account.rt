@@ -1,4 +1,4 @@
-//! What is kept of an operator: its ceiling, and the states and the sizes of its plans.
+//! The entry of an operator in the index: its ceiling, and the states and the sizes of its plans.
 
 ghost use Rattle.std.specs.Prelude.{◌≡◌, ◌<◌, ◌≤◌, ◌+◌, ◌^◌, ◌++◌, ◌∷◌, [], not, map, take, drop, length, IfOk, OnOk};
 ghost use Rattle.std.specs.List.{filter, find};
@@ -13,7 +13,7 @@ use desk_store::{Change, Sizes};
 use std::alloc::AllocError;
 use std::cmp::Ordering;
 
-/// The states of a plan, and how many spans and cells it takes, with its id.
+/// The id of a plan, its states, and how many spans and cells it has.
 #[derive(Clone, Copy, Debug)]
 pub(crate) struct PlanState {
     id: PlanId,
@@ -23,7 +23,7 @@ pub(crate) struct PlanState {
 }
 
 impl PlanState {
-    /// Those of a plan.
+    /// The id, states and sizes of a plan.
     pub(crate) fn of(row: &PlanRow) -> PlanState
         ensures { result ≡ state_of row.now }
     {
@@ -43,13 +43,13 @@ impl PlanState {
     }
 
     // Whether the plan has one of these ids.
-    fn is_named(&self, ids: &[PlanId]) -> bool
+    fn has_any_id(&self, ids: &[PlanId]) -> bool
         ensures { result ≡ spec.is_state_named ids.now self.now }
     {
         ids.iter().any(|id| self.has_id(id))
     }
 
-    // The same, with the usage `Closed` and no spans if the plan has this id; it keeps its cells.
+    // The plan unchanged, or, if it has this id, with the usage `Closed` and no spans; it keeps its cells.
     fn close_if(&self, id: &PlanId) -> PlanState
         ensures { result ≡ spec.close_if id.now self.now }
     {
@@ -67,7 +67,7 @@ impl PlanState {
         }
     }
 
-    // How much it takes, if it hasn't this id.
+    // The sizes of the plan, or none if it has this id.
     fn sizes_unless(&self, id: &PlanId) -> Sizes
         ensures spans { result.spans ≡ kept_unless (λ s. s.spans) id.now self.now }
         ensures cells { result.cells ≡ kept_unless (λ s. s.cells) id.now self.now }
@@ -82,7 +82,7 @@ impl PlanState {
     }
 }
 
-/// What is kept of an operator.
+/// The entry of an operator: its ceiling, if it is enrolled, and its plans.
 #[derive(Drop)]
 pub(crate) struct OperatorEntry {
     pub(crate) ceiling: Option<u32>,
@@ -91,7 +91,7 @@ pub(crate) struct OperatorEntry {
 }
 
 impl OperatorEntry {
-    /// The states of the plan of the id.
+    /// The states of the plan with this id, or `None` if there is none.
     pub(crate) fn states(&self, id: &PlanId) -> Option<States>
         ensures { result ≡ option_map (λ s. s.states) (find (state_has_id id.now) self.now.plans.items) }
     {
@@ -99,7 +99,7 @@ impl OperatorEntry {
         Some(found.states)
     }
 
-    /// How much its plans take but for that of the id, where 32 bits can say it.
+    /// The sizes of the operator's plans without the one with this id, each number at most `u32::MAX`.
     pub(crate) fn sizes_beside(&self, id: &PlanId) -> Sizes
         ensures spans { kept_spans_beside id.now self.now.plans.items < 2 ^ 32
             → result.spans ≡ kept_spans_beside id.now self.now.plans.items }
@@ -109,8 +109,8 @@ impl OperatorEntry {
         sizes_of(&self.plans, id)
     }
 
-    /// Takes a ceiling, if it has none.
-    pub(crate) fn list(&mut self, ceiling: u32)
+    /// Sets the ceiling, unless there is one already.
+    pub(crate) fn set_first_ceiling(&mut self, ceiling: u32)
         ensures ceiling { self.new.ceiling ≡ or_else self.old.ceiling ceiling }
         ensures plans { self.new.plans.items ≡ self.old.plans.items }
     {
@@ -119,12 +119,12 @@ impl OperatorEntry {
         }
     }
 
-    /// Takes one more plan.
+    /// Appends a plan, which has to come after the others by id.
     ///
     /// # Errors
     ///
     /// `AllocError` if memory runs out.
-    pub(crate) fn file(&mut self, row: &PlanRow) -> Result<(), AllocError>
+    pub(crate) fn append_plan(&mut self, row: &PlanRow) -> Result<(), AllocError>
         ensures ceiling { self.new.ceiling ≡ self.old.ceiling }
         ensures plans { OnOk result
             (self.new.plans.items ≡ self.old.plans.items ++ state_of row.now ∷ []) }
@@ -133,7 +133,7 @@ impl OperatorEntry {
         Ok(())
     }
 
-    /// Makes room for one more plan.
+    /// Reserves capacity for one more plan.
     ///
     /// # Errors
     ///
@@ -146,8 +146,9 @@ impl OperatorEntry {
         self.plans.reserve(1)
     }
 
-    /// Follows a change of the operator's plans or ceiling, for which there is room.
-    pub(crate) fn follow(&mut self, change: &Change)
+    /// Updates the entry after a change of the operator's ceiling or plans. There is capacity for one more
+    /// plan, so this can't fail.
+    pub(crate) fn apply_change(&mut self, change: &Change)
         requires { HasRoomForOne self.old }
         ensures ceiling { self.new.ceiling ≡ ceiling_after change.now self.old.ceiling }
         ensures plans { self.new.plans.items ≡ plans_after change.now self.old.plans.items }
@@ -161,7 +162,7 @@ impl OperatorEntry {
     }
 }
 
-// How much plans take but for that of the id, where 32 bits can say it.
+// The sizes of `plans` without the one with this id, each number at most `u32::MAX`.
 fn sizes_of(plans: &[PlanState], id: &PlanId) -> Sizes
     ensures spans { kept_spans_beside id.now plans.now < 2 ^ 32
         → result.spans ≡ kept_spans_beside id.now plans.now }
@@ -175,7 +176,8 @@ fn sizes_of(plans: &[PlanState], id: &PlanId) -> Sizes
     sizes
 }
 
-// Puts a plan's states in place of those of its id, or at their place, for which there is room.
+// Replaces the plan with the id of `state`, or inserts it in order. There is capacity for it, so `insert`
+// can't fail.
 fn put(plans: &mut Vec<PlanState>, state: PlanState)
     requires { length plans.old.items + 1 ≤ plans.old.cap }
     ensures { plans.new.items ≡ put_state state plans.old.items }
@@ -190,7 +192,7 @@ fn put(plans: &mut Vec<PlanState>, state: PlanState)
     }
 }
 
-// How many plans come before that of the states.
+// The index at which `state` belongs among `plans`, by id.
 fn place_of(plans: &[PlanState], state: &PlanState) -> usize
     ensures within { result ≤ length plans.now }
     ensures place { put_state state.now plans.now
@@ -204,7 +206,7 @@ fn place_of(plans: &[PlanState], state: &PlanState) -> usize
     at
 }
 
-// Whether the plan at a place is that of the states.
+// Whether the plan at `at`, if there is one, has the id of `state`.
 fn is_at(plans: &[PlanState], at: usize, state: &PlanState) -> bool
     ensures { result ≡ spec.begins_with state.now (drop at plans.now) }
 {
@@ -214,7 +216,7 @@ fn is_at(plans: &[PlanState], at: usize, state: &PlanState) -> bool
     }
 }
 
-// Gives the plans of this id the usage `Closed`.
+// Closes the plan with this id, if there is one.
 fn close(plans: &mut Vec<PlanState>, id: &PlanId)
     ensures { plans.new.items ≡ map (close_if id.now) plans.old.items }
 {
@@ -225,9 +227,9 @@ fn close(plans: &mut Vec<PlanState>, id: &PlanId)
     }
 }
 
-// Takes the plans of these ids out.
+// Removes the plans with these ids.
 fn clear(plans: &mut Vec<PlanState>, ids: &[PlanId])
     ensures { plans.new.items ≡ filter (λ s. not (is_state_named ids.now s)) plans.old.items }
 {
-    plans.retain(|plan| !plan.is_named(ids));
+    plans.retain(|plan| !plan.has_any_id(ids));
 }

@@ -1,5 +1,5 @@
-//! The operators of a store, kept in memory beside its tables: of each its ceiling, and of its plans the ids,
-//! the states and the spans.
+//! An index in memory of a store's operators, beside its tables: of each operator the ceiling, and the ids,
+//! the states and the sizes of its plans.
 #![tactic(auto)]
 
 mod account;

@@ -1,12 +1,12 @@
-//! What a roll says of an operator.
+//! An enrolled operator.
 
 use desk_rules::operator::Operator;
 use std::marker::Model;
 
-/// An operator with its ceiling.
+/// An enrolled operator with its ceiling.
 #[derive(Clone, Copy, Debug)]
 pub struct ListedOperator {
-    /// Its name.
+    /// The operator's name.
     pub operator: Operator,
     /// The greatest priority that its plans may have.
     pub ceiling: u32,

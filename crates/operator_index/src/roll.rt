@@ -1,4 +1,4 @@
-//! The roll of operators.
+//! The index of operators.
 
 ghost use Rattle.std.specs.Prelude.{◌≡◌, ◌++◌, ◌∷◌, ◌<◌, ◌^◌, [], List, length, IsSome, IfOk, OnOk};
 ghost use Rattle.std.specs.List.Sorted.{IsStrictlySortedBy};
@@ -19,14 +19,14 @@ use desk_store::{Change, Sizes};
 use std::alloc::{AllocError, Global};
 use std::collections::BTreeMap;
 
-/// Each operator's ceiling, and the states and the sizes of its plans.
+/// An index of a store's operators: each one's ceiling, and the ids, states and sizes of its plans.
 #[derive(Drop)]
 pub struct OperatorIndex {
     accounts: BTreeMap<Operator, OperatorEntry>,
 }
 
 impl OperatorIndex {
-    /// Of no operators and no plans.
+    /// The index of no operators and no plans.
     pub fn new(alloc: Global) -> OperatorIndex
         ensures { AreAccountsOf [] [] (accounts_of result) }
     {
@@ -35,7 +35,7 @@ impl OperatorIndex {
         }
     }
 
-    /// The operator's ceiling, or none where it is not listed.
+    /// The operator's ceiling, or `None` if it is not enrolled.
     pub fn ceiling(&self, operator: &Operator) -> Option<u32>
         ensures { (w : World) → IsRollOf w self.now → result ≡ ceiling_of operator.now w }
     {
@@ -43,7 +43,7 @@ impl OperatorIndex {
         account.ceiling
     }
 
-    /// The operators that are listed, ascending by name, each once, with their ceilings.
+    /// The enrolled operators with their ceilings, ascending by name, each once.
     ///
     /// # Errors
     ///
@@ -59,7 +59,7 @@ impl OperatorIndex {
         Ok(listed)
     }
 
-    /// The states of the operator's plan of the id.
+    /// The states of the operator's plan with this id, or `None` if there is none.
     pub fn states(&self, operator: &Operator, id: &PlanId) -> Option<States>
         ensures { (w : World) → IsRollOf w self.now
             → result ≡ states_of (stored_of id.now (plans_of operator.now w)) }
@@ -68,7 +68,7 @@ impl OperatorIndex {
         account.states(id)
     }
 
-    /// How many plans the operator has, where 32 bits can say it.
+    /// How many plans the operator has, closed ones included; at most `u32::MAX`.
     pub fn count(&self, operator: &Operator) -> u32
         ensures { (w : World) → IsRollOf w self.now → length (plans_of operator.now w) < 2 ^ 32
             → result ≡ length (plans_of operator.now w) }
@@ -79,7 +79,7 @@ impl OperatorIndex {
         }
     }
 
-    /// How much the operator's plans take but for that of the id, where 32 bits can say it.
+    /// The sizes of the operator's plans without the one with this id, each number at most `u32::MAX`.
     pub fn sizes_beside(&self, operator: &Operator, id: &PlanId) -> Sizes
         ensures spans { (w : World) → IsRollOf w self.now
             → spans_beside id.now (plans_of operator.now w) < 2 ^ 32
@@ -94,7 +94,7 @@ impl OperatorIndex {
         }
     }
 
-    /// Makes room for what a change adds.
+    /// Reserves the memory that `follow` needs for this change.
     ///
     /// # Errors
     ///
@@ -104,17 +104,17 @@ impl OperatorIndex {
         ensures ready { OnOk result (IsReadyFor change.now self.new) }
     {
         let operator = named_by(change);
-        open(alloc, &mut self.accounts, operator)?;
+        ensure_account(alloc, &mut self.accounts, operator)?;
         make_room(&mut self.accounts, operator)
     }
 
-    /// Follows a change for which there is room.
+    /// Updates the index after a change. `prepare` has reserved the memory for it, so this can't fail.
     pub fn follow(&mut self, change: &Change)
         requires { IsReadyFor change.now self.old }
         ensures { (w : World) → IsRollOf w self.old → IsRollOf (changed_by change.now w) self.new }
     {
         if let Some(account) = self.accounts.get_mut(named_by(change)) {
-            account.follow(change);
+            account.apply_change(change);
         }
     }
 }
@@ -122,7 +122,7 @@ impl OperatorIndex {
 // ---- opening
 
 impl OperatorIndex {
-    /// Lists one more operator under a ceiling. One that is listed keeps its ceiling.
+    /// Enrols an operator with a ceiling. One that is enrolled already keeps its ceiling.
     ///
     /// # Errors
     ///
@@ -137,14 +137,14 @@ impl OperatorIndex {
             → AreAccountsOf ls ps (accounts_of self.old) → AreAccountsOf
             (ls ++ record { name = operator.now; ceiling = ceiling } ∷ []) ps (accounts_of self.new)) }
     {
-        open(alloc, &mut self.accounts, operator)?;
+        ensure_account(alloc, &mut self.accounts, operator)?;
         if let Some(account) = self.accounts.get_mut(operator) {
-            account.list(ceiling);
+            account.set_first_ceiling(ceiling);
         }
         Ok(())
     }
 
-    /// Files one more plan of an operator.
+    /// Appends a plan to those of an operator, in the order in which a store's rows are read.
     ///
     /// # Errors
     ///
@@ -159,9 +159,9 @@ impl OperatorIndex {
             → AreAccountsOf ls ps (accounts_of self.old) → AreAccountsOf ls
             (ps ++ filed_by operator.now row.now ∷ []) (accounts_of self.new)) }
     {
-        open(alloc, &mut self.accounts, operator)?;
+        ensure_account(alloc, &mut self.accounts, operator)?;
         if let Some(account) = self.accounts.get_mut(operator) {
-            account.file(row)?;
+            account.append_plan(row)?;
         }
         Ok(())
     }
@@ -169,7 +169,7 @@ impl OperatorIndex {
 
 type Accounts = BTreeMap<Operator, OperatorEntry>;
 
-// Adds an operator that has a ceiling.
+// Appends an operator to the list, if it has a ceiling and so is enrolled.
 fn push_listed(
     listed: &mut Vec<ListedOperator>,
     operator: &Operator,
@@ -186,8 +186,12 @@ fn push_listed(
     Ok(())
 }
 
-// Gives an operator an account, if it has none.
-fn open(alloc: Global, accounts: &mut Accounts, operator: &Operator) -> Result<(), AllocError>
+// Gives an operator an empty entry, if it has none.
+fn ensure_account(
+    alloc: Global,
+    accounts: &mut Accounts,
+    operator: &Operator,
+) -> Result<(), AllocError>
     ensures kept { (ls : List Listed) (ps : List Filed) → AreAccountsOf ls ps accounts.old.entries
         → AreAccountsOf ls ps accounts.new.entries }
     ensures there { OnOk result (IsSome (account_in operator.now accounts.new.entries)) }
@@ -205,14 +209,14 @@ fn open(alloc: Global, accounts: &mut Accounts, operator: &Operator) -> Result<(
     Ok(())
 }
 
-// Whether an operator has an account.
+// Whether an operator has an entry.
 fn has_account(accounts: &Accounts, operator: &Operator) -> bool
     ensures { result ≡ is_some (account_in operator.now accounts.now.entries) }
 {
     accounts.get(operator).is_some()
 }
 
-// Makes room for one more plan in an operator's account, if it has one.
+// Reserves capacity for one more plan in an operator's entry, if it has one.
 fn make_room(accounts: &mut Accounts, operator: &Operator) -> Result<(), AllocError>
     ensures kept { (ls : List Listed) (ps : List Filed) → AreAccountsOf ls ps accounts.old.entries
         → AreAccountsOf ls ps accounts.new.entries }
@@ -225,7 +229,7 @@ fn make_room(accounts: &mut Accounts, operator: &Operator) -> Result<(), AllocEr
     }
 }
 
-// The operator that a change names.
+// The operator whose ceiling or plans a change is about.
 fn named_by(change: &Change) -> &Operator
     ensures { result.now ≡ spec.named_by change.now }
 {

@@ -12,7 +12,7 @@ leaf_id leaf = leaf_id_at (position_of leaf)
 abbrev pub cell_has_leaf : ℕ → GridLeaf → Bool
 cell_has_leaf id leaf = cell_has id (position_of leaf)
 
--- the id of the cell with the leaves of a square: it stands in the middle of their ids
+-- the id of the cell with the leaves of a square: it is the middle of their ids
 abbrev pub square_id : GridSquare → ℕ
 square_id square = 2 * first_position square + leaf_count square.level
 

@@ -10,7 +10,7 @@ use crate::CellId;
 use s2_hilbert::{Leaf, Square, position};
 
 impl CellId {
-    /// The cell of one leaf.
+    /// The cell of level 30 with the one leaf `leaf`.
     pub fn of_leaf(leaf: Leaf) -> CellId
         ensures value { result ≡ leaf_id leaf }
         ensures valid { IsCellId result }
@@ -23,7 +23,7 @@ impl CellId {
         }
     }
 
-    /// The cell with the leaves of a square.
+    /// The cell with exactly the leaves of `square`, at the same level.
     pub fn of_square(square: &Square) -> CellId
         ensures value { result ≡ square_id square.now }
         ensures valid { IsCellId result }
@@ -36,14 +36,14 @@ impl CellId {
         }
     }
 
-    /// The cell of a level that has the leaves of this one; at its own level, this cell.
+    /// The cell of `level` that contains this one; at its own level, this cell itself.
     pub fn parent(&self, level: u8) -> CellId
         requires { level ≤ level_of self.now }
         ensures value { result ≡ parent_id level self.now }
         ensures valid { IsCellId result }
         ensures level { level_of result ≡ level }
 
-        // Its leaves are exactly the square of the level round any leaf of this cell.
+        // Its leaves are exactly those of the square of `level` round any leaf of this cell.
         ensures leaves { (inner leaf : GridLeaf) → IsLeaf inner → IsLeaf leaf →
             IsTrue (cell_has_leaf self.now inner) →
             IsTrue (cell_has_leaf result leaf) ↔ ShareSquare level inner leaf }
@@ -55,7 +55,7 @@ impl CellId {
         }
     }
 
-    /// The child at a place of the curve, 0 to 3.
+    /// The quarter of this cell that the curve visits at place `k`, 0 to 3.
     pub fn child(&self, k: u8) -> CellId
         requires k { k < 4 }
         requires level { level_of self.now < 30 }
@@ -63,7 +63,7 @@ impl CellId {
         ensures valid { IsCellId result }
         ensures level { level_of result ≡ level_of self.now + 1 }
 
-        // Its leaves are this cell's whose positions are in the quarter k of its positions.
+        // It has the leaves of this cell that are in quarter `k` of the cell's positions.
         ensures leaves { (leaf : GridLeaf) → IsLeaf leaf → IsTrue (cell_has_leaf result leaf)
             ↔ (IsTrue (cell_has_leaf self.now leaf)
             × ((position_of leaf - first_leaf self.now) / leaf_count (level_of result) ≡ k)) }
@@ -75,8 +75,7 @@ impl CellId {
     }
 }
 
-// The lowest set bit of the ids of each level (S2's `lsb_for_level`). Reading it takes less time than
-// a shift by a number that is not known.
+// The lowest set bit of the ids of each level. A look-up is faster than a shift by a variable number.
 static LOWEST_BITS: [u64; 31] = [
     1 << 60,
     1 << 58,
@@ -111,6 +110,7 @@ static LOWEST_BITS: [u64; 31] = [
     1,
 ];
 
+// The lowest set bit of an id of `level` (S2's `lsb_for_level`).
 fn lowest_bit_for(level: u8) -> u64
     requires { level ≤ leaf_level }
     ensures { result ≡ leaf_count level }

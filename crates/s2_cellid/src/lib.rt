@@ -18,15 +18,15 @@ use s2_hilbert::{FACES, LEAF_LEVEL};
 use std::marker::Model;
 pub use tokens::{Token, TokenFault};
 
-// The place of the lowest of the three bits of the face in an id.
+// The place in an id of the lowest of the three bits of the face.
 const FACE_PLACE: u32 = 61;
 
-// The constant is that of the definition: two bits for each level lie below the face, and one more.
+// Proves that the constant is that of the definition: two bits for each level and one more.
 fn has_the_limit()
     ensures { FACE_PLACE ≡ 2 * leaf_level + 1 }
 {}
 
-/// A cell, by its valid 64-bit id. Cells are ordered as their ids are, as unsigned numbers.
+/// A cell, by its valid 64-bit id. Cells are ordered by their ids as unsigned numbers.
 #[derive(Clone, Copy, Debug, PartialEq, Eq, PartialOrd, Ord, Hash)]
 pub struct CellId {
     id: u64,
@@ -46,7 +46,7 @@ impl Model for CellId {
 }
 
 impl CellId {
-    /// The cell of an id; `None` if the id is not valid (S2's `is_valid`).
+    /// The cell with this id; `None` if the id is not valid (S2's `is_valid`).
     pub fn from_raw(id: u64) -> Option<CellId>
         ensures { SomeIff result (IsCellId id) id }
     {
@@ -58,7 +58,7 @@ impl CellId {
         }
     }
 
-    /// The id, which is valid.
+    /// The cell's id, which is always valid.
     pub fn raw(&self) -> u64
         ensures value { result ≡ self.now }
         ensures valid { IsCellId self.now }
@@ -66,7 +66,7 @@ impl CellId {
         self.id
     }
 
-    /// The face of the cube, 0 to 5.
+    /// The face of the cube on which the cell lies, 0 to 5.
     pub fn face(&self) -> u8
         ensures value { result ≡ face_of self.now }
         ensures below { result < 6 }
@@ -81,7 +81,7 @@ impl CellId {
         ensures value { result ≡ level_of self.now }
         ensures at_most { result ≤ 30 }
 
-        // The leaves are exactly the square of this level round any of them.
+        // The cell's leaves are exactly those of the square of this level round any of them.
         ensures leaves { (inner leaf : GridLeaf) → IsLeaf inner → IsLeaf leaf →
             IsTrue (cell_has_leaf self.now inner) →
             IsTrue (cell_has_leaf self.now leaf) ↔ ShareSquare result inner leaf }
@@ -136,12 +136,14 @@ impl CellId {
         self.first_leaf_id() <= other.last_leaf_id() && other.first_leaf_id() <= self.last_leaf_id()
     }
 
+    // The lowest set bit of the id (S2's `lsb`).
     fn lowest_bit(&self) -> u64
         ensures { result ≡ lowest_bit self.now }
     {
         1 << self.id.trailing_zeros()
     }
 
+    // The least id of the cell's leaves (S2's `range_min`).
     #[tactic(auto, using(crate::proofs::lemmas::Block::ends_of))]
     fn first_leaf_id(&self) -> u64
         ensures value { result ≡ first_leaf_id self.now }
@@ -150,6 +152,7 @@ impl CellId {
         self.id - (self.lowest_bit() - 1)
     }
 
+    // The greatest id of the cell's leaves (S2's `range_max`).
     #[tactic(auto, using(crate::proofs::lemmas::Block::ends_of))]
     fn last_leaf_id(&self) -> u64
         ensures value { result ≡ last_leaf_id self.now }
@@ -158,7 +161,7 @@ impl CellId {
         self.id + (self.lowest_bit() - 1)
     }
 
-    // Whether an id lies in the closed range of the cell's leaf ids.
+    // Whether `id` lies between the least and the greatest id of the cell's leaves.
     fn has_id(&self, id: u64) -> bool
         ensures range { IsTrue result
             ↔ IsInRange (first_leaf_id self.now) (last_leaf_id self.now) id }
@@ -168,7 +171,7 @@ impl CellId {
     }
 }
 
-// The top three bits of an id.
+// The face in an id, its top three bits: 0 to 7, of which 6 and 7 are not valid.
 fn face_of(id: u64) -> u8
     ensures { result ≡ face_of id }
 {

@@ -17,12 +17,12 @@ use std::{fmt, str};
 // How many hex digits an id has.
 const DIGITS: usize = 16;
 
-// The constant is that of the definition.
+// Proves that the constant is that of the definition.
 fn has_the_limit()
     ensures { DIGITS ≡ most_digits }
 {}
 
-// Stands in `HEX_VALUES` for a byte that is no hex digit.
+// Marks a byte in `HEX_VALUES` that is no hex digit.
 const NO: u8 = 16;
 
 // The value of each byte as a hex digit of either case.
@@ -40,7 +40,7 @@ static HEX_VALUES: [u8; 256] = [
     NO, NO, NO, NO, NO, NO, NO, NO, NO, NO, NO, NO, NO, NO,
 ];
 
-/// Why a text is no token of a cell, in the order in which it is looked for.
+/// Why a text is no token of a cell. If several reasons apply, the first in this order is reported.
 #[derive(Clone, Copy, Debug, PartialEq, Eq)]
 pub enum TokenFault {
     /// The text is empty.
@@ -49,7 +49,7 @@ pub enum TokenFault {
     TooLong,
     /// Some byte is no hex digit.
     NotHex,
-    /// The digits, filled up with zeros, are no valid id.
+    /// The digits, padded with zeros on the right, are no valid id.
     NotACell,
 }
 
@@ -70,12 +70,12 @@ impl fmt::Display for TokenFault {
 
 impl Error for TokenFault {}
 
-/// The printed token of a cell: 1 to 16 lower-case hex digits, kept in place.
+/// The printed token of a cell: 1 to 16 lower-case hex digits, stored without an allocation.
 #[derive(Clone, Copy, Debug, PartialEq, Eq)]
 pub struct Token {
-    // all digits of the id, the zeros at their end among them
+    // all digits of the id, with its trailing zeros
     digits: [u8; DIGITS],
-    // how many of them are printed
+    // how many of the digits are printed
     printed: usize,
 }
 
@@ -122,7 +122,7 @@ impl fmt::Display for CellId {
 }
 
 impl CellId {
-    /// The token of the cell: its id in base 16 without the zeros at the end.
+    /// The token of the cell: its id in base 16 without trailing zeros.
     pub fn token(&self) -> Token
         ensures value { result ≡ token_text self.now }
         ensures spelling { IsSpelling result self.now }
@@ -137,7 +137,7 @@ impl CellId {
         }
     }
 
-    /// The cell of a token: 1 to 16 hex digits of either case, filled up with zeros on the right.
+    /// The cell of a token: 1 to 16 hex digits of either case, which are padded with zeros on the right.
     ///
     /// # Errors
     ///
@@ -159,7 +159,7 @@ impl CellId {
     }
 }
 
-// The hex digits of an id.
+// The 16 hex digits of an id as ASCII bytes, lower-case, the highest first.
 fn hex_digits(id: u64) -> [u8; DIGITS]
     ensures { result ≡ hex_digits most_digits id }
 {
@@ -170,6 +170,7 @@ fn hex_digits(id: u64) -> [u8; DIGITS]
     digits
 }
 
+// The ASCII byte of a hex digit, lower-case.
 fn hex_digit(value: u64) -> u8
     requires { value < 16 }
     ensures { result ≡ digit_char value }
@@ -181,7 +182,7 @@ fn hex_digit(value: u64) -> u8
     }
 }
 
-// How many digits of an id come before the zeros at their end.
+// The number of hex digits of an id without its trailing zeros.
 fn printed_length(id: u64) -> usize
     requires { IsCellId id }
     ensures { result ≡ length (hex_digits most_digits id)
@@ -190,7 +191,7 @@ fn printed_length(id: u64) -> usize
     DIGITS - (id.trailing_zeros() / 4) as usize
 }
 
-// The value of a hex digit.
+// The value of a hex digit of either case; `None` if the byte is no hex digit.
 fn hex_value(byte: u8) -> Option<u8>
     ensures { SomeIff result (digit_value byte < 16) (digit_value byte) }
 {
@@ -198,7 +199,8 @@ fn hex_value(byte: u8) -> Option<u8>
     if value < NO { Some(value) } else { None }
 }
 
-// The number that the hex digits write, filled up with zeros on the right to 16 digits.
+// The number that the hex digits of `token` write, padded with zeros on the right to 16 digits; `None` if a
+// byte is no hex digit.
 fn filled_value(token: &[u8]) -> Option<u64>
     requires some { 0 < length token.now }
     requires at_most { length token.now ≤ most_digits }

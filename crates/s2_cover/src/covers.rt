@@ -40,15 +40,14 @@ impl Cover {
         self.cells.as_slice()
     }
 
-    /// How many squares were compared with the rectangle to find the cells; 0 if they were found by
-    /// `normalise`.
+    /// How many squares `cover` compared with the rectangle to find the cells; 0 for covers of other origin.
     pub fn looked(&self) -> u64
         ensures { result ≡ self.now.looked }
     {
         self.looked
     }
 
-    /// The cover's leaves as ranges of positions, found in one pass over the cells.
+    /// The cover's leaves as ranges of positions, in one pass over the cells.
     ///
     /// # Errors
     ///
@@ -62,7 +61,7 @@ impl Cover {
         Ranges::of_sorted(*self.cells.allocator(), &self.cells)
     }
 
-    /// The canonical cover of the leaves of ranges. Each of its cells takes a bounded number of steps.
+    /// The canonical cover of the leaves of `ranges`, in a bounded number of steps for each of its cells.
     ///
     /// # Errors
     ///
@@ -78,7 +77,7 @@ impl Cover {
         Ok(Cover { cells, looked: 0 })
     }
 
-    /// The cover of cells that are the canonical list of their leaves.
+    /// The cover with these cells, which have to be the canonical list of their leaves.
     pub(crate) fn of_canonical(cells: Vec<CellId>, looked: u64) -> Cover
         requires { IsCanonical (leaves_of cells.items) cells.items }
         ensures ids { result.ids ≡ cells.items }
@@ -87,7 +86,7 @@ impl Cover {
         Cover { cells, looked }
     }
 
-    /// An equal cover.
+    /// A copy of the cover.
     ///
     /// # Errors
     ///
@@ -103,9 +102,9 @@ impl Cover {
     }
 }
 
-/// The canonical cover of all leaves of the cells (`S2CellUnion::Normalize`). The cells may be in any
-/// order, overlap and repeat; no cells give the cover without cells. They are sorted once; after that
-/// each of them, and each cell of the cover, takes a bounded number of steps.
+/// The canonical cover of all leaves of `cells` (`S2CellUnion::Normalize`), which may be in any order,
+/// overlap and repeat; of no cells, the empty cover. After one sort, the time is linear in the number of
+/// cells given and returned.
 ///
 /// # Errors
 ///
@@ -125,7 +124,7 @@ pub fn normalise(alloc: Global, cells: &[CellId]) -> Result<Cover, AllocError>
     Ok(Cover { cells, looked: 0 })
 }
 
-// The largest cells that lie in the spans, ascending, in the room of an empty list.
+// The largest cells that lie in the spans, ascending. They are put into `empty`, whose memory is reused.
 fn largest_cells(empty: Vec<CellId>, spans: &[Span]) -> Result<Vec<CellId>, AllocError>
     ghost set: { ℕ → Bool }
     requires empty { empty.items ≡ [] }
@@ -140,7 +139,7 @@ fn largest_cells(empty: Vec<CellId>, spans: &[Span]) -> Result<Vec<CellId>, Allo
     Ok(cells)
 }
 
-// Appends the largest cells that lie in the span.
+// Appends the largest cells that lie in `span`, from its first position to its last.
 fn push_cells(cells: &mut Vec<CellId>, span: &Span) -> Result<(), AllocError>
     ghost set: { ℕ → Bool }
     requires run { IsLongestRun set span.now }
@@ -156,7 +155,7 @@ fn push_cells(cells: &mut Vec<CellId>, span: &Span) -> Result<(), AllocError>
     Ok(())
 }
 
-// The largest cell whose first leaf is at `first` and whose last is at most at `last`.
+// The largest cell whose first leaf is at `first` and whose last leaf is at `last` or before.
 fn largest_from(first: u64, last: u64) -> CellId
     requires ordered { first ≤ last }
     requires below { last < 6 * 2 ^ 60 }
@@ -166,8 +165,8 @@ fn largest_from(first: u64, last: u64) -> CellId
     CellId::from_raw(2 * first + (1 << place)).unwrap()
 }
 
-// The place of that cell's lowest bit. The cell has `2^place` leaves, their number divides the first
-// position, and they are no more than the positions up to `last`.
+// The place of the lowest set bit in the id of the largest cell that begins at `first` and ends by `last`. A
+// cell has `2^place` leaves, and its first position is a multiple of that.
 fn largest_place(first: u64, last: u64) -> u32
     requires ordered { first ≤ last }
     requires below { last < 6 * 2 ^ 60 }

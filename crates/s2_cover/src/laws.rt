@@ -28,7 +28,7 @@ pub fn canonical_list_exists()
         → (ids : List ℕ) × (IsCanonical set ids × ((p : ℕ) → leaves_of ids p ≡ set p)) }
 {}
 
-/// The function that gives the canonical list of a set of leaves gives it.
+/// `canonical_list` returns the canonical list of a set of leaves.
 pub fn canonical_list_is()
     ensures { (set : ℕ → Bool) → IsCanonical set (canonical_list set) }
 {}
@@ -40,7 +40,7 @@ pub fn shortest()
         → ((p : ℕ) → leaves_of others p ≡ set p) → length ids ≤ length others }
 {}
 
-/// The test of a rectangle's leaves passes exactly for the leaves that it stands for.
+/// The test `wide_has` of a rectangle passes for exactly the leaves of its footprint.
 pub fn rectangles_are_squares()
     ensures { (rect : RectParts) (leaf : GridLeaf) → IsRect rect
         → IsTrue (wide_has (widened rect) leaf) ↔ IsInFootprint rect leaf }
@@ -58,7 +58,7 @@ pub fn equal_sets_have_equal_ranges()
         → IsRanges set spans → IsRanges other spans }
 {}
 
-/// A list of ranges has as many spans as its set has ranges.
+/// The ranges of a set are as many as `range_count` says.
 pub fn ranges_are_counted()
     ensures { (set : ℕ → Bool) (spans : List Span) → IsRanges set spans → length spans ≡ range_count set }
 {}

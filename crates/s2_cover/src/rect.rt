@@ -15,8 +15,8 @@ const MIN_LEVEL: u8 = 8;
 // The greatest level of a rectangle.
 const MAX_LEVEL: u8 = 24;
 
-/// A rectangle of leaves on a face, with a level of squares. It stands for all leaves of the face that
-/// share a square of the level with a leaf of the rectangle.
+/// A rectangle of leaves on a face, with a level of squares. Its footprint has all leaves of the face that
+/// share a square of that level with a leaf of the rectangle.
 #[derive(Clone, Copy, Debug, PartialEq, Eq)]
 pub struct Rect {
     face: u8,
@@ -27,7 +27,7 @@ pub struct Rect {
     level: u8,
 }
 
-/// Why a rectangle cannot be made.
+/// Why numbers are no rectangle. If several reasons apply, the first in this order is reported.
 #[derive(Clone, Copy, Debug, PartialEq, Eq)]
 pub enum RectFault {
     /// The face is above 5.
@@ -92,8 +92,8 @@ impl Model for Rect {
 }
 
 impl Rect {
-    /// The rectangle of the leaves of a face with coordinates `i_min..=i_max` and `j_min..=j_max`, and a
-    /// level of squares from 0 for a whole face to 30 for a leaf, of which it takes 8 to 24.
+    /// The rectangle of the leaves of `face` with coordinates `i_min..=i_max` and `j_min..=j_max`, and with
+    /// squares of `level`, which has to be 8 to 24.
     ///
     /// # Errors
     ///
@@ -187,14 +187,14 @@ impl Rect {
     }
 }
 
-// Whether two numbers are coordinates of leaves.
+// Whether both numbers are coordinates in the grid of a face, at most `2^30 - 1`.
 fn are_coordinates(least: u32, greatest: u32) -> bool
     ensures { result ≡ (is_coordinate least && is_coordinate greatest) }
 {
     least < FACE_SIDE && greatest < FACE_SIDE
 }
 
-// Whether a rectangle may have this level.
+// Whether a rectangle may have this level: 8 to 24.
 fn is_level(level: u8) -> bool
     ensures { result ≡ is_in_range min_level max_level level }
 {

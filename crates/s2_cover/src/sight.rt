@@ -1,4 +1,4 @@
-//! Looks at the squares of a face from a rectangle.
+//! Comparison of the squares of a face with a rectangle.
 
 ghost use Rattle.std.specs.Prelude.{◌≡◌, ◌≢◌, ℕ, ◌+◌, ◌/◌, ◌^◌, ◌<◌, ◌≤◌};
 ghost use Rattle.s2_hilbert.specs.Grid.{IsSquare};
@@ -12,7 +12,7 @@ use crate::rect::Rect;
 use s2_hilbert::{LEAF_LEVEL, Square};
 use std::marker::Model;
 
-/// A rectangle in coordinates of the squares of its level: the whole squares that it touches.
+/// A rectangle in coordinates of the squares of its level: all squares that it touches.
 #[derive(Clone, Copy, Debug)]
 pub(crate) struct Widened {
     face: u8,
@@ -23,14 +23,14 @@ pub(crate) struct Widened {
     b_max: u32,
 }
 
-/// How a square lies to the leaves of a rectangle.
+/// How the leaves of a square overlap those of a rectangle.
 #[derive(Clone, Copy, Debug, PartialEq, Eq)]
 pub(crate) enum Overlap {
-    /// It has none of them.
+    /// The square has no leaf of the rectangle.
     Outside,
-    /// It has only such leaves.
+    /// All leaves of the square are in the rectangle.
     Inside,
-    /// It has some, and other leaves.
+    /// Some leaves of the square are in the rectangle, others aren't.
     Across,
 }
 
@@ -69,10 +69,10 @@ impl Model for Widened {
 }
 
 impl Widened {
-    /// The squares that a rectangle touches.
+    /// The squares of the rectangle's level that it touches.
     pub(crate) fn of_rect(rect: &Rect) -> Widened
         ensures value { result ≡ widened rect.now }
-        ensures is { IsWide result }
+        ensures valid { IsWide result }
         ensures rect { IsRect rect.now }
     {
         let side = side_of(rect.level());
@@ -86,7 +86,7 @@ impl Widened {
         }
     }
 
-    /// The face.
+    /// The face of the rectangle.
     pub(crate) fn face(&self) -> u8
         ensures { result ≡ self.now.face }
     {
@@ -94,7 +94,7 @@ impl Widened {
     }
 }
 
-/// A look: the comparison of a square with the rectangle, which is counted.
+/// How a square of the rectangle's face overlaps the rectangle. Counts the comparison in `looked`.
 pub(crate) fn compare(wide: &Widened, square: &Square, looked: &mut u64) -> Overlap
     requires wide { IsWide wide.now }
     requires square { IsSquare square.now }
@@ -106,14 +106,14 @@ pub(crate) fn compare(wide: &Widened, square: &Square, looked: &mut u64) -> Over
 {
     *looked += 1;
     let side = side_of(wide.level);
-    both(
-        along(square.i_span(), wide.a_min, wide.a_max, side),
-        along(square.j_span(), wide.b_min, wide.b_max, side),
+    combine(
+        compare_range(square.i_span(), wide.a_min, wide.a_max, side),
+        compare_range(square.j_span(), wide.b_min, wide.b_max, side),
     )
 }
 
-// The sight of a square from those of its two coordinates.
-fn both(i_sight: Overlap, j_sight: Overlap) -> Overlap
+// The overlap of a square, from the overlaps of its ranges of `i` and of `j`.
+fn combine(i_sight: Overlap, j_sight: Overlap) -> Overlap
     ensures { result ≡ spec.both i_sight j_sight }
 {
     match (i_sight, j_sight) {
@@ -124,8 +124,9 @@ fn both(i_sight: Overlap, j_sight: Overlap) -> Overlap
     }
 }
 
-// How a range of coordinates of leaves lies to squares from a least to a greatest.
-fn along(span: (u32, u32), least: u32, greatest: u32, side: u32) -> Overlap
+// How the leaf coordinates `span.0..=span.1` overlap the squares `least..=greatest`, which have `side` leaves
+// along a side.
+fn compare_range(span: (u32, u32), least: u32, greatest: u32, side: u32) -> Overlap
     requires span { span.0 ≤ span.1 }
     requires order { least ≤ greatest }
     requires side { 0 < side }

@@ -48,7 +48,7 @@ impl Ranges {
         self.spans.as_slice()
     }
 
-    /// An equal set.
+    /// A copy of the set.
     ///
     /// # Errors
     ///
@@ -60,7 +60,7 @@ impl Ranges {
         Ok(Ranges { spans })
     }
 
-    /// The leaves of cells as ranges; the cells are in the order of their first leaves.
+    /// The leaves of `cells` as ranges, in one pass; the cells are in the order of their first leaves.
     pub(crate) fn of_sorted(alloc: Global, cells: &[CellId]) -> Result<Ranges, AllocError>
         requires { IsNonDecreasingBy first_leaf cells.now }
         ensures ranges { IfOk result (IsRanges (leaves_of cells.now)) }
@@ -85,9 +85,9 @@ impl Ranges {
     }
 }
 
-// The positions of a cell's leaves.
+// The positions of a cell's leaves, from its first leaf to its last.
 fn span_of(cell: &CellId) -> Span
-    ensures is { IsSpan result }
+    ensures valid { IsSpan result }
     ensures first { result.first ≡ first_leaf cell.now }
     ensures leaves { (p : ℕ) → span_has result p ≡ cell_has cell.now p }
 {

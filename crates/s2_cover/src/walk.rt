@@ -22,10 +22,10 @@ use std::alloc::{AllocFailed, Global};
 use std::error::Error;
 use std::fmt;
 
-/// Why a rectangle has no cover within a limit.
+/// Why no cover of a rectangle is returned.
 #[derive(Clone, Copy, Debug, PartialEq, Eq)]
 pub enum CoverFault {
-    /// The canonical cover has more cells than the limit allows.
+    /// The canonical cover has more cells than the limit.
     TooManyCells {
         /// How many squares were compared with the rectangle until this was known.
         looked: u64,
@@ -58,10 +58,10 @@ impl<T: Drop> From<AllocFailed<T>> for CoverFault {
     }
 }
 
-/// The canonical cover of the leaves that a rectangle stands for, if it has at most `limit` cells.
+/// The canonical cover of a rectangle's footprint, if it has at most `limit` cells.
 ///
-/// The walk goes down from the face and compares one square after another with the rectangle, at most
-/// `1 + 96 * (limit + 1)` of them.
+/// The search goes down from the whole face and compares at most `1 + 96 * (limit + 1)` squares with the
+/// rectangle.
 ///
 /// # Errors
 ///
@@ -90,7 +90,8 @@ pub fn cover(alloc: Global, rect: &Rect, limit: u32) -> Result<Cover, CoverFault
     Ok(Cover::of_canonical(cells, looked))
 }
 
-// Appends the canonical cells of the rectangle's leaves that lie in the square.
+// Appends the canonical cells of the rectangle's leaves that lie in `square`, and counts the comparisons in
+// `looked`. `TooManyCells` if there are more than `limit` cells.
 // Long: the state of the walk at a square has nine facts, and each call within hands on each by its name.
 fn walk(
     wide: &Widened,
@@ -117,7 +118,7 @@ fn walk(
 {
     match compare(wide, square, looked) {
         Overlap::Outside => {}
-        Overlap::Inside => keep(square, limit, cells, *looked)?,
+        Overlap::Inside => push_cell(square, limit, cells, *looked)?,
         Overlap::Across => {
             for k in 0..4u8 {
                 walk(wide, &square.child(k), limit, cells, looked)?;
@@ -127,8 +128,13 @@ fn walk(
     Ok(())
 }
 
-// Appends the cell of a square, unless there are as many cells as the limit allows.
-fn keep(square: &Square, limit: u32, cells: &mut Vec<CellId>, looked: u64) -> Result<(), CoverFault>
+// Appends the cell of `square`; `TooManyCells` if there are `limit` cells already.
+fn push_cell(
+    square: &Square,
+    limit: u32,
+    cells: &mut Vec<CellId>,
+    looked: u64,
+) -> Result<(), CoverFault>
     ensures kept { OnOk result (cells.new.items ≡ cells.old.items ++ square_id square.now ∷ []) }
     ensures room { OnOk result (length cells.old.items < limit) }
     ensures full { IfErr result (IsFull limit (length cells.old.items) looked) }

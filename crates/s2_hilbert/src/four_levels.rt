@@ -1,4 +1,5 @@
-//! The curve through a face: the two highest levels one at a step, and the others four at a step.
+//! The curve through a face. The two highest levels are walked one at a step, the other 28 by tables, four at
+//! a step.
 
 ghost use Rattle.std.specs.Prelude.{◌≡◌, ℕ, ◌+◌, ◌*◌, ◌/◌, ◌%◌, ◌^◌, ◌<◌, slice_index};
 ghost use Rattle.s2_hilbert.specs.Grid as grid;
@@ -8,13 +9,14 @@ use crate::levels::{LEAF_LEVEL, quadrant_of};
 use crate::quadrants::{quadrant_at, step_to, turned};
 use crate::tables::{place_of_four, point_of_four};
 
-// How many steps of four levels there are below the two highest levels.
+// The number of steps of four levels below the two highest levels.
 const FOURS: u8 = 7;
 
-// The hex digits at even places, the lowest among them.
+// Masks the hex digits at even places, the lowest digit among them.
 const EVEN_DIGITS: u32 = 0x0f0f_0f0f;
 
-/// The place of a point along the curve through a face.
+/// The place of the leaf (`i`, `j`) along the curve through a face, counted from 0. The curve enters the face
+/// with the orientation `turn`.
 pub fn place_on_face(turn: u8, i: u32, j: u32) -> u64
     requires { turn < 4 }
     ensures value { result ≡ curve.place grid.leaf_level turn i j }
@@ -33,11 +35,12 @@ pub fn place_on_face(turn: u8, i: u32, j: u32) -> u64
     place
 }
 
-/// The point at a place along the curve through a face.
+/// The coordinates (`i`, `j`) of the leaf at the place `along` of the curve through a face: the inverse of
+/// `place_on_face`.
 pub fn point_on_face(turn: u8, along: u64) -> (u32, u32)
     requires turn { turn < 4 }
     requires along { along < curve.leaf_count 0 }
-    ensures undone { curve.place grid.leaf_level turn result.0 result.1 ≡ along }
+    ensures inverse { curve.place grid.leaf_level turn result.0 result.1 ≡ along }
     ensures i_below { result.0 < grid.side_of 0 }
     ensures j_below { result.1 < grid.side_of 0 }
 {
@@ -59,8 +62,8 @@ pub fn point_on_face(turn: u8, along: u64) -> (u32, u32)
     (i, j)
 }
 
-// The hex digits of two coordinates side by side, a pair in each byte: in the first number those at
-// even places, in the second those at odd ones.
+// The hex digits of `i` and `j` in pairs, one pair in each byte with the digit of `i` first. The first number
+// has the digits at even places, the second those at odd places.
 fn paired_digits(i: u32, j: u32) -> [u32; 2]
     ensures { (digit : ℕ) → digit < 8 →
         slice_index result (digit % 2) / 2 ^ (8 * (digit / 2)) % 256
@@ -69,7 +72,7 @@ fn paired_digits(i: u32, j: u32) -> [u32; 2]
     [even_digits(i, j), even_digits(i >> 4, j >> 4)]
 }
 
-// The hex digits at even places, those of `i` above those of `j` in each byte.
+// Packs the hex digits of `i` and `j` at even places: each byte has one of `i` above one of `j`.
 fn even_digits(i: u32, j: u32) -> u32
     ensures { (byte : ℕ) → byte < 4 → result / 2 ^ (8 * byte) % 256
         ≡ 16 * (i / 2 ^ (8 * byte) % 16) + j / 2 ^ (8 * byte) % 16 }
@@ -77,7 +80,7 @@ fn even_digits(i: u32, j: u32) -> u32
     16 * (i & EVEN_DIGITS) + (j & EVEN_DIGITS)
 }
 
-// The pair of hex digits at a place.
+// The pair of hex digits at the place `digit`, the lowest at 0: 16 times that of `i`, plus that of `j`.
 fn pair_at(digits: [u32; 2], digit: u8) -> usize
     requires { digit < 8 }
     ensures value { result ≡ slice_index digits (digit % 2) / 2 ^ (8 * (digit / 2)) % 256 }

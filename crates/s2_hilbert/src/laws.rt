@@ -25,8 +25,8 @@ pub fn squares_are_ranges()
         LiesInSquare other square ↔ ShareSquare square.level one other }
 {}
 
-/// Two leaves lie in one square of a level exactly where their positions, divided by the number of
-/// leaves of such a square, agree.
+/// Two leaves lie in one square of a level if and only if their positions, divided by the number of
+/// leaves of such a square, are equal.
 pub fn squares_are_quotients()
     ensures { (level : ℕ) (one other : GridLeaf) → level ≤ 30 → IsLeaf one → IsLeaf other →
         ShareSquare level one other

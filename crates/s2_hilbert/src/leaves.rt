@@ -12,10 +12,10 @@ use std::marker::Model;
 /// How many faces there are.
 pub const FACES: u8 = 6;
 
-/// How many leaves a face has along a side.
+/// How many leaves a face has along each side.
 pub const FACE_SIDE: u32 = 1 << LEAF_LEVEL;
 
-// The constants are those of the definition.
+// Proves that the constants are those of the definitions.
 fn has_the_limits()
     ensures faces { FACES ≡ face_count }
     ensures side { FACE_SIDE ≡ side_of 0 }
@@ -42,7 +42,7 @@ impl Model for Leaf {
 }
 
 impl Leaf {
-    /// The leaf of three numbers; `None` if the face is above 5 or a coordinate above `2^30 - 1`.
+    /// The leaf at (`i`, `j`) of `face`; `None` if the face is above 5 or a coordinate above `2^30 - 1`.
     pub fn try_new(face: u8, i: u32, j: u32) -> Option<Leaf>
         ensures { SomeIff result (IsLeaf (grid_leaf face i j)) (grid_leaf face i j) }
     {
@@ -54,7 +54,8 @@ impl Leaf {
     }
 }
 
-/// The position of a leaf among all leaves, counted from 0 along the curve, face after face.
+/// The position of a leaf among all leaves, counted from 0 along the curve, face after face. Odd faces begin
+/// with the orientation 1, even ones with 0.
 pub fn position(leaf: Leaf) -> u64
     ensures value { result ≡ position_of leaf }
     ensures below { result < 6 * 2 ^ 60 }
@@ -64,7 +65,7 @@ pub fn position(leaf: Leaf) -> u64
     u64::from(leaf.face) * FACE_LEAVES + along
 }
 
-/// The leaf at a position.
+/// The leaf at `position` along the curve: the inverse of the function `position`.
 pub fn leaf_at(position: u64) -> Leaf
     requires { position < 6 * 2 ^ 60 }
     ensures value { result ≡ grid_leaf_at position }

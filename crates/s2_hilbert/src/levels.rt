@@ -1,4 +1,4 @@
-//! The levels of squares on a face, and the quadrant of a point at one of them.
+//! The levels of squares on a face, and the quadrant of a leaf at one of them.
 
 ghost use Rattle.std.specs.Prelude.{◌≡◌, ◌<◌};
 ghost use Rattle.s2_hilbert.specs.Grid as grid;
@@ -10,13 +10,13 @@ pub const LEAF_LEVEL: u8 = 30;
 /// How many leaves a face has.
 pub const FACE_LEAVES: u64 = 1 << 60;
 
-// The constants are those of the definition.
+// Proves that the constants are those of the definitions.
 fn has_the_limits()
     ensures level { LEAF_LEVEL ≡ grid.leaf_level }
     ensures leaves { FACE_LEAVES ≡ curve.leaf_count 0 }
 {}
 
-/// The quadrant that a bit of each coordinate names.
+/// The quadrant of the leaf (`i`, `j`), 0 to 3, in its square of `2^(bit + 1)` leaves along each side.
 pub fn quadrant_of(bit: u8, i: u32, j: u32) -> u8
     requires { bit < grid.leaf_level }
     ensures value { result ≡ curve.quadrant_of bit i j }

@@ -3,19 +3,19 @@
 ghost use Rattle.std.specs.Prelude.{◌≡◌, ◌<◌};
 ghost use Rattle.s2_hilbert.specs.Curve as curve;
 
-// For each orientation its four quadrants in curve order.
+// For each orientation, the four quadrants in curve order.
 const QUADRANTS: [[u8; 4]; 4] = [[0, 1, 3, 2], [0, 2, 3, 1], [3, 2, 0, 1], [3, 1, 0, 2]];
 
-// What changes in the orientation on going down to the quadrant at each place.
+// For each place along the curve, the bits of the orientation that flip in the quadrant there.
 const CHANGES: [u8; 4] = [1, 0, 0, 3];
 
-/// One level down to a quadrant: its place along the curve, and the orientation in it.
+/// One level down to a quadrant: its place along the curve, and the orientation (`turn`) in it.
 pub struct CurveStep {
     pub place: u8,
     pub turn: u8,
 }
 
-// For each orientation the steps to the quadrants 0 to 3.
+// For each orientation, the steps to the quadrants 0 to 3.
 static STEPS: [[CurveStep; 4]; 4] = [
     [
         CurveStep { place: 0, turn: 1 },
@@ -43,13 +43,13 @@ static STEPS: [[CurveStep; 4]; 4] = [
     ],
 ];
 
-// The constants are the tables of the definition.
+// Proves that the constants are the tables of the definitions.
 fn has_the_tables()
     ensures quadrants { QUADRANTS ≡ curve.table_of_quadrants }
     ensures changes { CHANGES ≡ curve.changes_of_turn }
 {}
 
-/// The quadrant at a place of the curve.
+/// The quadrant that the curve visits at `place`, 0 to 3, in a square where it has the orientation `turn`.
 #[tactic(auto, unfolding(crate::specs::Curve::quadrant_at))]
 pub fn quadrant_at(turn: u8, place: u8) -> u8
     requires turn { turn < 4 }
@@ -60,7 +60,7 @@ pub fn quadrant_at(turn: u8, place: u8) -> u8
     QUADRANTS[turn as usize][place as usize]
 }
 
-/// The step down to a quadrant.
+/// The step down to `quadrant` from a square where the curve has the orientation `turn`.
 #[tactic(auto, unfolding(crate::specs::Curve::place_of, crate::specs::Curve::turned))]
 pub fn step_to(turn: u8, quadrant: u8) -> &'static CurveStep
     requires turn { turn < 4 }
@@ -73,7 +73,7 @@ pub fn step_to(turn: u8, quadrant: u8) -> &'static CurveStep
     &STEPS[turn as usize][quadrant as usize]
 }
 
-/// The orientation of the quadrant at a place.
+/// The orientation in the quadrant that the curve visits at `place`, if it has `turn` in the whole square.
 #[tactic(auto, unfolding(crate::specs::Curve::turned))]
 pub fn turned(turn: u8, place: u8) -> u8
     requires turn { turn < 4 }

@@ -47,7 +47,7 @@ impl Model for Square {
 }
 
 impl Square {
-    /// The whole face.
+    /// The square of level 0: the whole of `face`, 0 to 5.
     pub fn of_face(face: u8) -> Square
         requires { face < 6 }
         ensures { result ≡ grid_square face 0 0 0 }
@@ -61,8 +61,8 @@ impl Square {
         }
     }
 
-    /// The child at a place of the curve, 0 to 3: a quarter of this square.
-    // Long: five numbers of a square, and what a child is of its parent's leaves.
+    /// The quarter of this square that the curve visits at place `k`, 0 to 3.
+    // Long: five numbers of a square, and which of its parent's leaves it has.
     pub fn child(&self, k: u8) -> Square
         requires k { k < 4 }
         requires level { self.now.level < 30 }
@@ -72,7 +72,7 @@ impl Square {
         ensures b { result.b / 2 ≡ self.now.b }
         ensures square { IsSquare result }
 
-        // The children in curve order part the positions of their parent.
+        // The children, in curve order, divide the positions of their parent into quarters.
         ensures first { first_position result
             ≡ first_position self.now + k * curve.leaf_count result.level }
         ensures leaves { (leaf : GridLeaf) → IsLeaf leaf → LiesInSquare leaf result
@@ -89,7 +89,7 @@ impl Square {
         }
     }
 
-    /// The position of the first leaf.
+    /// The position along the curve of the square's first leaf.
     pub fn first(&self) -> u64
         ensures value { result ≡ first_position self.now }
         ensures leaves { (leaf : GridLeaf) → IsLeaf leaf → LiesInSquare leaf self.now
@@ -101,7 +101,7 @@ impl Square {
         u64::from(self.face) * FACE_LEAVES + place * leaf_count(self.level)
     }
 
-    /// The position of the last leaf.
+    /// The position along the curve of the square's last leaf.
     pub fn last(&self) -> u64
         ensures value { result ≡ last_position self.now }
         ensures leaves { (leaf : GridLeaf) → IsLeaf leaf → LiesInSquare leaf self.now
@@ -111,7 +111,7 @@ impl Square {
         self.first() + (leaf_count(self.level) - 1)
     }
 
-    /// The least and the greatest coordinate `i` of its leaves.
+    /// The least and the greatest coordinate `i` of the square's leaves.
     pub fn i_span(&self) -> (u32, u32)
         ensures span { (i : ℕ) → (i / grid.side_of self.now.level ≡ self.now.a)
             ↔ IsInRange result.0 result.1 i }
@@ -120,7 +120,7 @@ impl Square {
         span(self.level, self.a)
     }
 
-    /// The least and the greatest coordinate `j` of its leaves.
+    /// The least and the greatest coordinate `j` of the square's leaves.
     pub fn j_span(&self) -> (u32, u32)
         ensures span { (j : ℕ) → (j / grid.side_of self.now.level ≡ self.now.b)
             ↔ IsInRange result.0 result.1 j }
@@ -130,8 +130,8 @@ impl Square {
     }
 }
 
-// The place of a square along the curve through a face, among the squares of its level: that of its first
-// coordinates' leaf, without the levels below.
+// The place of a square along the curve through a face, among the squares of its level: the place of any of
+// its leaves, divided by the number of its leaves.
 fn place_of_square(level: u8, turn: u8, a: u32, b: u32) -> u64
     requires level { level ≤ grid.leaf_level }
     requires turn { turn < 4 }
@@ -160,7 +160,7 @@ fn side_of(level: u8) -> u32
     1 << (LEAF_LEVEL - level)
 }
 
-// The least and the greatest leaf coordinate of a coordinate among the squares of a level.
+// The least and the greatest coordinate of leaves in the squares of `level` at `coordinate`.
 fn span(level: u8, coordinate: u32) -> (u32, u32)
     requires level { level ≤ grid.leaf_level }
     requires coordinate { coordinate < 2 ^ level }

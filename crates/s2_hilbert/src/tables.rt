@@ -32,7 +32,8 @@ macro_rules! points {
     };
 }
 
-/// The place of a point, by the key `turn * 256 + i * 16 + j`.
+/// The place of the point (`i`, `j`) along four levels of the curve with the orientation `turn`, and the
+/// orientation there. `key` is `turn * 256 + i * 16 + j`.
 pub fn place_of_four(key: usize) -> &'static FourPlaces
     requires { key < 1024 }
     ensures place { result.now.place ≡ curve.place 4 (key / 256) (key / 16 % 16) (key % 16) }
@@ -43,7 +44,8 @@ pub fn place_of_four(key: usize) -> &'static FourPlaces
     &PLACES[key]
 }
 
-/// The point at a place, by the key `turn * 256 + place`.
+/// The point at `place` along four levels of the curve with the orientation `turn`, and the orientation
+/// there. `key` is `turn * 256 + place`.
 pub fn point_of_four(key: usize) -> &'static FourPoints
     requires { key < 1024 }
     ensures place { curve.place 4 (key / 256) result.now.i result.now.j ≡ key % 256 }

@@ -1,4 +1,4 @@
-//! Regions: slabs round others, joined where they overlap, and whether a slab meets some.
+//! Regions: slabs that enclose others, joined if they overlap; and the test whether a slab overlaps some.
 #![tactic(auto)]
 
 mod regions;

@@ -1,4 +1,4 @@
-//! Regions: extents near which volumes of other operators lie, joined where they overlap.
+//! Regions: extents that are joined if they overlap along the curve.
 
 ghost use Rattle.std.specs.Prelude.{◌≡◌, ◌∷◌, None, cond, IfOk, OnOk};
 ghost use Rattle.volume4d.specs.Bounds.{HasAll};
@@ -10,7 +10,7 @@ use std::alloc::{AllocError, Global};
 use std::slice;
 use volume4d::{Held, Slab};
 
-/// A slab round some extents.
+/// A slab that encloses `first` and `others`.
 pub fn whole_of(first: &Slab, others: &[Slab]) -> Slab
     ensures { HasAll (slabs_have (first.now ∷ others.now)) result }
 {
@@ -21,7 +21,7 @@ pub fn whole_of(first: &Slab, others: &[Slab]) -> Slab
     whole
 }
 
-/// Some extents, or one slab round all of them if there are more than so many.
+/// A copy of `extents`, or one slab round all of them if there are more than `most`.
 ///
 /// # Errors
 ///
@@ -37,7 +37,7 @@ pub fn at_most(alloc: Global, extents: &[Slab], most: usize) -> Result<Vec<Slab>
     }
 }
 
-/// Extents, those that overlap along the curve joined.
+/// The extents, ascending; those that overlap along the curve are joined.
 ///
 /// # Errors
 ///
@@ -52,7 +52,7 @@ pub fn joined(alloc: Global, extents: Vec<Slab>) -> Result<Vec<Slab>, AllocError
     }
 }
 
-// The same extents, ascending by their first leaves.
+// Sorts extents by their first leaves.
 fn in_order(mut extents: Vec<Slab>) -> Vec<Slab>
     ensures { HaveEach extents.items result.items }
 {
@@ -60,7 +60,7 @@ fn in_order(mut extents: Vec<Slab>) -> Vec<Slab>
     extents
 }
 
-// An extent and others, each that begins within the last one joined with it.
+// Joins extents that overlap along the curve; `first` and `others` ascend by first leaf.
 fn joined_from(alloc: Global, first: &Slab, others: &[Slab]) -> Result<Vec<Slab>, AllocError>
     ensures { IfOk result (λ regions. HaveEach (first.now ∷ others.now) regions.items) }
 {
@@ -78,7 +78,7 @@ fn joined_from(alloc: Global, first: &Slab, others: &[Slab]) -> Result<Vec<Slab>
     Ok(regions)
 }
 
-/// Appends the parts of slabs that lie in a region, at the priorities of these.
+/// Appends the slabs `more`, each clipped to `region`, with their priorities.
 ///
 /// # Errors
 ///

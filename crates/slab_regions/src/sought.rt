@@ -1,4 +1,4 @@
-//! Where volumes are sought: near one of some slabs.
+//! The slabs that a search for volumes is about.
 
 ghost use Rattle.std.specs.Prelude.{◌≡◌, true};
 ghost use Rattle.volume4d.specs.Point.{Point};
@@ -8,8 +8,8 @@ ghost use Rattle.slab_regions.specs.Sought as spec;
 use std::slice;
 use volume4d::Slab;
 
-/// Some slabs, the parts, and one round them: what doesn't meet this one meets no part, and is passed over by
-/// one test.
+/// The slabs of a search (`parts`), and one round them (`whole`): what doesn't overlap `whole` overlaps no
+/// part, and is skipped after one test.
 #[derive(Clone, Copy, Debug)]
 pub struct Sought<'a> {
     pub whole: Slab,
@@ -17,7 +17,7 @@ pub struct Sought<'a> {
 }
 
 impl Sought<'_> {
-    /// One slab alone.
+    /// A search about one slab.
     pub fn one(extent: &Slab) -> Sought<'_>
         ensures { (x : Point) → slab_has extent.now x ≡ true → spec.sought_has result x ≡ true }
     {
@@ -27,7 +27,7 @@ impl Sought<'_> {
         }
     }
 
-    /// Whether a slab meets the whole and one of the parts.
+    /// Whether `slab` overlaps the whole and one of the parts.
     pub fn meets(&self, slab: &Slab) -> bool
         ensures { result ≡ spec.meets self.now slab.now }
     {

@@ -1,4 +1,4 @@
-//! Plans that are to be taken out.
+//! Clears: the removal of an operator's plans.
 
 ghost use Rattle.std.specs.Prelude.{◌≡◌, ◌≤◌, ◌<◌, ◌^◌, ◌∷◌, [], length, IsSome, IfOk, IfErr};
 ghost use Rattle.desk_run.specs.CallFaults.{IsStoreCounted};
@@ -21,8 +21,8 @@ use desk_store::{Change, PlanStore};
 use std::alloc::{AllocError, Global};
 use volume4d::{Slab, Volume};
 
-// Gets the clearing of an enrolled operator's plans from an extent ready.
-pub fn ready_clear<S: PlanStore>(
+// Prepares the removal of an enrolled operator's plans that share a point with `extent`, closed ones too.
+pub fn prepare_clear<S: PlanStore>(
     alloc: Global,
     store: &mut S,
     operator: &Operator,
@@ -36,12 +36,12 @@ pub fn ready_clear<S: PlanStore>(
     ensures cause { IfErr result (IsStoreCounted S.faults store.old store.new) }
 {
     let rows = store.own_plans(operator)?;
-    Ok(clearing(alloc, operator, &extent.slabs()?, &rows)?)
+    Ok(pending_clear(alloc, operator, &extent.slabs()?, &rows)?)
 }
 
-// What is pending where those of the operator's plans are cleared that share a point with the extent
-// of the slabs.
-fn clearing(
+// The reply and the change that remove those of `rows` that share a point with an extent. `slabs` are the
+// extent's; without such rows there is no change.
+fn pending_clear(
     alloc: Global,
     operator: &Operator,
     slabs: &[Slab],
@@ -50,7 +50,7 @@ fn clearing(
     ensures { (extent : Block) → AreSlabsOf slabs.now (extent ∷ []) →
         IfOk result (IsClearing operator.now (ids_in extent rows.now)) }
 {
-    let ids = ids_within(alloc, slabs, rows)?;
+    let ids = ids_sharing_point(alloc, slabs, rows)?;
     if ids.is_empty() {
         return Ok(Pending {
             reply: Reply::Cleared(0),
@@ -66,29 +66,33 @@ fn clearing(
     })
 }
 
-// The ids of the plans that share a point with the extent of the slabs.
-fn ids_within(alloc: Global, slabs: &[Slab], rows: &[PlanRow]) -> Result<Vec<PlanId>, AllocError>
+// The ids of those of `rows` that share a point with the extent that has these slabs.
+fn ids_sharing_point(
+    alloc: Global,
+    slabs: &[Slab],
+    rows: &[PlanRow],
+) -> Result<Vec<PlanId>, AllocError>
     ensures { (extent : Block) → AreSlabsOf slabs.now (extent ∷ []) →
         IfOk result (λ ids. ids.items ≡ ids_in extent rows.now) }
 {
     let mut ids = Vec::new(alloc);
     for row in rows {
-        if is_within(slabs, row)? {
+        if shares_point(slabs, row)? {
             ids.push(row.id)?;
         }
     }
     Ok(ids)
 }
 
-// Whether a plan, closed or not, shares a point with the extent of the slabs.
-fn is_within(slabs: &[Slab], row: &PlanRow) -> Result<bool, AllocError>
+// Whether a plan, closed or not, shares a point with the extent that has these slabs.
+fn shares_point(slabs: &[Slab], row: &PlanRow) -> Result<bool, AllocError>
     ensures { (extent : Block) → AreSlabsOf slabs.now (extent ∷ []) →
         IfOk result (λ found. found ≡ is_in extent row.now) }
 {
     Ok(share_a_point(slabs, &row.area.slabs()?))
 }
 
-// How many ids there are, where 32 bits can say it.
+// The number of ids, at most `u32::MAX`.
 fn count_of(ids: &[PlanId]) -> u32
     ensures { length ids.now < 2 ^ 32 → result ≡ length ids.now }
 {

@@ -1,4 +1,4 @@
-//! Conflicts of an operator's plans with what is held.
+//! Conflicts of an operator's plans with stored plans.
 
 ghost use Rattle.std.specs.Prelude.{◌≡◌, ◌≤◌, ◌^◌, IfOk, IfErr};
 ghost use Rattle.desk_store.specs.StoreFrames.{OnlyReads};
@@ -15,15 +15,15 @@ use desk_store::{PlanStore, StoreFault};
 use std::alloc::Global;
 use volume4d::{Area, Meeting, Slab};
 
-// A gap between two slabs is wide if it is more than this part of the way from the first to the last. So a
-// plan that lies close together has no more wide gaps than this.
+// A gap between two slabs of a plan is wide if it is more than this fraction (1 in 64) of the leaves from the
+// first slab to the last. So a plan has fewer than 64 gaps that are wide by this rule.
 const GAPS: u64 = 64;
 
-// It is wide too if it is more than the leaves of a cell of level 6: what is read over tables begins about so
-// far before an extent, so that for two extents no more is read than for one that holds the gap.
+// It is wide, too, if it is more than the leaves of a cell of level 6. A store over tables starts to read
+// about that far before an extent, so for two extents it reads no more than for one that includes the gap.
 const WIDEST: u64 = 1 << 48;
 
-// The conflict of an area with a priority, of the operator's plan of the id.
+// The conflict of the operator's plan `id` with other live plans, if it has this area and priority.
 pub fn conflict_of<S: PlanStore>(
     alloc: Global,
     store: &mut S,
@@ -44,7 +44,7 @@ pub fn conflict_of<S: PlanStore>(
     first_among(alloc, store, permitted, operator, id, &mine, priority)
 }
 
-// How wide a gap between slabs has to be that they lie far apart.
+// The most leaves between two of `slabs` that count as close together; a wider gap separates clusters.
 pub fn wide_gap(slabs: &[Slab]) -> u64
     ensures { result ≤ 2 ^ 48 }
 {
@@ -54,7 +54,7 @@ pub fn wide_gap(slabs: &[Slab]) -> u64
     }
 }
 
-// The least priority that blocks a plan of a priority where others hold it.
+// The least priority of other plans that blocks a plan of `priority` at a shared point.
 pub fn least_of(permitted: &Permitted, priority: u32) -> u32
     ensures { result ≡ least_blocking permitted.now priority }
 {

@@ -1,4 +1,4 @@
-//! Plans that are to be closed.
+//! Deletes, which close a plan.
 
 ghost use Rattle.std.specs.Prelude.{◌≡◌, ◌≤◌, IsSome, IfErr};
 ghost use Rattle.desk_run.specs.CallFaults.{IsStoreCounted};
@@ -16,8 +16,8 @@ use desk_rules::reply::{PutReply, Reply};
 use desk_rules::words::{PlanResult, PlanStatus};
 use desk_store::{Change, PlanStore};
 
-// Gets the closing of an enrolled operator's plan ready.
-pub fn ready_delete<S: PlanStore>(
+// Prepares the closing of an enrolled operator's plan; `NoSuchPlan` if it has none with this id.
+pub fn prepare_delete<S: PlanStore>(
     store: &mut S,
     operator: &Operator,
     id: &PlanId,

@@ -1,5 +1,5 @@
-//! The conflicts of all of an operator's plans among each other and with what others hold, which is read
-//! once.
+//! The conflicts of all of an operator's plans, with each other and with other operators' plans, which are
+//! read once.
 
 ghost use Rattle.std.specs.Prelude.{◌≡◌, ◌≤◌, ℕ, Option, true, map, IfOk, IfErr, OnOk};
 ghost use Rattle.desk_store.specs.StoreFrames.{OnlyReads};
@@ -24,7 +24,7 @@ use desk_store::{PlanStore, StoreFault};
 use std::alloc::{AllocError, Global};
 use volume4d::{Held, Meeting, Slab};
 
-// Plans of an operator, with the slabs that they hold.
+// An operator's plans, each with the slabs that it holds.
 pub fn own_plans(alloc: Global, rows: &[PlanRow]) -> Result<Vec<OwnPlan>, AllocError>
     ensures { IfOk result (λ plans. plans.items ≡ rows.now) }
 {
@@ -35,7 +35,7 @@ pub fn own_plans(alloc: Global, rows: &[PlanRow]) -> Result<Vec<OwnPlan>, AllocE
     Ok(plans)
 }
 
-// The slabs that others hold where the operator's plans lie.
+// Slabs of other operators' live plans: all that hold a point of one of the operator's `plans`.
 pub fn others_near<S: PlanStore>(
     alloc: Global,
     store: &mut S,
@@ -51,7 +51,7 @@ pub fn others_near<S: PlanStore>(
     store.held_by_others(operator, &extents)
 }
 
-// Extents that have each point that one of the plans holds.
+// Extents that together have every point held by one of `plans`.
 fn extents_of(alloc: Global, plans: &[OwnPlan]) -> Result<Vec<Slab>, AllocError>
     ensures { IfOk result (λ extents. HaveAll (some_hold plans.now) extents.items) }
 {
@@ -62,7 +62,7 @@ fn extents_of(alloc: Global, plans: &[OwnPlan]) -> Result<Vec<Slab>, AllocError>
     Ok(extents)
 }
 
-// The plans as they are shown, where others hold these slabs.
+// The plans as they are shown to their operator, each with its conflict; `others` are other operators' slabs.
 pub fn all_shown(
     alloc: Global,
     permitted: &Permitted,
@@ -79,7 +79,7 @@ pub fn all_shown(
     Ok(all)
 }
 
-// One of the plans as it is shown.
+// One of `plans` as it is shown, with its conflict.
 fn shown_among(
     alloc: Global,
     permitted: &Permitted,
@@ -99,7 +99,7 @@ fn shown_among(
     })
 }
 
-// The conflict of one of the plans, if it is live, at its own priority; a closed plan has none.
+// The conflict of `plan` with the operator's other plans and with `others`; a closed plan has none.
 fn conflict_among(
     alloc: Global,
     permitted: &Permitted,
@@ -115,12 +115,13 @@ fn conflict_among(
         return Ok(None);
     }
     let least = least_of(permitted, row.priority);
-    let theirs = in_the_way(alloc, plan, plans, others, least)?;
+    let theirs = blocking_slabs(alloc, plan, plans, others, least)?;
     Ok(plan.conflict_with(&theirs))
 }
 
-// What the other plans and others hold where one of the plans lies, of a priority at least.
-fn in_the_way(
+// The slabs that may block `plan`: those of the operator's other plans and of `others` that have the priority
+// `least` or a greater one and may share a point with it.
+fn blocking_slabs(
     alloc: Global,
     plan: &OwnPlan,
     plans: &[OwnPlan],
@@ -137,7 +138,8 @@ fn in_the_way(
     Ok(in_order(theirs))
 }
 
-// Appends what the other plans hold that may share a point with a plan, of a priority at least.
+// Appends the slabs of the operator's plans but `mine` that have the priority `least` or a greater one and
+// may share a point with `mine`.
 fn push_own(
     theirs: &mut Vec<Held>,
     mine: &OwnPlan,
@@ -148,12 +150,12 @@ fn push_own(
         (λ x. at_least least (own_top mine.now.id plans.now x))) }
 {
     for plan in plans {
-        plan.push_onto(theirs, mine, least)?;
+        plan.push_blocking(theirs, mine, least)?;
     }
     Ok(())
 }
 
-// The same slabs, ascending by their first leaves, so that they are met in one pass.
+// Sorts slabs by their first leaves, so that one pass can compare them with a plan's.
 fn in_order(mut helds: Vec<Held>) -> Vec<Held>
     ensures { (x : Point) → top_held result.items x ≡ top_held helds.items x }
 {

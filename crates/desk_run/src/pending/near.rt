@@ -12,8 +12,8 @@ ghost use Rattle.desk_run.specs.HeldAmong.{AddLevelAt, AreAfter, AreLeft, HaveAl
 use std::alloc::AllocError;
 use volume4d::{Held, Slab};
 
-// Appends those of some slabs, at a priority, that may share a point with one of `mine`, which ascend within
-// bounds, and within parts of these.
+// Appends those of `slabs` that may share a point with one of `mine`, with `priority`. `mine` ascend and lie
+// within `bounds` and within `parts`.
 pub fn push_slabs(
     theirs: &mut Vec<Held>,
     mine: &[Slab],
@@ -31,7 +31,7 @@ pub fn push_slabs(
     let mut left = mine;
     let mut position = 0;
     for slab in slabs {
-        left = left_at(mine, left, position, slab.first);
+        left = remaining_at(mine, left, position, slab.first);
         position = slab.first;
         if may_share(left, bounds, parts, slab) {
             theirs.push(Held {
@@ -43,8 +43,8 @@ pub fn push_slabs(
     Ok(())
 }
 
-// Appends those of some held slabs, of a priority at least, that may share a point with one of `mine`, which
-// ascend within bounds, and within parts of these.
+// Appends those of `helds` that have the priority `least` or a greater one and may share a point with one of
+// `mine`. `mine` ascend and lie within `bounds` and within `parts`.
 pub fn push_helds(
     theirs: &mut Vec<Held>,
     mine: &[Slab],
@@ -62,7 +62,7 @@ pub fn push_helds(
     let mut left = mine;
     let mut position = 0;
     for held in helds {
-        left = left_at(mine, left, position, held.slab.first);
+        left = remaining_at(mine, left, position, held.slab.first);
         position = held.slab.first;
         if is_wanted(held, least, left, bounds, parts) {
             theirs.push(*held)?;
@@ -71,7 +71,8 @@ pub fn push_helds(
     Ok(())
 }
 
-// Whether a held slab has a priority at least, and may share a point with one of those that are left.
+// Whether `held` has the priority `least` or a greater one, and may share a point with one of `left`, the
+// slabs that don't end before it.
 fn is_wanted(held: &Held, least: u32, left: &[Slab], bounds: &Slab, parts: &[Slab]) -> bool
     requires { Ascend (λ s. s) left.now }
     ensures high { result ≡ true → nat_le least held.now.priority ≡ true }
@@ -85,8 +86,9 @@ fn is_wanted(held: &Held, least: u32, left: &[Slab], bounds: &Slab, parts: &[Sla
     may_share(left, bounds, parts, &held.slab)
 }
 
-// The slabs of `mine` but for some that are over at a position: of those that were left at another.
-fn left_at<'a>(mine: &'a [Slab], left: &'a [Slab], before: u64, position: u64) -> &'a [Slab]
+// The slabs of `mine` from the first one on that doesn't end before `position`. `left` are those for
+// `before`, where the search goes on unless `position` is less.
+fn remaining_at<'a>(mine: &'a [Slab], left: &'a [Slab], before: u64, position: u64) -> &'a [Slab]
     requires order { Ascend (λ s. s) mine.now }
     requires left_order { Ascend (λ s. s) left.now }
     requires left { AreLeft before mine.now left.now }
@@ -96,12 +98,12 @@ fn left_at<'a>(mine: &'a [Slab], left: &'a [Slab], before: u64, position: u64) -
     if position < before {
         mine
     } else {
-        after(left, position)
+        skip_before(left, position)
     }
 }
 
-// The slabs but for the first ones that are over at a position.
-fn after(slabs: &[Slab], position: u64) -> &[Slab]
+// Drops slabs from the front until one doesn't end before `position`.
+fn skip_before(slabs: &[Slab], position: u64) -> &[Slab]
     requires { Ascend (λ s. s) slabs.now }
     ensures order { Ascend (λ s. s) result.now }
     ensures left { AreLeft position slabs.now result.now }
@@ -116,8 +118,8 @@ fn after(slabs: &[Slab], position: u64) -> &[Slab]
     left
 }
 
-// Whether a slab may share a point with one of those that are left at its first leaf, which ascend, within
-// bounds and within one of their parts.
+// Whether `slab` may share a point with one of `left`, which ascend, don't end before it, and lie within
+// `bounds` and within `parts`.
 fn may_share(left: &[Slab], bounds: &Slab, parts: &[Slab], slab: &Slab) -> bool
     requires { Ascend (λ s. s) left.now }
     ensures { result ≡ false → (x : Point) → slab_has bounds.now x ≡ true → slabs_have parts.now x ≡ true
@@ -132,7 +134,7 @@ fn may_share(left: &[Slab], bounds: &Slab, parts: &[Slab], slab: &Slab) -> bool
     overlaps_one(slab, parts)
 }
 
-// Whether a slab overlaps one of some others.
+// Whether `slab` overlaps one of `parts`.
 fn overlaps_one(slab: &Slab, parts: &[Slab]) -> bool
     ensures { result ≡ false → (x : Point) → slabs_have parts.now x ≡ true → slab_has slab.now x ≡ false }
 {
@@ -144,7 +146,7 @@ fn overlaps_one(slab: &Slab, parts: &[Slab]) -> bool
     false
 }
 
-// Whether the first of slabs that ascend begins at a position or before it.
+// Whether the first of `slabs`, which ascend, begins at `position` or before; false if there are none.
 fn begins_by(slabs: &[Slab], position: u64) -> bool
     requires { Ascend (λ s. s) slabs.now }
     ensures { result ≡ false → AreAfter position slabs.now }

@@ -21,8 +21,8 @@ use std::alloc::{AllocError, Global};
 use std::marker::Model;
 use volume4d::{Area, Held, Meeting, Slab, bounds_of, split_cluster};
 
-// A plan of an operator, with the slabs that it holds, bounds round all of them and round those of each
-// volume, which are made once.
+// A plan of an operator with the slabs that it holds, the bounds of all of them (`bounds`) and of those of
+// each volume (`parts`), which are computed once. A closed plan holds none.
 #[derive(Drop)]
 pub struct OwnPlan {
     row: PlanRow,
@@ -43,7 +43,7 @@ impl Model for OwnPlan {
 }
 
 impl OwnPlan {
-    // The plan of a row.
+    // The plan of `row`, with its slabs and bounds.
     pub fn try_new(alloc: Global, row: PlanRow) -> Result<OwnPlan, AllocError>
         ensures { IfOk result (λ plan. plan ≡ row) }
     {
@@ -66,14 +66,14 @@ impl OwnPlan {
         })
     }
 
-    // Its row.
+    // The plan's row.
     pub fn row(&self) -> &PlanRow
         ensures { result.now ≡ self.now }
     {
         &self.row
     }
 
-    // Appends extents that have each point that it holds.
+    // Appends extents that together have every point that the plan holds.
     pub fn push_extents(&self, extents: &mut Vec<Slab>) -> Result<(), AllocError>
         ensures kept { OnOk result (Keep extents.old.items extents.new.items) }
         ensures all { OnOk result (HaveAll (row_holds self.now) extents.new.items) }
@@ -81,7 +81,8 @@ impl OwnPlan {
         push_clusters(extents, &self.slabs)
     }
 
-    // Appends those of others' slabs, of a priority at least, that may share a point with it.
+    // Appends those of other operators' slabs that have the priority `least` or a greater one and may share a
+    // point with the plan.
     pub fn push_others(
         &self,
         theirs: &mut Vec<Held>,
@@ -101,9 +102,9 @@ impl OwnPlan {
         )
     }
 
-    // Appends those of its slabs that may share a point with another plan of the operator, unless it is that
-    // plan or of a lower priority.
-    pub fn push_onto(
+    // Appends this plan's slabs to those that may block `mine`, another plan of the operator: none if this is
+    // the same plan, has a priority below `least`, or is out of its bounds.
+    pub fn push_blocking(
         &self,
         theirs: &mut Vec<Held>,
         mine: &OwnPlan,
@@ -112,7 +113,7 @@ impl OwnPlan {
         ensures { OnOk result (AddLevelAt (row_holds mine.now) theirs.old.items theirs.new.items
             (λ x. at_least least (own_level mine.now.id self.now x))) }
     {
-        if !counts(&self.row, &mine.row.id, least) {
+        if !may_block(&self.row, &mine.row.id, least) {
             return Ok(());
         }
         if !self.bounds.overlaps(&mine.bounds) {
@@ -128,7 +129,7 @@ impl OwnPlan {
         )
     }
 
-    // Its conflict, if it is live, with slabs of other plans.
+    // The plan's conflict with slabs of other plans, which hold at its points what may block it.
     pub fn conflict_with(&self, theirs: &[Held]) -> Option<Meeting>
         ensures { (permitted : List ℕ) (levels : Point → Option ℕ) → is_live self.now.usage ≡ true
             → HaveLevelAt (row_holds self.now) theirs.now
@@ -139,7 +140,7 @@ impl OwnPlan {
     }
 }
 
-// Bounds round the points of each volume of an area.
+// The bounds of each volume of an area.
 fn parts_of(alloc: Global, area: &Area) -> Result<Vec<Slab>, AllocError>
     ensures { IfOk result (λ parts. HaveAll (area_has area.now) parts.items) }
 {
@@ -150,8 +151,8 @@ fn parts_of(alloc: Global, area: &Area) -> Result<Vec<Slab>, AllocError>
     Ok(parts)
 }
 
-// Whether a plan has another id, and a priority at least.
-fn counts(row: &PlanRow, id: &PlanId, least: u32) -> bool
+// Whether `row` has another id than `id`, and the priority `least` or a greater one.
+fn may_block(row: &PlanRow, id: &PlanId, least: u32) -> bool
     ensures { result ≡ (not (has_id id.now row.now) && nat_le least row.now.priority) }
 {
     if id.cmp(&row.id).is_eq() {
@@ -160,7 +161,7 @@ fn counts(row: &PlanRow, id: &PlanId, least: u32) -> bool
     least <= row.priority
 }
 
-// Appends bounds round each cluster of slabs that ascend.
+// Appends the bounds of each cluster of `slabs`, which ascend; wide gaps separate clusters.
 fn push_clusters(extents: &mut Vec<Slab>, slabs: &[Slab]) -> Result<(), AllocError>
     requires filled { All IsFilled slabs.now }
     requires order { Ascend (λ s. s) slabs.now }

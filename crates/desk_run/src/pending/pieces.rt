@@ -1,4 +1,5 @@
-//! Pieces of a plan's leaves: a long plan is asked for piece by piece, in the order of its leaves.
+//! Pieces of a plan's leaves: a long plan is compared with stored plans piece by piece, in the order of
+//! leaves.
 
 ghost use Rattle.std.specs.Prelude.{◌+◌, ◌<◌, ◌*◌, ◌^◌, IfOk, IfErr};
 ghost use Rattle.desk_store.specs.StoreFrames.{OnlyReads};
@@ -18,14 +19,15 @@ use std::alloc::Global;
 use volume4d::{Held, Meeting, Slab, bounds_of};
 
 // How many leaves after its first one the first piece ends: those of a cell of level 10. A plan that is no
-// longer is one question.
+// longer takes one query.
 const LENGTH: u64 = 1 << 40;
 
-// How many times as long the next piece is. The six faces have five pieces at most.
+// How many times as long each piece is as the one before. All six faces take at most five pieces.
 const GROWTH: u64 = 64;
 
-// The first blocked point among slabs. They are asked for in pieces that grow, so that nothing is read after
-// the piece with the first blocked point, and the slabs of a plan that isn't blocked are a few questions.
+// The first blocked point among `slabs`, those of the operator's plan `id` with this priority. The store is
+// queried piece by piece, so that nothing is read after the piece with the first blocked point. Pieces grow,
+// so that a plan that isn't blocked takes only a few queries.
 pub fn first_among<S: PlanStore>(
     alloc: Global,
     store: &mut S,
@@ -59,7 +61,7 @@ pub fn first_among<S: PlanStore>(
     )
 }
 
-// The piece after another, which doesn't reach the end.
+// The piece of `whole` after `piece`, which ends before `whole` does.
 fn next_piece(whole: &Slab, piece: &Slab, length: u64) -> Slab
     requires { piece.now.last < whole.now.last }
     ensures { IsPiece whole.now (piece.now.last + 1) result }
@@ -67,7 +69,7 @@ fn next_piece(whole: &Slab, piece: &Slab, length: u64) -> Slab
     piece_from(whole, piece.last + 1, length)
 }
 
-// The leaves of a slab from a position on, as far as so many leaves after it.
+// The slab `whole`, restricted to the leaves from `position` to `length` leaves after it.
 fn piece_from(whole: &Slab, position: u64, length: u64) -> Slab
     requires { position < 6 * 2 ^ 60 }
     ensures { IsPiece whole.now position result }
@@ -82,8 +84,8 @@ fn piece_from(whole: &Slab, position: u64, length: u64) -> Slab
     }
 }
 
-// The first point among slabs that is blocked by what is held at the leaves of a piece. The slabs that a
-// store answers may reach beyond them, where it says nothing of what others hold: so they are cut.
+// The first blocked point of `slabs` at the leaves of `piece`. The store's slabs may extend beyond the piece,
+// where they mean nothing, so they are cut to it.
 fn first_at<S: PlanStore>(
     alloc: Global,
     store: &mut S,
@@ -105,8 +107,8 @@ fn first_at<S: PlanStore>(
     Ok(first_conflict(slabs, &theirs))
 }
 
-// Cuts held slabs to a piece, and puts them in the order of their first leaves, so that they are met in one
-// pass: those of few plans come one plan after the other.
+// Cuts held slabs to `piece`, and sorts them by their first leaves, so that one pass can compare them: a
+// store may return them plan by plan.
 fn cut_in_order(helds: &mut [Held], piece: &Slab)
     ensures { AreCut piece.now helds.old helds.new }
 {
@@ -114,7 +116,7 @@ fn cut_in_order(helds: &mut [Held], piece: &Slab)
     helds.sort_unstable_by_key(|held| held.slab.first);
 }
 
-// Cuts held slabs to a piece.
+// Cuts each held slab to `piece`.
 fn cut_all(helds: &mut [Held], piece: &Slab)
     ensures { AreCut piece.now helds.old helds.new }
 {
@@ -126,7 +128,7 @@ fn cut_all(helds: &mut [Held], piece: &Slab)
     }
 }
 
-// A slab with those of its leaves that a piece has, which may be none.
+// The slab, restricted to the leaves of `piece`; if it has none of them, `first` is above `last`.
 pub fn cut(slab: &Slab, piece: &Slab) -> Slab
     ensures { IsCutTo slab.now piece.now result }
 {

@@ -27,8 +27,8 @@ use desk_store::{Change, PlanStore, StoreFault};
 use std::alloc::{AllocError, Global};
 use volume4d::Meeting;
 
-// Gets the reply to a request of an operator under a ceiling ready.
-pub fn ready_put<S: PlanStore>(
+// Prepares the reply to a request to plan, and its change. The operator is enrolled with `ceiling`.
+pub fn prepare_put<S: PlanStore>(
     alloc: Global,
     store: &mut S,
     terms: &Terms,
@@ -53,6 +53,7 @@ pub fn ready_put<S: PlanStore>(
     Ok(Pending { reply, change })
 }
 
+// The part of a verdict that is reported to the operator.
 fn reply_of(verdict: &Verdict) -> PutReply
     ensures { result ≡ record {
       result = verdict.now.result;
@@ -69,7 +70,7 @@ fn reply_of(verdict: &Verdict) -> PutReply
     }
 }
 
-// The verdict on a request of an operator under a ceiling.
+// The verdict on a request to plan of the operator, which is enrolled with `ceiling`.
 fn verdict_on<S: PlanStore>(
     alloc: Global,
     store: &mut S,
@@ -97,8 +98,8 @@ fn verdict_on<S: PlanStore>(
     Ok(decide_under(put, moment, stored, &standing, meeting))
 }
 
-// Whether a conflict may change the verdict on a request: nothing else refuses it, and the state table
-// says that it is checked.
+// Whether a conflict may change the verdict on a request: no other rule refuses it, and the state table says
+// that it is checked for conflicts.
 #[tactic(auto, using(crate::proofs::OutcomeLemmas::settled))]
 fn needs_conflict(put: &PutCall, moment: i64, stored: Option<States>, standing: &Standing) -> bool
     ensures settled { result ≡ false → (conflict : Option Spot) →
@@ -112,14 +113,14 @@ fn needs_conflict(put: &PutCall, moment: i64, stored: Option<States>, standing: 
     verdict.note.is_none() && is_checked(transition_from(stored, put))
 }
 
-// Whether a step is a check, which a conflict may refuse.
+// Whether a conflict may refuse a request with this step of the state table.
 fn is_checked(step: Step) -> bool
     ensures { result ≡ is_check step }
 {
     matches!(step, Step::Check(_))
 }
 
-// The conflict of the area that a request asks for, read only if it is needed.
+// The conflict of the requested area; `None`, without a query, if it isn't `needed`.
 fn conflict_if<S: PlanStore>(
     alloc: Global,
     needed: bool,
@@ -148,7 +149,8 @@ fn conflict_if<S: PlanStore>(
     )
 }
 
-// The states of the operator's plan of the id, and if there is none, how many plans the operator has.
+// The states of the operator's plan with this id; if there is none, also how many plans the operator has,
+// which is 0 otherwise.
 fn states_and_count<S: PlanStore>(
     store: &mut S,
     operator: &Operator,
@@ -169,8 +171,8 @@ fn states_and_count<S: PlanStore>(
     Ok((stored, own_rows))
 }
 
-// Which limits the operator's plans would exceed, with the requested one in place of that of its id. The
-// store is asked only if there is a limit.
+// Which limits the operator's plans would exceed, with the requested one in place of the stored one. The
+// store is queried only if there is a limit.
 fn excess_with<S: PlanStore>(
     store: &mut S,
     terms: &Terms,
@@ -192,7 +194,7 @@ fn excess_with<S: PlanStore>(
     ))
 }
 
-// The change that an effect is.
+// The change to the store by the effect of a request, or `None` if it changes nothing.
 fn change_for(
     effect: Effect,
     operator: &Operator,
@@ -214,7 +216,7 @@ fn change_for(
     }
 }
 
-// The plan that a request asks for.
+// The requested plan, as a row to be stored.
 fn asked_row(put: &PutCall) -> Result<PlanRow, AllocError>
     ensures { IfOk result (λ row. row ≡ row_asked put.now) }
 {

@@ -1,4 +1,4 @@
-//! Plans that are shown to their operator.
+//! Plans as they are shown to their operator.
 
 ghost use Rattle.std.specs.Prelude.{◌≡◌, ◌≤◌, map, IfOk, IfErr};
 ghost use Rattle.desk_run.specs.CallFaults.{IsStoreCounted};
@@ -23,8 +23,8 @@ use desk_store::{PlanStore, StoreFault};
 use std::alloc::Global;
 use volume4d::Meeting;
 
-// Gets the list of an enrolled operator's plans ready.
-pub fn ready_list<S: PlanStore>(
+// Prepares the list of an enrolled operator's plans, each with its conflict.
+pub fn prepare_list<S: PlanStore>(
     alloc: Global,
     store: &mut S,
     permitted: &Permitted,
@@ -43,7 +43,7 @@ pub fn ready_list<S: PlanStore>(
     })
 }
 
-// The operator's plans, by id, as they are shown.
+// The operator's plans as they are shown, ascending by id.
 fn own_shown<S: PlanStore>(
     alloc: Global,
     store: &mut S,
@@ -61,7 +61,7 @@ fn own_shown<S: PlanStore>(
     Ok(all_shown(alloc, permitted, &plans, &others)?)
 }
 
-// The operator's plans, by id, with the slabs that they hold.
+// The operator's plans with the slabs that they hold, ascending by id.
 fn own_listed<S: PlanStore>(
     alloc: Global,
     store: &mut S,
@@ -76,8 +76,8 @@ fn own_listed<S: PlanStore>(
     Ok(own_plans(alloc, &rows)?)
 }
 
-// Gets the showing of an enrolled operator's plan ready.
-pub fn ready_show<S: PlanStore>(
+// Prepares the reply that shows an enrolled operator's plan; `NoSuchPlan` if it has none with this id.
+pub fn prepare_show<S: PlanStore>(
     alloc: Global,
     store: &mut S,
     permitted: &Permitted,
@@ -101,7 +101,7 @@ pub fn ready_show<S: PlanStore>(
     })
 }
 
-// A plan of the operator as it is shown.
+// A plan of the operator as it is shown, with its conflict.
 fn shown<S: PlanStore>(
     alloc: Global,
     store: &mut S,
@@ -122,7 +122,7 @@ fn shown<S: PlanStore>(
     })
 }
 
-// The conflict of a live plan of the operator at its own priority; a closed plan has none.
+// The conflict of a plan of the operator with other plans; a closed plan has none.
 fn shown_conflict<S: PlanStore>(
     alloc: Global,
     store: &mut S,

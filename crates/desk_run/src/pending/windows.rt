@@ -1,5 +1,5 @@
-//! What a store is asked of a piece: extents round those slabs of a plan that have the same altitudes and
-//! seconds and lie close to each other.
+//! The extents of a query for a piece: each encloses slabs of a plan that have the same altitudes and seconds
+//! and lie close to each other.
 
 ghost use Rattle.std.specs.Prelude.{◌<◌, ◌≤◌, ◌+◌, length, IfOk, IfSome, IsTrue, OnOk};
 ghost use Rattle.volume4d.specs.Slab.{slab_has, slabs_have};
@@ -11,11 +11,11 @@ use super::pieces::cut;
 use std::alloc::{AllocError, Global};
 use volume4d::Slab;
 
-// Once there are so many extents, a slab is joined to one of its window however far off that is. A plan of 32
-// volumes has at most 32 windows, so a piece has at most 96 extents.
+// Once there are this many extents, a slab is joined to one of the same altitudes and seconds at any
+// distance. A plan has at most 32 volumes, so a piece has at most 96 extents.
 const MOST: usize = 64;
 
-// Extents that have the points of some slabs at the leaves of a piece.
+// Extents that have all points of `slabs` at the leaves of `piece`.
 pub fn extents_in(alloc: Global, slabs: &[Slab], piece: &Slab) -> Result<Vec<Slab>, AllocError>
     ensures { IfOk result (λ extents. HavePart (slabs_have slabs.now) piece.now extents.items) }
 {
@@ -27,7 +27,7 @@ pub fn extents_in(alloc: Global, slabs: &[Slab], piece: &Slab) -> Result<Vec<Sla
     Ok(extents)
 }
 
-// Adds the points of a slab at the leaves of a piece to extents.
+// Adds the points of `slab` at the leaves of `piece` to `extents`.
 fn add_part(extents: &mut Vec<Slab>, slab: &Slab, piece: &Slab, gap: u64) -> Result<(), AllocError>
     ensures kept { OnOk result (Keep extents.old.items extents.new.items) }
     ensures has { OnOk result (HavePart (slab_has slab.now) piece.now extents.new.items) }
@@ -39,7 +39,7 @@ fn add_part(extents: &mut Vec<Slab>, slab: &Slab, piece: &Slab, gap: u64) -> Res
     add(extents, &part, gap)
 }
 
-// Adds the points of a slab to extents: to one that it is close to, or as one more.
+// Adds the points of `slab` to `extents`: widens one that is close to it, or adds one.
 fn add(extents: &mut Vec<Slab>, slab: &Slab, gap: u64) -> Result<(), AllocError>
     ensures kept { OnOk result (Keep extents.old.items extents.new.items) }
     ensures has { OnOk result (HaveAll (slab_has slab.now) extents.new.items) }
@@ -51,7 +51,7 @@ fn add(extents: &mut Vec<Slab>, slab: &Slab, gap: u64) -> Result<(), AllocError>
     Ok(())
 }
 
-// The place of the last extent that a slab may be joined to, if there is one.
+// The index of the last extent that `slab` may be joined to, if there is one.
 fn place_for(extents: &[Slab], slab: &Slab, gap: u64) -> Option<usize>
     ensures { IfSome result (λ place. place < length extents.now) }
 {
@@ -61,7 +61,7 @@ fn place_for(extents: &[Slab], slab: &Slab, gap: u64) -> Option<usize>
         .rposition(|extent| may_join(extent, slab, gap))
 }
 
-// Whether a slab has the altitudes and seconds of an extent, and begins no further after it than a gap.
+// Whether `slab` has the altitudes and seconds of `extent`, and begins at most `gap` leaves after its end.
 fn may_join(extent: &Slab, slab: &Slab, gap: u64) -> bool
     ensures { IsTrue result → slab.now.first ≤ extent.now.last + gap }
 {
@@ -72,7 +72,7 @@ fn may_join(extent: &Slab, slab: &Slab, gap: u64) -> bool
         == (slab.lower, slab.upper, slab.start, slab.end)
 }
 
-// Widens one of some extents, so that it has the points of a slab.
+// Widens the extent at `place`, so that it has the points of `slab`.
 fn widen(extents: &mut [Slab], place: usize, slab: &Slab)
     requires { place < length extents.old }
     ensures kept { Keep extents.old extents.new }

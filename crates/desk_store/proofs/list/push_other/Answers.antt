@@ -12,7 +12,7 @@ returns-then-is_by c = λ x. own_adds_nothing c.args.operator.now
 
 pub returns : goal.returns
 returns c =
-    on_ok_weaker c.push_held.result (λ d x. d x
+    on_ok_weaker c.push_if_live.result (λ d x. d x
     ∙ ap (greater (top_held c.args.helds.now.items x))
     (other_adds c.args.operator.now (filed_of (c.args.key.now, c.args.plan.now)) x
-    (sym c.if-is_by.ensures))) c.push_held.ensures
+    (sym c.if-is_by.ensures))) c.push_if_live.ensures

@@ -16,8 +16,8 @@ returns-then-not-is_rival c = λ x inside. low_adds_none c.args.least c.args.ope
 
 pub returns : goal.returns
 returns c =
-    on_ok_weaker c.push_slabs.result (λ d x inside. d x inside
+    on_ok_weaker c.push_near.result (λ d x inside. d x inside
     ∙ ap (greater (top_held c.args.helds.now.items x))
     (rival_adds c.args.least c.args.operator.now c.args.id.now
     (filed_of (c.args.key.now, c.args.plan.now)) x (sym c.if-is_own.ensures)
-    (sym c.if-not-is_rival.ensures))) c.push_slabs.ensures
+    (sym c.if-not-is_rival.ensures))) c.push_near.ensures

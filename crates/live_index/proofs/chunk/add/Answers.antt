@@ -6,9 +6,9 @@ use Rattle.live_index.proofs.chunk.add.Goals as goal
 
 pub returns-then-at-len-clause-added : goal.returns-then-at-len-clause-added
 returns-then-at-len-clause-added c =
-    let below : c.last_upto-at.result < length c.args.chunks.now.items = search rules in
+    let below : c.last_at_or_before-at.result < length c.args.chunks.now.items = search rules in
     on_ok_weaker c.push.result (λ is.
-    added_one (λ k. k.volumes.items) c.args.live.now c.args.chunks.now.items c.last_upto-at.result
+    added_one (λ k. k.volumes.items) c.args.live.now c.args.chunks.now.items c.last_at_or_before-at.result
     c.index_mut.result.now c.push.new.self below
     (pushed c.args.live.now _ c.index_mut.result.now.volumes.items c.push.new.self.volumes.items is
     (ap (λ (k : Chunk). k.volumes.items) c.index_mut.ensures.value)))
@@ -16,9 +16,9 @@ returns-then-at-len-clause-added c =
 
 pub returns-then-at-len-clause-kept : goal.returns-then-at-len-clause-kept
 returns-then-at-len-clause-kept c =
-    let below : c.last_upto-at.result < length c.args.chunks.now.items = search rules in
+    let below : c.last_at_or_before-at.result < length c.args.chunks.now.items = search rules in
     on_err_weaker c.push.result (λ is.
-    kept_one (λ k. k.volumes.items) c.args.chunks.now.items c.last_upto-at.result
+    kept_one (λ k. k.volumes.items) c.args.chunks.now.items c.last_at_or_before-at.result
     c.index_mut.result.now c.push.new.self below
     (unmoved _ c.push.new.self.volumes.items
     (is ∙ ap (λ (k : Chunk). k.volumes.items) c.index_mut.ensures.value)))

@@ -1,9 +1,9 @@
 use Rattle.std.proofs.Common.{take}
 use Rattle.slab_regions.specs.Sought.{sought_has}
-use Rattle.live_index.specs.Live.{AreFenced, volumes_in}
+use Rattle.live_index.specs.Live.{AreBoundedChunks, volumes_in}
 use Rattle.live_index.specs.Near.{AddsPlans}
 use Rattle.live_index.proofs.chunk.add_near_in.Given as goal
 
 abbrev pub invariant-loop-chunk : goal.invariant-loop-chunk
-invariant-loop-chunk l = AreFenced l.chunks
+invariant-loop-chunk l = AreBoundedChunks l.chunks
     → AddsPlans l.wanted (sought_has l.sought) (volumes_in (take l.chunk-index l.chunks)) l.fn.near l.near

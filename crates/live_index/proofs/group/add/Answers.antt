@@ -7,9 +7,9 @@ use Rattle.live_index.proofs.group.add.Goals as goal
 
 pub returns-then-at-len-clause-added : goal.returns-then-at-len-clause-added
 returns-then-at-len-clause-added c =
-    let below : c.last_upto-at.result < length c.args.groups.now.items = search rules in
+    let below : c.last_at_or_before-at.result < length c.args.groups.now.items = search rules in
     on_ok_weaker c.insert.result (λ is.
-    added_one (λ g. volumes_in g.chunks.items) c.args.live.now c.args.groups.now.items c.last_upto-at.result
+    added_one (λ g. volumes_in g.chunks.items) c.args.live.now c.args.groups.now.items c.last_at_or_before-at.result
     c.index_mut.result.now c.insert.new.self below
     (subst (λ (g : Group). IsPermutation (c.args.live.now ∷ volumes_in g.chunks.items)
     (volumes_in c.insert.new.self.chunks.items)) c.index_mut.ensures.value is))
@@ -17,9 +17,9 @@ returns-then-at-len-clause-added c =
 
 pub returns-then-at-len-clause-kept : goal.returns-then-at-len-clause-kept
 returns-then-at-len-clause-kept c =
-    let below : c.last_upto-at.result < length c.args.groups.now.items = search rules in
+    let below : c.last_at_or_before-at.result < length c.args.groups.now.items = search rules in
     on_err_weaker c.insert.result (λ is.
-    kept_one (λ g. volumes_in g.chunks.items) c.args.groups.now.items c.last_upto-at.result
+    kept_one (λ g. volumes_in g.chunks.items) c.args.groups.now.items c.last_at_or_before-at.result
     c.index_mut.result.now c.insert.new.self below
     (subst (λ (g : Group). IsPermutation (volumes_in g.chunks.items)
     (volumes_in c.insert.new.self.chunks.items)) c.index_mut.ensures.value is))

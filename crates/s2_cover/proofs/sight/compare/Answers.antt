@@ -5,13 +5,13 @@ use Rattle.s2_cover.specs.Walking.{Saw, SawSquare}
 use Rattle.s2_cover.proofs.Sights.{some_span, square_seen}
 use Rattle.s2_cover.proofs.sight.compare.Goals as goal
 
-pub along-requires-clause-span : goal.along-requires-clause-span
-along-requires-clause-span c =
+pub compare_range-requires-clause-span : goal.compare_range-requires-clause-span
+compare_range-requires-clause-span c =
     let square = c.args.square.now in
     some_span square.level square.a c.i_span.result.0 c.i_span.result.1 c.i_span.ensures.span
 
-pub along-requires-2-clause-span : goal.along-requires-2-clause-span
-along-requires-2-clause-span c =
+pub compare_range-requires-2-clause-span : goal.compare_range-requires-2-clause-span
+compare_range-requires-2-clause-span c =
     let square = c.args.square.now in
     some_span square.level square.b c.j_span.result.0 c.j_span.result.1 c.j_span.ensures.span
 
@@ -23,16 +23,16 @@ returns-clause-saw c =
     let i = c.i_span.result in
     let j = c.j_span.result in
     let sides = subst (λ w. side ≡ side_of w.level) c.wide.view_is c.side_of-side.ensures.value in
-    let i_saw = subst (λ w. Saw i.0 i.1 (is_along side w.a_min w.a_max) c.along.result) c.wide.view_is
-    c.along.ensures.saw in
-    let j_saw = subst (λ w. Saw j.0 j.1 (is_along side w.b_min w.b_max) c.along-2.result) c.wide.view_is
-    c.along-2.ensures.saw in
-    subst (λ sight. SawSquare (wide_set wide) wide.level square sight) (sym c.both.ensures)
-    (square_seen wide square i.0 i.1 j.0 j.1 side c.along.result c.along-2.result sides c.requires.square
+    let i_saw = subst (λ w. Saw i.0 i.1 (is_along side w.a_min w.a_max) c.compare_range.result) c.wide.view_is
+    c.compare_range.ensures.saw in
+    let j_saw = subst (λ w. Saw j.0 j.1 (is_along side w.b_min w.b_max) c.compare_range-2.result) c.wide.view_is
+    c.compare_range-2.ensures.saw in
+    subst (λ sight. SawSquare (wide_set wide) wide.level square sight) (sym c.combine.ensures)
+    (square_seen wide square i.0 i.1 j.0 j.1 side c.compare_range.result c.compare_range-2.result sides c.requires.square
     c.requires.face c.requires.level
     (record {
       i = c.i_span.ensures.span;
       i_below = c.i_span.ensures.below;
       j = c.j_span.ensures.span;
       j_below = c.j_span.ensures.below;
-    }) i_saw c.along.ensures.apart j_saw c.along-2.ensures.apart)
+    }) i_saw c.compare_range.ensures.apart j_saw c.compare_range-2.ensures.apart)

@@ -8,21 +8,21 @@ use Rattle.s2_cover.proofs.SquareCells.{square_block}
 use Rattle.s2_cover.proofs.Walks.{IsWalking, block_largest, child_opened, walked_outside, walked_inside, stopped_full, walking_begins, walking_goes_on, child_most, walking_ends, child_block, child_upto, stopped_later, if_err}
 use Rattle.s2_cover.proofs.walk.+walk.Goals as goal
 
-pub returns-in_err-keep-in-Inside-clause-err : goal.returns-in_err-keep-in-Inside-clause-err
-returns-in_err-keep-in-Inside-clause-err t c =
+pub returns-in_err-push_cell-in-Inside-clause-err : goal.returns-in_err-push_cell-in-Inside-clause-err
+returns-in_err-push_cell-in-Inside-clause-err t c =
     let set = wide_set c.args.wide.now in
     let square = c.args.square.now in
     let block = square_block square c.requires.square in
     let largest =
     block_largest set (square_id square) square.level (first_position square) block c.requires.opened
     c.in-Inside.ensures.saw.saw in
-    let fault = c.in_err-keep-in-Inside.field-0.0 in
+    let fault = c.in_err-push_cell-in-Inside.field-0.0 in
     let stopped =
     stopped_full set c.args.limit (first_position square) (square_id square) c.compare.new.looked _
     c.args.cells.now.items
     fault c.requires.laid largest block.begins (omega
     (arith, c.requires.counted, c.compare.ensures.counted))
-    (omega (arith, c.compare.ensures.counted)) c.in_err-keep-in-Inside.ensures.full in
+    (omega (arith, c.compare.ensures.counted)) c.in_err-push_cell-in-Inside.ensures.full in
     if_err c.from_residual.result fault _ c.from_residual.ensures.1 stopped
 
 pub loop-k-init : goal.loop-k-init
@@ -156,8 +156,8 @@ returns-in-Outside-clause-ok t c =
     cells
     c.requires.laid (omega arith) c.in-Outside.ensures.saw.saw c.requires.few c.requires.counted)
 
-pub returns-in_ok-keep-in-Inside-clause-ok : goal.returns-in_ok-keep-in-Inside-clause-ok
-returns-in_ok-keep-in-Inside-clause-ok t c =
+pub returns-in_ok-push_cell-in-Inside-clause-ok : goal.returns-in_ok-push_cell-in-Inside-clause-ok
+returns-in_ok-push_cell-in-Inside-clause-ok t c =
     let set = wide_set c.args.wide.now in
     let square = c.args.square.now in
     let levels = c.args.wide.now.level - square.level in
@@ -166,11 +166,11 @@ returns-in_ok-keep-in-Inside-clause-ok t c =
     let largest =
     block_largest set (square_id square) square.level (first_position square) block c.requires.opened
     c.in-Inside.ensures.saw.saw in
-    let reported = c.in_ok-keep-in-Inside.ensures in
+    let reported = c.in_ok-push_cell-in-Inside.ensures in
     let P : List ℕ → ℕ → Type 0 = λ after new.
     HasWalked set levels c.args.limit (first_position square) (last_position square + 1) cells after
     c.args.looked.now new in
-    subst (λ new. P c.keep.new.cells.items new) (sym c.compare.ensures.counted)
+    subst (λ new. P c.push_cell.new.cells.items new) (sym c.compare.ensures.counted)
     (subst (λ after. P after (c.args.looked.now + 1)) (sym reported.kept)
     (walked_inside set levels c.args.limit square.level (first_position square) (square_id square)
     c.args.looked.now

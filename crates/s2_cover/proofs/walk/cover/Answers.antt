@@ -25,7 +25,7 @@ walk-requires-clause-opened c =
     let wide = c.of_rect-wide.result in
     let square = c.of_face-face.ensures ∙ ap whole c.face.ensures in
     subst (λ s. IsOpened (wide_set wide) (square_id s)) (sym square)
-    (whole_opened (wide_set wide) wide.face c.of_rect-wide.ensures.is.face)
+    (whole_opened (wide_set wide) wide.face c.of_rect-wide.ensures.valid.face)
 
 pub returns-in_err-walk-clause-refused : goal.returns-in_err-walk-clause-refused
 returns-in_err-walk-clause-refused c =
@@ -33,8 +33,8 @@ returns-in_err-walk-clause-refused c =
     let fault = c.in_err-walk.field-0.0 in
     let reported =
     refused wide c.args.limit (wide.level - c.of_face-face.result.level)
-    (c.args.limit + 1 - length c.new-cells.result.items) fault c.of_rect-wide.ensures.is.face
-    (omega (arith, c.of_rect-wide.ensures.is.level)) (omega arith) c.in_err-walk.ensures.err in
+    (c.args.limit + 1 - length c.new-cells.result.items) fault c.of_rect-wide.ensures.valid.face
+    (omega (arith, c.of_rect-wide.ensures.valid.level)) (omega arith) c.in_err-walk.ensures.err in
     if_err c.from_residual.result fault (IsRefused (rect_leaves c.args.rect.now) c.args.limit)
     c.from_residual.ensures.1
     (subst (λ w. IsRefused (wide_set w) c.args.limit fault) c.of_rect-wide.ensures.value reported)
@@ -48,8 +48,8 @@ found c =
     subst (λ w. IsCovered (wide_set w) c.args.limit c.walk.new.cells.items c.walk.new.looked)
     c.of_rect-wide.ensures.value
     (covered wide c.of_face-face.result c.args.limit c.walk.new.looked c.new-cells.result.items
-    c.walk.new.cells.items square c.new-cells.ensures.items c.of_rect-wide.ensures.is.face
-    c.of_rect-wide.ensures.is.level c.in_ok-walk.ensures.ok)
+    c.walk.new.cells.items square c.new-cells.ensures.items c.of_rect-wide.ensures.valid.face
+    c.of_rect-wide.ensures.valid.level c.in_ok-walk.ensures.ok)
 
 pub returns-in_err-walk-clause-longer : goal.returns-in_err-walk-clause-longer
 returns-in_err-walk-clause-longer c =
@@ -58,8 +58,8 @@ returns-in_err-walk-clause-longer c =
     let set = rect_leaves c.args.rect.now in
     let reported =
     refused wide c.args.limit (wide.level - c.of_face-face.result.level)
-    (c.args.limit + 1 - length c.new-cells.result.items) fault c.of_rect-wide.ensures.is.face
-    (omega (arith, c.of_rect-wide.ensures.is.level)) (omega arith) c.in_err-walk.ensures.err in
+    (c.args.limit + 1 - length c.new-cells.result.items) fault c.of_rect-wide.ensures.valid.face
+    (omega (arith, c.of_rect-wide.ensures.valid.level)) (omega arith) c.in_err-walk.ensures.err in
     if_err c.from_residual.result fault (IsLonger set c.args.limit) c.from_residual.ensures.1
     (longer set c.args.limit fault
     (subst (λ w. IsRefused (wide_set w) c.args.limit fault) c.of_rect-wide.ensures.value reported))

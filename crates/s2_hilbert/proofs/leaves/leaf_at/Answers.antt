@@ -5,16 +5,16 @@ pub returns-clause-value : goal.returns-clause-value
 returns-clause-value c =
     (found_at c.args.position c.point_on_face-i.result.0 c.point_on_face-i.result.1 c.requires
     c.point_on_face-i.ensures.i_below
-    c.point_on_face-i.ensures.j_below c.point_on_face-i.ensures.undone).value
+    c.point_on_face-i.ensures.j_below c.point_on_face-i.ensures.inverse).value
 
 pub returns-clause-undone : goal.returns-clause-undone
 returns-clause-undone c =
     (found_at c.args.position c.point_on_face-i.result.0 c.point_on_face-i.result.1 c.requires
     c.point_on_face-i.ensures.i_below
-    c.point_on_face-i.ensures.j_below c.point_on_face-i.ensures.undone).undone
+    c.point_on_face-i.ensures.j_below c.point_on_face-i.ensures.inverse).undone
 
 pub returns-clause-only : goal.returns-clause-only
 returns-clause-only c =
     (found_at c.args.position c.point_on_face-i.result.0 c.point_on_face-i.result.1 c.requires
     c.point_on_face-i.ensures.i_below
-    c.point_on_face-i.ensures.j_below c.point_on_face-i.ensures.undone).only
+    c.point_on_face-i.ensures.j_below c.point_on_face-i.ensures.inverse).only

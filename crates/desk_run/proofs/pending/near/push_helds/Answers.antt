@@ -21,8 +21,8 @@ loop-held-preserved c =
     let held = c.held-item.result in
     let so_far = c.loop-held.invariant in
     record {
-      order = c.left_at-left.ensures.order;
-      left = c.left_at-left.ensures.left;
+      order = c.remaining_at-left.ensures.order;
+      left = c.remaining_at-left.ensures.left;
       levels = λ x has.
           (let before = top_held c.args.theirs.now.items x in
           elim c.if-is_wanted.branch [
@@ -34,7 +34,7 @@ loop-held-preserved c =
                 ∙ held_passed n helds c.loop-held.held-index held x _ before c.loop-held-test.true
                 c.held-item.is
                 (at_mine (at_least n (level_where (slab_has held.slab x) held.priority)) None
-                c.args.mine.now c.left_at-left.result.now held.slab x c.left_at-left.ensures.left has
+                c.args.mine.now c.remaining_at-left.result.now held.slab x c.remaining_at-left.ensures.left has
                 (c.is_wanted.ensures.none w.if-is_wanted.false x (c.requires.bounds x has)
                 (c.requires.parts x has))
                 (none_without n held.priority (slab_has held.slab x)))

@@ -10,8 +10,8 @@ loop-slab-preserved c =
     let slab = c.slab-item.result in
     let so_far = c.loop-slab.invariant in
     record {
-      order = c.left_at-left.ensures.order;
-      left = c.left_at-left.ensures.left;
+      order = c.remaining_at-left.ensures.order;
+      left = c.remaining_at-left.ensures.left;
       levels = λ x has.
           (let before = top_held c.args.theirs.now.items x in
           elim c.if-may_share.branch [
@@ -22,8 +22,8 @@ loop-slab-preserved c =
             | else-may_share w ↦ ap (λ v. top_held v.items x) w.theirs-is
                 ∙ slab_passed slabs c.loop-slab.slab-index slab c.args.priority x _ before
                 c.loop-slab-test.true c.slab-item.is
-                (at_mine (slab_has slab x) false c.args.mine.now c.left_at-left.result.now slab x
-                c.left_at-left.ensures.left has
+                (at_mine (slab_has slab x) false c.args.mine.now c.remaining_at-left.result.now slab x
+                c.remaining_at-left.ensures.left has
                 (c.may_share.ensures w.if-may_share.false x (c.requires.bounds x has)
                 (c.requires.parts x has)) (λ e. e))
                 (so_far.levels x has)

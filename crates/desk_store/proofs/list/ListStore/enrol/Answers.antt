@@ -23,7 +23,7 @@ invariant_of-self-2 c =
     let o = c.args.operator in (
       kept_by (Enrol o c.args.ceiling) (world_in_lists ops plans) c.args.self.now
           (world_in_lists c.insert.new.self.entries plans) c.self.view_is c.self.invariant.0
-          (λ content. enrol_content o c.args.ceiling c.args.self.now content c.requires c.name_within.ensures)
+          (λ content. enrol_content o c.args.ceiling c.args.self.now content c.requires c.name_is_valid.ensures)
           (returns-clause-ok c),
       rw c.in_ok-insert.ensures.entries (count_enrolled o
           (record { ceiling = c.args.ceiling; plan_count = c.count_in-plan_count.result }) ops

@@ -23,7 +23,7 @@ invariant_of-self-then-is_none c =
     c.in_ok-plan.ensures in
     rw c.set_count.ensures (put_first c.args.self.now ops plans c.insert.new.self.entries o c.args.row
     c.in_ok-before.before c.count_in-count.result c.self.view_is c.self.invariant c.requires
-    c.row_within.ensures c.in_ok-before.ensures.was_ordered put c.in_ok-before.ensures.old
+    c.row_is_valid.ensures c.in_ok-before.ensures.was_ordered put c.in_ok-before.ensures.old
     c.if-is_none.ensures c.count_in-count.ensures).1
 
 pub invariant_of-self-else-is_none : goal.invariant_of-self-else-is_none
@@ -34,7 +34,7 @@ invariant_of-self-else-is_none c =
     let put = c.in_ok-before.ensures.entries ∙ ap (insert_entry key_cmp plans (o, c.args.row.id))
     c.in_ok-plan.ensures in
     (put_again c.args.self.now ops plans c.insert.new.self.entries o c.args.row c.in_ok-before.before
-    c.self.view_is c.self.invariant c.requires c.row_within.ensures c.in_ok-before.ensures.was_ordered put
+    c.self.view_is c.self.invariant c.requires c.row_is_valid.ensures c.in_ok-before.ensures.was_ordered put
     c.in_ok-before.ensures.old c.if-is_none.ensures).1
 
 pub returns-clause-ok : goal.returns-clause-ok
@@ -48,11 +48,11 @@ returns-clause-ok c =
     elim c.if-is_none.branch [
       | then-is_none w ↦ w.self-is ∙ ap (λ es. world_in_lists es more) w.set_count.ensures
           ∙ (put_first c.args.self.now ops plans more o c.args.row c.in_ok-before.before
-          w.count_in-count.result c.self.view_is c.self.invariant c.requires c.row_within.ensures
+          w.count_in-count.result c.self.view_is c.self.invariant c.requires c.row_is_valid.ensures
           c.in_ok-before.ensures.was_ordered put c.in_ok-before.ensures.old w.if-is_none.ensures
           w.count_in-count.ensures).0
       | else-is_none w ↦ w.self-is
           ∙ (put_again c.args.self.now ops plans more o c.args.row c.in_ok-before.before c.self.view_is
-          c.self.invariant c.requires c.row_within.ensures c.in_ok-before.ensures.was_ordered put
+          c.self.invariant c.requires c.row_is_valid.ensures c.in_ok-before.ensures.was_ordered put
           c.in_ok-before.ensures.old w.if-is_none.ensures).0
     ]

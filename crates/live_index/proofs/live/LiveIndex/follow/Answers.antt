@@ -8,8 +8,8 @@ use Rattle.live_index.proofs.live.LiveIndex.follow.Goals as goal
 pub returns-clause-same : goal.returns-clause-same
 returns-clause-same c = λ placed.
     followed (stays_at c.args.change.now) (volumes_of c.args.self.now)
-    (volumes_under c.take_out.new.self.groups.items) c.take_out.new.self.unindexed.items
-    c.push_all.new.volumes.items c.args.fresh.now (c.take_out.ensures.same placed) c.push_all.ensures
+    (volumes_under c.remove_named.new.self.groups.items) c.remove_named.new.self.unindexed.items
+    c.push_all.new.volumes.items c.args.fresh.now (c.remove_named.ensures.same placed) c.push_all.ensures
 
 pub returns-clause-kept : goal.returns-clause-kept
 returns-clause-kept c = λ w was.
@@ -17,10 +17,10 @@ returns-clause-kept c = λ w was.
     let old = c.args.self.now in record {
       live = subst (AreLive (changed_by change w))
           (sym (followed (stays_at change) (volumes_of old)
-          (volumes_under c.take_out.new.self.groups.items) c.take_out.new.self.unindexed.items
-          c.push_all.new.volumes.items c.args.fresh.now (c.take_out.ensures.same was.placed)
+          (volumes_under c.remove_named.new.self.groups.items) c.remove_named.new.self.unindexed.items
+          c.push_all.new.volumes.items c.args.fresh.now (c.remove_named.ensures.same was.placed)
           c.push_all.ensures))
           (changed_live change w (volumes_of old) c.args.fresh.now was.live c.requires.brought);
-      hedged = c.take_out.ensures.hedged was.hedged;
-      placed = c.take_out.ensures.placed was.placed;
+      group_bounded = c.remove_named.ensures.group_bounded was.group_bounded;
+      placed = c.remove_named.ensures.placed was.placed;
     }

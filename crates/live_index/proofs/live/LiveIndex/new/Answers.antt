@@ -1,5 +1,5 @@
 use Rattle.std.proofs.Common.{[], ◌++◌, arith, sym, subst}
-use Rattle.live_index.specs.Live.{AreHedged, AreLive, ArePlaced, volumes_under}
+use Rattle.live_index.specs.Live.{AreBoundedGroups, AreLive, ArePlaced, volumes_under}
 use Rattle.live_index.proofs.lemmas.Live.{none_live}
 use Rattle.live_index.proofs.live.LiveIndex.new.Goals as goal
 
@@ -7,7 +7,7 @@ pub returns : goal.returns
 returns c = record {
   live = subst (AreLive (record { operators = []; plans = [] }))
       (λ i. volumes_under (sym c.new.ensures.items i) ++ sym c.new-2.ensures.items i) none_live;
-  hedged = subst AreHedged (sym c.new.ensures.items) tt;
+  group_bounded = subst AreBoundedGroups (sym c.new.ensures.items) tt;
   placed = subst (λ gs. ArePlaced c.new-3.result (volumes_under gs)) (sym c.new.ensures.items)
       (λ o id. omega arith);
 }

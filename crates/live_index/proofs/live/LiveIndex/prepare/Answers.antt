@@ -7,7 +7,7 @@ returns-in_err-reserve-clause-kept c = λ w was.
     let kept = c.settle.ensures.kept w was in record {
       live = subst (λ ys. AreLive w (volumes_under c.settle.new.self.groups.items ++ ys))
           (sym c.reserve.ensures.items) kept.live;
-      hedged = kept.hedged;
+      group_bounded = kept.group_bounded;
       placed = kept.placed;
     }
 
@@ -16,6 +16,6 @@ returns-clause-kept c = λ w was.
     let kept = c.settle.ensures.kept w was in record {
       live = subst (λ ys. AreLive w (volumes_under c.settle.new.self.groups.items ++ ys))
           (sym c.reserve.ensures.items) kept.live;
-      hedged = kept.hedged;
+      group_bounded = kept.group_bounded;
       placed = kept.placed;
     }

@@ -10,7 +10,7 @@ returns-in_err-insert-clause-kept c = λ w was.
     let same = c.in_err-insert.ensures.kept in record {
       live = groups_moved w (volumes_under old.groups.items) (volumes_under c.insert.new.groups.items)
           old.unindexed.items was.live same;
-      hedged = c.insert.ensures.hedged was.hedged;
+      group_bounded = c.insert.ensures.group_bounded was.group_bounded;
       placed = placed_still old.places c.add.new.self (volumes_under old.groups.items)
           (volumes_under c.insert.new.groups.items) was.placed c.add.ensures.kept same;
     }
@@ -24,7 +24,7 @@ returns-clause-kept c = λ w was.
     let added = c.in_ok-insert.ensures.added in record {
       live = last_moved w live all now old.unindexed.items c.in-Some.rest.now c.truncate.new.self.items was.live
           (sym c.deref.ensures.value ∙ c.in-Some.ensures.cases.0) c.truncate.ensures.items added;
-      hedged = c.insert.ensures.hedged was.hedged;
+      group_bounded = c.insert.ensures.group_bounded was.group_bounded;
       placed = placed_added old.places c.add.new.self live all now was.placed c.add.ensures.kept
           c.in_ok-add.ensures.added added;
     }

@@ -7,11 +7,11 @@ returns-then-is_some c =
     let wanted = c.args.wanted.now in
     some_weaker c.in_ok-apart.apart (λ keys near w kept.
     are_wanted_plans wanted.operator wanted.id wanted.least c.args.extents.now keys.items w
-    (volumes_of c.args.self.now) kept.live (near kept.hedged)) c.in_ok-apart.ensures
+    (volumes_of c.args.self.now) kept.live (near kept.group_bounded)) c.in_ok-apart.ensures
 
 pub returns : goal.returns
 returns c =
     let wanted = c.args.wanted.now in
     found_weaker c.near_at_once.result (λ keys near w kept.
     are_wanted_plans wanted.operator wanted.id wanted.least c.args.extents.now keys.items w
-    (volumes_of c.args.self.now) kept.live (near kept.hedged)) c.near_at_once.ensures
+    (volumes_of c.args.self.now) kept.live (near kept.group_bounded)) c.near_at_once.ensures

@@ -3,18 +3,18 @@ use Rattle.operator_index.specs.Roll.{HasRoomIn, account_in}
 use Rattle.operator_index.proofs.lemmas.Roll.{AreWritten, followed}
 use Rattle.operator_index.proofs.roll.OperatorIndex.follow.Goals as goal
 
-pub follow-requires : goal.follow-requires
-follow-requires c =
+pub apply_change-requires : goal.apply_change-requires
+apply_change-requires c =
     subst HasRoomIn (sym (c.in-Some.ensures.value
     ∙ ap (λ name. account_in name c.args.self.now.accounts.entries) c.named_by.ensures)) c.requires
 
 pub returns-in-Some : goal.returns-in-Some
 returns-in-Some c = λ w h.
     let old = c.args.self.now.accounts.entries in
-    let new = (c.get_mut.follows.lender c.follow.new.self).entries in
+    let new = (c.get_mut.follows.lender c.apply_change.new.self).entries in
     let some = subst IsSome c.in-Some.ensures.value refl in
-    followed c.args.change.now w old new c.in-Some.account.now c.follow.new.self
-    (subst (λ name. AreWritten name old new c.follow.new.self) c.named_by.ensures
+    followed c.args.change.now w old new c.in-Some.account.now c.apply_change.new.self
+    (subst (λ name. AreWritten name old new c.apply_change.new.self) c.named_by.ensures
     (record { each = ((c.get_mut.follows.holds _).3 some).0 }))
     (c.in-Some.ensures.value ∙ ap (λ name. account_in name old) c.named_by.ensures) h
-    c.follow.ensures.ceiling c.follow.ensures.plans
+    c.apply_change.ensures.ceiling c.apply_change.ensures.plans

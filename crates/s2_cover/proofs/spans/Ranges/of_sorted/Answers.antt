@@ -16,7 +16,7 @@ loop-cell-preserved c =
     let next : IsSpanOf cells count span =
     span_of_rest cells c.in-Some.rest.now c.in-Some.first.now c.cell-item.result
     c.loop-cell.cell-index span c.in-Some.ensures.cases.0 c.loop-cell-test.true c.cell-item.is
-    reported.is reported.first reported.leaves in
+    reported.valid reported.first reported.leaves in
     elim c.if-span-current.branch [
       | then-span-current w ↦
           rw (w.current-is, w.spans-is, w.max.ensures)

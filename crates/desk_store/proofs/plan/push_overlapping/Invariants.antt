@@ -1,0 +1,11 @@
+use Rattle.std.proofs.Common.{◌≡◌, true, take}
+use Rattle.volume4d.specs.Point.{Point}
+use Rattle.volume4d.specs.Slab.{slabs_have, top_held}
+use Rattle.volume4d.specs.Level.{greater, level_where}
+use Rattle.desk_store.proofs.plan.push_overlapping.Given as goal
+
+-- at points of the extents, the levels before, and the priority where a slab so far has the point
+abbrev pub invariant-loop-slab : goal.invariant-loop-slab
+invariant-loop-slab l = (x : Point) → slabs_have l.extents x ≡ true → top_held l.helds.items x
+    ≡ greater (top_held l.fn.helds.items x) (level_where (slabs_have (take l.slab-index l.slabs) x)
+    l.priority)

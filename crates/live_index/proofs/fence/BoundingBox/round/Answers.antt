@@ -1,8 +1,0 @@
-use Rattle.live_index.proofs.FenceLemmas.{fenced_more}
-use Rattle.live_index.proofs.fence.BoundingBox.round.Goals as goal
-
-pub loop-live-preserved : goal.loop-live-preserved
-loop-live-preserved c =
-    fenced_more c.args.first.now c.args.more.now c.loop-live.live-index c.live-item.result c.loop-live.fence
-    c.widened-fence.result c.loop-live-test.true c.live-item.is c.loop-live.invariant
-    c.widened-fence.ensures.one c.widened-fence.ensures.kept
