@@ -1,6 +1,6 @@
 use Rattle.std.proofs.Common.{◌≡◌, ◌++◌, drop, string_bytes}
 use Rattle.cell_picture.specs.Picture.{cells_text}
-use Rattle.cell_picture.proofs.picture.cells_of.Given as goal
+use Rattle.cell_picture.proofs.picture.cell_squares.Given as goal
 
 -- the others are still to come
 abbrev pub invariant-loop-cell : goal.invariant-loop-cell

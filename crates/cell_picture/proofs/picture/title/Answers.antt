@@ -1,5 +1,5 @@
 use Rattle.cell_picture.specs.Picture.{title_text}
-use Rattle.cell_picture.proofs.picture.title_of.Goals as goal
+use Rattle.cell_picture.proofs.picture.title.Goals as goal
 
 pub returns : goal.returns
 unfolding title_text

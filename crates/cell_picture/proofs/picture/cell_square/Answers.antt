@@ -1,7 +1,7 @@
 use Rattle.std.proofs.Common.{◌≡◌, string_bytes, subst}
 use Rattle.std.specs.Prelude.{IfOk}
 use Rattle.cell_picture.specs.Picture.{cell_text}
-use Rattle.cell_picture.proofs.picture.cell_of.Goals as goal
+use Rattle.cell_picture.proofs.picture.cell_square.Goals as goal
 
 pub returns : goal.returns
 unfolding cell_text

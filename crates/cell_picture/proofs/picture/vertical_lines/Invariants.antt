@@ -1,6 +1,6 @@
 use Rattle.std.proofs.Common.{◌≡◌, string_bytes}
 use Rattle.cell_picture.specs.Picture.{uprights}
-use Rattle.cell_picture.proofs.picture.upright_lines.Given as goal
+use Rattle.cell_picture.proofs.picture.vertical_lines.Given as goal
 
 -- those before a place
 abbrev pub invariant-loop-place : goal.invariant-loop-place

@@ -1,6 +1,6 @@
 use Rattle.std.proofs.Common.{◌≡◌, string_bytes}
 use Rattle.cell_picture.specs.Picture.{levels}
-use Rattle.cell_picture.proofs.picture.level_lines.Given as goal
+use Rattle.cell_picture.proofs.picture.horizontal_lines.Given as goal
 
 -- those before a place
 abbrev pub invariant-loop-place : goal.invariant-loop-place
