@@ -1,6 +1,6 @@
 use Rattle.std.proofs.Common.{◌++◌, ap, ◌∙◌}
 use Rattle.desk_record.proofs.LineLemmas.{front_written}
-use Rattle.desk_record.proofs.line.write_front.Goals as goal
+use Rattle.desk_record.proofs.line.write_line_fields.Goals as goal
 
 pub returns : goal.returns
 returns c =

@@ -1,6 +1,6 @@
 use Rattle.std.proofs.Common.{◌≡◌, drop}
 use Rattle.desk_record.specs.EntryLines.{number_from}
-use Rattle.desk_record.proofs.numbers.number_in.Given as goal
+use Rattle.desk_record.proofs.numbers.parse_number.Given as goal
 
 -- the digits that are left give the number
 abbrev pub invariant-loop-digit : goal.invariant-loop-digit

@@ -36,7 +36,7 @@ returns-then-not-branch-clause-fault g c =
     let reported =
     (λ i. has_bytes (line_shown c.in-Some.line) (sym c.deref-2.ensures.value i)
     (sym c.deref-3.ensures.value i))
-    ∙ sym c.in_ok-is_sound.ensures ∙ c.if-not-branch.true in
+    ∙ sym c.in_ok-is_intact.ensures ∙ c.if-not-branch.true in
     unsound _ _ text c.in_ok-text.ensures.taken long (line_shown c.in-Some.line)
     (ap line_in (sym c.deref.ensures.value) ∙ sym c.in_ok-line.ensures
     ∙ ap (option_map line_shown) c.in-Some.is)
@@ -54,7 +54,7 @@ returns-clause-entry g c =
     let reported =
     (λ i. has_bytes (line_shown c.in-Some.line) (sym c.deref-2.ensures.value i)
     (sym c.deref-3.ensures.value i))
-    ∙ sym c.in_ok-is_sound.ensures ∙ c.if-not-branch.false in
+    ∙ sym c.in_ok-is_intact.ensures ∙ c.if-not-branch.false in
     sound _ _ text c.in_ok-text.ensures.taken long (line_shown c.in-Some.line)
     (ap line_in (sym c.deref.ensures.value) ∙ sym c.in_ok-line.ensures
     ∙ ap (option_map line_shown) c.in-Some.is)

@@ -1,6 +1,6 @@
 use Rattle.std.proofs.Common.{◌≡◌, length}
 use Rattle.std.specs.Io.KnownBytes.{Keeps}
-use Rattle.desk_record.proofs.reading.receive_some.Given as goal
+use Rattle.desk_record.proofs.reading.read_retrying.Given as goal
 
 -- no byte is taken yet
 abbrev pub invariant-loop : goal.invariant-loop

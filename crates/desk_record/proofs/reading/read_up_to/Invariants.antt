@@ -1,6 +1,6 @@
 use Rattle.std.proofs.Common.{◌≡◌, ◌≤◌, ◌+◌, length}
 use Rattle.std.specs.Io.KnownBytes.{Consumes}
-use Rattle.desk_record.proofs.reading.receive.Given as goal
+use Rattle.desk_record.proofs.reading.read_up_to.Given as goal
 
 -- the bytes so far are taken, at least one in each round
 abbrev pub invariant-loop : goal.invariant-loop
