@@ -1,6 +1,6 @@
 use Rattle.std.proofs.Common.{rules}
 use Rattle.desk_writing.specs.Answer.{answer_text}
-use Rattle.desk_writing.proofs.texts.answer.Goals as goal
+use Rattle.desk_writing.proofs.texts.response_text.Goals as goal
 
 pub returns : goal.returns
 unfolding answer_text

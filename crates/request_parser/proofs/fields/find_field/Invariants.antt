@@ -1,7 +1,7 @@
 use Rattle.std.proofs.Common.{◌≡◌, map, take}
 use Rattle.httparse.specs.Spans.{header_bytes}
 use Rattle.request_parser.specs.Fields.{count_in, count_shown}
-use Rattle.request_parser.proofs.fields.find_single.Given as goal
+use Rattle.request_parser.proofs.fields.find_field.Given as goal
 
 -- what was found among the headers so far
 abbrev pub invariant-loop-header : goal.invariant-loop-header

@@ -3,7 +3,7 @@ use Rattle.std.proofs.lemmas.Int.Digits.{digits_value_more}
 use Rattle.std.proofs.lemmas.List.Folds.{list_all_more}
 use Rattle.std.specs.Char.{is_ascii_digit}
 use Rattle.request_parser.proofs.DigitLemmas.{digit_small, digit_value-digit, below_next_power}
-use Rattle.request_parser.proofs.times.number.Goals as goal
+use Rattle.request_parser.proofs.times.parse_number.Goals as goal
 
 pub loop-digit-preserved : goal.loop-digit-preserved
 loop-digit-preserved c =

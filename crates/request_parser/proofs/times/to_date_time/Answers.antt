@@ -1,7 +1,7 @@
 use Rattle.std.proofs.Common.{w8, w16, arith, ◌∙◌}
 use Rattle.std.proofs.lemmas.Int.{to_z_pos}
 use Rattle.request_parser.proofs.TimeLemmas.{civil_test, same_when_ok}
-use Rattle.request_parser.proofs.times.shown.Goals as goal
+use Rattle.request_parser.proofs.times.to_date_time.Goals as goal
 
 pub returns-clause-there : goal.returns-clause-there
 returns-clause-there c =

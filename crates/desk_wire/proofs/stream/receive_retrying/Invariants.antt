@@ -1,6 +1,6 @@
 use Rattle.std.proofs.Common.{◌≡◌, length}
 use Rattle.std.specs.Io.KnownBytes.{Keeps}
-use Rattle.desk_wire.proofs.stream.receive_some.Given as goal
+use Rattle.desk_wire.proofs.stream.receive_retrying.Given as goal
 
 -- no byte is taken yet
 abbrev pub invariant-loop-reads : goal.invariant-loop-reads

@@ -1,5 +1,5 @@
 use Rattle.std.proofs.Common.{◌≡◌, map, take}
-use Rattle.desk_wire.proofs.batch.copies.Given as goal
+use Rattle.desk_wire.proofs.batch.copy_answers.Given as goal
 
 -- the answers so far
 abbrev pub invariant-loop-answer : goal.invariant-loop-answer
