@@ -43,7 +43,7 @@ pub(crate) enum InputEnd<R, W> {
 
 impl<R, W> InputEnd<R, W> {
     // How a line ends by it.
-    fn reported(self) -> Result<(), ErrorCode>
+    fn exit_result(self) -> Result<(), ErrorCode>
         ensures { result ≡ spec.reported_as self }
     {
         match self {
@@ -89,11 +89,11 @@ impl<R: Read + Drop, W: Write + Drop> InputPort<R, W> {
     }
 
     // How a line ends after which no more is played.
-    fn ending(&self, done: Result<(), ErrorCode>) -> Result<(), ErrorCode>
+    fn final_result(&self, done: Result<(), ErrorCode>) -> Result<(), ErrorCode>
         ensures { result ≡ spec.ended_by (option_map spec.reported_as self.now.ended) self.now.is_unframed done }
     {
         match (self.ended, done) {
-            (Some(ended), _) => ended.reported(),
+            (Some(ended), _) => ended.exit_result(),
             (None, Err(failure)) => Err(failure),
             (None, Ok(())) if self.is_unframed => Err(ErrorCode::Unframed),
             (None, Ok(())) => Err(ErrorCode::Limit),
@@ -146,7 +146,7 @@ impl<R: Read + Drop, W: Write + Drop> Port for InputPort<R, W> {
         if self.ended.is_some() {
             return Err(ErrorCode::Network);
         }
-        match next_of(alloc, self.is_unframed, &mut self.input) {
+        match next_request(alloc, self.is_unframed, &mut self.input) {
             Ok(request) => Ok(ClientStream {
                 moment: self.moment,
                 input: Cursor::new(request),
@@ -185,7 +185,7 @@ impl<R: Read + Drop, W: Write + Drop> Port for InputPort<R, W> {
 }
 
 // The next request of an input, or how the input ended.
-fn next_of<R: Read, W>(
+fn next_request<R: Read, W>(
     alloc: Global,
     is_unframed: bool,
     input: &mut R,
@@ -250,5 +250,5 @@ fn play_recorded<S: PlanStore, R: Read + Drop, W: Write + Drop, K: Record + Drop
         errors.old errors.new) desk.old desk.new }
 {
     let done = play_port(alloc, port, play, desk);
-    report_exit(errors, port.port.ending(done))
+    report_exit(errors, port.port.final_result(done))
 }

@@ -103,7 +103,7 @@ impl<P: Port + Drop, R: Record + Drop> Port for RecordedPort<P, R> {
         }
         let news = match self.port.news(alloc) {
             Ok(news) => news,
-            Err(failure) => return Err(failure_below(failure)),
+            Err(failure) => return Err(port_error(failure)),
         };
         match self.journal.keep_news(&news) {
             Ok(()) => Ok(news),
@@ -139,9 +139,9 @@ impl<P: Port + Drop, R: Record + Drop> Port for RecordedPort<P, R> {
         }
         let mut taken = match self.port.take(alloc) {
             Ok(taken) => taken,
-            Err(failure) => return Err(failure_below(failure)),
+            Err(failure) => return Err(port_error(failure)),
         };
-        let Ok(received) = request_of(alloc, &mut taken.input) else {
+        let Ok(received) = receive_or_empty(alloc, &mut taken.input) else {
             let _ = self.port.close(taken.input, taken.output, UNANSWERED);
             return Err(ErrorCode::Memory);
         };
@@ -160,7 +160,7 @@ impl<P: Port + Drop, R: Record + Drop> Port for RecordedPort<P, R> {
             }),
             Err(fault) => {
                 self.broken = Some(Loss::JournalError(RecordFault::by(fault)));
-                let _ = refuse(&mut taken.output);
+                let _ = send_store_error(&mut taken.output);
                 let _ = self.port.close(taken.input, taken.output, UNANSWERED);
                 Err(ErrorCode::Broken)
             }
@@ -197,19 +197,19 @@ impl<P: Port + Drop, R: Record + Drop> Port for RecordedPort<P, R> {
         } = input;
         let Held { answer, mut to } = output;
         let connection = Exchange {
-            unread: unread_of(&request),
+            unread: unread_bytes(&request),
             sent: &answer,
             outcome,
         };
-        let (broken, _) = send_kept(&mut self.journal, self.broken, connection, &mut to);
+        let (broken, _) = record_and_send(&mut self.journal, self.broken, connection, &mut to);
         self.broken = broken;
         let closed = self.port.close(client, to, outcome);
-        closed_as(self.broken.is_some(), closed)
+        close_result(self.broken.is_some(), closed)
     }
 }
 
 // A failure of the port below. That port keeps nothing itself.
-fn failure_below(failure: ErrorCode) -> ErrorCode
+fn port_error(failure: ErrorCode) -> ErrorCode
     ensures { result ≡ spec.failure_below failure }
 {
     match failure {
@@ -219,7 +219,7 @@ fn failure_below(failure: ErrorCode) -> ErrorCode
 }
 
 // How a connection was closed, by whether something is lost.
-fn closed_as(is_lost: bool, closed: Result<(), ErrorCode>) -> Result<(), ErrorCode>
+fn close_result(is_lost: bool, closed: Result<(), ErrorCode>) -> Result<(), ErrorCode>
     ensures { result ≡ spec.closed_as is_lost closed }
 {
     if is_lost {
@@ -227,13 +227,13 @@ fn closed_as(is_lost: bool, closed: Result<(), ErrorCode>) -> Result<(), ErrorCo
     }
     match closed {
         Ok(()) => Ok(()),
-        Err(failure) => Err(failure_below(failure)),
+        Err(failure) => Err(port_error(failure)),
     }
 }
 
 // Keeps the answer of a connection, if it is whole and nothing was lost before, and then sends it; or else
 // answers the client that the desk failed. What is lost, if so, and whether all was sent.
-fn send_kept<R: Record, W: Write>(
+fn record_and_send<R: Record, W: Write>(
     journal: &mut R,
     broken: Option<Loss<R>>,
     connection: Exchange<'_>,
@@ -249,16 +249,16 @@ fn send_kept<R: Record, W: Write>(
     ensures lost { result.0 ≡ Some Loss.Unanswered
         → (broken ≡ Some Loss.Unanswered) ⊎ (connection.entry.outcome.is_answered ≡ false) }
 {
-    let lost = keep_or_lose(journal, broken, connection);
+    let lost = record_answer(journal, broken, connection);
     if lost.is_none() {
         return (None, write_whole(client, connection.sent));
     }
     journal.lose_answer(connection);
-    (lost, refuse(client))
+    (lost, send_store_error(client))
 }
 
 // Keeps the answer of a connection, if it is whole and nothing was lost before. What is lost, if so.
-fn keep_or_lose<R: Record>(
+fn record_answer<R: Record>(
     journal: &mut R,
     broken: Option<Loss<R>>,
     connection: Exchange<'_>,
@@ -291,7 +291,7 @@ struct Received<R> {
 }
 
 // The request that a client sends: none, if it doesn't come whole.
-fn request_of<R: Read>(alloc: Global, client: &mut R) -> Result<Received<R>, AllocError>
+fn receive_or_empty<R: Read>(alloc: Global, client: &mut R) -> Result<Received<R>, AllocError>
     ensures { IfOk result (λ received. IsReceived (is_some received.unread) (R.remaining client.old)
         (R.remaining client.new) received.request.items) }
 {
@@ -313,14 +313,14 @@ fn request_of<R: Read>(alloc: Global, client: &mut R) -> Result<Received<R>, All
 }
 
 // Reports a client that its request, or the answer to it, can't be kept.
-fn refuse<W: Write>(client: &mut W) -> Result<(), WriteError<W>>
+fn send_store_error<W: Write>(client: &mut W) -> Result<(), WriteError<W>>
     ensures { Sends (server_error_text Store) (W.contents client.old) (W.contents client.new) result }
 {
     write_whole(client, ServerError::Store.answer())
 }
 
 // The bytes that are left of a request.
-fn unread_of(request: &Cursor<Vec<u8>>) -> &[u8]
+fn unread_bytes(request: &Cursor<Vec<u8>>) -> &[u8]
     ensures { Some result.now ≡ cursor_remaining (λ v. Some v.items) request.now }
 {
     let bytes = request.get_ref();

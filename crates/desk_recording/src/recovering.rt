@@ -89,11 +89,11 @@ fn is_missing(roll: &[Enrolment], enrolment: &Enrolment) -> bool
     if enrolment.ceiling > MAX_PRIORITY {
         return false;
     }
-    !is_listed(roll, &enrolment.operator)
+    !is_enrolled(roll, &enrolment.operator)
 }
 
 // Whether an operator is on a roll.
-fn is_listed(roll: &[Enrolment], operator: &Operator) -> bool
+fn is_enrolled(roll: &[Enrolment], operator: &Operator) -> bool
     ensures { result ≡ spec.is_on_roll roll.now operator.now }
 {
     roll.iter().any(|enrolment| enrolment.operator == *operator)
@@ -127,13 +127,13 @@ pub fn recover<S: PlanStore, R: Record>(
         → HasRisen (S.faults desk.old.store) (S.faults desk.new.store)) }
 {
     if let Err(fault) = set_up(desk, terms, missing) {
-        return Err(unlisted(fault));
+        return Err(enrolment_error(fault));
     }
-    ask_if_any(alloc, desk, asked, journal)
+    repeat_if_pending(alloc, desk, asked, journal)
 }
 
 // Why an operator could not be listed.
-fn unlisted<R>(fault: DeskFault) -> Unrecovered<R>
+fn enrolment_error<R>(fault: DeskFault) -> Unrecovered<R>
     ensures is { IsBreakdown fault → spec.failure_of result ≡ enrolment_failure fault }
     ensures cause { IsBreakdown fault → spec.failure_of result ≡ ErrorCode.Store → fault ≡ DeskFault.Store }
 {
@@ -144,7 +144,7 @@ fn unlisted<R>(fault: DeskFault) -> Unrecovered<R>
 }
 
 // Asks the request again that is unanswered, if there is one.
-fn ask_if_any<S: PlanStore, R: Record>(
+fn repeat_if_pending<S: PlanStore, R: Record>(
     alloc: Global,
     desk: &mut Desk<S>,
     asked: Option<Unanswered>,
@@ -159,14 +159,14 @@ fn ask_if_any<S: PlanStore, R: Record>(
         → HasRisen (S.faults desk.old.store) (S.faults desk.new.store)) }
 {
     match asked {
-        Some(asked) => ask_again(alloc, desk, asked, journal),
+        Some(asked) => repeat_request(alloc, desk, asked, journal),
         None => Ok(()),
     }
 }
 
 // Asks a request again at its second.
 #[tactic(auto, using(crate::proofs::RecoveringLemmas::both_added))]
-fn ask_again<S: PlanStore, R: Record>(
+fn repeat_request<S: PlanStore, R: Record>(
     alloc: Global,
     desk: &mut Desk<S>,
     asked: Unanswered,
@@ -192,22 +192,22 @@ fn ask_again<S: PlanStore, R: Record>(
         return Err(Unrecovered::JournalError(RecordFault::by(fault)));
     }
     match answer_one(alloc, desk, &sent) {
-        Ok(answer) => keep_again(journal, &answer),
+        Ok(answer) => record_repeated_answer(journal, &answer),
         Err(fault) => {
-            journal.lose_answer(reported_again(b""));
-            Err(unanswered_by(fault))
+            journal.lose_answer(exchange_without_client(b""));
+            Err(replay_error(fault))
         }
     }
 }
 
 // Keeps an answer that goes to no client.
-fn keep_again<R: Record>(journal: &mut R, answer: &[u8]) -> Result<(), Unrecovered<R>>
+fn record_repeated_answer<R: Record>(journal: &mut R, answer: &[u8]) -> Result<(), Unrecovered<R>>
     ensures ok { OnOk result
         (AddsStep (R.steps journal.old) (R.steps journal.new) (Answered (reported_again answer.now))) }
     ensures err { IfErr result (λ why. (spec.failure_of why ≡ ErrorCode.Broken)
         × AddsStep (R.steps journal.old) (R.steps journal.new) (Lost (reported_again answer.now))) }
 {
-    let connection = reported_again(answer);
+    let connection = exchange_without_client(answer);
     match journal.keep_answer(connection) {
         Ok(()) => Ok(()),
         Err(fault) => {
@@ -218,7 +218,7 @@ fn keep_again<R: Record>(journal: &mut R, answer: &[u8]) -> Result<(), Unrecover
 }
 
 // An answer that goes to no client.
-fn reported_again(answer: &[u8]) -> Exchange<'_>
+fn exchange_without_client(answer: &[u8]) -> Exchange<'_>
     ensures { parting_of result ≡ spec.reported_again answer.now }
 {
     Exchange {
@@ -232,7 +232,7 @@ fn reported_again(answer: &[u8]) -> Exchange<'_>
 }
 
 // Why the desk did not answer.
-fn unanswered_by<R>(fault: ReplayFault) -> Unrecovered<R>
+fn replay_error<R>(fault: ReplayFault) -> Unrecovered<R>
     ensures own { (spec.failure_of result ≡ ErrorCode.Memory) ⊎ (spec.failure_of result ≡ ErrorCode.Store) }
     ensures cause { IsOwn fault → spec.failure_of result ≡ ErrorCode.Store → fault ≡ ReplayFault.Store }
 {

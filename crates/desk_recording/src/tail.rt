@@ -84,7 +84,7 @@ impl From<AllocError> for TailFault {
 
 impl Tail {
     // Nothing was read.
-    fn none(alloc: Global) -> Tail
+    fn empty(alloc: Global) -> Tail
         ensures { tail_shown result ≡ nothing_said }
     {
         Tail {
@@ -107,9 +107,9 @@ pub fn read_tail<R: Read>(alloc: Global, input: &mut R) -> Result<(Tail, TailEnd
     ensures ok { IfOk result (λ read. IsTail (R.remaining input.old) read.1 (tail_shown read.0)) }
     ensures err { IfErr result (HasNoTail (R.remaining input.old)) }
 {
-    let mut tail = Tail::none(alloc);
+    let mut tail = Tail::empty(alloc);
     for _ in 0..u64::MAX {
-        match read_one(alloc, input, &mut tail) {
+        match read_next_entry(alloc, input, &mut tail) {
             Ok(None) => {}
             Ok(Some(ended)) => return Ok((tail, ended)),
             Err(fault) => return Err(fault),
@@ -119,7 +119,7 @@ pub fn read_tail<R: Read>(alloc: Global, input: &mut R) -> Result<(Tail, TailEnd
 }
 
 // Reads the next entry and notes it, or answers what stands there.
-fn read_one<R: Read>(
+fn read_next_entry<R: Read>(
     alloc: Global,
     input: &mut R,
     tail: &mut Tail,
@@ -129,7 +129,7 @@ fn read_one<R: Read>(
 {
     match read_entry(alloc, input) {
         Ok(Some(entry)) => {
-            note(tail, entry)?;
+            apply_entry(tail, entry)?;
             Ok(None)
         }
         Ok(None) => Ok(Some(TailEnd::End)),
@@ -142,7 +142,7 @@ fn read_one<R: Read>(
 
 // Notes what an entry says.
 #[tactic(auto, unfolding(crate::specs::Tail::said))]
-fn note(tail: &mut Tail, entry: Entry) -> Result<(), TailFault>
+fn apply_entry(tail: &mut Tail, entry: Entry) -> Result<(), TailFault>
     ensures { Notes result (said (tail_shown tail.old) (entry_shown entry)) (tail_shown tail.new) }
 {
     let Entry {
@@ -155,31 +155,31 @@ fn note(tail: &mut Tail, entry: Entry) -> Result<(), TailFault>
     }
     lengths();
     tail.size = tail.size.saturating_add(BESIDE + bytes.len() as u64);
-    note_within(tail, kind, number, bytes)
+    apply_by_kind(tail, kind, number, bytes)
 }
 
 // Notes what an entry says, whose bytes are counted.
-fn note_within(tail: &mut Tail, kind: Kind, number: u64, bytes: Vec<u8>) -> Result<(), TailFault>
+fn apply_by_kind(tail: &mut Tail, kind: Kind, number: u64, bytes: Vec<u8>) -> Result<(), TailFault>
     ensures { Notes result (spec.said_within kind (tail_shown tail.old) number bytes.items)
         (tail_shown tail.new) }
 {
     match kind {
-        Kind::Record => begin(tail, number, &bytes),
+        Kind::Record => apply_header(tail, number, &bytes),
         Kind::Permitted if !bytes.is_empty() => Err(TailFault::NoRecord),
-        Kind::Permitted => permit(tail, number),
+        Kind::Permitted => apply_permitted(tail, number),
         Kind::Spans if !bytes.is_empty() => Err(TailFault::NoRecord),
-        Kind::Spans => limit_spans(tail, number),
+        Kind::Spans => apply_spans_limit(tail, number),
         Kind::Cells if !bytes.is_empty() => Err(TailFault::NoRecord),
-        Kind::Cells => limit_cells(tail, number),
-        Kind::Operator => list(tail, number, &bytes),
-        Kind::Request => ask(tail, number, bytes),
-        Kind::Answer => answer(tail, number, &bytes),
+        Kind::Cells => apply_cells_limit(tail, number),
+        Kind::Operator => apply_operator(tail, number, &bytes),
+        Kind::Request => apply_request(tail, number, bytes),
+        Kind::Answer => apply_answer(tail, number, &bytes),
     }
 }
 
 // The record begins.
 #[tactic(auto, unfolding(crate::specs::Tail::said_record))]
-fn begin(tail: &mut Tail, number: u64, version: &[u8]) -> Result<(), TailFault>
+fn apply_header(tail: &mut Tail, number: u64, version: &[u8]) -> Result<(), TailFault>
     ensures { Notes result (spec.said_record (tail_shown tail.old) number version.now) (tail_shown tail.new) }
 {
     if tail.record.is_some() {
@@ -194,7 +194,7 @@ fn begin(tail: &mut Tail, number: u64, version: &[u8]) -> Result<(), TailFault>
 
 // A priority is permitted beside the others.
 #[tactic(auto, unfolding(crate::specs::Tail::said_permitted))]
-fn permit(tail: &mut Tail, priority: u64) -> Result<(), TailFault>
+fn apply_permitted(tail: &mut Tail, priority: u64) -> Result<(), TailFault>
     ensures { Notes result (spec.said_permitted (tail_shown tail.old) priority) (tail_shown tail.new) }
 {
     if priority > u64::from(MAX_PRIORITY) {
@@ -212,7 +212,7 @@ fn permit(tail: &mut Tail, priority: u64) -> Result<(), TailFault>
 
 // An operator's live plans may have so many spans.
 #[tactic(auto, unfolding(crate::specs::Tail::said_spans))]
-fn limit_spans(tail: &mut Tail, spans: u64) -> Result<(), TailFault>
+fn apply_spans_limit(tail: &mut Tail, spans: u64) -> Result<(), TailFault>
     ensures { Notes result (spec.said_spans (tail_shown tail.old) spans) (tail_shown tail.new) }
 {
     if spans < 1 || spans > u64::from(MAX_SPANS) {
@@ -224,7 +224,7 @@ fn limit_spans(tail: &mut Tail, spans: u64) -> Result<(), TailFault>
 
 // An operator's plans may have so many cells.
 #[tactic(auto, unfolding(crate::specs::Tail::said_cells))]
-fn limit_cells(tail: &mut Tail, cells: u64) -> Result<(), TailFault>
+fn apply_cells_limit(tail: &mut Tail, cells: u64) -> Result<(), TailFault>
     ensures { Notes result (spec.said_cells (tail_shown tail.old) cells) (tail_shown tail.new) }
 {
     if cells < 1 || cells > u64::from(MAX_TOTAL_CELLS) {
@@ -236,7 +236,7 @@ fn limit_cells(tail: &mut Tail, cells: u64) -> Result<(), TailFault>
 
 // An operator is listed.
 #[tactic(auto, unfolding(crate::specs::Tail::said_operator))]
-fn list(tail: &mut Tail, ceiling: u64, name: &[u8]) -> Result<(), TailFault>
+fn apply_operator(tail: &mut Tail, ceiling: u64, name: &[u8]) -> Result<(), TailFault>
     ensures { Notes result (spec.said_operator (tail_shown tail.old) ceiling name.now) (tail_shown tail.new) }
 {
     let Some(operator) = Operator::try_new(name) else {
@@ -258,7 +258,7 @@ fn list(tail: &mut Tail, ceiling: u64, name: &[u8]) -> Result<(), TailFault>
 
 // A request is asked.
 #[tactic(auto, unfolding(crate::specs::Tail::said_request))]
-fn ask(tail: &mut Tail, second: u64, request: Vec<u8>) -> Result<(), TailFault>
+fn apply_request(tail: &mut Tail, second: u64, request: Vec<u8>) -> Result<(), TailFault>
     ensures { Notes result (spec.said_request (tail_shown tail.old) second request.items)
         (tail_shown tail.new) }
 {
@@ -275,7 +275,7 @@ fn ask(tail: &mut Tail, second: u64, request: Vec<u8>) -> Result<(), TailFault>
 
 // The request is answered.
 #[tactic(auto, unfolding(crate::specs::Tail::said_answer))]
-fn answer(tail: &mut Tail, second: u64, answer: &[u8]) -> Result<(), TailFault>
+fn apply_answer(tail: &mut Tail, second: u64, answer: &[u8]) -> Result<(), TailFault>
     ensures { Notes result (spec.said_answer (tail_shown tail.old) second answer.now) (tail_shown tail.new) }
 {
     let Some(asked) = &tail.asked else {

@@ -67,7 +67,7 @@ impl<J: Journal + Drop> WrittenRecord<J> {
 
     // Appends the entries of operators that are enrolled.
     #[tactic(auto, using(crate::proofs::WritingLemmas::extends_none))]
-    fn append_news(&mut self, news: &[Enrolment]) -> Result<(), Unwritten<J::Fault>>
+    fn append_enrolments(&mut self, news: &[Enrolment]) -> Result<(), Unwritten<J::Fault>>
         ensures done { OnOk result (FollowsWrites (J.writes self.old.journal) (J.writes self.new.journal)
             (Appended (entries (map operator_entry news.now)) ∷ [])) }
         ensures stops { OnErr result (IsNotWritten (J.writes self.old.journal) (J.writes self.new.journal)) }
@@ -76,7 +76,7 @@ impl<J: Journal + Drop> WrittenRecord<J> {
         ensures named { OnOk result (AreNamed news.now) }
         ensures second { self.new.second ≡ self.old.second }
     {
-        let text = news_text(self.alloc, news)?;
+        let text = enrolment_entries(self.alloc, news)?;
         append_text(&mut self.journal, &text)
     }
 }
@@ -93,7 +93,7 @@ fn append_text<J: Journal>(journal: &mut J, text: &[u8]) -> Result<(), Unwritten
 }
 
 // The entries of operators that are enrolled.
-fn news_text(alloc: Global, news: &[Enrolment]) -> Result<Vec<u8>, AllocError>
+fn enrolment_entries(alloc: Global, news: &[Enrolment]) -> Result<Vec<u8>, AllocError>
     ensures text { IfOk result (λ text. text.items ≡ entries (map operator_entry news.now)) }
     ensures named { IfOk result (λ _. AreNamed news.now) }
 {
@@ -129,7 +129,7 @@ impl<J: Journal + Drop> Record for WrittenRecord<J> {
         if news.is_empty() {
             return Ok(());
         }
-        self.append_news(news)?;
+        self.append_enrolments(news)?;
         sync_to(&mut self.journal)
     }
 
