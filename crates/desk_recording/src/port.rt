@@ -28,33 +28,33 @@ use io_ends::{WriteError, write_whole};
 use std::alloc::{AllocError, Global};
 use std::io::{Cursor, Read, Write};
 
-// What comes of a request that was read and isn't answered.
+// The end of an exchange whose request was read and isn't answered.
 const UNANSWERED: ExchangeEnd = ExchangeEnd {
     is_whole: true,
     is_answered: false,
 };
 
-/// Why no connection is taken any more from a port whose record is of this type.
+/// Why a port accepts no more connections; `R` is its journal.
 #[derive_where(Clone, Copy)]
 pub(crate) enum Loss<R> {
-    /// The record failed to keep something.
+    /// An entry could not be written to the journal.
     JournalError(RecordFault<R>),
-    /// A request was not answered whole.
+    /// A request got no whole answer.
     Unanswered,
 }
 
-/// A port whose requests are kept on the disk before they are served, and whose answers are kept before they
-/// are sent. Once something can't be kept, no connection is taken any more.
+/// A port that flushes each request to its journal before the desk reads it, and appends each answer before it is
+/// sent. Once an entry can't be written, it accepts no more connections.
 #[derive(Drop)]
 pub struct RecordedPort<P: Drop, R: Drop> {
     pub(crate) port: P,
     journal: R,
-    // What can't be kept, if so.
+    // Why no more connections are accepted, if so.
     broken: Option<Loss<R>>,
 }
 
 impl<P: Port + Drop, R: Record + Drop> RecordedPort<P, R> {
-    /// A port whose connections are kept in a journal.
+    /// A port over `port` whose connections are recorded in `journal`.
     pub fn new(port: P, journal: R) -> RecordedPort<P, R>
         ensures port { result.port ≡ port }
         ensures journal { result.journal ≡ journal }
@@ -114,7 +114,7 @@ impl<P: Port + Drop, R: Record + Drop> Port for RecordedPort<P, R> {
         }
     }
 
-    // Long: what the port reports, what was taken of the client, and when it is broken.
+    // Long: what the port reports, what was read from the client, and when it is broken.
     #[tactic(auto, using(crate::proofs::StepLemmas::takes_one))]
     fn take(
         &mut self,
@@ -208,7 +208,7 @@ impl<P: Port + Drop, R: Record + Drop> Port for RecordedPort<P, R> {
     }
 }
 
-// A failure of the port below. That port keeps nothing itself.
+// The error that is reported for an error of the port below. `Broken` is reserved for this port's own journal.
 fn port_error(failure: ErrorCode) -> ErrorCode
     ensures { result ≡ spec.failure_below failure }
 {
@@ -218,7 +218,7 @@ fn port_error(failure: ErrorCode) -> ErrorCode
     }
 }
 
-// How a connection was closed, by whether something is lost.
+// The result of closing a connection: `Broken` if the journal is, else the result of the port below.
 fn close_result(is_lost: bool, closed: Result<(), ErrorCode>) -> Result<(), ErrorCode>
     ensures { result ≡ spec.closed_as is_lost closed }
 {
@@ -231,8 +231,8 @@ fn close_result(is_lost: bool, closed: Result<(), ErrorCode>) -> Result<(), Erro
     }
 }
 
-// Keeps the answer of a connection, if it is whole and nothing was lost before, and then sends it; or else
-// answers the client that the desk failed. What is lost, if so, and whether all was sent.
+// Appends the answer to the journal and then sends it. If the answer isn't whole or the journal is broken, sends a
+// 500 instead. Returns why the journal is broken, if it is, and whether all was sent.
 fn record_and_send<R: Record, W: Write>(
     journal: &mut R,
     broken: Option<Loss<R>>,
@@ -257,7 +257,7 @@ fn record_and_send<R: Record, W: Write>(
     (lost, send_store_error(client))
 }
 
-// Keeps the answer of a connection, if it is whole and nothing was lost before. What is lost, if so.
+// Appends the answer to the journal, if it is whole and the journal isn't broken. Returns why it is broken, if it is.
 fn record_answer<R: Record>(
     journal: &mut R,
     broken: Option<Loss<R>>,
@@ -283,14 +283,14 @@ fn record_answer<R: Record>(
     }
 }
 
-// What a client sent: its request, or no bytes, and why they could not be read, if so.
+// What a client sent: its whole request, or no bytes, and the read error, if there was one.
 #[derive(Drop)]
 struct Received<R> {
     request: Vec<u8>,
     unread: Option<ReceiveError<R>>,
 }
 
-// The request that a client sends: none, if it doesn't come whole.
+// Reads the request of a client. It is empty if it doesn't come whole; memory is the only error.
 fn receive_or_empty<R: Read>(alloc: Global, client: &mut R) -> Result<Received<R>, AllocError>
     ensures { IfOk result (λ received. IsReceived (is_some received.unread) (R.remaining client.old)
         (R.remaining client.new) received.request.items) }
@@ -312,14 +312,14 @@ fn receive_or_empty<R: Read>(alloc: Global, client: &mut R) -> Result<Received<R
     }
 }
 
-// Reports a client that its request, or the answer to it, can't be kept.
+// Sends the answer 500 `store`: the request or its answer can't be written to the journal.
 fn send_store_error<W: Write>(client: &mut W) -> Result<(), WriteError<W>>
     ensures { Sends (server_error_text Store) (W.contents client.old) (W.contents client.new) result }
 {
     write_whole(client, ServerError::Store.answer())
 }
 
-// The bytes that are left of a request.
+// The bytes of `request` that weren't read.
 fn unread_bytes(request: &Cursor<Vec<u8>>) -> &[u8]
     ensures { Some result.now ≡ cursor_remaining (λ v. Some v.items) request.now }
 {

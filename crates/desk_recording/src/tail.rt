@@ -1,4 +1,4 @@
-//! The end of a record: what it leaves to do.
+//! The end of a journal file: what a recovery has to do.
 
 ghost use Rattle.std.specs.Prelude.{◌≡◌, IfErr, IfOk};
 ghost use Rattle.std.specs.Io.KnownBytes.{Consumes};
@@ -21,53 +21,53 @@ use volume4d::MAX_SECOND;
 /// The version of the format.
 const VERSION: &[u8] = b"1";
 
-/// How many bytes an entry has beside its own.
+/// The length of an entry without its own bytes.
 const BESIDE: u64 = 87;
 
-/// A request that is recorded and has no answer, or one that says that the desk failed.
+/// A recorded request without an answer, or whose answer is a 500.
 #[derive(Debug, Drop)]
 pub struct Unanswered {
-    /// The Unix second at which it was asked, at most 253,370,764,800.
+    /// Its Unix second, at most 253,370,764,800.
     pub second: u64,
     pub request: Vec<u8>,
 }
 
-/// What a record says as it ends.
+/// What the entries of a journal file say up to its end.
 #[derive(Debug, Drop)]
 pub struct Tail {
-    /// Its number in its folder, if it has begun.
+    /// The number of the file in its folder, if it has a first entry.
     pub record: Option<u64>,
-    /// The priorities that it permits.
+    /// The permitted priorities.
     pub permitted: Vec<u32>,
-    /// The terms of its desk.
+    /// The settings of the desk that wrote it.
     pub terms: Terms,
-    /// The operators behind its last request.
+    /// The operators that were enrolled after the last request.
     pub operators: Vec<Enrolment>,
-    /// Its last request, if that is unanswered.
+    /// The last request, if it has no answer or a 500.
     pub asked: Option<Unanswered>,
-    /// How many bytes its whole entries have.
+    /// The length of all whole entries, in bytes.
     pub size: u64,
 }
 
-/// What stands behind the last whole entry of a record.
+/// What follows the last whole entry of a journal file.
 #[derive(Clone, Copy, Debug, PartialEq, Eq)]
 pub enum TailEnd {
     /// Nothing.
     End,
-    /// The beginning of an entry, which is too short.
+    /// A truncated entry, as a crash may leave it behind.
     Short,
-    /// Something else.
+    /// Something else: the file is damaged.
     Damaged,
 }
 
-/// Why it is not reported what a record leaves to do.
+/// Why the end of a journal file could not be read.
 #[derive(Clone, Copy, Debug, PartialEq, Eq)]
 pub enum TailFault {
     /// A read failed.
     Read,
     /// Memory ran out.
     OutOfMemory,
-    /// No desk writes such an entry there.
+    /// An entry that no desk writes at its place.
     NoRecord,
 }
 
@@ -83,7 +83,7 @@ impl From<AllocError> for TailFault {
 }
 
 impl Tail {
-    // Nothing was read.
+    // The state before the first entry.
     fn empty(alloc: Global) -> Tail
         ensures { tail_shown result ≡ nothing_said }
     {
@@ -98,7 +98,8 @@ impl Tail {
     }
 }
 
-/// Reads one record to its end, or to what is no whole entry, and reports what stands there.
+/// Reads a journal file up to its end or to the first bytes that are no whole entry, and returns what the entries
+/// say and what follows them.
 ///
 /// # Errors
 ///
@@ -118,7 +119,7 @@ pub fn read_tail<R: Read>(alloc: Global, input: &mut R) -> Result<(Tail, TailEnd
     Err(TailFault::Read)
 }
 
-// Reads the next entry and notes it, or answers what stands there.
+// Reads the next entry and applies it to `tail`. If there is none, returns what follows instead.
 fn read_next_entry<R: Read>(
     alloc: Global,
     input: &mut R,
@@ -140,7 +141,7 @@ fn read_next_entry<R: Read>(
     }
 }
 
-// Notes what an entry says.
+// Applies an entry to `tail` and counts its bytes. The first entry has to be the header.
 #[tactic(auto, unfolding(crate::specs::Tail::said))]
 fn apply_entry(tail: &mut Tail, entry: Entry) -> Result<(), TailFault>
     ensures { Notes result (said (tail_shown tail.old) (entry_shown entry)) (tail_shown tail.new) }
@@ -158,7 +159,7 @@ fn apply_entry(tail: &mut Tail, entry: Entry) -> Result<(), TailFault>
     apply_by_kind(tail, kind, number, bytes)
 }
 
-// Notes what an entry says, whose bytes are counted.
+// Applies an entry to `tail`, by its kind.
 fn apply_by_kind(tail: &mut Tail, kind: Kind, number: u64, bytes: Vec<u8>) -> Result<(), TailFault>
     ensures { Notes result (spec.said_within kind (tail_shown tail.old) number bytes.items)
         (tail_shown tail.new) }
@@ -177,7 +178,7 @@ fn apply_by_kind(tail: &mut Tail, kind: Kind, number: u64, bytes: Vec<u8>) -> Re
     }
 }
 
-// The record begins.
+// Applies the first entry: the file's number and the version of the format.
 #[tactic(auto, unfolding(crate::specs::Tail::said_record))]
 fn apply_header(tail: &mut Tail, number: u64, version: &[u8]) -> Result<(), TailFault>
     ensures { Notes result (spec.said_record (tail_shown tail.old) number version.now) (tail_shown tail.new) }
@@ -192,7 +193,7 @@ fn apply_header(tail: &mut Tail, number: u64, version: &[u8]) -> Result<(), Tail
     Ok(())
 }
 
-// A priority is permitted beside the others.
+// Adds a permitted priority.
 #[tactic(auto, unfolding(crate::specs::Tail::said_permitted))]
 fn apply_permitted(tail: &mut Tail, priority: u64) -> Result<(), TailFault>
     ensures { Notes result (spec.said_permitted (tail_shown tail.old) priority) (tail_shown tail.new) }
@@ -210,7 +211,7 @@ fn apply_permitted(tail: &mut Tail, priority: u64) -> Result<(), TailFault>
     Ok(())
 }
 
-// An operator's live plans may have so many spans.
+// Sets the limit on the spans of an operator's live plans.
 #[tactic(auto, unfolding(crate::specs::Tail::said_spans))]
 fn apply_spans_limit(tail: &mut Tail, spans: u64) -> Result<(), TailFault>
     ensures { Notes result (spec.said_spans (tail_shown tail.old) spans) (tail_shown tail.new) }
@@ -222,7 +223,7 @@ fn apply_spans_limit(tail: &mut Tail, spans: u64) -> Result<(), TailFault>
     Ok(())
 }
 
-// An operator's plans may have so many cells.
+// Sets the limit on the cells of all plans of an operator.
 #[tactic(auto, unfolding(crate::specs::Tail::said_cells))]
 fn apply_cells_limit(tail: &mut Tail, cells: u64) -> Result<(), TailFault>
     ensures { Notes result (spec.said_cells (tail_shown tail.old) cells) (tail_shown tail.new) }
@@ -234,7 +235,7 @@ fn apply_cells_limit(tail: &mut Tail, cells: u64) -> Result<(), TailFault>
     Ok(())
 }
 
-// An operator is listed.
+// Adds an enrolled operator.
 #[tactic(auto, unfolding(crate::specs::Tail::said_operator))]
 fn apply_operator(tail: &mut Tail, ceiling: u64, name: &[u8]) -> Result<(), TailFault>
     ensures { Notes result (spec.said_operator (tail_shown tail.old) ceiling name.now) (tail_shown tail.new) }
@@ -256,7 +257,7 @@ fn apply_operator(tail: &mut Tail, ceiling: u64, name: &[u8]) -> Result<(), Tail
     Ok(())
 }
 
-// A request is asked.
+// Notes a request, which has no answer yet, and drops the operators before it: the desk has enrolled these.
 #[tactic(auto, unfolding(crate::specs::Tail::said_request))]
 fn apply_request(tail: &mut Tail, second: u64, request: Vec<u8>) -> Result<(), TailFault>
     ensures { Notes result (spec.said_request (tail_shown tail.old) second request.items)
@@ -273,7 +274,7 @@ fn apply_request(tail: &mut Tail, second: u64, request: Vec<u8>) -> Result<(), T
     Ok(())
 }
 
-// The request is answered.
+// Notes the answer to the last request. After a 500 the request still counts as unanswered.
 #[tactic(auto, unfolding(crate::specs::Tail::said_answer))]
 fn apply_answer(tail: &mut Tail, second: u64, answer: &[u8]) -> Result<(), TailFault>
     ensures { Notes result (spec.said_answer (tail_shown tail.old) second answer.now) (tail_shown tail.new) }
