@@ -98,8 +98,8 @@ impl Frame {
 
 // The side of a square of this level (0 to 30), in leaves.
 fn side_of(level: u8) -> u64
-    ensures value { result ≡ 2 ^ (30 - level) }
-    ensures some { 0 < result }
+    ensures power_of_two { result ≡ 2 ^ (30 - level) }
+    ensures positive { 0 < result }
 {
     1 << LEAF_LEVEL.saturating_sub(level)
 }
@@ -109,7 +109,7 @@ fn side_of(level: u8) -> u64
 fn grid_step(length: u64, side: u64) -> u64
     requires { 0 < side }
     ensures step { IsStep length side result }
-    ensures some { 0 < result }
+    ensures positive { 0 < result }
 {
     (length / SQUARES).next_power_of_two().max(side)
 }

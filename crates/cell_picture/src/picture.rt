@@ -283,7 +283,11 @@ fn line_if_drawn(
     ensures { IfOk result (λ text. string_bytes text ≡ spec.step_text frame.now adjacent from.now to.now) }
 {
     let are_adjacent = from.last().saturating_add(1) == to.first();
-    let is_drawn = if adjacent { are_adjacent } else { !are_adjacent };
+    let is_drawn = if adjacent {
+        are_adjacent
+    } else {
+        !are_adjacent
+    };
     if is_drawn {
         line_between(alloc, frame.place_of(from), frame.place_of(to))
     } else {

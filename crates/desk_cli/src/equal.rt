@@ -24,7 +24,7 @@ const PRIORITY_DIGITS: usize = 4;
 /// `OutOfMemory`; `Value` if the list is malformed.
 pub fn parse_permitted_option(alloc: Global, word: Option<&str>) -> Result<Permitted, WordsFault>
     ensures given { IfOk result (ArePermittedBy (option_map (λ word. word.now) word.entry)) }
-    ensures lacks { Lacks (ArePermittedBy (option_map (λ word. word.now) word.entry)) result }
+    ensures refused { Lacks (ArePermittedBy (option_map (λ word. word.now) word.entry)) result }
 {
     match word {
         None => Ok(Permitted::none()),
@@ -35,7 +35,7 @@ pub fn parse_permitted_option(alloc: Global, word: Option<&str>) -> Result<Permi
 // Parses a list of priorities with commas between them.
 fn parse_permitted(alloc: Global, word: &str) -> Result<Permitted, WordsFault>
     ensures given { IfOk result (ArePermittedIn word.now) }
-    ensures lacks { Lacks (ArePermittedIn word.now) result }
+    ensures refused { Lacks (ArePermittedIn word.now) result }
 {
     let priorities = parse_priorities(alloc, &split_at_commas(alloc, word)?)?;
     let Ok(permitted) = Permitted::try_new(&priorities) else {
@@ -56,7 +56,7 @@ fn split_at_commas<'w>(alloc: Global, word: &'w str) -> Result<Vec<&'w str>, All
 fn parse_priorities(alloc: Global, parts: &[&str]) -> Result<Vec<u32>, WordsFault>
     ensures given { IfOk result (λ priorities.
         map Some priorities.items ≡ map priority_in (map (λ part. part.now) parts.now)) }
-    ensures lacks { Lacks (λ (priorities : List ℕ).
+    ensures refused { Lacks (λ (priorities : List ℕ).
         map Some priorities ≡ map priority_in (map (λ part. part.now) parts.now)) result }
 {
     let mut priorities = Vec::new(alloc);
@@ -72,8 +72,8 @@ fn parse_priorities(alloc: Global, parts: &[&str]) -> Result<Vec<u32>, WordsFaul
 /// Parses a priority or a ceiling: 1 to 4 digits, at most 1,000.
 #[tactic(auto, unfolding(crate::specs::Equal::priority_in))]
 pub fn parse_priority(text: &str) -> Option<u32>
-    ensures value { result ≡ priority_in text.now }
-    ensures small { IfSome result (λ priority. priority ≤ max_priority) }
+    ensures parsed { result ≡ priority_in text.now }
+    ensures in_range { IfSome result (λ priority. priority ≤ max_priority) }
 {
     if !is_short_number(text) {
         return None;

@@ -307,7 +307,7 @@ fn read_command(alloc: Global, name: &str, given: &ArgMatches<'_>) -> Result<Lin
     ensures valid { IfOk result IsLine }
     ensures name { IfOk result (λ line. name_of line ≡ name.now) }
     ensures given { IfOk result (HasGiven (rows_of (found_of given.now))) }
-    ensures lacks { Lacks (IsLineOf name.now (rows_of (found_of given.now))) result }
+    ensures refused { Lacks (IsLineOf name.now (rows_of (found_of given.now))) result }
 {
     match name {
         "token" => Ok(Line::Token(read_token(alloc, given)?)),
@@ -330,7 +330,7 @@ fn read_command(alloc: Global, name: &str, given: &ArgMatches<'_>) -> Result<Lin
 fn read_play(alloc: Global, given: &ArgMatches<'_>) -> Result<PlayArgs, WordsFault>
     ensures valid { IfOk result IsPlay }
     ensures given { IfOk result (IsPlayGiven (rows_of (found_of given.now))) }
-    ensures lacks { Lacks (IsPlayGiven (rows_of (found_of given.now))) result }
+    ensures refused { Lacks (IsPlayGiven (rows_of (found_of given.now))) result }
 {
     let Some(moment) = read_moment(given) else {
         return Err(WordsFault::Value);
@@ -347,10 +347,10 @@ fn read_desk(
     given: &ArgMatches<'_>,
     operators: Option<&str>,
 ) -> Result<DeskArgs, WordsFault>
-    ensures small { IfOk result (λ desk. AreEnrolments desk.enrolments.items) }
+    ensures in_range { IfOk result (λ desk. AreEnrolments desk.enrolments.items) }
     ensures given { IfOk result (IsDeskGiven (rows_of (found_of given.now))
         (option_map (λ path. path.now) operators.entry)) }
-    ensures lacks { Lacks (IsDeskGiven (rows_of (found_of given.now))
+    ensures refused { Lacks (IsDeskGiven (rows_of (found_of given.now))
         (option_map (λ path. path.now) operators.entry)) result }
 {
     Ok(DeskArgs {
@@ -384,7 +384,7 @@ fn read_i64(given: &ArgMatches<'_>, id: &str) -> Option<i64>
 // Reads the argument of `token`.
 fn read_token(alloc: Global, given: &ArgMatches<'_>) -> Result<String, WordsFault>
     ensures given { IfOk result (λ token. IsTextGiven (rows_of (found_of given.now)) (string_bytes token)) }
-    ensures lacks { Lacks (IsTextGiven (rows_of (found_of given.now))) result }
+    ensures refused { Lacks (IsTextGiven (rows_of (found_of given.now))) result }
 {
     match argument(given, "token") {
         Some(token) => Ok(String::from_str(alloc, token)?),
@@ -396,7 +396,7 @@ fn read_token(alloc: Global, given: &ArgMatches<'_>) -> Result<String, WordsFaul
 fn read_serve(alloc: Global, given: &ArgMatches<'_>) -> Result<ServeArgs, WordsFault>
     ensures valid { IfOk result IsServe }
     ensures given { IfOk result (IsServeGiven (rows_of (found_of given.now))) }
-    ensures lacks { Lacks (λ serve. IsServe serve
+    ensures refused { Lacks (λ serve. IsServe serve
         × IsServeGiven (rows_of (found_of given.now)) serve) result }
 {
     let Some(port) = read_port(given) else {
@@ -518,7 +518,7 @@ fn is_flag_set(given: &ArgMatches<'_>, id: &str) -> bool
 fn read_enrol(alloc: Global, given: &ArgMatches<'_>) -> Result<EnrolArgs, WordsFault>
     ensures valid { IfOk result IsEnrol }
     ensures given { IfOk result (IsEnrolGiven (rows_of (found_of given.now))) }
-    ensures lacks { Lacks (IsEnrolGiven (rows_of (found_of given.now))) result }
+    ensures refused { Lacks (IsEnrolGiven (rows_of (found_of given.now))) result }
 {
     let Some(enrolment) = read_operator(given) else {
         return Err(WordsFault::Value);
@@ -545,7 +545,7 @@ fn read_bare_desk(alloc: Global, given: &ArgMatches<'_>) -> Result<DeskArgs, All
 // Reads the arguments of `copy`.
 fn read_copy(alloc: Global, given: &ArgMatches<'_>) -> Result<CopyArgs, WordsFault>
     ensures given { IfOk result (IsCopyGiven (rows_of (found_of given.now))) }
-    ensures lacks { Lacks (IsCopyGiven (rows_of (found_of given.now))) result }
+    ensures refused { Lacks (IsCopyGiven (rows_of (found_of given.now))) result }
 {
     let Some(to) = argument(given, "to") else {
         return Err(WordsFault::Value);
@@ -560,7 +560,7 @@ fn read_copy(alloc: Global, given: &ArgMatches<'_>) -> Result<CopyArgs, WordsFau
 fn read_replay(alloc: Global, given: &ArgMatches<'_>) -> Result<ReplayArgs, WordsFault>
     ensures valid { IfOk result IsReplay }
     ensures given { IfOk result (IsReplayGiven (rows_of (found_of given.now))) }
-    ensures lacks { Lacks (λ replay. IsReplay replay
+    ensures refused { Lacks (λ replay. IsReplay replay
         × IsReplayGiven (rows_of (found_of given.now)) replay) result }
 {
     let Some(until) = read_until(given) else {
@@ -604,8 +604,8 @@ fn read_u64_if_given(given: &ArgMatches<'_>, id: &str) -> Option<Option<u64>>
 
 // Reads the operator and its ceiling. None if one is missing or malformed.
 fn read_operator(given: &ArgMatches<'_>) -> Option<Enrolment>
-    ensures value { result ≡ enrolment_given (rows_of (found_of given.now)) }
-    ensures small { IfSome result (λ e. e.ceiling ≤ max_priority) }
+    ensures parsed { result ≡ enrolment_given (rows_of (found_of given.now)) }
+    ensures in_range { IfSome result (λ e. e.ceiling ≤ max_priority) }
 {
     make_enrolment(argument(given, "NAME")?, argument(given, "CEILING")?)
 }
@@ -643,7 +643,7 @@ fn parse_database(alloc: Global, word: Option<&str>) -> Result<Database, AllocEr
 // Reads the settings of the desk.
 fn read_terms(alloc: Global, given: &ArgMatches<'_>) -> Result<Terms, WordsFault>
     ensures given { IfOk result (AreTermsOf (rows_of (found_of given.now))) }
-    ensures lacks { Lacks (AreTermsOf (rows_of (found_of given.now))) result }
+    ensures refused { Lacks (AreTermsOf (rows_of (found_of given.now))) result }
 {
     Ok(Terms {
         permitted: read_permitted(alloc, given)?,
@@ -655,7 +655,7 @@ fn read_terms(alloc: Global, given: &ArgMatches<'_>) -> Result<Terms, WordsFault
 // Reads the limit on the spans of an operator's live plans. None if the option is missing.
 fn read_spans(given: &ArgMatches<'_>) -> Result<Option<u32>, WordsFault>
     ensures given { IfOk result (AreMostSpans (rows_of (found_of given.now))) }
-    ensures lacks { Lacks (AreMostSpans (rows_of (found_of given.now))) result }
+    ensures refused { Lacks (AreMostSpans (rows_of (found_of given.now))) result }
 {
     read_limit(given, "spans", MAX_SPANS)
 }
@@ -663,7 +663,7 @@ fn read_spans(given: &ArgMatches<'_>) -> Result<Option<u32>, WordsFault>
 // Reads the limit on the cells of all plans of an operator. None if the option is missing.
 fn read_cells(given: &ArgMatches<'_>) -> Result<Option<u32>, WordsFault>
     ensures given { IfOk result (AreMostCells (rows_of (found_of given.now))) }
-    ensures lacks { Lacks (AreMostCells (rows_of (found_of given.now))) result }
+    ensures refused { Lacks (AreMostCells (rows_of (found_of given.now))) result }
 {
     read_limit(given, "cells", MAX_TOTAL_CELLS)
 }
@@ -671,7 +671,7 @@ fn read_cells(given: &ArgMatches<'_>) -> Result<Option<u32>, WordsFault>
 // Reads the limit `id`, from 1 to `greatest`. None if the option is missing.
 fn read_limit(given: &ArgMatches<'_>, id: &str, greatest: u32) -> Result<Option<u32>, WordsFault>
     ensures given { IfOk result (IsMostOf id.now greatest (rows_of (found_of given.now))) }
-    ensures lacks { Lacks (IsMostOf id.now greatest (rows_of (found_of given.now))) result }
+    ensures refused { Lacks (IsMostOf id.now greatest (rows_of (found_of given.now))) result }
 {
     let Some(most) = read_u32_if_given(given, id) else {
         return Err(WordsFault::Value);
@@ -705,7 +705,7 @@ fn read_u32_if_given(given: &ArgMatches<'_>, id: &str) -> Option<Option<u32>>
 fn read_permitted(alloc: Global, given: &ArgMatches<'_>) -> Result<Permitted, WordsFault>
     ensures given { IfOk result (ArePermittedBy
         (first_of (codes "equal") (rows_of (found_of given.now)))) }
-    ensures lacks { Lacks (ArePermittedBy
+    ensures refused { Lacks (ArePermittedBy
         (first_of (codes "equal") (rows_of (found_of given.now)))) result }
 {
     parse_permitted_option(alloc, argument(given, "equal"))
@@ -713,10 +713,10 @@ fn read_permitted(alloc: Global, given: &ArgMatches<'_>) -> Result<Permitted, Wo
 
 // Reads the enrolments, in the order given.
 fn read_enrolments(alloc: Global, given: &ArgMatches<'_>) -> Result<Vec<Enrolment>, WordsFault>
-    ensures small { IfOk result (λ enrolments. AreEnrolments enrolments.items) }
+    ensures in_range { IfOk result (λ enrolments. AreEnrolments enrolments.items) }
     ensures given { IfOk result (λ enrolments.
         AreEnrolmentsGiven enrolments.items (rows_of (found_of given.now))) }
-    ensures lacks { Lacks (λ enrolments.
+    ensures refused { Lacks (λ enrolments.
         AreEnrolmentsGiven enrolments (rows_of (found_of given.now))) result }
 {
     parse_enrolments(alloc, given.get_strs("enrolments").unwrap_or(&[]))
@@ -724,10 +724,10 @@ fn read_enrolments(alloc: Global, given: &ArgMatches<'_>) -> Result<Vec<Enrolmen
 
 // Parses an enrolment `NAME=CEILING` from each of `words`, in their order.
 fn parse_enrolments(alloc: Global, words: &[&str]) -> Result<Vec<Enrolment>, WordsFault>
-    ensures small { IfOk result (λ enrolments. AreEnrolments enrolments.items) }
+    ensures in_range { IfOk result (λ enrolments. AreEnrolments enrolments.items) }
     ensures given { IfOk result (λ enrolments. map Some enrolments.items
         ≡ map (λ word. enrolment_in word.now) words.now) }
-    ensures lacks { Lacks (λ (enrolments : List Enrolment). map Some enrolments
+    ensures refused { Lacks (λ (enrolments : List Enrolment). map Some enrolments
         ≡ map (λ word. enrolment_in word.now) words.now) result }
 {
     let mut enrolments = Vec::new(alloc);
@@ -743,8 +743,8 @@ fn parse_enrolments(alloc: Global, words: &[&str]) -> Result<Vec<Enrolment>, Wor
 // Parses an enrolment `NAME=CEILING`, split at its first `=`. None if it is malformed.
 #[tactic(auto, unfolding(crate::specs::Grammar::enrolment_in))]
 fn parse_enrolment(word: &str) -> Option<Enrolment>
-    ensures value { result ≡ enrolment_in word.now }
-    ensures small { IfSome result (λ e. e.ceiling ≤ max_priority) }
+    ensures parsed { result ≡ enrolment_in word.now }
+    ensures in_range { IfSome result (λ e. e.ceiling ≤ max_priority) }
 {
     let (name, ceiling) = word.split_once('=')?;
     make_enrolment(name, ceiling)
@@ -752,8 +752,8 @@ fn parse_enrolment(word: &str) -> Option<Enrolment>
 
 /// The enrolment of the operator `name` with `ceiling`. None if either text is malformed.
 pub(crate) fn make_enrolment(name: &str, ceiling: &str) -> Option<Enrolment>
-    ensures value { result ≡ spec.enrolment_by name.now ceiling.now }
-    ensures small { IfSome result (λ e. e.ceiling ≤ max_priority) }
+    ensures parsed { result ≡ spec.enrolment_by name.now ceiling.now }
+    ensures in_range { IfSome result (λ e. e.ceiling ≤ max_priority) }
 {
     Some(Enrolment {
         operator: Operator::try_new(name.as_bytes())?,

@@ -69,8 +69,8 @@ pub fn missing_of(
     roll: &[Enrolment],
     enrolments: &[Enrolment],
 ) -> Result<Vec<Enrolment>, AllocError>
-    ensures are { IfOk result (λ missing. missing.items ≡ spec.missing_of roll.now enrolments.now) }
-    ensures small { IfOk result (λ missing. AreEnrolments missing.items) }
+    ensures missing { IfOk result (λ missing. missing.items ≡ spec.missing_of roll.now enrolments.now) }
+    ensures in_range { IfOk result (λ missing. AreEnrolments missing.items) }
 {
     let mut missing = Vec::new(alloc);
     for enrolment in enrolments {
@@ -83,8 +83,8 @@ pub fn missing_of(
 
 // Whether the operator of `enrolment` isn't enrolled, and its ceiling is at most 1,000.
 fn is_missing(roll: &[Enrolment], enrolment: &Enrolment) -> bool
-    ensures value { result ≡ spec.is_missing roll.now enrolment.now }
-    ensures small { IsTrue result → enrolment.now.ceiling ≤ max_priority }
+    ensures missing { result ≡ spec.is_missing roll.now enrolment.now }
+    ensures in_range { IsTrue result → enrolment.now.ceiling ≤ max_priority }
 {
     if enrolment.ceiling > MAX_PRIORITY {
         return false;
@@ -133,7 +133,7 @@ pub fn recover<S: PlanStore, R: Record>(
 
 // The error of a recovery at which an operator could not be enrolled.
 fn enrolment_error<R>(fault: DeskFault) -> Unrecovered<R>
-    ensures is { IsBreakdown fault → spec.failure_of result ≡ enrolment_failure fault }
+    ensures failure { IsBreakdown fault → spec.failure_of result ≡ enrolment_failure fault }
     ensures cause { IsBreakdown fault → spec.failure_of result ≡ ErrorCode.Store → fault ≡ DeskFault.Store }
 {
     match fault {
@@ -232,7 +232,7 @@ fn exchange_without_client(answer: &[u8]) -> Exchange<'_>
 
 // The error of a recovery at which a request could not be repeated.
 fn replay_error<R>(fault: ReplayFault) -> Unrecovered<R>
-    ensures own { (spec.failure_of result ≡ ErrorCode.Memory) ⊎ (spec.failure_of result ≡ ErrorCode.Store) }
+    ensures memory_or_store { (spec.failure_of result ≡ ErrorCode.Memory) ⊎ (spec.failure_of result ≡ ErrorCode.Store) }
     ensures cause { IsOwn fault → spec.failure_of result ≡ ErrorCode.Store → fault ≡ ReplayFault.Store }
 {
     match fault {

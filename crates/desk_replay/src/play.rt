@@ -38,7 +38,7 @@ pub(crate) fn play_entry<S: PlanStore>(
     progress: &mut Progress,
     entry: Entry,
 ) -> Result<(), ReplayFault>
-    ensures given { IsHonest (S.doubt desk.new.store) → StepsAt S.content result
+    ensures steps { IsHonest (S.doubt desk.new.store) → StepsAt S.content result
         (λ s. taken s (entry_shown entry)) (course desk.old desk.new) (course progress.old progress.new) }
     ensures remembered { Remembers S.doubt S.faults S.is_shielded desk.old.store desk.new.store }
 {
@@ -65,7 +65,7 @@ fn play_entry_after_header<S: PlanStore>(
     number: u64,
     bytes: Vec<u8>,
 ) -> Result<(), ReplayFault>
-    ensures given { IsHonest (S.doubt desk.new.store) → StepsAt S.content result
+    ensures steps { IsHonest (S.doubt desk.new.store) → StepsAt S.content result
         (λ s. spec.taken_within kind s number bytes.items) (course desk.old desk.new)
         (course progress.old progress.new) }
     ensures remembered { Remembers S.doubt S.faults S.is_shielded desk.old.store desk.new.store }
@@ -94,7 +94,7 @@ fn replay_request<S: PlanStore>(
     second: u64,
     request: Vec<u8>,
 ) -> Result<(), ReplayFault>
-    ensures given { IsHonest (S.doubt desk.new.store) → StepsAt S.content result
+    ensures steps { IsHonest (S.doubt desk.new.store) → StepsAt S.content result
         (λ s. requested s second request.items) (course desk.old desk.new)
         (course progress.old progress.new) }
     ensures remembered { Remembers S.doubt S.faults S.is_shielded desk.old.store desk.new.store }
@@ -185,7 +185,7 @@ pub fn answer_one<S: PlanStore>(
 ) -> Result<Vec<u8>, ReplayFault>
     ensures ok { IsHonest (S.doubt desk.new.store) → IfOk result (λ answer. answer.items
         ≡ text_for (world_of S.content desk.old) sent.now.0.second (asked_in sent.now.1.items)) }
-    ensures left { IsHonest (S.doubt desk.new.store) → IfOk result (λ _. world_of S.content desk.new
+    ensures state { IsHonest (S.doubt desk.new.store) → IfOk result (λ _. world_of S.content desk.new
         ≡ world_after (world_of S.content desk.old) sent.now.0.second (asked_in sent.now.1.items)) }
     ensures err { IsHonest (S.doubt desk.new.store) → OnErr result
         (world_of S.content desk.new ≡ world_of S.content desk.old) }
@@ -210,7 +210,7 @@ fn answer_in_full<S: PlanStore>(
         ≡ text_for (world_of S.content desk.old) sent.now.0.second (asked_in sent.now.1.items)) }
     ensures change { IsHonest (S.doubt desk.new.store) → IfOk result (λ answer. answer.made_change
         ≡ makes_change_for (world_of S.content desk.old) sent.now.0.second (asked_in sent.now.1.items)) }
-    ensures left { IsHonest (S.doubt desk.new.store) → IfOk result (λ _. world_of S.content desk.new
+    ensures state { IsHonest (S.doubt desk.new.store) → IfOk result (λ _. world_of S.content desk.new
         ≡ world_after (world_of S.content desk.old) sent.now.0.second (asked_in sent.now.1.items)) }
     ensures err { OnErr result (world_of S.content desk.new ≡ world_of S.content desk.old) }
     ensures fault { IfErr result IsOwn }

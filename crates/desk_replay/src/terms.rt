@@ -29,7 +29,7 @@ pub(crate) fn begin_journal<S: PlanStore>(
     number: u64,
     version: &[u8],
 ) -> Result<(), ReplayFault>
-    ensures given { StepsAt S.content result (λ s. begun s number version.now) (course desk.old desk.new)
+    ensures steps { StepsAt S.content result (λ s. begun s number version.now) (course desk.old desk.new)
         (course progress.old progress.new) }
     ensures store { desk.new.store ≡ desk.old.store }
 {
@@ -56,7 +56,7 @@ pub(crate) fn permit<S: PlanStore>(
     progress: &mut Progress,
     priority: u64,
 ) -> Result<(), ReplayFault>
-    ensures given { StepsAt S.content result (λ s. permitted s priority) (course desk.old desk.new)
+    ensures steps { StepsAt S.content result (λ s. permitted s priority) (course desk.old desk.new)
         (course progress.old progress.new) }
     ensures store { desk.new.store ≡ desk.old.store }
 {
@@ -82,7 +82,7 @@ pub(crate) fn limit_spans<S: PlanStore>(
     progress: &mut Progress,
     spans: u64,
 ) -> Result<(), ReplayFault>
-    ensures given { StepsAt S.content result (λ s. spanned s spans) (course desk.old desk.new)
+    ensures steps { StepsAt S.content result (λ s. spanned s spans) (course desk.old desk.new)
         (course progress.old progress.new) }
     ensures store { desk.new.store ≡ desk.old.store }
 {
@@ -101,7 +101,7 @@ pub(crate) fn limit_cells<S: PlanStore>(
     progress: &mut Progress,
     cells: u64,
 ) -> Result<(), ReplayFault>
-    ensures given { StepsAt S.content result (λ s. celled s cells) (course desk.old desk.new)
+    ensures steps { StepsAt S.content result (λ s. celled s cells) (course desk.old desk.new)
         (course progress.old progress.new) }
     ensures store { desk.new.store ≡ desk.old.store }
 {
@@ -121,7 +121,7 @@ pub(crate) fn enrol<S: PlanStore>(
     ceiling: u64,
     name: &[u8],
 ) -> Result<(), ReplayFault>
-    ensures given { IsHonest (S.doubt desk.new.store) → StepsAt S.content result
+    ensures steps { IsHonest (S.doubt desk.new.store) → StepsAt S.content result
         (λ s. listed s ceiling name.now) (course desk.old desk.new) (course progress.now progress.now) }
     ensures remembered { Remembers S.doubt S.faults S.is_shielded desk.old.store desk.new.store }
 {

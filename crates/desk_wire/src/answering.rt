@@ -209,7 +209,7 @@ fn answer_pending<S: PlanStore>(
 fn refuse(alloc: Global, refusal: Refusal) -> Result<Response, ServerError>
     ensures bytes { IfOk result (λ r. r.bytes.items ≡ refusal_text refusal) }
     ensures status { IfOk result (λ r. r.status ≡ refusal_status refusal) }
-    ensures other { IfOk result (λ r. r.status ≢ 500) }
+    ensures not_500 { IfOk result (λ r. r.status ≢ 500) }
     ensures change { IfOk result (λ r. r.made_change ≡ false) }
     ensures error { IfErr result (λ e. e ≡ ServerError.OutOfMemory) }
 {

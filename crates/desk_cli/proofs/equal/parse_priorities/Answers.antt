@@ -12,7 +12,7 @@ returns-clause-given c =
     (take_all c.loop-part.part-index c.args.parts.now (omega (arith, c.loop-part-test.false)))
     ∙ by_texts c.args.parts.now
 
-pub returns-in_default-clause-lacks : goal.returns-in_default-clause-lacks
-returns-in_default-clause-lacks c = λ ps read.
+pub returns-in_default-clause-refused : goal.returns-in_default-clause-refused
+returns-in_default-clause-refused c = λ ps read.
     all_read (λ part. priority_in part.now) c.args.parts.now ps c.loop-part.part-index _ c.loop-part-test.true
-    (sym c.parse_priority.ensures.value ∙ c.in_default.is) (read ∙ sym (by_texts c.args.parts.now))
+    (sym c.parse_priority.ensures.parsed ∙ c.in_default.is) (read ∙ sym (by_texts c.args.parts.now))
