@@ -77,7 +77,7 @@ pub fn answer_with_status<S: PlanStore>(
     answer_request(alloc, desk, moment, &read_message(text))
 }
 
-/// Carries out a request whose head and body are told apart already; a fault of these is answered, too.
+/// Carries out a request that is split into head and body already; a fault of these is answered, too.
 ///
 /// # Errors
 ///

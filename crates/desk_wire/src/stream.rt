@@ -95,7 +95,7 @@ fn append_body(mut head: Vec<u8>, body: &[u8]) -> Result<Vec<u8>, ServeFault>
     Ok(head)
 }
 
-// The result for a request that was answered with `status`: framed if its head and body could be told apart.
+// The result for a request that was answered with `status`: framed if it could be split into head and body.
 fn served(status: u16, request: &Result<Message<'_>, WireFault>) -> Served
     ensures { result ≡ Served.Answered status (is_ok request.now) }
 {

@@ -35,12 +35,14 @@ pub fn error_value(alloc: Global, word: &str) -> Result<Value, AllocError>
     json!(in alloc; {"error": word})
 }
 
+// The body of the answer to `GET /status`.
 fn ready_value(alloc: Global) -> Result<Value, AllocError>
     ensures { IfOk result (λ v. view v ≡ ready_data) }
 {
     json!(in alloc; {"status": "Ready"})
 }
 
+// The body of the answer to a clear that removed `count` plans.
 fn cleared_value(alloc: Global, count: u32) -> Result<Value, AllocError>
     ensures { IfOk result (λ v. view v ≡ cleared_data count) }
 {
@@ -48,6 +50,7 @@ fn cleared_value(alloc: Global, count: u32) -> Result<Value, AllocError>
     json!(in alloc; {"outcome": {"message": message.as_str(), "success": true}})
 }
 
+// The body of the answer to a PUT or a DELETE.
 fn put_value(alloc: Global, put: PutReply) -> Result<Value, AllocError>
     ensures { IfOk result (λ v. view v ≡ put_data put.status put.result put.note put.meeting) }
 {

@@ -77,6 +77,7 @@ fn plan_with_conflict_value(
     })
 }
 
+// The volumes of an area, in their order.
 fn area_value(alloc: Global, area: &Area) -> Result<Value, AllocError>
     ensures { IfOk result (λ v. view v ≡ area_data area.now) }
 {
@@ -87,6 +88,7 @@ fn area_value(alloc: Global, area: &Area) -> Result<Value, AllocError>
     Ok(Value::Array(values))
 }
 
+// A volume: its footprint as it was requested, its altitudes and its seconds.
 fn volume_value(alloc: Global, volume: &Volume) -> Result<Value, AllocError>
     ensures { IfOk result (λ v. view v ≡ volume_data volume.now) }
 {

@@ -77,24 +77,28 @@ fn read_priority_number(value: &Value) -> Option<u32>
     (priority <= MAX_PRIORITY).then_some(priority)
 }
 
+// Reads `execution_style`.
 fn style_at(value: &Value) -> Option<Style>
     ensures { result ≡ spec.style_at (view value.now) }
 {
     parse_style(text_at(value, "execution_style")?)
 }
 
+// Reads `usage_state`.
 fn usage_at(value: &Value) -> Option<Usage>
     ensures { result ≡ spec.usage_at (view value.now) }
 {
     parse_usage(text_at(value, "usage_state")?)
 }
 
+// Reads `uas_state`.
 fn aircraft_at(value: &Value) -> Option<Aircraft>
     ensures { result ≡ spec.aircraft_at (view value.now) }
 {
     parse_aircraft(text_at(value, "uas_state")?)
 }
 
+// Parses the word of an execution style, in InterUSS flight_planning v1.
 #[tactic(auto, unfolding(crate::specs::PutIn::style_of))]
 fn parse_style(word: &str) -> Option<Style>
     ensures { result ≡ spec.style_of word.now }
@@ -107,6 +111,7 @@ fn parse_style(word: &str) -> Option<Style>
     }
 }
 
+// Parses the word of a usage state, in InterUSS flight_planning v1.
 #[tactic(auto, unfolding(crate::specs::PutIn::usage_of))]
 fn parse_usage(word: &str) -> Option<Usage>
     ensures { result ≡ spec.usage_of word.now }
@@ -119,6 +124,7 @@ fn parse_usage(word: &str) -> Option<Usage>
     }
 }
 
+// Parses the word of an aircraft state, in InterUSS flight_planning v1.
 #[tactic(auto, unfolding(crate::specs::PutIn::aircraft_of))]
 fn parse_aircraft(word: &str) -> Option<Aircraft>
     ensures { result ≡ spec.aircraft_of word.now }

@@ -29,7 +29,7 @@ pub fn read_request(alloc: Global, text: &[u8]) -> Result<Asked, ReadError>
     read_asked(alloc, &message)
 }
 
-/// Parses a request whose head and body are told apart already.
+/// Parses a request that is split into head and body already.
 ///
 /// # Errors
 ///

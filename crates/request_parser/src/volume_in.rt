@@ -31,6 +31,7 @@ pub fn read_area(alloc: Global, items: &[Value]) -> Result<Area, ReadError>
     Area::try_new(volumes).ok_or(ReadError::Fault(WireFault::BadVolume))
 }
 
+// Whether an area may have `count` volumes.
 fn is_volume_count(count: usize) -> bool
     ensures { result ≡ is_in_range 1 max_volumes count }
 {
@@ -189,12 +190,14 @@ fn checked_window(lower: i64, upper: i64, start: i64, end: i64) -> Option<Window
     Window::try_new(lower, upper, start, end).ok()
 }
 
+// Reads `time_start`, rounded down to a Unix second.
 fn start_at(value: &Value) -> Option<i64>
     ensures { result ≡ spec.start_at (view value.now) }
 {
     parse_start(time_at(value, "time_start")?.as_bytes())
 }
 
+// Reads `time_end`, rounded up to a Unix second.
 fn end_at(value: &Value) -> Option<i64>
     ensures { result ≡ spec.end_at (view value.now) }
 {
