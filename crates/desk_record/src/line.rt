@@ -11,7 +11,7 @@ use crate::sums::checksum;
 use std::alloc::{AllocError, Global};
 
 /// The length of a line, in bytes.
-pub const LINE: usize = 86;
+pub const LINE_LEN: usize = 86;
 
 /// The fields of a line.
 #[derive(Drop)]
@@ -33,7 +33,7 @@ pub struct Line {
 pub fn line_text(alloc: Global, line: &Line) -> Result<Vec<u8>, AllocError>
     ensures { IfOk result (λ text. text.items ≡ line_said (line_shown line.now)) }
 {
-    let mut text = Vec::with_capacity(alloc, LINE)?;
+    let mut text = Vec::with_capacity(alloc, LINE_LEN)?;
     write_line_fields(&mut text, line)?;
     let sum = checksum(alloc, &text)?;
     text.extend_from_slice(&sum)?;

@@ -8,7 +8,7 @@ ghost use Rattle.desk_record.specs.EntryLines.{line_shown};
 ghost use Rattle.desk_record.specs.Reading.{IsFailure, LacksEntry, entry_shown, has_bytes};
 
 use crate::entry::Entry;
-use crate::line::{LINE, Line, read_line};
+use crate::line::{LINE_LEN, Line, read_line};
 use crate::sums::checksum;
 use io_ends::is_interrupted;
 use std::alloc::{AllocError, Global};
@@ -56,11 +56,11 @@ pub fn read_entry<R: Read>(alloc: Global, input: &mut R) -> Result<Option<Entry>
     ensures end { IfOk result (λ found. found ≡ None → IsAtEnd (R.remaining input.old)) }
     ensures fault { IfErr result (LacksEntry (R.remaining input.old)) }
 {
-    let text = read_up_to(alloc, input, LINE as u64)?;
+    let text = read_up_to(alloc, input, LINE_LEN as u64)?;
     if text.is_empty() {
         return Ok(None);
     }
-    if text.len() < LINE {
+    if text.len() < LINE_LEN {
         return Err(ReadFault::CutShort);
     }
     let Some(line) = read_line(alloc, &text)? else {

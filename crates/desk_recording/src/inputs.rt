@@ -14,7 +14,7 @@ ghost use Rattle.desk_recording.specs.Inputs as spec;
 ghost use Rattle.desk_recording.specs.Inputs.{EndsInput, HandsOutNone, IsUnrecorded, PlaysRecorded, input_outside};
 
 use crate::port::RecordedPort;
-use crate::receiving::{ReceiveError, Unreceived, receive};
+use crate::receiving::{ReceiveError, ReceiveFault, receive};
 use crate::record::Record;
 use desk_cli::{Enrolment, ErrorCode, ExitReport, PlayArgs, report_exit};
 use desk_program::{ClientStream, ExchangeEnd, Port, play_port};
@@ -106,6 +106,7 @@ impl<R: Read + Drop, W: Write + Drop> Port for InputPort<R, W> {
 
     type Output = Vec<u8>;
 
+    // Does nothing: an input needs no network.
     fn listen(&mut self, _number: u16) -> Result<(), ErrorCode>
         ensures listens { Listens unreported unreported _number (is_ok result) }
         ensures fault { IfErr result IsDenied }
@@ -115,6 +116,7 @@ impl<R: Read + Drop, W: Write + Drop> Port for InputPort<R, W> {
         Ok(())
     }
 
+    // There are no new enrolments while `play` runs.
     fn news(&mut self, alloc: Global) -> Result<Vec<Enrolment>, ErrorCode>
         ensures small { IfOk result (λ news. AreEnrolments news.items) }
         ensures brings { IfOk result (λ news. BringsNews unreported unreported news.items) }
@@ -126,6 +128,7 @@ impl<R: Read + Drop, W: Write + Drop> Port for InputPort<R, W> {
         Ok(Vec::new(alloc))
     }
 
+    // Reads the next request of the input. `Network` if there is none, and `ended` says why.
     // Long: what a port reports, which request of the input is taken, and when the input has ended.
     fn take(&mut self, alloc: Global) -> Result<ClientStream<Cursor<Vec<u8>>, Vec<u8>>, ErrorCode>
         ensures taken { IfOk result (λ c. TakesArrival unreported unreported
@@ -159,6 +162,7 @@ impl<R: Read + Drop, W: Write + Drop> Port for InputPort<R, W> {
         }
     }
 
+    // Writes the answer to the output, and notes whether it is known where the next request begins.
     fn close(
         &mut self,
         input: Cursor<Vec<u8>>,
@@ -200,9 +204,9 @@ fn next_request<R: Read, W>(
     match receive(alloc, input) {
         Ok(request) if request.is_empty() => Err(InputEnd::AtEnd),
         Ok(request) => Ok(request),
-        Err(Unreceived::CutShort) => Err(InputEnd::CutShort),
-        Err(Unreceived::Unread(unread)) => Err(InputEnd::Unread(unread)),
-        Err(Unreceived::OutOfMemory) => Err(InputEnd::OutOfMemory),
+        Err(ReceiveFault::CutShort) => Err(InputEnd::CutShort),
+        Err(ReceiveFault::Unread(unread)) => Err(InputEnd::Unread(unread)),
+        Err(ReceiveFault::OutOfMemory) => Err(InputEnd::OutOfMemory),
     }
 }
 

@@ -18,7 +18,7 @@ ghost use Rattle.desk_recording.specs.Receiving.{IsReceived};
 ghost use Rattle.desk_recording.specs.Reporting as spec;
 ghost use Rattle.desk_recording.specs.Reporting.{parted_in, reported_of};
 
-use crate::receiving::{ReceiveError, Unreceived, receive};
+use crate::receiving::{ReceiveError, ReceiveFault, receive};
 use crate::record::{Exchange, Record, RecordFault};
 use crate::streams::{Given, Held};
 use desk_cli::{Enrolment, ErrorCode};
@@ -36,11 +36,11 @@ const UNANSWERED: ExchangeEnd = ExchangeEnd {
 
 /// Why a port accepts no more connections; `R` is its journal.
 #[derive_where(Clone, Copy)]
-pub(crate) enum Loss<R> {
+pub(crate) enum StopCause<R> {
     /// An entry could not be written to the journal.
     JournalError(RecordFault<R>),
     /// A request got no whole answer.
-    Unanswered,
+    NoAnswer,
 }
 
 /// A port that flushes each request to its journal before the desk reads it, and appends each answer before it is
@@ -50,7 +50,7 @@ pub struct RecordedPort<P: Drop, R: Drop> {
     pub(crate) port: P,
     journal: R,
     // Why no more connections are accepted, if so.
-    broken: Option<Loss<R>>,
+    broken: Option<StopCause<R>>,
 }
 
 impl<P: Port + Drop, R: Record + Drop> RecordedPort<P, R> {
@@ -75,6 +75,7 @@ impl<P: Port + Drop, R: Record + Drop> Port for RecordedPort<P, R> {
 
     ghost traffic = { λ s. reported_of R.Record s };
 
+    // Has the port below listen.
     fn listen(&mut self, number: u16) -> Result<(), ErrorCode>
         ensures listens { Listens (reported_of R.Record self.old) (reported_of R.Record self.new) number
             (is_ok result) }
@@ -85,6 +86,7 @@ impl<P: Port + Drop, R: Record + Drop> Port for RecordedPort<P, R> {
         self.port.listen(number)
     }
 
+    // Takes the new enrolments of the port below, and writes them to the journal before they are made.
     #[tactic(auto, using(crate::proofs::StepLemmas::brings_news))]
     fn news(&mut self, alloc: Global) -> Result<Vec<Enrolment>, ErrorCode>
         ensures small { IfOk result (λ news. AreEnrolments news.items) }
@@ -96,7 +98,7 @@ impl<P: Port + Drop, R: Record + Drop> Port for RecordedPort<P, R> {
             BringsNews (P.traffic self.old.port) (P.traffic self.new.port) news.items) }
         ensures broken { IsSome self.old.broken → result ≡ Err ErrorCode.Broken }
         ensures cause { result ≡ Err ErrorCode.Broken → IsSome self.new.broken }
-        ensures lost { self.new.broken ≡ Some Loss.Unanswered → self.old.broken ≡ Some Loss.Unanswered }
+        ensures lost { self.new.broken ≡ Some StopCause.NoAnswer → self.old.broken ≡ Some StopCause.NoAnswer }
     {
         if self.broken.is_some() {
             return Err(ErrorCode::Broken);
@@ -108,12 +110,13 @@ impl<P: Port + Drop, R: Record + Drop> Port for RecordedPort<P, R> {
         match self.journal.keep_news(&news) {
             Ok(()) => Ok(news),
             Err(fault) => {
-                self.broken = Some(Loss::JournalError(RecordFault::by(fault)));
+                self.broken = Some(StopCause::JournalError(RecordFault::by(fault)));
                 Err(ErrorCode::Broken)
             }
         }
     }
 
+    // Accepts a connection, reads its request, and writes that to the journal before the desk reads it.
     // Long: what the port reports, what was read from the client, and when it is broken.
     #[tactic(auto, using(crate::proofs::StepLemmas::takes_one))]
     fn take(
@@ -132,7 +135,7 @@ impl<P: Port + Drop, R: Record + Drop> Port for RecordedPort<P, R> {
             IsFresh (P.traffic self.old.port) (P.Output.contents c.output.to)) }
         ensures broken { IsSome self.old.broken → result ≡ Err ErrorCode.Broken }
         ensures cause { result ≡ Err ErrorCode.Broken → IsSome self.new.broken }
-        ensures lost { self.new.broken ≡ Some Loss.Unanswered → self.old.broken ≡ Some Loss.Unanswered }
+        ensures lost { self.new.broken ≡ Some StopCause.NoAnswer → self.old.broken ≡ Some StopCause.NoAnswer }
     {
         if self.broken.is_some() {
             return Err(ErrorCode::Broken);
@@ -159,7 +162,7 @@ impl<P: Port + Drop, R: Record + Drop> Port for RecordedPort<P, R> {
                 },
             }),
             Err(fault) => {
-                self.broken = Some(Loss::JournalError(RecordFault::by(fault)));
+                self.broken = Some(StopCause::JournalError(RecordFault::by(fault)));
                 let _ = send_store_error(&mut taken.output);
                 let _ = self.port.close(taken.input, taken.output, UNANSWERED);
                 Err(ErrorCode::Broken)
@@ -167,6 +170,7 @@ impl<P: Port + Drop, R: Record + Drop> Port for RecordedPort<P, R> {
         }
     }
 
+    // Writes the answer to the journal, sends it to the client, and closes the connection.
     // Long: what the port reports, what its journal has, when it is broken, and what the client was sent.
     #[tactic(auto, using(crate::proofs::StepLemmas::closes_so, crate::proofs::StepLemmas::is_open))]
     fn close(
@@ -181,8 +185,8 @@ impl<P: Port + Drop, R: Record + Drop> Port for RecordedPort<P, R> {
         ensures fault { IfErr result IsDenied }
         ensures reported { IsSome self.new.broken → result ≡ Err ErrorCode.Broken }
         ensures cause { result ≡ Err ErrorCode.Broken → IsSome self.new.broken }
-        ensures lost { self.new.broken ≡ Some Loss.Unanswered
-            → (self.old.broken ≡ Some Loss.Unanswered) ⊎ (outcome.is_answered ≡ false) }
+        ensures lost { self.new.broken ≡ Some StopCause.NoAnswer
+            → (self.old.broken ≡ Some StopCause.NoAnswer) ⊎ (outcome.is_answered ≡ false) }
         ensures kept { IsClosedBy P.Output (course (R.steps self.old.journal) (R.steps self.new.journal))
             (parted_in input output outcome) (client_of (P.Input.remaining input.client)
             (P.Output.contents output.to)) (course (P.traffic self.old.port) (P.traffic self.new.port)) }
@@ -235,10 +239,10 @@ fn close_result(is_lost: bool, closed: Result<(), ErrorCode>) -> Result<(), Erro
 // 500 instead. Returns why the journal is broken, if it is, and whether all was sent.
 fn record_and_send<R: Record, W: Write>(
     journal: &mut R,
-    broken: Option<Loss<R>>,
+    broken: Option<StopCause<R>>,
     connection: Exchange<'_>,
     client: &mut W,
-) -> (Option<Loss<R>>, Result<(), WriteError<W>>)
+) -> (Option<StopCause<R>>, Result<(), WriteError<W>>)
     ensures sends { SendsKept (course (R.steps journal.old) (R.steps journal.new))
         (parting_of connection.entry) (course (W.contents client.old) (W.contents client.new)) result.1 }
     ensures kept { IsNone result.0 →
@@ -246,8 +250,8 @@ fn record_and_send<R: Record, W: Write>(
     ensures noted { Notes (R.noted journal.old) (R.noted journal.new) (is_none result.0)
         (λ n. with_answer n connection.entry.sent.now) }
     ensures whole { IsNone result.0 → IsNone broken × (connection.entry.outcome.is_answered ≡ true) }
-    ensures lost { result.0 ≡ Some Loss.Unanswered
-        → (broken ≡ Some Loss.Unanswered) ⊎ (connection.entry.outcome.is_answered ≡ false) }
+    ensures lost { result.0 ≡ Some StopCause.NoAnswer
+        → (broken ≡ Some StopCause.NoAnswer) ⊎ (connection.entry.outcome.is_answered ≡ false) }
 {
     let lost = record_answer(journal, broken, connection);
     if lost.is_none() {
@@ -260,26 +264,26 @@ fn record_and_send<R: Record, W: Write>(
 // Appends the answer to the journal, if it is whole and the journal isn't broken. Returns why it is broken, if it is.
 fn record_answer<R: Record>(
     journal: &mut R,
-    broken: Option<Loss<R>>,
+    broken: Option<StopCause<R>>,
     connection: Exchange<'_>,
-) -> Option<Loss<R>>
+) -> Option<StopCause<R>>
     ensures steps { AddsIf (R.steps journal.old) (R.steps journal.new) (is_none result)
         (Answered (parting_of connection.entry)) }
     ensures noted { Notes (R.noted journal.old) (R.noted journal.new) (is_none result)
         (λ n. with_answer n connection.entry.sent.now) }
     ensures whole { IsNone result → IsNone broken × (connection.entry.outcome.is_answered ≡ true) }
-    ensures lost { result ≡ Some Loss.Unanswered
-        → (broken ≡ Some Loss.Unanswered) ⊎ (connection.entry.outcome.is_answered ≡ false) }
+    ensures lost { result ≡ Some StopCause.NoAnswer
+        → (broken ≡ Some StopCause.NoAnswer) ⊎ (connection.entry.outcome.is_answered ≡ false) }
 {
     if broken.is_some() {
         return broken;
     }
     if !connection.outcome.is_answered {
-        return Some(Loss::Unanswered);
+        return Some(StopCause::NoAnswer);
     }
     match journal.keep_answer(connection) {
         Ok(()) => None,
-        Err(fault) => Some(Loss::JournalError(RecordFault::by(fault))),
+        Err(fault) => Some(StopCause::JournalError(RecordFault::by(fault))),
     }
 }
 
@@ -300,15 +304,15 @@ fn receive_or_empty<R: Read>(alloc: Global, client: &mut R) -> Result<Received<R
             request,
             unread: None,
         }),
-        Err(Unreceived::CutShort) => Ok(Received {
+        Err(ReceiveFault::CutShort) => Ok(Received {
             request: Vec::new(alloc),
             unread: None,
         }),
-        Err(Unreceived::Unread(unread)) => Ok(Received {
+        Err(ReceiveFault::Unread(unread)) => Ok(Received {
             request: Vec::new(alloc),
             unread: Some(unread),
         }),
-        Err(Unreceived::OutOfMemory) => Err(AllocError),
+        Err(ReceiveFault::OutOfMemory) => Err(AllocError),
     }
 }
 

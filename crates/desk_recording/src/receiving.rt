@@ -21,7 +21,7 @@ pub(crate) struct ReceiveError<R> {
 
 /// Why no whole request of a client was received.
 #[derive_where(Clone, Copy)]
-pub(crate) enum Unreceived<R> {
+pub(crate) enum ReceiveFault<R> {
     /// The client's bytes end inside the request.
     CutShort,
     /// The client's bytes could not be read.
@@ -34,8 +34,8 @@ pub(crate) enum Unreceived<R> {
 ///
 /// # Errors
 ///
-/// As `Unreceived` says.
-pub(crate) fn receive<R: Read>(alloc: Global, client: &mut R) -> Result<Vec<u8>, Unreceived<R>>
+/// As `ReceiveFault` says.
+pub(crate) fn receive<R: Read>(alloc: Global, client: &mut R) -> Result<Vec<u8>, ReceiveFault<R>>
     ensures taken { IfOk result (λ request. 0 < length request.items
         → IsTaken (R.remaining client.old) (R.remaining client.new) request.items) }
     ensures end { IfOk result (λ request. request.items ≡ [] → IsAtEnd (R.remaining client.old)) }
@@ -43,9 +43,9 @@ pub(crate) fn receive<R: Read>(alloc: Global, client: &mut R) -> Result<Vec<u8>,
 {
     match receive_request(alloc, client) {
         Ok(request) => Ok(request),
-        Err(ServeFault::CutShort) => Err(Unreceived::CutShort),
-        Err(ServeFault::OutOfMemory) => Err(Unreceived::OutOfMemory),
-        Err(ServeFault::Read | ServeFault::Write(_)) => Err(Unreceived::Unread(ReceiveError {
+        Err(ServeFault::CutShort) => Err(ReceiveFault::CutShort),
+        Err(ServeFault::OutOfMemory) => Err(ReceiveFault::OutOfMemory),
+        Err(ServeFault::Read | ServeFault::Write(_)) => Err(ReceiveFault::Unread(ReceiveError {
             client: PhantomData,
         })),
     }

@@ -22,7 +22,7 @@ use volume4d::MAX_SECOND;
 const VERSION: &[u8] = b"1";
 
 /// The length of an entry without its own bytes.
-const BESIDE: u64 = 87;
+const OVERHEAD: u64 = 87;
 
 /// A recorded request without an answer, or whose answer is a 500.
 #[derive(Debug, Drop)]
@@ -155,7 +155,7 @@ fn apply_entry(tail: &mut Tail, entry: Entry) -> Result<(), TailFault>
         return Err(TailFault::NoRecord);
     }
     lengths();
-    tail.size = tail.size.saturating_add(BESIDE + bytes.len() as u64);
+    tail.size = tail.size.saturating_add(OVERHEAD + bytes.len() as u64);
     apply_by_kind(tail, kind, number, bytes)
 }
 

@@ -114,6 +114,7 @@ impl<J: Journal + Drop> Record for WrittenRecord<J> {
 
     ghost noted = { λ s. noted_in s.second (J.writes s.journal) };
 
+    // Appends an entry for each new enrolment, and flushes them.
     fn keep_news(&mut self, news: &[Enrolment]) -> Result<(), Unwritten<J::Fault>>
         ensures steps { AddsIf None None (is_ok result) (Enrolled news.now) }
         ensures noted { NotesOnDisk (noted_in self.old.second (J.writes self.old.journal))
@@ -133,6 +134,7 @@ impl<J: Journal + Drop> Record for WrittenRecord<J> {
         sync_to(&mut self.journal)
     }
 
+    // Appends the entry of a request, unless it is empty, and flushes it.
     fn keep_request(&mut self, moment: Moment, bytes: &[u8]) -> Result<(), Unwritten<J::Fault>>
         ensures steps { AddsIf None None (is_ok result) (Asked moment.second bytes.now) }
         ensures noted { NotesOnDisk (noted_in self.old.second (J.writes self.old.journal))
@@ -151,6 +153,7 @@ impl<J: Journal + Drop> Record for WrittenRecord<J> {
         sync_to(&mut self.journal)
     }
 
+    // Appends the entry of the answer to the last request, unless it is empty, without flushing it.
     fn keep_answer(&mut self, connection: Exchange<'_>) -> Result<(), Unwritten<J::Fault>>
         ensures steps { AddsIf None None (is_ok result) (Answered (parting_of connection.entry)) }
         ensures noted { Notes (noted_in self.old.second (J.writes self.old.journal))
@@ -166,5 +169,6 @@ impl<J: Journal + Drop> Record for WrittenRecord<J> {
         self.append(Kind::Answer, self.second, connection.sent)
     }
 
+    // Writes nothing: a journal has no entry for a lost answer.
     fn lose_answer(&mut self, _connection: Exchange<'_>) {}
 }

@@ -21,7 +21,7 @@ use std::alloc::Global;
 use std::io::Read;
 
 /// The length of an entry without its own bytes: its line, and the line feed at its end.
-const LINE_AND_END: u64 = 87;
+const ENTRY_OVERHEAD: u64 = 87;
 
 /// Why a replay ended.
 #[derive(Clone, Copy, Debug, PartialEq, Eq)]
@@ -112,7 +112,7 @@ fn entry_size(one: &Entry) -> u64
     ensures { result ≡ spec.size_of (entry (entry_shown one.now)) }
 {
     lengths();
-    (one.bytes.len() as u64).saturating_add(LINE_AND_END)
+    (one.bytes.len() as u64).saturating_add(ENTRY_OVERHEAD)
 }
 
 // Whether `entry` is a request whose second is greater than `until`.

@@ -26,7 +26,7 @@ use request_parser::{Message, ReadError, WireFault, read_asked, read_message};
 use std::alloc::{AllocError, Global};
 
 /// How many bytes are reserved before a request is carried out: enough for an answer 500.
-const ANSWER_ROOM: usize = 512;
+const RESERVED_LEN: usize = 512;
 
 // An answer with another status than 500.
 #[derive(Drop)]
@@ -95,7 +95,7 @@ pub fn answer_request<S: PlanStore>(
         (failure_reported result) }
     ensures err { OnErr result (desk.new ≡ desk.old) }
 {
-    let mut room = Vec::with_capacity(alloc, ANSWER_ROOM)?;
+    let mut room = Vec::with_capacity(alloc, RESERVED_LEN)?;
     match respond(alloc, desk, moment, request) {
         Ok(response) => Ok(Answer {
             status: response.status,

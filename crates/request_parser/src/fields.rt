@@ -7,7 +7,7 @@ ghost use Rattle.request_parser.specs.Fields.{count_in, count_shown, decimal_of}
 use httparse::spans::HeaderSpan;
 
 /// The maximum number of digits of a number: each number of so many digits fits a `u64`.
-const DIGIT_ROOM: usize = 19;
+const MAX_DIGITS: usize = 19;
 
 /// How often a field occurs, with its value if it occurs once.
 #[derive(Clone, Copy, Debug, PartialEq, Eq)]
@@ -38,7 +38,7 @@ pub fn find_field<'t>(text: &'t [u8], headers: &[HeaderSpan], name: &[u8]) -> Oc
 pub fn read_decimal(digits: &[u8]) -> Option<u64>
     ensures { result ≡ decimal_of digits.now }
 {
-    if digits.is_empty() || digits.len() > DIGIT_ROOM {
+    if digits.is_empty() || digits.len() > MAX_DIGITS {
         return None;
     }
     let mut total = 0;

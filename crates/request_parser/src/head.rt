@@ -12,14 +12,14 @@ use httparse::spans::{EMPTY_HEADER_SPAN, HeaderSpan, RequestSpans, parse_request
 use std::marker::Model;
 
 /// The maximum number of fields of a head.
-const FIELD_ROOM: usize = 64;
+const MAX_FIELDS: usize = 64;
 
 /// A request head: its text, and the spans of its parts in it.
 #[derive(Drop)]
 pub struct Head<'t> {
     text: &'t [u8],
     spans: RequestSpans,
-    headers: [HeaderSpan; FIELD_ROOM],
+    headers: [HeaderSpan; MAX_FIELDS],
 }
 
 impl<'t> Model for Head<'t> {
@@ -54,11 +54,11 @@ impl<'t> Head<'t> {
 }
 
 /// Parses `text` as one whole head. None if it is malformed, incomplete, followed by other bytes, or has more
-/// than `FIELD_ROOM` fields.
+/// than `MAX_FIELDS` fields.
 pub fn read_head(text: &[u8]) -> Option<Head<'_>>
     ensures { result ≡ option_map head_parts (head_within field_room text.now) }
 {
-    let mut headers = [EMPTY_HEADER_SPAN; FIELD_ROOM];
+    let mut headers = [EMPTY_HEADER_SPAN; MAX_FIELDS];
     let Ok(Status::Complete(spans)) = parse_request(text, &mut headers) else {
         return None;
     };

@@ -12,7 +12,7 @@ use crate::head::{Head, read_head};
 use crate::wire_fault::WireFault;
 
 /// The maximum length of a body, in bytes.
-const BODY_ROOM: u64 = 131_072;
+const MAX_BODY_LEN: u64 = 131_072;
 
 /// One request, split into its head and its body.
 #[derive(Drop)]
@@ -92,7 +92,7 @@ fn read_body_length(head: &Head<'_>) -> Result<u64, WireFault>
     let Some(size) = read_content_length(head) else {
         return Err(WireFault::ContentLength);
     };
-    if size > BODY_ROOM {
+    if size > MAX_BODY_LEN {
         return Err(WireFault::BodyTooLarge);
     }
     Ok(size)

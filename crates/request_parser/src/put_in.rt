@@ -34,11 +34,11 @@ pub fn read_put(alloc: Global, id: PlanId, body: &[u8]) -> Result<PutCall, ReadE
 fn read_members(alloc: Global, id: PlanId, value: &Value) -> Result<PutCall, ReadError>
     ensures { GivesIfRoom (λ call. call) result (spec.put_of id (view value.now)) }
 {
-    let style = style_at(value).ok_or(WireFault::BadMember)?;
+    let style = read_style(value).ok_or(WireFault::BadMember)?;
     let plan = value.get("flight_plan").ok_or(WireFault::BadMember)?;
     let information = plan.get("basic_information").ok_or(WireFault::BadMember)?;
-    let usage = usage_at(information).ok_or(WireFault::BadMember)?;
-    let aircraft = aircraft_at(information).ok_or(WireFault::BadMember)?;
+    let usage = read_usage(information).ok_or(WireFault::BadMember)?;
+    let aircraft = read_aircraft(information).ok_or(WireFault::BadMember)?;
     let items = array_at(information, "area").ok_or(WireFault::BadMember)?;
     let priority = read_priority(plan)?;
     let area = read_area(alloc, items)?;
@@ -78,21 +78,21 @@ fn read_priority_number(value: &Value) -> Option<u32>
 }
 
 // Reads `execution_style`.
-fn style_at(value: &Value) -> Option<Style>
+fn read_style(value: &Value) -> Option<Style>
     ensures { result ≡ spec.style_at (view value.now) }
 {
     parse_style(text_at(value, "execution_style")?)
 }
 
 // Reads `usage_state`.
-fn usage_at(value: &Value) -> Option<Usage>
+fn read_usage(value: &Value) -> Option<Usage>
     ensures { result ≡ spec.usage_at (view value.now) }
 {
     parse_usage(text_at(value, "usage_state")?)
 }
 
 // Reads `uas_state`.
-fn aircraft_at(value: &Value) -> Option<Aircraft>
+fn read_aircraft(value: &Value) -> Option<Aircraft>
     ensures { result ≡ spec.aircraft_at (view value.now) }
 {
     parse_aircraft(text_at(value, "uas_state")?)

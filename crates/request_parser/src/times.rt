@@ -8,7 +8,7 @@ use jiff::civil::DateTime;
 use jiff::tz::Offset;
 
 // The maximum length of a time's text, in bytes.
-const TIME_ROOM: usize = 64;
+const MAX_TIME_LEN: usize = 64;
 
 // The length of a date and a time of day, `YYYY-MM-DDTHH:MM:SS`, in bytes.
 const CIVIL_LEN: usize = 19;
@@ -57,13 +57,13 @@ pub fn parse_end(text: &[u8]) -> Option<i64>
     }
 }
 
-// Parses a `date-time` of RFC 3339 of at most `TIME_ROOM` bytes.
+// Parses a `date-time` of RFC 3339 of at most `MAX_TIME_LEN` bytes.
 #[tactic(auto, unfolding(crate::specs::Times::time_of))]
 fn parse_time(text: &[u8]) -> Option<WrittenTime>
     ensures parsed { result ≡ spec.time_of text.now }
     ensures in_range { IfSome result IsWritten }
 {
-    if text.len() <= CIVIL_LEN || text.len() > TIME_ROOM || !has_marks(text) {
+    if text.len() <= CIVIL_LEN || text.len() > MAX_TIME_LEN || !has_marks(text) {
         return None;
     }
     let civil = parse_civil(text)?;

@@ -175,8 +175,8 @@ fn read_window(value: &Value, shape: &Value) -> Result<Window, WireFault>
 {
     let lower = whole_at(shape, "altitude_lower").ok_or(WireFault::BadVolume)?;
     let upper = whole_at(shape, "altitude_upper").ok_or(WireFault::BadVolume)?;
-    let start = start_at(value).ok_or(WireFault::BadVolume)?;
-    let end = end_at(value).ok_or(WireFault::BadVolume)?;
+    let start = read_start(value).ok_or(WireFault::BadVolume)?;
+    let end = read_end(value).ok_or(WireFault::BadVolume)?;
     checked_window(lower, upper, start, end).ok_or(WireFault::BadVolume)
 }
 
@@ -191,14 +191,14 @@ fn checked_window(lower: i64, upper: i64, start: i64, end: i64) -> Option<Window
 }
 
 // Reads `time_start`, rounded down to a Unix second.
-fn start_at(value: &Value) -> Option<i64>
+fn read_start(value: &Value) -> Option<i64>
     ensures { result ≡ spec.start_at (view value.now) }
 {
     parse_start(time_at(value, "time_start")?.as_bytes())
 }
 
 // Reads `time_end`, rounded up to a Unix second.
-fn end_at(value: &Value) -> Option<i64>
+fn read_end(value: &Value) -> Option<i64>
     ensures { result ≡ spec.end_at (view value.now) }
 {
     parse_end(time_at(value, "time_end")?.as_bytes())
