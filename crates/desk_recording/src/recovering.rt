@@ -128,7 +128,7 @@ pub fn recover<S: PlanStore, R: Record>(
     if let Err(fault) = set_up(desk, terms, missing) {
         return Err(enrolment_error(fault));
     }
-    repeat_if_pending(alloc, desk, asked, journal)
+    redo_if_pending(alloc, desk, asked, journal)
 }
 
 // The error of a recovery at which an operator could not be enrolled.
@@ -143,7 +143,7 @@ fn enrolment_error<R>(fault: DeskFault) -> Unrecovered<R>
 }
 
 // Repeats the request `asked` that has no answer, if there is one.
-fn repeat_if_pending<S: PlanStore, R: Record>(
+fn redo_if_pending<S: PlanStore, R: Record>(
     alloc: Global,
     desk: &mut Desk<S>,
     asked: Option<Unanswered>,
@@ -158,14 +158,14 @@ fn repeat_if_pending<S: PlanStore, R: Record>(
         → HasRisen (S.faults desk.old.store) (S.faults desk.new.store)) }
 {
     match asked {
-        Some(asked) => repeat_request(alloc, desk, asked, journal),
+        Some(asked) => redo_request(alloc, desk, asked, journal),
         None => Ok(()),
     }
 }
 
 // Repeats a request at its second, and writes it and its answer to `journal`.
 #[tactic(auto, using(crate::proofs::RecoveringLemmas::both_added))]
-fn repeat_request<S: PlanStore, R: Record>(
+fn redo_request<S: PlanStore, R: Record>(
     alloc: Global,
     desk: &mut Desk<S>,
     asked: Unanswered,
@@ -191,7 +191,7 @@ fn repeat_request<S: PlanStore, R: Record>(
         return Err(Unrecovered::JournalError(RecordFault::by(fault)));
     }
     match answer_one(alloc, desk, &sent) {
-        Ok(answer) => record_repeated_answer(journal, &answer),
+        Ok(answer) => record_redone_answer(journal, &answer),
         Err(fault) => {
             journal.lose_answer(exchange_without_client(b""));
             Err(replay_error(fault))
@@ -200,7 +200,7 @@ fn repeat_request<S: PlanStore, R: Record>(
 }
 
 // Writes the answer to the repeated request, which isn't sent to any client, to `journal`.
-fn record_repeated_answer<R: Record>(journal: &mut R, answer: &[u8]) -> Result<(), Unrecovered<R>>
+fn record_redone_answer<R: Record>(journal: &mut R, answer: &[u8]) -> Result<(), Unrecovered<R>>
     ensures ok { OnOk result
         (AddsStep (R.steps journal.old) (R.steps journal.new) (Answered (reported_again answer.now))) }
     ensures err { IfErr result (λ why. (spec.failure_of why ≡ ErrorCode.Broken)
