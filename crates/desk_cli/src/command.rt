@@ -1,5 +1,4 @@
-//! The command line that is taken: its lines and their words as rows, of which `clap` makes help and reads
-//! what is given.
+//! The commands and their arguments as tables, from which `clap` makes the help and parses a command line.
 
 ghost use Rattle.std.specs.Prelude.{◌≡◌, IfOk, map};
 ghost use Rattle.clap.specs.Simple.{app_of, shape_of};
@@ -15,17 +14,17 @@ use desk_rules::terms::{MAX_SPANS, MAX_TOTAL_CELLS};
 use std::alloc::{AllocError, Global};
 use volume4d::MAX_SECOND;
 
-// The version, and the logic of the kits whose provers prove the program.
+// The version, and the checksum of the toolchain's logic in which the program is proved.
 const VERSION: &str = "2.0.0\nRattle logic dac8208d650f15bf";
 
-// A line: its first word, what it does, and its further words.
+// A command: its name, what it does, and its arguments.
 struct Form {
     name: &'static str,
     about: &'static str,
     words: &'static [ArgRow],
 }
 
-// An argument of a line.
+// An argument of a command.
 #[derive(Clone, Copy)]
 struct ArgRow {
     // The name by which its value is read back.
@@ -43,15 +42,15 @@ struct ArgRow {
 #[derive(Clone, Copy)]
 enum ArgKind {
     Text,
-    // One text for each use, of any number of them.
+    // Any number of texts, one for each use.
     Texts,
     // A number from the first to the second.
     Number(i64, i64),
-    // There is none: it reports whether it was used.
+    // No value: only whether the argument is given.
     Flag,
 }
 
-// The file of operators and plans, which may be left out.
+// The database, which is optional.
 const DATABASE: ArgRow = ArgRow {
     id: "database",
     long: Some("db"),
@@ -61,7 +60,7 @@ const DATABASE: ArgRow = ArgRow {
     kind: ArgKind::Text,
 };
 
-// The file, which may not.
+// The database, which is required.
 const GIVEN_DATABASE: ArgRow = ArgRow {
     is_required: true,
     ..DATABASE
@@ -319,26 +318,26 @@ static FORMS: [Form; 9] = [
     },
 ];
 
-/// The command line that is taken.
+/// The program's command line, for `clap`.
 pub fn make_command<'a>(alloc: Global) -> Result<Command<'a>, AllocError>
     ensures { IfOk result (λ command. app_of command ≡ spec.program) }
 {
-    with_lines(alloc, &FORMS)
+    add_subcommands(alloc, &FORMS)
 }
 
-// The program, with these lines.
-fn with_lines<'a>(alloc: Global, forms: &'static [Form]) -> Result<Command<'a>, AllocError>
+// The program with these commands.
+fn add_subcommands<'a>(alloc: Global, forms: &'static [Form]) -> Result<Command<'a>, AllocError>
     ensures { IfOk result (λ command.
         app_of command ≡ spec.with_lines (map shape_of_form forms.now)) }
 {
     let mut command = bare_command(alloc);
     for form in forms {
-        command = command.subcommand(command_of(alloc, form)?)?;
+        command = command.subcommand(make_subcommand(alloc, form)?)?;
     }
     Ok(command)
 }
 
-// The program, with no line.
+// The program without commands.
 fn bare_command<'a>(alloc: Global) -> Command<'a>
     ensures { app_of result ≡ spec.bare_program }
 {
@@ -348,15 +347,15 @@ fn bare_command<'a>(alloc: Global) -> Command<'a>
         .subcommand_required(true)
 }
 
-// The command of a line.
-fn command_of<'a>(alloc: Global, form: &'static Form) -> Result<Command<'a>, AllocError>
+// One command, from its table.
+fn make_subcommand<'a>(alloc: Global, form: &'static Form) -> Result<Command<'a>, AllocError>
     ensures { IfOk result (λ command. shape_of command ≡ shape_of_form form.now) }
 {
-    with_words(alloc, form, form.words)
+    add_arguments(alloc, form, form.words)
 }
 
-// The command of a line, with these words.
-fn with_words<'a>(
+// The command of `form` with the arguments `words`.
+fn add_arguments<'a>(
     alloc: Global,
     form: &'static Form,
     words: &'static [ArgRow],
@@ -366,13 +365,13 @@ fn with_words<'a>(
 {
     let mut command = Command::new(alloc, form.name).about(form.about);
     for word in words {
-        command = command.arg(arg_of(alloc, word))?;
+        command = command.arg(make_arg(alloc, word))?;
     }
     Ok(command)
 }
 
-// The argument of a row.
-fn arg_of<'a>(alloc: Global, row: &ArgRow) -> Arg<'a>
+// One argument, from its row.
+fn make_arg<'a>(alloc: Global, row: &ArgRow) -> Arg<'a>
     ensures { rule_of result ≡ rule_of_row row.now }
 {
     let arg = bare_arg(alloc, row);
@@ -384,7 +383,7 @@ fn arg_of<'a>(alloc: Global, row: &ArgRow) -> Arg<'a>
     }
 }
 
-// What the argument of a row has, of whatever kind its values are.
+// The argument of `row` without the kind of its value.
 fn bare_arg<'a>(alloc: Global, row: &ArgRow) -> Arg<'a>
     ensures { rule_of result ≡ bare_rule row.now }
 {

@@ -1,4 +1,4 @@
-//! The priority that a word of the command line writes, and the equal priorities that one permits.
+//! Priorities on the command line, and the option `--equal`, a list of them.
 
 ghost use Rattle.std.specs.Prelude.{◌≡◌, ◌≤◌, ℕ, List, IfOk, IfSome, Some, map, option_map};
 ghost use Rattle.std.specs.Char.{is_ascii_digit};
@@ -13,55 +13,55 @@ use desk_rules::decide::MAX_PRIORITY;
 use desk_rules::permission::Permitted;
 use std::alloc::{AllocError, Global};
 
-/// The most digits of a priority.
+/// The maximum number of digits of a priority.
 const PRIORITY_DIGITS: usize = 4;
 
-/// The priorities that a word permits, with commas between them. None are permitted if there is no
-/// word.
+/// Parses the value of `--equal`: the permitted priorities, with commas between them. Without the option none is
+/// permitted.
 ///
 /// # Errors
 ///
-/// `OutOfMemory`; `Value`.
-pub fn permitted_by(alloc: Global, word: Option<&str>) -> Result<Permitted, WordsFault>
+/// `OutOfMemory`; `Value` if the list is malformed.
+pub fn parse_permitted_option(alloc: Global, word: Option<&str>) -> Result<Permitted, WordsFault>
     ensures given { IfOk result (ArePermittedBy (option_map (λ word. word.now) word.entry)) }
-    ensures lacks { Lacks (ArePermittedBy (option_map (λ word. word.now) word.entry)) result }
+    ensures refused { Lacks (ArePermittedBy (option_map (λ word. word.now) word.entry)) result }
 {
     match word {
         None => Ok(Permitted::none()),
-        Some(word) => permitted_of(alloc, word),
+        Some(word) => parse_permitted(alloc, word),
     }
 }
 
-// The priorities of a word.
-fn permitted_of(alloc: Global, word: &str) -> Result<Permitted, WordsFault>
+// Parses a list of priorities with commas between them.
+fn parse_permitted(alloc: Global, word: &str) -> Result<Permitted, WordsFault>
     ensures given { IfOk result (ArePermittedIn word.now) }
-    ensures lacks { Lacks (ArePermittedIn word.now) result }
+    ensures refused { Lacks (ArePermittedIn word.now) result }
 {
-    let priorities = priorities_of(alloc, &parts_of(alloc, word)?)?;
+    let priorities = parse_priorities(alloc, &split_at_commas(alloc, word)?)?;
     let Ok(permitted) = Permitted::try_new(&priorities) else {
         return Err(WordsFault::Value);
     };
     Ok(permitted)
 }
 
-// The parts of a word between its commas.
-fn parts_of<'w>(alloc: Global, word: &'w str) -> Result<Vec<&'w str>, AllocError>
+// The parts of `word` between its commas.
+fn split_at_commas<'w>(alloc: Global, word: &'w str) -> Result<Vec<&'w str>, AllocError>
     ensures { IfOk result (λ parts.
         map (λ part. part.now) parts.items ≡ slice_split is_comma word.now) }
 {
     word.split(',').collect(alloc)
 }
 
-// The priorities of parts, in their order.
-fn priorities_of(alloc: Global, parts: &[&str]) -> Result<Vec<u32>, WordsFault>
+// Parses a priority from each part, in their order.
+fn parse_priorities(alloc: Global, parts: &[&str]) -> Result<Vec<u32>, WordsFault>
     ensures given { IfOk result (λ priorities.
         map Some priorities.items ≡ map priority_in (map (λ part. part.now) parts.now)) }
-    ensures lacks { Lacks (λ (priorities : List ℕ).
+    ensures refused { Lacks (λ (priorities : List ℕ).
         map Some priorities ≡ map priority_in (map (λ part. part.now) parts.now)) result }
 {
     let mut priorities = Vec::new(alloc);
     for part in parts {
-        let Some(priority) = priority_of(part) else {
+        let Some(priority) = parse_priority(part) else {
             return Err(WordsFault::Value);
         };
         priorities.push(priority)?;
@@ -69,11 +69,11 @@ fn priorities_of(alloc: Global, parts: &[&str]) -> Result<Vec<u32>, WordsFault>
     Ok(priorities)
 }
 
-/// A priority: 1 to 4 digits, at most 1,000.
+/// Parses a priority or a ceiling: 1 to 4 digits, at most 1,000.
 #[tactic(auto, unfolding(crate::specs::Equal::priority_in))]
-pub fn priority_of(text: &str) -> Option<u32>
-    ensures value { result ≡ priority_in text.now }
-    ensures small { IfSome result (λ priority. priority ≤ max_priority) }
+pub fn parse_priority(text: &str) -> Option<u32>
+    ensures parsed { result ≡ priority_in text.now }
+    ensures in_range { IfSome result (λ priority. priority ≤ max_priority) }
 {
     if !is_short_number(text) {
         return None;
@@ -84,7 +84,7 @@ pub fn priority_of(text: &str) -> Option<u32>
     }
 }
 
-// Whether a text is 1 to 4 digits.
+// Whether `text` is 1 to 4 digits.
 #[tactic(auto, unfolding(crate::specs::Equal::is_short_number))]
 fn is_short_number(text: &str) -> bool
     ensures { result ≡ spec.is_short_number text.now }
@@ -95,11 +95,11 @@ fn is_short_number(text: &str) -> bool
     if text.len() > PRIORITY_DIGITS {
         return false;
     }
-    are_digits(text.as_bytes())
+    are_all_digits(text.as_bytes())
 }
 
 // Whether all bytes are digits.
-fn are_digits(bytes: &[u8]) -> bool
+fn are_all_digits(bytes: &[u8]) -> bool
     ensures { result ≡ list_all is_ascii_digit bytes.now }
 {
     bytes.iter().all(|byte| byte.is_ascii_digit())

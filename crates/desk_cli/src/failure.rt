@@ -1,4 +1,4 @@
-//! Why the program did not do all that it was asked: the exit status, and the word that it prints.
+//! Error codes: why a command failed, its exit status, and the word that is printed.
 
 ghost use Rattle.std.specs.Prelude.{◌≡◌, IfErr, None, OnOk, is_some};
 ghost use Rattle.std.specs.Io.KnownBytes.{Appends};
@@ -13,20 +13,20 @@ use s2_cover::{CoverFault, RectFault};
 use std::alloc::{AllocError, AllocFailed};
 use std::io::Write;
 
-/// Why the program did not do all that it was asked.
+/// Why a command failed.
 #[derive(Clone, Copy, Debug, PartialEq, Eq)]
 pub enum ErrorCode {
-    /// The place of the next request is unknown.
+    /// It isn't known where the next request begins.
     Unframed,
     /// The input ended inside a request.
     CutShort,
     /// A read failed.
     Read,
-    /// As many requests were answered as a run answers at most.
+    /// The maximum number of requests of one run was answered.
     Limit,
-    /// A text is no token of a cell.
+    /// A text is no S2 token.
     Token(TokenFault),
-    /// Numbers are no rectangle.
+    /// Six numbers are no rectangle.
     Rect(RectFault),
     /// The cover of a rectangle has too many cells.
     TooManyCells,
@@ -38,26 +38,26 @@ pub enum ErrorCode {
     Store,
     /// A write failed.
     Write,
-    /// The port can't be had, or no connection can be taken from it.
+    /// The port can't be listened at, or no connection can be accepted.
     Network,
-    /// The clock gives no moment in range.
+    /// The time of the clock is out of range.
     Clock,
     /// An enrolment's ceiling is above 1,000.
     Value,
-    /// A database has other tables than a desk's, or rows that are no desk's.
+    /// A file isn't a valid database: its tables or its rows are wrong.
     NotADesk,
-    /// A database has rows of schema 1, which have to be migrated.
+    /// A database has schema 1 and has to be migrated.
     OldSchema,
-    /// The log of a database is damaged.
+    /// The WAL of a database is damaged.
     DamagedLog,
-    /// What a record has at its place, none has: it is damaged, or a record is missing before it.
+    /// A journal is damaged, or a file of it is missing.
     NoRecord,
-    /// The desk gives another answer than the recorded one.
+    /// The desk's answer differs from the recorded one.
     Differs,
 }
 
 impl ErrorCode {
-    /// The exit status: 2 for the words, 3 for the input, 4 for memory, the store, output, the network
+    /// The exit status: 2 for the arguments, 3 for the input, 4 for memory, the database, the output, the network
     /// and the clock.
     pub fn status(self) -> u8
         ensures { result ≡ spec.failure_status self }
@@ -73,7 +73,7 @@ impl ErrorCode {
         }
     }
 
-    /// The word that is printed.
+    /// The error code as it is printed.
     pub fn word(self) -> &'static str
         ensures { result.now ≡ spec.failure_word self }
     {
@@ -101,7 +101,7 @@ impl ErrorCode {
     }
 }
 
-// The word of a text that is no token.
+// The error code of a text that is no S2 token.
 fn token_word(fault: TokenFault) -> &'static str
     ensures { result.now ≡ spec.token_word fault }
 {
@@ -113,7 +113,7 @@ fn token_word(fault: TokenFault) -> &'static str
     }
 }
 
-// The word of numbers that are no rectangle.
+// The error code of numbers that are no rectangle.
 fn rect_word(fault: RectFault) -> &'static str
     ensures { result.now ≡ spec.rect_word fault }
 {
@@ -202,17 +202,17 @@ impl<T: Drop> From<AllocFailed<T>> for ErrorCode {
     }
 }
 
-/// How a line ended that reports its failure to a writer of this type.
+/// How a command ended. `E` is the writer to which errors are reported.
 #[derive_where(Clone, Copy, Debug, PartialEq, Eq)]
 pub struct ExitReport<E> {
     /// The exit status.
     pub status: u8,
-    /// Where the line that reports a failure was broken off, if it was.
+    /// The write error at the report of a failure, if there was one.
     pub cut: Option<WriteError<E>>,
 }
 
 impl<E> ExitReport<E> {
-    /// An exit with this status, at which nothing is reported.
+    /// An exit with this status and without a report.
     pub fn silent(status: u8) -> ExitReport<E>
         ensures status { result.status ≡ status }
         ensures cut { result.cut ≡ None }
@@ -221,8 +221,8 @@ impl<E> ExitReport<E> {
     }
 }
 
-/// The end of what was done; the word of a failure is printed as `uss_desk: WORD`, and a fault of the
-/// writer is passed over.
+/// The exit of a command: status 0 if `done` is Ok; else the error's status, and its code is printed to `errors` as
+/// `uss_desk: WORD`. A write error there doesn't change the status.
 pub fn report_exit<E: Write>(errors: &mut E, done: Result<(), ErrorCode>) -> ExitReport<E>
     ensures status { result.status ≡ spec.exit_status done }
     ensures reported { spec.IsConcluded done (is_some result.cut) (E.contents errors.old)
@@ -237,7 +237,7 @@ pub fn report_exit<E: Write>(errors: &mut E, done: Result<(), ErrorCode>) -> Exi
     }
 }
 
-// Prints the line of a failure, and answers where it was broken off, if it was.
+// Prints the line `uss_desk: WORD`, and returns the write error, if there was one.
 fn print_failure<E: Write>(errors: &mut E, failure: ErrorCode) -> Option<WriteError<E>>
     ensures { HasWritten (is_some result) (spec.failure_line failure) (E.contents errors.old)
         (E.contents errors.new) }
@@ -248,7 +248,7 @@ fn print_failure<E: Write>(errors: &mut E, failure: ErrorCode) -> Option<WriteEr
     }
 }
 
-// Writes the line of a failure, up to the first write that fails.
+// Writes the line `uss_desk: WORD`, up to the first write that fails.
 fn write_failure<E: Write>(errors: &mut E, failure: ErrorCode) -> Result<(), WriteError<E>>
     ensures ok { OnOk result (Appends (E.contents errors.old) (E.contents errors.new)
         (spec.failure_line failure)) }

@@ -1,5 +1,5 @@
-//! The command line of the planning desk's program: what its words say, why the program ends and with
-//! which status, and what the lines print that need no desk.
+//! The command line of the program: its parser, the error codes and exit statuses, and the commands that need no
+//! database.
 #![tactic(auto)]
 
 mod command;

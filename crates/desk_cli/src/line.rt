@@ -27,7 +27,7 @@ ghost use Rattle.desk_cli.specs.declared.line.CoverArgs.{CoverArgs};
 ghost use Rattle.desk_cli.specs.declared.line.WordsFault.TheVariants as fault;
 
 use crate::command::make_command;
-use crate::equal::{permitted_by, priority_of};
+use crate::equal::{parse_permitted_option, parse_priority};
 use clap::ArgMatches;
 use clap::error::ErrorKind;
 use desk_rules::operator::Operator;
@@ -37,13 +37,13 @@ use io_ends::Moment;
 use std::alloc::{AllocError, AllocFailed, Global};
 use volume4d::MAX_SECOND;
 
-/// The word for a database in memory.
+/// The argument that names a database in memory.
 const IN_MEMORY: &str = ":memory:";
 
-/// The most connections that are served.
+/// The maximum number of connections that `serve` accepts.
 pub(crate) const MAX_CONNECTIONS: u32 = 1_000_000;
 
-/// What the program is asked for: one command, with its arguments.
+/// A parsed command line: one command with its arguments.
 #[derive(Debug, Drop)]
 pub enum Line {
     /// `token`: reports the cell of this text.
@@ -60,13 +60,13 @@ pub enum Line {
     Check(Database),
     /// `copy`: makes a new file of what a database holds.
     Copy(CopyArgs),
-    /// `migrate`: moves the plans of a database of schema 1 to schema 2.
+    /// `migrate`: migrates a database of schema 1 to schema 2.
     Migrate(Database),
-    /// `replay`: plays the record of the standard input, and compares each answer with the recorded one.
+    /// `replay`: replays the journal from the standard input, and compares each answer with the recorded one.
     Replay(ReplayArgs),
 }
 
-/// What a command does at its desk once that is open.
+/// A command that works at an open desk, with its arguments.
 #[derive(Clone, Copy)]
 pub enum DeskCommand<'a> {
     /// Answers the requests of the standard input.
@@ -78,7 +78,7 @@ pub enum DeskCommand<'a> {
 }
 
 impl<'a> DeskCommand<'a> {
-    /// The desk that the command opens.
+    /// Which desk the command opens.
     pub fn desk(self) -> &'a DeskArgs
         ensures { result.now ≡ desk_of self.entry }
     {
@@ -90,10 +90,10 @@ impl<'a> DeskCommand<'a> {
     }
 }
 
-/// Where operators and plans are kept.
+/// Where operators and plans are stored.
 #[derive(Clone, Debug, Drop)]
 pub enum Database {
-    /// In memory: they are gone when the program ends.
+    /// In memory: they are lost when the program ends.
     InMemory,
     /// In the SQLite database of this path.
     File(String),
@@ -111,15 +111,15 @@ impl Database {
     }
 }
 
-/// Which desk a command opens, and what is set there before it begins.
+/// Which desk a command opens, and its settings.
 #[derive(Clone, Debug, Drop)]
 pub struct DeskArgs {
-    /// Where operators and plans are kept.
+    /// Where operators and plans are stored.
     pub database: Database,
-    /// The terms of the desk: the priorities of which plans may overlap, and the most spans of an operator's
-    /// live plans and the most cells of all its plans, 1 to 5,000,000 each. `enrol` has none.
+    /// The settings of the desk: the permitted priorities, and the limits on the spans of an operator's live plans
+    /// and on the cells of all its plans, 1 to 5,000,000 each. `enrol` has none.
     pub terms: Terms,
-    /// The operators, in the order given; a name may be there twice. `enrol` has none.
+    /// The operators to be enrolled, in the order given; a name may occur twice. `enrol` has none.
     pub enrolments: Vec<Enrolment>,
     /// The path of the file of enrolments that the administrator changes while the desk serves, if there
     /// is one. `serve` alone has one.
@@ -129,7 +129,7 @@ pub struct DeskArgs {
 }
 
 impl DeskArgs {
-    /// The same arguments.
+    /// A copy of these arguments.
     ///
     /// # Errors
     ///
@@ -170,7 +170,7 @@ pub struct EnrolArgs {
     pub enrolment: Enrolment,
 }
 
-/// The arguments of `cover`: the parts of a rectangle of leaves, of which nothing is known yet.
+/// The arguments of `cover`: the parts of a rectangle of leaves, not checked yet.
 #[derive(Clone, Copy, Debug)]
 pub struct CoverArgs {
     /// The face, 0 to 5.
@@ -185,14 +185,14 @@ pub struct CoverArgs {
     pub j_max: u32,
     /// The level of the squares, 8 to 24.
     pub level: u8,
-    /// Whether a picture is wanted in place of the tokens.
+    /// Whether a picture is printed in place of the tokens.
     pub is_picture: bool,
 }
 
 /// The arguments of `copy`.
 #[derive(Debug, Drop)]
 pub struct CopyArgs {
-    /// What is copied.
+    /// The database that is copied.
     pub database: Database,
     /// The path of the new file.
     pub to: String,
@@ -201,9 +201,9 @@ pub struct CopyArgs {
 /// The arguments of `replay`.
 #[derive(Debug, Drop)]
 pub struct ReplayArgs {
-    /// Where operators and plans are kept.
+    /// Where operators and plans are stored.
     pub database: Database,
-    /// The last Unix second whose requests are played, 0 to 253,370,764,800, if not all are.
+    /// The last Unix second whose requests are replayed, 0 to 253,370,764,800. None if all are.
     pub until: Option<u64>,
 }
 
@@ -216,12 +216,12 @@ pub struct Enrolment {
     pub ceiling: u32,
 }
 
-/// Why words are no command line.
+/// Why a command line is refused.
 #[derive(Debug, Drop)]
 pub enum WordsFault {
     /// Memory ran out.
     OutOfMemory,
-    /// Help was asked for, or the words have none of the forms that help shows.
+    /// Help was requested, or `clap` refuses the arguments.
     Words(clap::Error),
     /// A name, a ceiling or a `NAME=CEILING` is malformed, or the ceiling is above 1,000; or a list of equal
     /// priorities is malformed or can't be permitted.
@@ -262,39 +262,39 @@ impl From<clap::Error> for WordsFault {
     }
 }
 
-/// Reads the words of a command line, the first of them the program's own name.
+/// Parses a command line; its first word is the program's own name.
 ///
 /// # Errors
 ///
-/// `OutOfMemory` if a growth was refused; else `Words` if `clap` doesn't take them, as if a number is out of
-/// range; else `Value` if they are no line.
+/// `OutOfMemory` if memory runs out; else `Words` if `clap` refuses the arguments, for example because a number is
+/// out of range; else `Value` if an argument that `clap` doesn't check is malformed.
 pub fn read_words(alloc: Global, words: Vec<String>) -> Result<Line, WordsFault>
     ensures valid { IfOk result IsLine }
     ensures given { IfOk result (IsGiven (map string_bytes words.items)) }
     ensures refused { IfErr result (AreWordsRefused (map string_bytes words.items)) }
 {
-    read_slice(alloc, &words)
+    parse_command(alloc, &words)
 }
 
-// The line of words.
-fn read_slice(alloc: Global, words: &[String]) -> Result<Line, WordsFault>
+// Parses a command line.
+fn parse_command(alloc: Global, words: &[String]) -> Result<Line, WordsFault>
     ensures valid { IfOk result IsLine }
     ensures given { IfOk result (IsGiven (map string_bytes words.now)) }
     ensures refused { IfErr result (AreWordsRefused (map string_bytes words.now)) }
 {
-    let matches = matches_of(alloc, words)?;
+    let matches = match_words(alloc, words)?;
     match matches.subcommand() {
-        Some((name, given)) => read_line(alloc, name, given),
+        Some((name, given)) => read_command(alloc, name, given),
         None => Err(WordsFault::Value),
     }
 }
 
-/// What `clap` finds in the words.
+/// Has `clap` parse a command line.
 ///
 /// # Errors
 ///
-/// `OutOfMemory`; `Words`.
-pub(crate) fn matches_of(alloc: Global, words: &[String]) -> Result<ArgMatches<'_>, WordsFault>
+/// `OutOfMemory` if memory runs out; `Words` if `clap` refuses the arguments.
+pub(crate) fn match_words(alloc: Global, words: &[String]) -> Result<ArgMatches<'_>, WordsFault>
     ensures found { IfOk result (λ matches.
         subcommand_rows_of matches ≡ subcommand_of program (map string_bytes words.now)) }
     ensures untaken { IfErr result (IsUntaken (map string_bytes words.now)) }
@@ -302,12 +302,12 @@ pub(crate) fn matches_of(alloc: Global, words: &[String]) -> Result<ArgMatches<'
     Ok(make_command(alloc)?.try_get_matches_from(words)?)
 }
 
-// The line of this name, by the values that were given.
-fn read_line(alloc: Global, name: &str, given: &ArgMatches<'_>) -> Result<Line, WordsFault>
+// Reads the command `name` from its arguments.
+fn read_command(alloc: Global, name: &str, given: &ArgMatches<'_>) -> Result<Line, WordsFault>
     ensures valid { IfOk result IsLine }
     ensures name { IfOk result (λ line. name_of line ≡ name.now) }
     ensures given { IfOk result (HasGiven (rows_of (found_of given.now))) }
-    ensures lacks { Lacks (IsLineOf name.now (rows_of (found_of given.now))) result }
+    ensures refused { Lacks (IsLineOf name.now (rows_of (found_of given.now))) result }
 {
     match name {
         "token" => Ok(Line::Token(read_token(alloc, given)?)),
@@ -326,11 +326,11 @@ fn read_line(alloc: Global, name: &str, given: &ArgMatches<'_>) -> Result<Line, 
     }
 }
 
-// The arguments of `play`.
+// Reads the arguments of `play`.
 fn read_play(alloc: Global, given: &ArgMatches<'_>) -> Result<PlayArgs, WordsFault>
     ensures valid { IfOk result IsPlay }
     ensures given { IfOk result (IsPlayGiven (rows_of (found_of given.now))) }
-    ensures lacks { Lacks (IsPlayGiven (rows_of (found_of given.now))) result }
+    ensures refused { Lacks (IsPlayGiven (rows_of (found_of given.now))) result }
 {
     let Some(moment) = read_moment(given) else {
         return Err(WordsFault::Value);
@@ -341,16 +341,16 @@ fn read_play(alloc: Global, given: &ArgMatches<'_>) -> Result<PlayArgs, WordsFau
     })
 }
 
-// The desk of `play` or `serve`, with the file of enrolments of this path.
+// Reads which desk `play` or `serve` opens; `operators` is the path of the file of enrolments.
 fn read_desk(
     alloc: Global,
     given: &ArgMatches<'_>,
     operators: Option<&str>,
 ) -> Result<DeskArgs, WordsFault>
-    ensures small { IfOk result (λ desk. AreEnrolments desk.enrolments.items) }
+    ensures in_range { IfOk result (λ desk. AreEnrolments desk.enrolments.items) }
     ensures given { IfOk result (IsDeskGiven (rows_of (found_of given.now))
         (option_map (λ path. path.now) operators.entry)) }
-    ensures lacks { Lacks (IsDeskGiven (rows_of (found_of given.now))
+    ensures refused { Lacks (IsDeskGiven (rows_of (found_of given.now))
         (option_map (λ path. path.now) operators.entry)) result }
 {
     Ok(DeskArgs {
@@ -362,18 +362,18 @@ fn read_desk(
     })
 }
 
-// The moment of all requests.
+// Reads the moment of all requests. None if it is missing or out of range.
 fn read_moment(given: &ArgMatches<'_>) -> Option<Moment>
     ensures given { IfSome result (λ moment.
         IsSecondGiven (codes "moment") (rows_of (found_of given.now)) moment.second) }
     ensures none { result ≡ None → (z : ℤ) → IsMoment z
         → IsSecondGiven (codes "moment") (rows_of (found_of given.now)) z → ⊥ }
 {
-    Moment::try_new(read_second(given, "moment")?)
+    Moment::try_new(read_i64(given, "moment")?)
 }
 
-// A second, or another number of 64 bits and a sign.
-fn read_second(given: &ArgMatches<'_>, id: &str) -> Option<i64>
+// Reads the argument `id` as an `i64`. None if it is missing or out of range.
+fn read_i64(given: &ArgMatches<'_>, id: &str) -> Option<i64>
     ensures given { IfSome result (IsSecondGiven id.now (rows_of (found_of given.now))) }
     ensures none { result ≡ None → (z : ℤ) → SFits w64 z
         → IsSecondGiven id.now (rows_of (found_of given.now)) z → ⊥ }
@@ -381,22 +381,22 @@ fn read_second(given: &ArgMatches<'_>, id: &str) -> Option<i64>
     given.get_one(id)
 }
 
-// The text of `token`.
+// Reads the argument of `token`.
 fn read_token(alloc: Global, given: &ArgMatches<'_>) -> Result<String, WordsFault>
     ensures given { IfOk result (λ token. IsTextGiven (rows_of (found_of given.now)) (string_bytes token)) }
-    ensures lacks { Lacks (IsTextGiven (rows_of (found_of given.now))) result }
+    ensures refused { Lacks (IsTextGiven (rows_of (found_of given.now))) result }
 {
-    match text_of(given, "token") {
+    match argument(given, "token") {
         Some(token) => Ok(String::from_str(alloc, token)?),
         None => Err(WordsFault::Value),
     }
 }
 
-// The arguments of `serve`.
+// Reads the arguments of `serve`.
 fn read_serve(alloc: Global, given: &ArgMatches<'_>) -> Result<ServeArgs, WordsFault>
     ensures valid { IfOk result IsServe }
     ensures given { IfOk result (IsServeGiven (rows_of (found_of given.now))) }
-    ensures lacks { Lacks (λ serve. IsServe serve
+    ensures refused { Lacks (λ serve. IsServe serve
         × IsServeGiven (rows_of (found_of given.now)) serve) result }
 {
     let Some(port) = read_port(given) else {
@@ -406,34 +406,34 @@ fn read_serve(alloc: Global, given: &ArgMatches<'_>) -> Result<ServeArgs, WordsF
         return Err(WordsFault::Value);
     };
     Ok(ServeArgs {
-        desk: read_desk(alloc, given, text_of(given, "operators"))?,
+        desk: read_desk(alloc, given, argument(given, "operators"))?,
         port,
         connections,
     })
 }
 
-// The port that is listened at.
+// Reads the port that is listened at. None if it is missing or 0.
 fn read_port(given: &ArgMatches<'_>) -> Option<u16>
     ensures valid { IfSome result (IsInRange min_port max_port) }
     ensures given { IfSome result (IsNumberGiven (codes "port") (rows_of (found_of given.now))) }
     ensures none { result ≡ None → (n : ℕ) → IsInRange min_port max_port n
         → IsNumberGiven (codes "port") (rows_of (found_of given.now)) n → ⊥ }
 {
-    let port = read_short(given, "port")?;
+    let port = read_u16(given, "port")?;
     if port == 0 {
         return None;
     }
     Some(port)
 }
 
-// How many connections are served.
+// Reads how many connections are served. None if that is missing or out of range.
 fn read_connections(given: &ArgMatches<'_>) -> Option<u32>
     ensures valid { IfSome result (IsInRange min_connections max_connections) }
     ensures given { IfSome result (IsNumberGiven (codes "connections") (rows_of (found_of given.now))) }
     ensures none { result ≡ None → (n : ℕ) → IsInRange min_connections max_connections n
         → IsNumberGiven (codes "connections") (rows_of (found_of given.now)) n → ⊥ }
 {
-    let connections = read_number(given, "connections")?;
+    let connections = read_u32(given, "connections")?;
     if connections == 0 {
         return None;
     }
@@ -443,15 +443,15 @@ fn read_connections(given: &ArgMatches<'_>) -> Option<u32>
     Some(connections)
 }
 
-// The path of the folder of records, if one is named.
+// Reads the path of the journal's folder, if one is given.
 fn read_folder(alloc: Global, given: &ArgMatches<'_>) -> Result<Option<String>, AllocError>
     ensures { IfOk result (λ folder. option_map string_bytes folder
         ≡ first_of (codes "record") (rows_of (found_of given.now))) }
 {
-    owned_text(alloc, text_of(given, "record"))
+    owned_text(alloc, argument(given, "record"))
 }
 
-// A text of its own, if there is a text.
+// An owned copy of `text`, if there is one.
 fn owned_text(alloc: Global, text: Option<&str>) -> Result<Option<String>, AllocError>
     ensures { IfOk result (λ owned. option_map string_bytes owned
         ≡ option_map (λ text. text.now) text.entry) }
@@ -462,7 +462,7 @@ fn owned_text(alloc: Global, text: Option<&str>) -> Result<Option<String>, Alloc
     }
 }
 
-// The arguments of `cover`.
+// Reads the arguments of `cover`. None if one is missing or out of range.
 fn read_cover(given: &ArgMatches<'_>) -> Option<CoverArgs>
     ensures valid { IfSome result IsCover }
     ensures given { IfSome result (IsCoverGiven (rows_of (found_of given.now))) }
@@ -470,18 +470,18 @@ fn read_cover(given: &ArgMatches<'_>) -> Option<CoverArgs>
         → IsCoverGiven (rows_of (found_of given.now)) cover → ⊥ }
 {
     Some(CoverArgs {
-        face: read_small(given, "FACE")?,
-        i_min: read_number(given, "I_MIN")?,
-        i_max: read_number(given, "I_MAX")?,
-        j_min: read_number(given, "J_MIN")?,
-        j_max: read_number(given, "J_MAX")?,
-        level: read_small(given, "LEVEL")?,
-        is_picture: is_given(given, "picture"),
+        face: read_u8(given, "FACE")?,
+        i_min: read_u32(given, "I_MIN")?,
+        i_max: read_u32(given, "I_MAX")?,
+        j_min: read_u32(given, "J_MIN")?,
+        j_max: read_u32(given, "J_MAX")?,
+        level: read_u8(given, "LEVEL")?,
+        is_picture: is_flag_set(given, "picture"),
     })
 }
 
-// A number of 8 bits.
-fn read_small(given: &ArgMatches<'_>, id: &str) -> Option<u8>
+// Reads the argument `id` as a `u8`. None if it is missing or out of range.
+fn read_u8(given: &ArgMatches<'_>, id: &str) -> Option<u8>
     ensures given { IfSome result (IsNumberGiven id.now (rows_of (found_of given.now))) }
     ensures none { result ≡ None → (n : ℕ) → n < 2 ^ 8
         → IsNumberGiven id.now (rows_of (found_of given.now)) n → ⊥ }
@@ -489,8 +489,8 @@ fn read_small(given: &ArgMatches<'_>, id: &str) -> Option<u8>
     given.get_one(id)
 }
 
-// A number of 16 bits.
-fn read_short(given: &ArgMatches<'_>, id: &str) -> Option<u16>
+// Reads the argument `id` as a `u16`. None if it is missing or out of range.
+fn read_u16(given: &ArgMatches<'_>, id: &str) -> Option<u16>
     ensures given { IfSome result (IsNumberGiven id.now (rows_of (found_of given.now))) }
     ensures none { result ≡ None → (n : ℕ) → n < 2 ^ 16
         → IsNumberGiven id.now (rows_of (found_of given.now)) n → ⊥ }
@@ -498,8 +498,8 @@ fn read_short(given: &ArgMatches<'_>, id: &str) -> Option<u16>
     given.get_one(id)
 }
 
-// A number of 32 bits.
-fn read_number(given: &ArgMatches<'_>, id: &str) -> Option<u32>
+// Reads the argument `id` as a `u32`. None if it is missing or out of range.
+fn read_u32(given: &ArgMatches<'_>, id: &str) -> Option<u32>
     ensures given { IfSome result (IsNumberGiven id.now (rows_of (found_of given.now))) }
     ensures none { result ≡ None → (n : ℕ) → n < 2 ^ 32
         → IsNumberGiven id.now (rows_of (found_of given.now)) n → ⊥ }
@@ -507,18 +507,18 @@ fn read_number(given: &ArgMatches<'_>, id: &str) -> Option<u32>
     given.get_one(id)
 }
 
-// Whether a flag was given.
-fn is_given(given: &ArgMatches<'_>, id: &str) -> bool
+// Whether the flag `id` was given.
+fn is_flag_set(given: &ArgMatches<'_>, id: &str) -> bool
     ensures { result ≡ spec.is_given id.now (rows_of (found_of given.now)) }
 {
     given.get_one(id).unwrap_or(false)
 }
 
-// The arguments of `enrol`.
+// Reads the arguments of `enrol`.
 fn read_enrol(alloc: Global, given: &ArgMatches<'_>) -> Result<EnrolArgs, WordsFault>
     ensures valid { IfOk result IsEnrol }
     ensures given { IfOk result (IsEnrolGiven (rows_of (found_of given.now))) }
-    ensures lacks { Lacks (IsEnrolGiven (rows_of (found_of given.now))) result }
+    ensures refused { Lacks (IsEnrolGiven (rows_of (found_of given.now))) result }
 {
     let Some(enrolment) = read_operator(given) else {
         return Err(WordsFault::Value);
@@ -529,7 +529,7 @@ fn read_enrol(alloc: Global, given: &ArgMatches<'_>) -> Result<EnrolArgs, WordsF
     })
 }
 
-// The desk of `enrol`, at which nothing is set.
+// Reads which desk `enrol` opens: one without settings.
 fn read_bare_desk(alloc: Global, given: &ArgMatches<'_>) -> Result<DeskArgs, AllocError>
     ensures { IfOk result (IsBareDeskGiven (rows_of (found_of given.now))) }
 {
@@ -542,12 +542,12 @@ fn read_bare_desk(alloc: Global, given: &ArgMatches<'_>) -> Result<DeskArgs, All
     })
 }
 
-// The arguments of `copy`.
+// Reads the arguments of `copy`.
 fn read_copy(alloc: Global, given: &ArgMatches<'_>) -> Result<CopyArgs, WordsFault>
     ensures given { IfOk result (IsCopyGiven (rows_of (found_of given.now))) }
-    ensures lacks { Lacks (IsCopyGiven (rows_of (found_of given.now))) result }
+    ensures refused { Lacks (IsCopyGiven (rows_of (found_of given.now))) result }
 {
-    let Some(to) = text_of(given, "to") else {
+    let Some(to) = argument(given, "to") else {
         return Err(WordsFault::Value);
     };
     Ok(CopyArgs {
@@ -556,11 +556,11 @@ fn read_copy(alloc: Global, given: &ArgMatches<'_>) -> Result<CopyArgs, WordsFau
     })
 }
 
-// The arguments of `replay`.
+// Reads the arguments of `replay`.
 fn read_replay(alloc: Global, given: &ArgMatches<'_>) -> Result<ReplayArgs, WordsFault>
     ensures valid { IfOk result IsReplay }
     ensures given { IfOk result (IsReplayGiven (rows_of (found_of given.now))) }
-    ensures lacks { Lacks (λ replay. IsReplay replay
+    ensures refused { Lacks (λ replay. IsReplay replay
         × IsReplayGiven (rows_of (found_of given.now)) replay) result }
 {
     let Some(until) = read_until(given) else {
@@ -572,29 +572,29 @@ fn read_replay(alloc: Global, given: &ArgMatches<'_>) -> Result<ReplayArgs, Word
     })
 }
 
-// The last second that is played, or that there is none; none if there is something else.
+// Reads the last second to be replayed: `Some(None)` if the option is missing, None if it is out of range.
 fn read_until(given: &ArgMatches<'_>) -> Option<Option<u64>>
     ensures valid { IfSome result IsLastSecond }
     ensures given { IfSome result (IsNumberOrNone (codes "until") (rows_of (found_of given.now))) }
     ensures none { result ≡ None → (found : Option ℕ) → IsLastSecond found
         → IsNumberOrNone (codes "until") (rows_of (found_of given.now)) found → ⊥ }
 {
-    let until = read_long_if_given(given, "until")?;
+    let until = read_u64_if_given(given, "until")?;
     if !until.is_none_or(is_moment) {
         return None;
     }
     Some(until)
 }
 
-// Whether a number is a moment.
+// Whether `second` is at most the greatest moment.
 fn is_moment(second: u64) -> bool
     ensures { IsTrue result ↔ IsMoment (pos second) }
 {
     second <= MAX_SECOND as u64
 }
 
-// A number of 64 bits, or that there is none; none if there is something else.
-fn read_long_if_given(given: &ArgMatches<'_>, id: &str) -> Option<Option<u64>>
+// Reads the argument `id` as a `u64`: `Some(None)` if it is missing, None if it is out of range.
+fn read_u64_if_given(given: &ArgMatches<'_>, id: &str) -> Option<Option<u64>>
     ensures given { IfSome result (IsNumberOrNone id.now (rows_of (found_of given.now))) }
     ensures none { result ≡ None → (found : Option ℕ) → IfSome found (λ n. n < 2 ^ 64)
         → IsNumberOrNone id.now (rows_of (found_of given.now)) found → ⊥ }
@@ -602,30 +602,30 @@ fn read_long_if_given(given: &ArgMatches<'_>, id: &str) -> Option<Option<u64>>
     given.try_get_one(id).ok()
 }
 
-// The operator and its ceiling.
+// Reads the operator and its ceiling. None if one is missing or malformed.
 fn read_operator(given: &ArgMatches<'_>) -> Option<Enrolment>
-    ensures value { result ≡ enrolment_given (rows_of (found_of given.now)) }
-    ensures small { IfSome result (λ e. e.ceiling ≤ max_priority) }
+    ensures parsed { result ≡ enrolment_given (rows_of (found_of given.now)) }
+    ensures in_range { IfSome result (λ e. e.ceiling ≤ max_priority) }
 {
-    enrolment_by(text_of(given, "NAME")?, text_of(given, "CEILING")?)
+    make_enrolment(argument(given, "NAME")?, argument(given, "CEILING")?)
 }
 
-/// The text of an argument.
-pub(crate) fn text_of<'a>(given: &ArgMatches<'a>, id: &str) -> Option<&'a str>
+/// The text of the argument `id`. None if it is missing.
+pub(crate) fn argument<'a>(given: &ArgMatches<'a>, id: &str) -> Option<&'a str>
     ensures { option_map (λ text. text.now) result ≡ first_of id.now (rows_of (found_of given.now)) }
 {
     given.get_str(id)
 }
 
-// The database that the words name.
+// Reads which database is used.
 fn read_database(alloc: Global, given: &ArgMatches<'_>) -> Result<Database, AllocError>
     ensures { IfOk result (λ database. file_of database ≡ file_given (rows_of (found_of given.now))) }
 {
-    database_of(alloc, text_of(given, "database"))
+    parse_database(alloc, argument(given, "database"))
 }
 
-// The database of a word; one in memory if there is none.
-fn database_of(alloc: Global, word: Option<&str>) -> Result<Database, AllocError>
+// The database that `word` names: in memory if it is `:memory:` or missing, else the file of this path.
+fn parse_database(alloc: Global, word: Option<&str>) -> Result<Database, AllocError>
     ensures { IfOk result (λ database.
         file_of database ≡ named_file (option_map (λ path. path.now) word.entry)) }
 {
@@ -640,10 +640,10 @@ fn database_of(alloc: Global, word: Option<&str>) -> Result<Database, AllocError
     }
 }
 
-// The terms of the desk.
+// Reads the settings of the desk.
 fn read_terms(alloc: Global, given: &ArgMatches<'_>) -> Result<Terms, WordsFault>
     ensures given { IfOk result (AreTermsOf (rows_of (found_of given.now))) }
-    ensures lacks { Lacks (AreTermsOf (rows_of (found_of given.now))) result }
+    ensures refused { Lacks (AreTermsOf (rows_of (found_of given.now))) result }
 {
     Ok(Terms {
         permitted: read_permitted(alloc, given)?,
@@ -652,39 +652,38 @@ fn read_terms(alloc: Global, given: &ArgMatches<'_>) -> Result<Terms, WordsFault
     })
 }
 
-// The most spans of an operator's live plans; none if any number will do.
+// Reads the limit on the spans of an operator's live plans. None if the option is missing.
 fn read_spans(given: &ArgMatches<'_>) -> Result<Option<u32>, WordsFault>
     ensures given { IfOk result (AreMostSpans (rows_of (found_of given.now))) }
-    ensures lacks { Lacks (AreMostSpans (rows_of (found_of given.now))) result }
+    ensures refused { Lacks (AreMostSpans (rows_of (found_of given.now))) result }
 {
-    read_most(given, "spans", MAX_SPANS)
+    read_limit(given, "spans", MAX_SPANS)
 }
 
-// The most cells of an operator's plans; none if any number will do.
+// Reads the limit on the cells of all plans of an operator. None if the option is missing.
 fn read_cells(given: &ArgMatches<'_>) -> Result<Option<u32>, WordsFault>
     ensures given { IfOk result (AreMostCells (rows_of (found_of given.now))) }
-    ensures lacks { Lacks (AreMostCells (rows_of (found_of given.now))) result }
+    ensures refused { Lacks (AreMostCells (rows_of (found_of given.now))) result }
 {
-    read_most(given, "cells", MAX_TOTAL_CELLS)
+    read_limit(given, "cells", MAX_TOTAL_CELLS)
 }
 
-// The most of something, by its name, up to the greatest number that may be named; none if any number will
-// do.
-fn read_most(given: &ArgMatches<'_>, id: &str, greatest: u32) -> Result<Option<u32>, WordsFault>
+// Reads the limit `id`, from 1 to `greatest`. None if the option is missing.
+fn read_limit(given: &ArgMatches<'_>, id: &str, greatest: u32) -> Result<Option<u32>, WordsFault>
     ensures given { IfOk result (IsMostOf id.now greatest (rows_of (found_of given.now))) }
-    ensures lacks { Lacks (IsMostOf id.now greatest (rows_of (found_of given.now))) result }
+    ensures refused { Lacks (IsMostOf id.now greatest (rows_of (found_of given.now))) result }
 {
-    let Some(most) = read_if_given(given, id) else {
+    let Some(most) = read_u32_if_given(given, id) else {
         return Err(WordsFault::Value);
     };
-    if !is_most(most, greatest) {
+    if !is_valid_limit(most, greatest) {
         return Err(WordsFault::Value);
     }
     Ok(most)
 }
 
-// Whether so many, if they are named, may be named as the most of something.
-fn is_most(most: Option<u32>, greatest: u32) -> bool
+// Whether a limit, if there is one, is from 1 to `greatest`.
+fn is_valid_limit(most: Option<u32>, greatest: u32) -> bool
     ensures { IsTrue result ↔ IfSome most (IsInRange min_most greatest) }
 {
     match most {
@@ -693,8 +692,8 @@ fn is_most(most: Option<u32>, greatest: u32) -> bool
     }
 }
 
-// A number of 32 bits, or that there is none; none if there is something else.
-fn read_if_given(given: &ArgMatches<'_>, id: &str) -> Option<Option<u32>>
+// Reads the argument `id` as a `u32`: `Some(None)` if it is missing, None if it is out of range.
+fn read_u32_if_given(given: &ArgMatches<'_>, id: &str) -> Option<Option<u32>>
     ensures given { IfSome result (IsNumberOrNone id.now (rows_of (found_of given.now))) }
     ensures none { result ≡ None → (found : Option ℕ) → IfSome found (λ n. n < 2 ^ 32)
         → IsNumberOrNone id.now (rows_of (found_of given.now)) found → ⊥ }
@@ -702,38 +701,38 @@ fn read_if_given(given: &ArgMatches<'_>, id: &str) -> Option<Option<u32>>
     given.try_get_one(id).ok()
 }
 
-// The priorities at which plans may overlap.
+// Reads the priorities at which plans may overlap.
 fn read_permitted(alloc: Global, given: &ArgMatches<'_>) -> Result<Permitted, WordsFault>
     ensures given { IfOk result (ArePermittedBy
         (first_of (codes "equal") (rows_of (found_of given.now)))) }
-    ensures lacks { Lacks (ArePermittedBy
+    ensures refused { Lacks (ArePermittedBy
         (first_of (codes "equal") (rows_of (found_of given.now)))) result }
 {
-    permitted_by(alloc, text_of(given, "equal"))
+    parse_permitted_option(alloc, argument(given, "equal"))
 }
 
-// The enrolments, in the order given.
+// Reads the enrolments, in the order given.
 fn read_enrolments(alloc: Global, given: &ArgMatches<'_>) -> Result<Vec<Enrolment>, WordsFault>
-    ensures small { IfOk result (λ enrolments. AreEnrolments enrolments.items) }
+    ensures in_range { IfOk result (λ enrolments. AreEnrolments enrolments.items) }
     ensures given { IfOk result (λ enrolments.
         AreEnrolmentsGiven enrolments.items (rows_of (found_of given.now))) }
-    ensures lacks { Lacks (λ enrolments.
+    ensures refused { Lacks (λ enrolments.
         AreEnrolmentsGiven enrolments (rows_of (found_of given.now))) result }
 {
-    enrolments_of(alloc, given.get_strs("enrolments").unwrap_or(&[]))
+    parse_enrolments(alloc, given.get_strs("enrolments").unwrap_or(&[]))
 }
 
-// The enrolments of these texts, in their order.
-fn enrolments_of(alloc: Global, words: &[&str]) -> Result<Vec<Enrolment>, WordsFault>
-    ensures small { IfOk result (λ enrolments. AreEnrolments enrolments.items) }
+// Parses an enrolment `NAME=CEILING` from each of `words`, in their order.
+fn parse_enrolments(alloc: Global, words: &[&str]) -> Result<Vec<Enrolment>, WordsFault>
+    ensures in_range { IfOk result (λ enrolments. AreEnrolments enrolments.items) }
     ensures given { IfOk result (λ enrolments. map Some enrolments.items
         ≡ map (λ word. enrolment_in word.now) words.now) }
-    ensures lacks { Lacks (λ (enrolments : List Enrolment). map Some enrolments
+    ensures refused { Lacks (λ (enrolments : List Enrolment). map Some enrolments
         ≡ map (λ word. enrolment_in word.now) words.now) result }
 {
     let mut enrolments = Vec::new(alloc);
     for word in words {
-        let Some(enrolment) = enrolment_of(word) else {
+        let Some(enrolment) = parse_enrolment(word) else {
             return Err(WordsFault::Value);
         };
         enrolments.push(enrolment)?;
@@ -741,23 +740,23 @@ fn enrolments_of(alloc: Global, words: &[&str]) -> Result<Vec<Enrolment>, WordsF
     Ok(enrolments)
 }
 
-// An enrolment, `NAME=CEILING`, parted at its first `=`.
+// Parses an enrolment `NAME=CEILING`, split at its first `=`. None if it is malformed.
 #[tactic(auto, unfolding(crate::specs::Grammar::enrolment_in))]
-fn enrolment_of(word: &str) -> Option<Enrolment>
-    ensures value { result ≡ enrolment_in word.now }
-    ensures small { IfSome result (λ e. e.ceiling ≤ max_priority) }
+fn parse_enrolment(word: &str) -> Option<Enrolment>
+    ensures parsed { result ≡ enrolment_in word.now }
+    ensures in_range { IfSome result (λ e. e.ceiling ≤ max_priority) }
 {
     let (name, ceiling) = word.split_once('=')?;
-    enrolment_by(name, ceiling)
+    make_enrolment(name, ceiling)
 }
 
-/// An enrolment of an operator under a ceiling.
-pub(crate) fn enrolment_by(name: &str, ceiling: &str) -> Option<Enrolment>
-    ensures value { result ≡ spec.enrolment_by name.now ceiling.now }
-    ensures small { IfSome result (λ e. e.ceiling ≤ max_priority) }
+/// The enrolment of the operator `name` with `ceiling`. None if either text is malformed.
+pub(crate) fn make_enrolment(name: &str, ceiling: &str) -> Option<Enrolment>
+    ensures parsed { result ≡ spec.enrolment_by name.now ceiling.now }
+    ensures in_range { IfSome result (λ e. e.ceiling ≤ max_priority) }
 {
     Some(Enrolment {
         operator: Operator::try_new(name.as_bytes())?,
-        ceiling: priority_of(ceiling)?,
+        ceiling: parse_priority(ceiling)?,
     })
 }

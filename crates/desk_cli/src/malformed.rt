@@ -1,4 +1,4 @@
-//! Which word of a line is malformed, reported once the line was refused for one.
+//! Which argument is malformed: found for the error message after the command line was refused.
 
 ghost use Rattle.std.specs.Prelude.{◌≡◌, [], codes, IfSome, Some, is_none, is_some, map, not, option_map, string_bytes, unwrap_or};
 ghost use Rattle.clap.specs.Matches.{found_of};
@@ -9,8 +9,8 @@ ghost use Rattle.desk_cli.specs.Grammar.{enrolment_by, enrolment_in};
 ghost use Rattle.desk_cli.specs.Malformed.{IsBadAtDesk, IsBadBy, IsBadOperator, IsFirstBad};
 ghost use Rattle.desk_cli.specs.Malformed.{IsMalformed, first_bad};
 
-use crate::equal::{permitted_by, priority_of};
-use crate::line::{WordsFault, matches_of, text_of};
+use crate::equal::{parse_permitted_option, parse_priority};
+use crate::line::{WordsFault, argument, match_words};
 use clap::ArgMatches;
 use desk_rules::operator::Operator;
 use std::alloc::Global;
@@ -24,18 +24,18 @@ const NO_CEILING: &str = "no ceiling: a number from 0 to 1000, of at most 4 digi
 const NO_LIST: &str =
     "no list of priorities: at most 32 from 0 to 1000, ascending, with commas between";
 
-/// The first word of a line that is malformed, and what it is not. None if there is none, or if memory runs
+/// The first malformed argument, and what it should have been. None if no argument is malformed, or if memory runs
 /// out.
 pub fn bad_argument<'w>(alloc: Global, words: &'w [String]) -> Option<(&'w str, &'static str)>
     ensures { IfSome result (λ found. IsMalformed (map string_bytes words.now) found.0.now) }
 {
-    let matches = matches_of(alloc, words).ok()?;
+    let matches = match_words(alloc, words).ok()?;
     let (name, given) = matches.subcommand()?;
-    malformed_in(alloc, name, given)
+    malformed_argument(alloc, name, given)
 }
 
-// The first word of a line of this name that is malformed.
-fn malformed_in<'w>(
+// The first malformed argument of the command `name`.
+fn malformed_argument<'w>(
     alloc: Global,
     name: &str,
     given: &ArgMatches<'w>,
@@ -52,27 +52,27 @@ fn malformed_in<'w>(
 fn malformed_operator<'w>(given: &ArgMatches<'w>) -> Option<(&'w str, &'static str)>
     ensures { IfSome result (λ found. IsBadOperator (rows_of (found_of given.now)) found.0.now) }
 {
-    let name = text_of(given, "NAME")?;
+    let name = argument(given, "NAME")?;
     if let Some(cause) = name_cause(name) {
         return Some((name, cause));
     }
-    let ceiling = text_of(given, "CEILING")?;
+    let ceiling = argument(given, "CEILING")?;
     match ceiling_cause(ceiling) {
         Some(cause) => Some((ceiling, cause)),
         None => None,
     }
 }
 
-// The list of equal priorities, or the first word that is no enrolment, if one is malformed.
+// The first malformed argument of `play` or `serve`: the value of `--equal`, or an enrolment.
 fn malformed_at_desk<'w>(alloc: Global, given: &ArgMatches<'w>) -> Option<(&'w str, &'static str)>
     ensures { IfSome result (λ found. IsBadAtDesk (rows_of (found_of given.now)) found.0.now) }
 {
     let words = given.get_strs("enrolments").unwrap_or(&[]);
-    malformed_by(alloc, text_of(given, "equal"), words)
+    malformed_list_or_enrolment(alloc, argument(given, "equal"), words)
 }
 
-// The same, by the list, if there is one, and these words.
-fn malformed_by<'w>(
+// The value of `--equal`, if it is malformed, else the first of `words` that is no enrolment.
+fn malformed_list_or_enrolment<'w>(
     alloc: Global,
     equal: Option<&'w str>,
     words: &[&'w str],
@@ -83,14 +83,14 @@ fn malformed_by<'w>(
     let Some(word) = equal else {
         return malformed_enrolment(words);
     };
-    match permitted_by(alloc, Some(word)) {
+    match parse_permitted_option(alloc, Some(word)) {
         Ok(_) => malformed_enrolment(words),
         Err(WordsFault::Value) => Some((word, NO_LIST)),
         _ => None,
     }
 }
 
-// The first of these words that is no enrolment.
+// The first of `words` that is no enrolment `NAME=CEILING`.
 fn malformed_enrolment<'w>(words: &[&'w str]) -> Option<(&'w str, &'static str)>
     ensures { IfSome result (λ found. first_bad (map (λ word. word.now) words.now) ≡ Some found.0.now) }
 {
@@ -102,19 +102,19 @@ fn malformed_enrolment<'w>(words: &[&'w str]) -> Option<(&'w str, &'static str)>
     None
 }
 
-// Why a word is no enrolment, if it is none.
+// Why `word` is no enrolment. None if it is one.
 #[tactic(auto, unfolding(crate::specs::Grammar::enrolment_in))]
 fn enrolment_cause(word: &str) -> Option<&'static str>
     ensures { is_some result ≡ is_none (enrolment_in word.now) }
 {
     match word.split_once('=') {
         None => Some(NO_PAIR),
-        Some((name, ceiling)) => cause_by(name, ceiling),
+        Some((name, ceiling)) => pair_cause(name, ceiling),
     }
 }
 
-// Why a name and a ceiling are no enrolment, if they are none.
-fn cause_by(name: &str, ceiling: &str) -> Option<&'static str>
+// Why `name` or `ceiling` is malformed. None if neither is.
+fn pair_cause(name: &str, ceiling: &str) -> Option<&'static str>
     ensures { is_some result ≡ is_none (enrolment_by name.now ceiling.now) }
 {
     match name_cause(name) {
@@ -123,7 +123,7 @@ fn cause_by(name: &str, ceiling: &str) -> Option<&'static str>
     }
 }
 
-// What a text is not that is no operator's name.
+// Why `name` is no operator's name. None if it is one.
 fn name_cause(name: &str) -> Option<&'static str>
     ensures { is_some result ≡ not (is_operator_name name.now) }
 {
@@ -133,11 +133,11 @@ fn name_cause(name: &str) -> Option<&'static str>
     }
 }
 
-// What a text is not that is no ceiling.
+// Why `ceiling` is no ceiling. None if it is one.
 fn ceiling_cause(ceiling: &str) -> Option<&'static str>
     ensures { is_some result ≡ is_none (priority_in ceiling.now) }
 {
-    match priority_of(ceiling) {
+    match parse_priority(ceiling) {
         Some(_) => None,
         None => Some(NO_CEILING),
     }

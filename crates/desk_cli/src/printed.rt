@@ -1,4 +1,4 @@
-//! What the lines print that need no desk: the cell of a token, and the cover of a rectangle.
+//! The commands that need no database: `token` reports a cell, and `cover` the cells of a rectangle.
 
 ghost use Rattle.std.specs.Prelude.{◌≡◌, ◌⊎◌, List, IfOk, IfErr, OnOk, Ok, Err, length, string_bytes};
 ghost use Rattle.std.specs.Io.KnownBytes.{Appends};
@@ -25,8 +25,8 @@ use std::alloc::{AllocError, Global};
 use std::io::Write;
 use volume4d::MAX_COVER;
 
-/// Prints what a `token` or a `cover` asks for, and answers how it ended. The word of a failure goes
-/// to `errors`; a fault there is passed over.
+/// Carries out `token` or `cover`: prints the result to `output`, or the error code to `errors`. A write error at
+/// `errors` doesn't change the exit status.
 pub fn print_line<W: Write, E: Write>(
     alloc: Global,
     line: &Line,
@@ -37,19 +37,19 @@ pub fn print_line<W: Write, E: Write>(
     ensures { IsPrinted line.now (ending result (E.contents errors.old) (E.contents errors.new))
         (W.contents output.old) (W.contents output.new) }
 {
-    report_exit(errors, print_text(alloc, line, output))
+    report_exit(errors, print_output(alloc, line, output))
 }
 
-// Prints the text of a line.
-fn print_text<W: Write>(alloc: Global, line: &Line, output: &mut W) -> Result<(), ErrorCode>
+// Prints the result of `token` or `cover`.
+fn print_output<W: Write>(alloc: Global, line: &Line, output: &mut W) -> Result<(), ErrorCode>
     requires { IsPrinting line.now }
     ensures { IsShown line.now result (W.contents output.old) (W.contents output.new) }
 {
-    let text = text_of(alloc, line)?;
+    let text = output_text(alloc, line)?;
     write_text(output, &text)
 }
 
-// Writes a text, up to the first write that fails.
+// Writes `text`, up to the first write that fails.
 #[tactic(auto, using(crate::proofs::WrittenLemmas::begun_part))]
 fn write_text<W: Write>(output: &mut W, text: &str) -> Result<(), ErrorCode>
     ensures ok { OnOk result (Appends (W.contents output.old) (W.contents output.new) text.now) }
@@ -60,8 +60,8 @@ fn write_text<W: Write>(output: &mut W, text: &str) -> Result<(), ErrorCode>
     Ok(())
 }
 
-// The text that a line prints.
-fn text_of(alloc: Global, line: &Line) -> Result<String, ErrorCode>
+// The result of `token` or `cover`, as it is printed.
+fn output_text(alloc: Global, line: &Line) -> Result<String, ErrorCode>
     requires { IsPrinting line.now }
     ensures ok { IfOk result (λ text. IsTextOf line.now (Ok (string_bytes text))) }
     ensures err { IfErr result (λ f. (f ≡ Memory) ⊎ IsTextOf line.now (Err f)) }
@@ -73,7 +73,7 @@ fn text_of(alloc: Global, line: &Line) -> Result<String, ErrorCode>
     }
 }
 
-// The line that reports the cell of a token.
+// The line that describes the cell of a token.
 fn token_text(alloc: Global, token: &str) -> Result<String, ErrorCode>
     ensures ok { IfOk result (λ text. Ok (string_bytes text) ≡ reported_of_token (read_token token.now)) }
     ensures err { IfErr result (λ f. (f ≡ Memory) ⊎ (Err f ≡ reported_of_token (read_token token.now))) }
@@ -82,7 +82,7 @@ fn token_text(alloc: Global, token: &str) -> Result<String, ErrorCode>
     Ok(cell_line(alloc, &cell)?)
 }
 
-// The line that reports a cell.
+// The line that describes a cell: token, face, level, and its first and last leaf.
 #[tactic(auto, unfolding(crate::specs::Printing::cell_line))]
 fn cell_line(alloc: Global, cell: &CellId) -> Result<String, AllocError>
     ensures { IfOk result (λ text. string_bytes text ≡ spec.cell_line cell.now) }
@@ -94,7 +94,7 @@ fn cell_line(alloc: Global, cell: &CellId) -> Result<String, AllocError>
     format!(in alloc; "{cell} face {face} level {level} leaves {first} {last}\n")
 }
 
-// The tokens of a rectangle's cover and how many they are, or a picture of them.
+// The cells of a rectangle's cover: their tokens and counts, or, if asked for, a picture of them.
 fn cover_text(alloc: Global, words: &CoverArgs) -> Result<String, ErrorCode>
     ensures ok { IfOk result (λ text. IsRectReported words.now.is_picture
         (rect_or_fault (rect_parts words.now)) (Ok (string_bytes text))) }
@@ -117,7 +117,7 @@ fn cover_text(alloc: Global, words: &CoverArgs) -> Result<String, ErrorCode>
     }
 }
 
-// Each token of a cover on a line, then how many cells and ranges it has.
+// The token of each cell of a cover on its own line, then the numbers of cells and ranges.
 #[tactic(auto, unfolding(crate::specs::Printing::cover_lines))]
 fn cells_text(alloc: Global, cover: &Cover) -> Result<String, AllocError>
     ensures { IfOk result (λ text. (spans : List Span) × IsRanges (leaves_of cover.now.ids) spans
@@ -131,7 +131,7 @@ fn cells_text(alloc: Global, cover: &Cover) -> Result<String, AllocError>
     Ok(text)
 }
 
-// Each token on a line.
+// The token of each cell on its own line.
 fn tokens_text(alloc: Global, cells: &[CellId]) -> Result<String, AllocError>
     ensures { IfOk result (λ text. string_bytes text ≡ spec.token_lines cells.now) }
 {

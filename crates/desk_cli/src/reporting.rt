@@ -1,4 +1,4 @@
-//! Lines that say why the program was refused something: `uss_desk: PLACE: TEXT`.
+//! Error messages with their place: `uss_desk: PLACE: TEXT`.
 
 ghost use Rattle.std.specs.Prelude.{◌≡◌, IfOk, map, string_bytes};
 ghost use Rattle.desk_cli.specs.Reporting as spec;
@@ -9,7 +9,7 @@ use io_ends::write_whole;
 use std::alloc::{AllocError, Global};
 use std::io::Write;
 
-/// Prints `uss_desk: PLACE: TEXT`. A write that fails is passed over; if memory runs out, nothing is printed.
+/// Prints `uss_desk: PLACE: TEXT` to `errors`. Write errors are ignored; if memory runs out, nothing is printed.
 #[tactic(auto, using(crate::proofs::ReportLemmas::nothing_reported))]
 pub fn report<E: Write>(alloc: Global, place: &str, text: &str, errors: &mut E)
     ensures { IsReported place.now text.now (E.contents errors.old) (E.contents errors.new) }
@@ -19,7 +19,7 @@ pub fn report<E: Write>(alloc: Global, place: &str, text: &str, errors: &mut E)
     }
 }
 
-// Prints a line, up to the first write that fails.
+// Writes `line`, up to the first write that fails.
 #[tactic(auto, using(crate::proofs::ReportLemmas::printed_line, crate::proofs::ReportLemmas::broken_line))]
 fn write_line<E: Write>(line: &str, errors: &mut E)
     ensures { IsPrintedPart line.now (E.contents errors.old) (E.contents errors.new) }
@@ -27,7 +27,7 @@ fn write_line<E: Write>(line: &str, errors: &mut E)
     let _ = write_whole(errors, line.as_bytes());
 }
 
-// The line that is printed.
+// The line `uss_desk: PLACE: TEXT`.
 #[tactic(auto, unfolding(crate::specs::Reporting::report_line))]
 fn report_line(alloc: Global, place: &str, text: &str) -> Result<String, AllocError>
     ensures { IfOk result (λ line. string_bytes line ≡ spec.report_line place.now text.now) }
@@ -35,8 +35,8 @@ fn report_line(alloc: Global, place: &str, text: &str) -> Result<String, AllocEr
     format!(in alloc; "uss_desk: {place}: {text}\n")
 }
 
-/// Prints which of the words is malformed, and what it is not: `uss_desk: WORD: CAUSE`. A write that fails is
-/// passed over; if no word is malformed, or memory runs out, nothing is printed.
+/// Prints the first malformed argument and why it is so: `uss_desk: WORD: CAUSE`. Write errors are ignored; if no
+/// argument is malformed, or memory runs out, nothing is printed.
 #[tactic(auto, using(crate::proofs::ReportLemmas::nothing_malformed))]
 pub fn report_malformed<E: Write>(alloc: Global, words: &[String], errors: &mut E)
     ensures { IsMalformedReported (map string_bytes words.now) (E.contents errors.old)

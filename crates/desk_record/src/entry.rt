@@ -1,4 +1,4 @@
-//! Entries of a record.
+//! Entries of the journal.
 
 ghost use Rattle.std.specs.Prelude.{◌≡◌, ◌++◌, IfOk, OnErr, OnOk};
 ghost use Rattle.desk_record.specs.Record.{entry};
@@ -6,23 +6,23 @@ ghost use Rattle.desk_record.specs.Reading.{entry_shown};
 
 use crate::kind::Kind;
 use crate::line::{Line, line_text};
-use crate::sums::sum_of;
+use crate::sums::checksum;
 use std::alloc::{AllocError, Global};
 
-/// One entry of a record.
+/// One entry of the journal.
 #[derive(Debug, Drop)]
 pub struct Entry {
     pub kind: Kind,
-    /// What it counts is said by the kind.
+    /// Its meaning depends on the kind.
     pub number: u64,
     pub bytes: Vec<u8>,
 }
 
-/// Appends an entry to a text.
+/// Appends an entry to `text`.
 ///
 /// # Errors
 ///
-/// `AllocError` for want of memory: the text is as it was.
+/// `AllocError` if memory runs out: `text` is unchanged.
 pub fn write_entry(
     text: &mut Vec<u8>,
     kind: Kind,
@@ -37,14 +37,14 @@ pub fn write_entry(
     text.extend_from_slice(&entry)
 }
 
-// The text of an entry.
+// The text of an entry: its line, its bytes, a line feed.
 #[tactic(auto, unfolding(crate::specs::Record::entry))]
 fn entry_text(alloc: Global, kind: Kind, number: u64, bytes: &[u8]) -> Result<Vec<u8>, AllocError>
     ensures { IfOk result (λ text. text.items
         ≡ entry (record { kind = kind; number = number; bytes = bytes.now })) }
 {
     let size = bytes.len() as u64;
-    let sum = sum_of(alloc, bytes)?;
+    let sum = checksum(alloc, bytes)?;
     let mut text = line_text(
         alloc,
         &Line {

@@ -1,30 +1,30 @@
-//! What the entries of a record report.
+//! The kinds of journal entries.
 
 ghost use Rattle.std.specs.Prelude.{◌≡◌};
 ghost use Rattle.desk_record.specs.Record.{word};
 ghost use Rattle.desk_record.specs.EntryLines.{kind_of};
 
-/// What an entry of a record reports. Each entry has a number and bytes.
+/// What a journal entry reports. The comments say what its number is, and what its bytes are.
 #[derive(Clone, Copy, Debug, PartialEq, Eq)]
 pub enum Kind {
-    /// A record begins. Its number in its folder, and the version of the format.
+    /// A journal file begins. Number: that of the file in its folder. Bytes: the version of the format.
     Record,
-    /// Plans of this priority may share points with others of the same priority. No bytes.
+    /// A permitted priority: plans of equal priority may overlap. Number: the priority. No bytes.
     Permitted,
-    /// The most spans of an operator's live plans. No bytes.
+    /// A limit on the spans of an operator's live plans. Number: the limit. No bytes.
     Spans,
-    /// The most cells of an operator's plans. No bytes.
+    /// A limit on the cells of all plans of an operator. Number: the limit. No bytes.
     Cells,
-    /// An operator is enrolled. Its ceiling, and its name.
+    /// An operator is enrolled. Number: its ceiling. Bytes: its name.
     Operator,
-    /// A request is asked at a moment. The Unix second, and the request as it came.
+    /// A request is received. Number: the Unix second at which it is decided. Bytes: the request as it came.
     Request,
-    /// The request before is answered. That request's Unix second, and the answer as it was sent.
+    /// The request before is answered. Number: that request's Unix second. Bytes: the answer as it is sent.
     Answer,
 }
 
 impl Kind {
-    /// Its word in a line: nine characters.
+    /// The word for this kind in an entry's line, padded to nine characters.
     pub fn word(self) -> &'static [u8]
         ensures { result.now ≡ word self }
     {
@@ -40,8 +40,8 @@ impl Kind {
     }
 }
 
-/// The kind of which this is the word. None for every other text.
-pub fn kind_in(text: &[u8]) -> Option<Kind>
+/// The kind whose padded word `text` is. None for every other text.
+pub fn parse_kind(text: &[u8]) -> Option<Kind>
     ensures { result ≡ kind_of text.now }
 {
     if text == b"record   ".as_slice() {

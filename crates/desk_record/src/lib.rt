@@ -1,4 +1,4 @@
-//! The record of a desk: what it was asked, when, and what it answered, as bytes that are written and read.
+//! The format of the request journal: entries with each request, its moment and its answer, written and read.
 #![tactic(auto)]
 
 mod entry;

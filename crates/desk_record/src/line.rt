@@ -1,48 +1,48 @@
-//! Lines of a record: what stands before the bytes of an entry.
+//! Lines of the journal: the fixed-length line with which each entry begins.
 
 ghost use Rattle.std.specs.Prelude.{◌≡◌, ◌++◌, IfOk, OnOk, length};
 ghost use Rattle.std.specs.Option.{option_map};
 ghost use Rattle.desk_record.specs.Record.{front, line, sum};
 ghost use Rattle.desk_record.specs.EntryLines.{line_in, line_parts_in, line_said, line_shown};
 
-use crate::kind::{Kind, kind_in};
-use crate::numbers::{number_in, write_number};
-use crate::sums::sum_of;
+use crate::kind::{Kind, parse_kind};
+use crate::numbers::{parse_number, write_number};
+use crate::sums::checksum;
 use std::alloc::{AllocError, Global};
 
-/// How many bytes a line has.
-pub const LINE: usize = 86;
+/// The length of a line, in bytes.
+pub const LINE_LEN: usize = 86;
 
-/// What a line says.
+/// The fields of a line.
 #[derive(Drop)]
 pub struct Line {
     pub kind: Kind,
     pub number: u64,
-    /// How many bytes the entry has.
+    /// The number of the entry's own bytes.
     pub size: u64,
-    /// The sum of these bytes, as it is written.
+    /// The checksum of these bytes, as hexadecimal digits.
     pub sum: Vec<u8>,
 }
 
-/// The text of a line, with its own sum.
+/// The text of a line: its fields, then the checksum of these.
 ///
 /// # Errors
 ///
-/// `AllocError` for want of memory.
+/// `AllocError` if memory runs out.
 #[tactic(auto, unfolding(crate::specs::Record::line))]
 pub fn line_text(alloc: Global, line: &Line) -> Result<Vec<u8>, AllocError>
     ensures { IfOk result (λ text. text.items ≡ line_said (line_shown line.now)) }
 {
-    let mut text = Vec::with_capacity(alloc, LINE)?;
-    write_front(&mut text, line)?;
-    let sum = sum_of(alloc, &text)?;
+    let mut text = Vec::with_capacity(alloc, LINE_LEN)?;
+    write_line_fields(&mut text, line)?;
+    let sum = checksum(alloc, &text)?;
     text.extend_from_slice(&sum)?;
     text.extend_from_slice(b"\n")?;
     Ok(text)
 }
 
-// Appends what a line says before its own sum.
-fn write_front(text: &mut Vec<u8>, line: &Line) -> Result<(), AllocError>
+// Appends the fields of `line`: all of its text before its own checksum.
+fn write_line_fields(text: &mut Vec<u8>, line: &Line) -> Result<(), AllocError>
     ensures { OnOk result (text.new.items ≡ text.old.items
         ++ front line.now.kind line.now.number line.now.size line.now.sum.items) }
 {
@@ -57,17 +57,17 @@ fn write_front(text: &mut Vec<u8>, line: &Line) -> Result<(), AllocError>
     Ok(())
 }
 
-/// What a line says. None if this is not a line.
+/// Parses a line and checks its own checksum. None if `bytes` isn't a line.
 ///
 /// # Errors
 ///
-/// `AllocError` for want of memory.
+/// `AllocError` if memory runs out.
 #[tactic(auto, unfolding(crate::specs::EntryLines::line_in))]
 pub fn read_line(alloc: Global, bytes: &[u8]) -> Result<Option<Line>, AllocError>
     requires { length bytes.now ≡ 86 }
     ensures { IfOk result (λ found. option_map line_shown found ≡ line_in bytes.now) }
 {
-    let Some(line) = line_at(alloc, bytes)? else {
+    let Some(line) = parse_line_fields(alloc, bytes)? else {
         return Ok(None);
     };
     if line_text(alloc, &line)?.as_slice() == bytes {
@@ -77,19 +77,19 @@ pub fn read_line(alloc: Global, bytes: &[u8]) -> Result<Option<Line>, AllocError
     }
 }
 
-// What stands at the places of a line, if there are a word and numbers.
+// Parses the fields of a line, by their places. Its own checksum and its blanks aren't checked.
 #[tactic(auto, unfolding(crate::specs::EntryLines::line_parts_in))]
-fn line_at(alloc: Global, bytes: &[u8]) -> Result<Option<Line>, AllocError>
+fn parse_line_fields(alloc: Global, bytes: &[u8]) -> Result<Option<Line>, AllocError>
     requires { length bytes.now ≡ 86 }
     ensures { IfOk result (λ found. option_map line_shown found ≡ line_parts_in bytes.now) }
 {
-    let Some(kind) = kind_in(&bytes[..9]) else {
+    let Some(kind) = parse_kind(&bytes[..9]) else {
         return Ok(None);
     };
-    let Some(number) = number_in(&bytes[10..30]) else {
+    let Some(number) = parse_number(&bytes[10..30]) else {
         return Ok(None);
     };
-    let Some(size) = number_in(&bytes[31..51]) else {
+    let Some(size) = parse_number(&bytes[31..51]) else {
         return Ok(None);
     };
     let sum = Vec::from_slice(alloc, &bytes[52..68])?;

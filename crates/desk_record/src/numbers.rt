@@ -1,4 +1,4 @@
-//! Numbers of a line, as twenty digits.
+//! The numbers of a line: twenty decimal digits each.
 
 ghost use Rattle.std.specs.Prelude.{◌≡◌, ◌++◌, OnOk};
 ghost use Rattle.desk_record.specs.Record as record_text;
@@ -7,11 +7,11 @@ ghost use Rattle.desk_record.specs.EntryLines.{next_digit, number_from};
 
 use std::alloc::AllocError;
 
-/// Appends a number as twenty digits.
+/// Appends `number` as twenty decimal digits.
 ///
 /// # Errors
 ///
-/// `AllocError` for want of memory.
+/// `AllocError` if memory runs out.
 #[tactic(auto, unfolding(crate::specs::Record::number))]
 pub fn write_number(out: &mut Vec<u8>, number: u64) -> Result<(), AllocError>
     ensures { OnOk result (out.new.items ≡ out.old.items ++ record_text.number number) }
@@ -19,7 +19,7 @@ pub fn write_number(out: &mut Vec<u8>, number: u64) -> Result<(), AllocError>
     write_digits(out, 20, number)
 }
 
-// Appends the last digits of a number, so many of them.
+// Appends the last `width` decimal digits of `number`.
 #[tactic(auto, using(crate::proofs::DigitLemmas::one_digit), unfolding(crate::specs::Record::digits))]
 fn write_digits(out: &mut Vec<u8>, width: u32, number: u64) -> Result<(), AllocError>
     ensures { OnOk result (out.new.items ≡ out.old.items ++ digits width number) }
@@ -32,19 +32,19 @@ fn write_digits(out: &mut Vec<u8>, width: u32, number: u64) -> Result<(), AllocE
     Ok(())
 }
 
-/// The number that digits write, below 2^64. None for every other text.
-pub fn number_in(text: &[u8]) -> Option<u64>
+/// The number that `text`, decimal digits, writes; 0 if it is empty. None for other bytes, or from 2^64 on.
+pub fn parse_number(text: &[u8]) -> Option<u64>
     ensures { result ≡ number_from 0 text.now }
 {
     let mut number = 0;
     for digit in text {
-        number = with_digit(number, *digit)?;
+        number = append_digit(number, *digit)?;
     }
     Some(number)
 }
 
-// A number with one more digit.
-fn with_digit(number: u64, digit: u8) -> Option<u64>
+// `number` with one more decimal digit. None if `digit` isn't one, or from 2^64 on.
+fn append_digit(number: u64, digit: u8) -> Option<u64>
     ensures { result ≡ next_digit number digit }
 {
     if !digit.is_ascii_digit() {

@@ -8,8 +8,8 @@ ghost use Rattle.desk_record.specs.EntryLines.{line_shown};
 ghost use Rattle.desk_record.specs.Reading.{IsFailure, LacksEntry, entry_shown, has_bytes};
 
 use crate::entry::Entry;
-use crate::line::{LINE, Line, read_line};
-use crate::sums::sum_of;
+use crate::line::{LINE_LEN, Line, read_line};
+use crate::sums::checksum;
 use io_ends::is_interrupted;
 use std::alloc::{AllocError, Global};
 use std::io::Read;
@@ -17,7 +17,7 @@ use std::io::Read;
 /// How many bytes are read at a time, at most.
 const CHUNK: usize = 4_096;
 
-/// How often one read is tried that is interrupted.
+/// How often one read is tried, if it is interrupted each time.
 const MAX_TRIES: u32 = 1_000_000;
 
 /// Why no entry was read.
@@ -29,7 +29,7 @@ pub enum ReadFault {
     OutOfMemory,
     /// The input ended inside an entry.
     CutShort,
-    /// What the input has next is no entry.
+    /// The input goes on with something else than an entry.
     NoRecord,
 }
 
@@ -48,7 +48,7 @@ impl From<AllocError> for ReadFault {
 ///
 /// # Errors
 ///
-/// As `ReadFault` says: `CutShort` and `NoRecord` come of what the input has, whatever is read of it.
+/// As `ReadFault` says. `CutShort` and `NoRecord` depend on the bytes of the input alone.
 pub fn read_entry<R: Read>(alloc: Global, input: &mut R) -> Result<Option<Entry>, ReadFault>
     ensures entry { IfOk result (λ found. IfSome found (λ e.
         Consumes (R.remaining input.old) (R.remaining input.new) (entry (entry_shown e)))) }
@@ -56,22 +56,22 @@ pub fn read_entry<R: Read>(alloc: Global, input: &mut R) -> Result<Option<Entry>
     ensures end { IfOk result (λ found. found ≡ None → IsAtEnd (R.remaining input.old)) }
     ensures fault { IfErr result (LacksEntry (R.remaining input.old)) }
 {
-    let text = receive(alloc, input, LINE as u64)?;
+    let text = read_up_to(alloc, input, LINE_LEN as u64)?;
     if text.is_empty() {
         return Ok(None);
     }
-    if text.len() < LINE {
+    if text.len() < LINE_LEN {
         return Err(ReadFault::CutShort);
     }
     let Some(line) = read_line(alloc, &text)? else {
         return Err(ReadFault::NoRecord);
     };
-    let bytes = receive(alloc, input, line.size)?;
-    let last = receive(alloc, input, 1)?;
+    let bytes = read_up_to(alloc, input, line.size)?;
+    let last = read_up_to(alloc, input, 1)?;
     if last.is_empty() {
         return Err(ReadFault::CutShort);
     }
-    if !is_sound(alloc, &line, &bytes, &last)? {
+    if !is_intact(alloc, &line, &bytes, &last)? {
         return Err(ReadFault::NoRecord);
     }
     let Line { kind, number, .. } = line;
@@ -82,17 +82,17 @@ pub fn read_entry<R: Read>(alloc: Global, input: &mut R) -> Result<Option<Entry>
     }))
 }
 
-// Whether these are the bytes of a line and the line feed behind them.
+// Whether `bytes` have the length and the checksum that `line` says, and `last` is the line feed after them.
 #[tactic(auto, unfolding(crate::specs::Record::entry))]
-fn is_sound(alloc: Global, line: &Line, bytes: &[u8], last: &[u8]) -> Result<bool, AllocError>
+fn is_intact(alloc: Global, line: &Line, bytes: &[u8], last: &[u8]) -> Result<bool, AllocError>
     ensures { IfOk result (λ sound. sound ≡ has_bytes (line_shown line.now) bytes.now last.now) }
 {
-    let sum = sum_of(alloc, bytes)?;
+    let sum = checksum(alloc, bytes)?;
     Ok(bytes.len() as u64 == line.size && sum == line.sum && last == b"\n".as_slice())
 }
 
-// Reads so many bytes, or as many as there are.
-fn receive<R: Read>(alloc: Global, input: &mut R, size: u64) -> Result<Vec<u8>, ReadFault>
+// Reads `size` bytes, or fewer if the input ends before.
+fn read_up_to<R: Read>(alloc: Global, input: &mut R, size: u64) -> Result<Vec<u8>, ReadFault>
     ensures taken { IfOk result (λ text.
         Consumes (R.remaining input.old) (R.remaining input.new) text.items) }
     ensures within { IfOk result (λ text. length text.items ≤ size) }
@@ -107,7 +107,7 @@ fn receive<R: Read>(alloc: Global, input: &mut R, size: u64) -> Result<Vec<u8>, 
             return Ok(text);
         }
         let room = left.min(CHUNK as u64) as usize;
-        let count = receive_some(input, &mut chunk[..room])?;
+        let count = read_retrying(input, &mut chunk[..room])?;
         if count == 0 {
             return Ok(text);
         }
@@ -117,8 +117,8 @@ fn receive<R: Read>(alloc: Global, input: &mut R, size: u64) -> Result<Vec<u8>, 
     Ok(text)
 }
 
-// Reads once, and again if that was interrupted.
-fn receive_some<R: Read>(input: &mut R, room: &mut [u8]) -> Result<usize, ReadFault>
+// Reads once into `room`, and retries an interrupted read.
+fn read_retrying<R: Read>(input: &mut R, room: &mut [u8]) -> Result<usize, ReadFault>
     ensures bound { ReadsAtMost result room.new }
     ensures taken { IfOk result (λ n.
         Consumes (R.remaining input.old) (R.remaining input.new) (take n room.new)) }

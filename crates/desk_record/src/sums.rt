@@ -1,4 +1,4 @@
-//! Sums of bytes, by which damage is reported.
+//! Checksums, by which damage is noticed.
 
 ghost use Rattle.std.specs.Prelude.{◌≡◌, IfOk};
 ghost use Rattle.desk_record.specs.Record.{sum};
@@ -6,13 +6,13 @@ ghost use Rattle.desk_record.specs.Record.{sum};
 use sha2::{Digest, Sha256};
 use std::alloc::{AllocError, Global};
 
-/// The sum of some bytes: the first eight bytes of their SHA-256, as sixteen hexadecimal digits.
+/// The checksum of `bytes`: the first eight bytes of their SHA-256, as sixteen hexadecimal digits.
 ///
 /// # Errors
 ///
-/// `AllocError` for want of memory.
+/// `AllocError` if memory runs out.
 #[tactic(auto, unfolding(crate::specs::Record::sum))]
-pub fn sum_of(alloc: Global, bytes: &[u8]) -> Result<Vec<u8>, AllocError>
+pub fn checksum(alloc: Global, bytes: &[u8]) -> Result<Vec<u8>, AllocError>
     ensures { IfOk result (λ text. text.items ≡ sum bytes.now) }
 {
     let digest = Sha256::digest(bytes);

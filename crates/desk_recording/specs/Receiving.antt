@@ -3,11 +3,11 @@ use Rattle.std.specs.Prelude.{◌≡◌, ◌<◌, ◌⊎◌, ⊤, ℕ, Bool, tru
 use Rattle.std.specs.Io.KnownBytes.{IsAtEnd}
 use Rattle.desk_wire.specs.OneRequest.{IsTaken}
 use Rattle.desk_wire.specs.Streams.{IsCut}
-use Rattle.desk_recording.specs.declared.receiving.Unreceived.{Unreceived}
-use Rattle.desk_recording.specs.declared.receiving.Unreceived.TheVariants.{CutShort, Unread, OutOfMemory}
+use Rattle.desk_recording.specs.declared.receiving.ReceiveFault.{ReceiveFault}
+use Rattle.desk_recording.specs.declared.receiving.ReceiveFault.TheVariants.{CutShort, Unread, OutOfMemory}
 
 -- why no whole request came: the client ended inside it; or a read failed, or memory ran out
-abbrev pub IsStoppedBy : {R : Type 0} → Type 0 → Unreceived R → Type 0
+abbrev pub IsStoppedBy : {R : Type 0} → Type 0 → ReceiveFault R → Type 0
 IsStoppedBy cut CutShort = cut
 IsStoppedBy cut (Unread unread) = ⊤
 IsStoppedBy cut OutOfMemory = ⊤

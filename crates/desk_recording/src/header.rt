@@ -1,4 +1,4 @@
-//! The beginning of a record.
+//! The first entries of a journal file.
 
 ghost use Rattle.std.specs.Prelude.{◌≡◌, ◌++◌, map, option_to_list, IfOk, OnErr, OnOk};
 ghost use Rattle.desk_record.specs.Record.{entries};
@@ -18,8 +18,8 @@ use std::alloc::{AllocError, Global};
 /// The version of the format.
 const VERSION: &[u8] = b"1";
 
-/// Begins a record of this number (in its folder), of a desk on these terms with these operators: all of its
-/// beginning is on the disk.
+/// Writes the first entries of the journal file `number` of its folder: the version, the settings of the desk and its
+/// operators. They are flushed to the disk.
 ///
 /// # Errors
 ///
@@ -41,7 +41,7 @@ pub fn begin_record<J: Journal>(
     sync_to(journal)
 }
 
-// The entries with which a record begins.
+// The text of these first entries.
 fn header_text(
     alloc: Global,
     number: u64,
@@ -59,7 +59,7 @@ fn header_text(
     Ok(text)
 }
 
-// Appends an entry for each priority that is permitted.
+// Appends an entry for each permitted priority.
 fn write_permitted(text: &mut Vec<u8>, permitted: &Permitted) -> Result<(), AllocError>
     ensures { OnOk result (text.new.items ≡ text.old.items
         ++ entries (permitted_below 1001 permitted.now)) }
@@ -70,7 +70,7 @@ fn write_permitted(text: &mut Vec<u8>, permitted: &Permitted) -> Result<(), Allo
     Ok(())
 }
 
-// Appends the entry of a priority, if it is permitted.
+// Appends an entry for `priority`, if that is permitted.
 fn write_if_permitted(
     text: &mut Vec<u8>,
     permitted: &Permitted,
@@ -86,7 +86,7 @@ fn write_if_permitted(
     }
 }
 
-// Appends the entry of a limit, if there is one.
+// Appends an entry for a limit, if there is one.
 fn write_limit(text: &mut Vec<u8>, kind: Kind, most: Option<u32>) -> Result<(), AllocError>
     ensures { OnOk result (text.new.items ≡ text.old.items
         ++ entries (map (limit_entry kind) (option_to_list most))) }
@@ -101,7 +101,7 @@ fn write_limit(text: &mut Vec<u8>, kind: Kind, most: Option<u32>) -> Result<(), 
 ///
 /// # Errors
 ///
-/// `AllocError` for want of memory.
+/// `AllocError` if memory runs out.
 pub(crate) fn write_operators(text: &mut Vec<u8>, operators: &[Enrolment]) -> Result<(), AllocError>
     ensures { OnOk result (text.new.items ≡ text.old.items
         ++ entries (map operator_entry operators.now)) }

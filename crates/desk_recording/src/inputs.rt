@@ -1,5 +1,5 @@
-//! The requests of an input, handed out one after the other as connections of a port, so that they are
-//! recorded.
+//! The command `play` with a journal: the requests of its input become connections of a port, so that they are
+//! recorded as those of `serve` are.
 
 ghost use Rattle.std.specs.Prelude.{◌≡◌, [], false, Err, IfErr, IfOk, IfSome, IsOkAnd, IsSome, None, Ok, OnErr, OnOk, Some, not};
 ghost use Rattle.std.specs.Option.{IsSomeAnd, option_map};
@@ -14,7 +14,7 @@ ghost use Rattle.desk_recording.specs.Inputs as spec;
 ghost use Rattle.desk_recording.specs.Inputs.{EndsInput, HandsOutNone, IsUnrecorded, PlaysRecorded, input_outside};
 
 use crate::port::RecordedPort;
-use crate::receiving::{ReceiveError, Unreceived, receive};
+use crate::receiving::{ReceiveError, ReceiveFault, receive};
 use crate::record::Record;
 use desk_cli::{Enrolment, ErrorCode, ExitReport, PlayArgs, report_exit};
 use desk_program::{ClientStream, ExchangeEnd, Port, play_port};
@@ -24,26 +24,26 @@ use io_ends::{Moment, WriteError, write_whole};
 use std::alloc::Global;
 use std::io::{Cursor, Read, Write};
 
-/// Why an input hands out no more requests.
+/// Why no more requests are read from an input.
 #[derive_where(Clone, Copy)]
 pub(crate) enum InputEnd<R, W> {
-    /// It is at its end.
+    /// The input has ended.
     AtEnd,
-    /// It ends inside a request.
+    /// The input ends inside a request.
     CutShort,
-    /// It could not be read.
+    /// The input could not be read.
     Unread(ReceiveError<R>),
-    /// Memory ran out for a request.
+    /// Memory ran out.
     OutOfMemory,
-    /// The place of the next request is not known.
+    /// It isn't known where the next request begins.
     Unframed,
-    /// Its output could not be written.
+    /// The output could not be written.
     Unwritten(WriteError<W>),
 }
 
 impl<R, W> InputEnd<R, W> {
-    // How a line ends by it.
-    fn reported(self) -> Result<(), ErrorCode>
+    // The result of the command that ends so.
+    fn exit_result(self) -> Result<(), ErrorCode>
         ensures { result ≡ spec.reported_as self }
     {
         match self {
@@ -57,21 +57,21 @@ impl<R, W> InputEnd<R, W> {
     }
 }
 
-/// A port whose connections are the requests of an input, one after the other, all at one moment. Their
-/// answers go to an output.
+/// A port whose connections are the requests of `input`, one after the other, all at the same `moment`. Their
+/// answers go to `output`.
 #[derive(Drop)]
 pub struct InputPort<R: Drop, W: Drop> {
     input: R,
     output: W,
     moment: Moment,
-    // Whether the place of the next request is not known.
+    // Whether it isn't known where the next request begins.
     is_unframed: bool,
-    // How the input ended, or the output, if one did.
+    // Why no more requests are read, if so.
     ended: Option<InputEnd<R, W>>,
 }
 
 impl<R: Read + Drop, W: Write + Drop> InputPort<R, W> {
-    /// A port over an input and an output, whose requests are all asked at this moment.
+    /// A port over `input` and `output`.
     pub fn new(input: R, output: W, moment: Moment) -> InputPort<R, W>
         ensures input { result.input ≡ input }
         ensures output { result.output ≡ output }
@@ -88,12 +88,12 @@ impl<R: Read + Drop, W: Write + Drop> InputPort<R, W> {
         }
     }
 
-    // How a line ends after which no more is played.
-    fn ending(&self, done: Result<(), ErrorCode>) -> Result<(), ErrorCode>
+    // The result of `play`: why the input ended; else the error of `done`; else `Unframed` or `Limit`.
+    fn final_result(&self, done: Result<(), ErrorCode>) -> Result<(), ErrorCode>
         ensures { result ≡ spec.ended_by (option_map spec.reported_as self.now.ended) self.now.is_unframed done }
     {
         match (self.ended, done) {
-            (Some(ended), _) => ended.reported(),
+            (Some(ended), _) => ended.exit_result(),
             (None, Err(failure)) => Err(failure),
             (None, Ok(())) if self.is_unframed => Err(ErrorCode::Unframed),
             (None, Ok(())) => Err(ErrorCode::Limit),
@@ -106,6 +106,7 @@ impl<R: Read + Drop, W: Write + Drop> Port for InputPort<R, W> {
 
     type Output = Vec<u8>;
 
+    // Does nothing: an input needs no network.
     fn listen(&mut self, _number: u16) -> Result<(), ErrorCode>
         ensures listens { Listens unreported unreported _number (is_ok result) }
         ensures fault { IfErr result IsDenied }
@@ -115,6 +116,7 @@ impl<R: Read + Drop, W: Write + Drop> Port for InputPort<R, W> {
         Ok(())
     }
 
+    // There are no new enrolments while `play` runs.
     fn news(&mut self, alloc: Global) -> Result<Vec<Enrolment>, ErrorCode>
         ensures small { IfOk result (λ news. AreEnrolments news.items) }
         ensures brings { IfOk result (λ news. BringsNews unreported unreported news.items) }
@@ -126,7 +128,8 @@ impl<R: Read + Drop, W: Write + Drop> Port for InputPort<R, W> {
         Ok(Vec::new(alloc))
     }
 
-    // Long: what a port reports, which request of the input it is, and when the input has ended.
+    // Reads the next request of the input. `Network` if there is none, and `ended` says why.
+    // Long: what a port reports, which request of the input is taken, and when the input has ended.
     fn take(&mut self, alloc: Global) -> Result<ClientStream<Cursor<Vec<u8>>, Vec<u8>>, ErrorCode>
         ensures taken { IfOk result (λ c. TakesArrival unreported unreported
             (arrived c.moment.second (cursor_remaining (λ v. Some v.items) c.input))) }
@@ -146,7 +149,7 @@ impl<R: Read + Drop, W: Write + Drop> Port for InputPort<R, W> {
         if self.ended.is_some() {
             return Err(ErrorCode::Network);
         }
-        match next_of(alloc, self.is_unframed, &mut self.input) {
+        match next_request(alloc, self.is_unframed, &mut self.input) {
             Ok(request) => Ok(ClientStream {
                 moment: self.moment,
                 input: Cursor::new(request),
@@ -159,6 +162,7 @@ impl<R: Read + Drop, W: Write + Drop> Port for InputPort<R, W> {
         }
     }
 
+    // Writes the answer to the output, and notes whether it is known where the next request begins.
     fn close(
         &mut self,
         input: Cursor<Vec<u8>>,
@@ -184,8 +188,8 @@ impl<R: Read + Drop, W: Write + Drop> Port for InputPort<R, W> {
     }
 }
 
-// The next request of an input, or how the input ended.
-fn next_of<R: Read, W>(
+// Reads the next request, or says why there is none.
+fn next_request<R: Read, W>(
     alloc: Global,
     is_unframed: bool,
     input: &mut R,
@@ -200,15 +204,15 @@ fn next_of<R: Read, W>(
     match receive(alloc, input) {
         Ok(request) if request.is_empty() => Err(InputEnd::AtEnd),
         Ok(request) => Ok(request),
-        Err(Unreceived::CutShort) => Err(InputEnd::CutShort),
-        Err(Unreceived::Unread(unread)) => Err(InputEnd::Unread(unread)),
-        Err(Unreceived::OutOfMemory) => Err(InputEnd::OutOfMemory),
+        Err(ReceiveFault::CutShort) => Err(InputEnd::CutShort),
+        Err(ReceiveFault::Unread(unread)) => Err(InputEnd::Unread(unread)),
+        Err(ReceiveFault::OutOfMemory) => Err(InputEnd::OutOfMemory),
     }
 }
 
-/// Plays the requests of an input at the desk that was opened for a line of `play`. Each is kept before the
-/// desk is asked, and its answer before it is written. Answers how the line ended and the desk. The word of a
-/// failure goes to `errors`; a fault there is passed over.
+/// Carries out `play` with a journal at the desk `opened`: each request is recorded before it is carried out, and its
+/// answer before it is written. Returns the exit status and the desk. An error code goes to `errors`; a write error
+/// there doesn't change the status.
 pub fn play_opened<S, R, W, K, E>(
     alloc: Global,
     play: &PlayArgs,
@@ -237,7 +241,7 @@ where
     }
 }
 
-// Plays the requests of an input at a desk, and answers how the line ended.
+// Carries out `play` with a journal at an open desk.
 fn play_recorded<S: PlanStore, R: Read + Drop, W: Write + Drop, K: Record + Drop, E: Write>(
     alloc: Global,
     play: &PlayArgs,
@@ -250,5 +254,5 @@ fn play_recorded<S: PlanStore, R: Read + Drop, W: Write + Drop, K: Record + Drop
         errors.old errors.new) desk.old desk.new }
 {
     let done = play_port(alloc, port, play, desk);
-    report_exit(errors, port.port.ending(done))
+    report_exit(errors, port.port.final_result(done))
 }

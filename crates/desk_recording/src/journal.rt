@@ -1,4 +1,4 @@
-//! What a record is written to.
+//! The append-only file to which a journal is written.
 
 ghost use Rattle.std.specs.Prelude.{IfErr, List, Option, None};
 ghost use Rattle.std.specs.Result.{is_ok};
@@ -6,23 +6,23 @@ ghost use Rattle.desk_recording.specs.RecordWrites.{Appended, IsOfJournal, Makes
 
 use std::alloc::AllocError;
 
-/// A file that grows.
+/// An append-only file.
 pub trait Journal {
-    /// Why something was not done. A caller that knows the trait alone has one only from a call that failed.
+    /// Why a call failed. Generic code can get one only from a call that failed.
     type Fault: Drop;
 
-    /// What was done, in its order, if it is known.
+    /// The appends and syncs so far, in their order, if they are known.
     ghost writes: { Self → Option (List Write) } = { λ _. None };
 
     /// Appends bytes.
     ///
     /// # Errors
     ///
-    /// What failed. Then it is not known how many of the bytes are appended.
+    /// What failed. Any prefix of `bytes` may be appended then.
     fn append(&mut self, bytes: &[u8]) -> Result<(), Self::Fault>
         ensures { MakesWrite (writes self.old) (writes self.new) (is_ok result) (Appended bytes.now) };
 
-    /// Has all that was appended on the disk.
+    /// Flushes all that was appended to the disk (fsync).
     ///
     /// # Errors
     ///
@@ -31,12 +31,12 @@ pub trait Journal {
         ensures { MakesWrite (writes self.old) (writes self.new) (is_ok result) Synced };
 }
 
-/// Why something is not written to a journal of these faults.
+/// Why entries could not be written; `F` is the error of the file.
 #[derive(Drop)]
 pub enum Unwritten<F> {
-    /// Memory ran out for its bytes.
+    /// Memory ran out.
     OutOfMemory,
-    /// The journal failed.
+    /// The file failed.
     Journal(F),
 }
 
@@ -51,7 +51,7 @@ impl<F> From<AllocError> for Unwritten<F> {
     }
 }
 
-/// Appends bytes to a journal.
+/// Appends `bytes` to `journal`.
 ///
 /// # Errors
 ///
@@ -70,7 +70,7 @@ pub(crate) fn append_to<J: Journal>(
     }
 }
 
-/// Has all that was appended to a journal on the disk.
+/// Flushes all that was appended to `journal` to the disk.
 ///
 /// # Errors
 ///

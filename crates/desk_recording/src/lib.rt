@@ -1,5 +1,5 @@
-//! A port whose requests are recorded before they are served, and whose answers before they are sent; and
-//! what is done of a record before the next one begins.
+//! The request journal: a port that writes each request before it is carried out, and each answer before it is sent;
+//! and the recovery from a journal at the next start.
 #![tactic(auto)]
 
 mod header;

@@ -18,7 +18,7 @@ ghost use Rattle.desk_recording.specs.Receiving.{IsReceived};
 ghost use Rattle.desk_recording.specs.Reporting as spec;
 ghost use Rattle.desk_recording.specs.Reporting.{parted_in, reported_of};
 
-use crate::receiving::{ReceiveError, Unreceived, receive};
+use crate::receiving::{ReceiveError, ReceiveFault, receive};
 use crate::record::{Exchange, Record, RecordFault};
 use crate::streams::{Given, Held};
 use desk_cli::{Enrolment, ErrorCode};
@@ -28,33 +28,33 @@ use io_ends::{WriteError, write_whole};
 use std::alloc::{AllocError, Global};
 use std::io::{Cursor, Read, Write};
 
-// What comes of a request that was read and isn't answered.
+// The end of an exchange whose request was read and isn't answered.
 const UNANSWERED: ExchangeEnd = ExchangeEnd {
     is_whole: true,
     is_answered: false,
 };
 
-/// Why no connection is taken any more from a port whose record is of this type.
+/// Why a port accepts no more connections; `R` is its journal.
 #[derive_where(Clone, Copy)]
-pub(crate) enum Loss<R> {
-    /// The record failed to keep something.
+pub(crate) enum StopCause<R> {
+    /// An entry could not be written to the journal.
     JournalError(RecordFault<R>),
-    /// A request was not answered whole.
-    Unanswered,
+    /// A request got no whole answer.
+    NoAnswer,
 }
 
-/// A port whose requests are kept on the disk before they are served, and whose answers are kept before they
-/// are sent. Once something can't be kept, no connection is taken any more.
+/// A port that flushes each request to its journal before the desk reads it, and appends each answer before it is
+/// sent. Once an entry can't be written, it accepts no more connections.
 #[derive(Drop)]
 pub struct RecordedPort<P: Drop, R: Drop> {
     pub(crate) port: P,
     journal: R,
-    // What can't be kept, if so.
-    broken: Option<Loss<R>>,
+    // Why no more connections are accepted, if so.
+    broken: Option<StopCause<R>>,
 }
 
 impl<P: Port + Drop, R: Record + Drop> RecordedPort<P, R> {
-    /// A port whose connections are kept in a journal.
+    /// A port over `port` whose connections are recorded in `journal`.
     pub fn new(port: P, journal: R) -> RecordedPort<P, R>
         ensures port { result.port ≡ port }
         ensures journal { result.journal ≡ journal }
@@ -75,6 +75,7 @@ impl<P: Port + Drop, R: Record + Drop> Port for RecordedPort<P, R> {
 
     ghost traffic = { λ s. reported_of R.Record s };
 
+    // Has the port below listen.
     fn listen(&mut self, number: u16) -> Result<(), ErrorCode>
         ensures listens { Listens (reported_of R.Record self.old) (reported_of R.Record self.new) number
             (is_ok result) }
@@ -85,6 +86,7 @@ impl<P: Port + Drop, R: Record + Drop> Port for RecordedPort<P, R> {
         self.port.listen(number)
     }
 
+    // Takes the new enrolments of the port below, and writes them to the journal before they are made.
     #[tactic(auto, using(crate::proofs::StepLemmas::brings_news))]
     fn news(&mut self, alloc: Global) -> Result<Vec<Enrolment>, ErrorCode>
         ensures small { IfOk result (λ news. AreEnrolments news.items) }
@@ -96,25 +98,26 @@ impl<P: Port + Drop, R: Record + Drop> Port for RecordedPort<P, R> {
             BringsNews (P.traffic self.old.port) (P.traffic self.new.port) news.items) }
         ensures broken { IsSome self.old.broken → result ≡ Err ErrorCode.Broken }
         ensures cause { result ≡ Err ErrorCode.Broken → IsSome self.new.broken }
-        ensures lost { self.new.broken ≡ Some Loss.Unanswered → self.old.broken ≡ Some Loss.Unanswered }
+        ensures lost { self.new.broken ≡ Some StopCause.NoAnswer → self.old.broken ≡ Some StopCause.NoAnswer }
     {
         if self.broken.is_some() {
             return Err(ErrorCode::Broken);
         }
         let news = match self.port.news(alloc) {
             Ok(news) => news,
-            Err(failure) => return Err(failure_below(failure)),
+            Err(failure) => return Err(port_error(failure)),
         };
         match self.journal.keep_news(&news) {
             Ok(()) => Ok(news),
             Err(fault) => {
-                self.broken = Some(Loss::JournalError(RecordFault::by(fault)));
+                self.broken = Some(StopCause::JournalError(RecordFault::by(fault)));
                 Err(ErrorCode::Broken)
             }
         }
     }
 
-    // Long: what the port reports, what was taken of the client, and when it is broken.
+    // Accepts a connection, reads its request, and writes that to the journal before the desk reads it.
+    // Long: what the port reports, what was read from the client, and when it is broken.
     #[tactic(auto, using(crate::proofs::StepLemmas::takes_one))]
     fn take(
         &mut self,
@@ -132,16 +135,16 @@ impl<P: Port + Drop, R: Record + Drop> Port for RecordedPort<P, R> {
             IsFresh (P.traffic self.old.port) (P.Output.contents c.output.to)) }
         ensures broken { IsSome self.old.broken → result ≡ Err ErrorCode.Broken }
         ensures cause { result ≡ Err ErrorCode.Broken → IsSome self.new.broken }
-        ensures lost { self.new.broken ≡ Some Loss.Unanswered → self.old.broken ≡ Some Loss.Unanswered }
+        ensures lost { self.new.broken ≡ Some StopCause.NoAnswer → self.old.broken ≡ Some StopCause.NoAnswer }
     {
         if self.broken.is_some() {
             return Err(ErrorCode::Broken);
         }
         let mut taken = match self.port.take(alloc) {
             Ok(taken) => taken,
-            Err(failure) => return Err(failure_below(failure)),
+            Err(failure) => return Err(port_error(failure)),
         };
-        let Ok(received) = request_of(alloc, &mut taken.input) else {
+        let Ok(received) = receive_or_empty(alloc, &mut taken.input) else {
             let _ = self.port.close(taken.input, taken.output, UNANSWERED);
             return Err(ErrorCode::Memory);
         };
@@ -159,14 +162,15 @@ impl<P: Port + Drop, R: Record + Drop> Port for RecordedPort<P, R> {
                 },
             }),
             Err(fault) => {
-                self.broken = Some(Loss::JournalError(RecordFault::by(fault)));
-                let _ = refuse(&mut taken.output);
+                self.broken = Some(StopCause::JournalError(RecordFault::by(fault)));
+                let _ = send_store_error(&mut taken.output);
                 let _ = self.port.close(taken.input, taken.output, UNANSWERED);
                 Err(ErrorCode::Broken)
             }
         }
     }
 
+    // Writes the answer to the journal, sends it to the client, and closes the connection.
     // Long: what the port reports, what its journal has, when it is broken, and what the client was sent.
     #[tactic(auto, using(crate::proofs::StepLemmas::closes_so, crate::proofs::StepLemmas::is_open))]
     fn close(
@@ -181,8 +185,8 @@ impl<P: Port + Drop, R: Record + Drop> Port for RecordedPort<P, R> {
         ensures fault { IfErr result IsDenied }
         ensures reported { IsSome self.new.broken → result ≡ Err ErrorCode.Broken }
         ensures cause { result ≡ Err ErrorCode.Broken → IsSome self.new.broken }
-        ensures lost { self.new.broken ≡ Some Loss.Unanswered
-            → (self.old.broken ≡ Some Loss.Unanswered) ⊎ (outcome.is_answered ≡ false) }
+        ensures lost { self.new.broken ≡ Some StopCause.NoAnswer
+            → (self.old.broken ≡ Some StopCause.NoAnswer) ⊎ (outcome.is_answered ≡ false) }
         ensures kept { IsClosedBy P.Output (course (R.steps self.old.journal) (R.steps self.new.journal))
             (parted_in input output outcome) (client_of (P.Input.remaining input.client)
             (P.Output.contents output.to)) (course (P.traffic self.old.port) (P.traffic self.new.port)) }
@@ -197,19 +201,19 @@ impl<P: Port + Drop, R: Record + Drop> Port for RecordedPort<P, R> {
         } = input;
         let Held { answer, mut to } = output;
         let connection = Exchange {
-            unread: unread_of(&request),
+            unread: unread_bytes(&request),
             sent: &answer,
             outcome,
         };
-        let (broken, _) = send_kept(&mut self.journal, self.broken, connection, &mut to);
+        let (broken, _) = record_and_send(&mut self.journal, self.broken, connection, &mut to);
         self.broken = broken;
         let closed = self.port.close(client, to, outcome);
-        closed_as(self.broken.is_some(), closed)
+        close_result(self.broken.is_some(), closed)
     }
 }
 
-// A failure of the port below. That port keeps nothing itself.
-fn failure_below(failure: ErrorCode) -> ErrorCode
+// The error that is reported for an error of the port below. `Broken` is reserved for this port's own journal.
+fn port_error(failure: ErrorCode) -> ErrorCode
     ensures { result ≡ spec.failure_below failure }
 {
     match failure {
@@ -218,8 +222,8 @@ fn failure_below(failure: ErrorCode) -> ErrorCode
     }
 }
 
-// How a connection was closed, by whether something is lost.
-fn closed_as(is_lost: bool, closed: Result<(), ErrorCode>) -> Result<(), ErrorCode>
+// The result of closing a connection: `Broken` if the journal is, else the result of the port below.
+fn close_result(is_lost: bool, closed: Result<(), ErrorCode>) -> Result<(), ErrorCode>
     ensures { result ≡ spec.closed_as is_lost closed }
 {
     if is_lost {
@@ -227,18 +231,18 @@ fn closed_as(is_lost: bool, closed: Result<(), ErrorCode>) -> Result<(), ErrorCo
     }
     match closed {
         Ok(()) => Ok(()),
-        Err(failure) => Err(failure_below(failure)),
+        Err(failure) => Err(port_error(failure)),
     }
 }
 
-// Keeps the answer of a connection, if it is whole and nothing was lost before, and then sends it; or else
-// answers the client that the desk failed. What is lost, if so, and whether all was sent.
-fn send_kept<R: Record, W: Write>(
+// Appends the answer to the journal and then sends it. If the answer isn't whole or the journal is broken, sends a
+// 500 instead. Returns why the journal is broken, if it is, and whether all was sent.
+fn record_and_send<R: Record, W: Write>(
     journal: &mut R,
-    broken: Option<Loss<R>>,
+    broken: Option<StopCause<R>>,
     connection: Exchange<'_>,
     client: &mut W,
-) -> (Option<Loss<R>>, Result<(), WriteError<W>>)
+) -> (Option<StopCause<R>>, Result<(), WriteError<W>>)
     ensures sends { SendsKept (course (R.steps journal.old) (R.steps journal.new))
         (parting_of connection.entry) (course (W.contents client.old) (W.contents client.new)) result.1 }
     ensures kept { IsNone result.0 →
@@ -246,52 +250,52 @@ fn send_kept<R: Record, W: Write>(
     ensures noted { Notes (R.noted journal.old) (R.noted journal.new) (is_none result.0)
         (λ n. with_answer n connection.entry.sent.now) }
     ensures whole { IsNone result.0 → IsNone broken × (connection.entry.outcome.is_answered ≡ true) }
-    ensures lost { result.0 ≡ Some Loss.Unanswered
-        → (broken ≡ Some Loss.Unanswered) ⊎ (connection.entry.outcome.is_answered ≡ false) }
+    ensures lost { result.0 ≡ Some StopCause.NoAnswer
+        → (broken ≡ Some StopCause.NoAnswer) ⊎ (connection.entry.outcome.is_answered ≡ false) }
 {
-    let lost = keep_or_lose(journal, broken, connection);
+    let lost = record_answer(journal, broken, connection);
     if lost.is_none() {
         return (None, write_whole(client, connection.sent));
     }
     journal.lose_answer(connection);
-    (lost, refuse(client))
+    (lost, send_store_error(client))
 }
 
-// Keeps the answer of a connection, if it is whole and nothing was lost before. What is lost, if so.
-fn keep_or_lose<R: Record>(
+// Appends the answer to the journal, if it is whole and the journal isn't broken. Returns why it is broken, if it is.
+fn record_answer<R: Record>(
     journal: &mut R,
-    broken: Option<Loss<R>>,
+    broken: Option<StopCause<R>>,
     connection: Exchange<'_>,
-) -> Option<Loss<R>>
+) -> Option<StopCause<R>>
     ensures steps { AddsIf (R.steps journal.old) (R.steps journal.new) (is_none result)
         (Answered (parting_of connection.entry)) }
     ensures noted { Notes (R.noted journal.old) (R.noted journal.new) (is_none result)
         (λ n. with_answer n connection.entry.sent.now) }
     ensures whole { IsNone result → IsNone broken × (connection.entry.outcome.is_answered ≡ true) }
-    ensures lost { result ≡ Some Loss.Unanswered
-        → (broken ≡ Some Loss.Unanswered) ⊎ (connection.entry.outcome.is_answered ≡ false) }
+    ensures lost { result ≡ Some StopCause.NoAnswer
+        → (broken ≡ Some StopCause.NoAnswer) ⊎ (connection.entry.outcome.is_answered ≡ false) }
 {
     if broken.is_some() {
         return broken;
     }
     if !connection.outcome.is_answered {
-        return Some(Loss::Unanswered);
+        return Some(StopCause::NoAnswer);
     }
     match journal.keep_answer(connection) {
         Ok(()) => None,
-        Err(fault) => Some(Loss::JournalError(RecordFault::by(fault))),
+        Err(fault) => Some(StopCause::JournalError(RecordFault::by(fault))),
     }
 }
 
-// What a client sent: its request, or no bytes, and why they could not be read, if so.
+// What a client sent: its whole request, or no bytes, and the read error, if there was one.
 #[derive(Drop)]
 struct Received<R> {
     request: Vec<u8>,
     unread: Option<ReceiveError<R>>,
 }
 
-// The request that a client sends: none, if it doesn't come whole.
-fn request_of<R: Read>(alloc: Global, client: &mut R) -> Result<Received<R>, AllocError>
+// Reads the request of a client. It is empty if it doesn't come whole; memory is the only error.
+fn receive_or_empty<R: Read>(alloc: Global, client: &mut R) -> Result<Received<R>, AllocError>
     ensures { IfOk result (λ received. IsReceived (is_some received.unread) (R.remaining client.old)
         (R.remaining client.new) received.request.items) }
 {
@@ -300,27 +304,27 @@ fn request_of<R: Read>(alloc: Global, client: &mut R) -> Result<Received<R>, All
             request,
             unread: None,
         }),
-        Err(Unreceived::CutShort) => Ok(Received {
+        Err(ReceiveFault::CutShort) => Ok(Received {
             request: Vec::new(alloc),
             unread: None,
         }),
-        Err(Unreceived::Unread(unread)) => Ok(Received {
+        Err(ReceiveFault::Unread(unread)) => Ok(Received {
             request: Vec::new(alloc),
             unread: Some(unread),
         }),
-        Err(Unreceived::OutOfMemory) => Err(AllocError),
+        Err(ReceiveFault::OutOfMemory) => Err(AllocError),
     }
 }
 
-// Reports a client that its request, or the answer to it, can't be kept.
-fn refuse<W: Write>(client: &mut W) -> Result<(), WriteError<W>>
+// Sends the answer 500 `store`: the request or its answer can't be written to the journal.
+fn send_store_error<W: Write>(client: &mut W) -> Result<(), WriteError<W>>
     ensures { Sends (server_error_text Store) (W.contents client.old) (W.contents client.new) result }
 {
     write_whole(client, ServerError::Store.answer())
 }
 
-// The bytes that are left of a request.
-fn unread_of(request: &Cursor<Vec<u8>>) -> &[u8]
+// The bytes of `request` that weren't read.
+fn unread_bytes(request: &Cursor<Vec<u8>>) -> &[u8]
     ensures { Some result.now ≡ cursor_remaining (λ v. Some v.items) request.now }
 {
     let bytes = request.get_ref();

@@ -1,4 +1,4 @@
-//! The request of a client, and why none came whole.
+//! Receiving the request of a client.
 
 ghost use Rattle.std.specs.Prelude.{◌≡◌, ◌<◌, [], length, IfErr, IfOk, IfSome};
 ghost use Rattle.std.specs.Io.KnownBytes.{IsAtEnd};
@@ -12,7 +12,7 @@ use std::alloc::Global;
 use std::io::Read;
 use std::marker::PhantomData;
 
-/// That a read of a client of this type failed, or that a request of it took more than 200,000 reads. Only
+/// That a read from a client of type `R` failed, or that a request of it took more than 200,000 reads. Only
 /// `receive` makes one.
 #[derive_where(Clone, Copy)]
 pub(crate) struct ReceiveError<R> {
@@ -21,21 +21,21 @@ pub(crate) struct ReceiveError<R> {
 
 /// Why no whole request of a client was received.
 #[derive_where(Clone, Copy)]
-pub(crate) enum Unreceived<R> {
-    /// Its bytes end inside the request.
+pub(crate) enum ReceiveFault<R> {
+    /// The client's bytes end inside the request.
     CutShort,
-    /// They could not be read.
+    /// The client's bytes could not be read.
     Unread(ReceiveError<R>),
     /// Memory ran out.
     OutOfMemory,
 }
 
-/// Reads one request of a client, and leaves the rest unread: its bytes, or none if the client has ended.
+/// Reads the bytes of one request, and nothing after it; they are empty if the client has ended.
 ///
 /// # Errors
 ///
-/// As `Unreceived` says.
-pub(crate) fn receive<R: Read>(alloc: Global, client: &mut R) -> Result<Vec<u8>, Unreceived<R>>
+/// As `ReceiveFault` says.
+pub(crate) fn receive<R: Read>(alloc: Global, client: &mut R) -> Result<Vec<u8>, ReceiveFault<R>>
     ensures taken { IfOk result (λ request. 0 < length request.items
         → IsTaken (R.remaining client.old) (R.remaining client.new) request.items) }
     ensures end { IfOk result (λ request. request.items ≡ [] → IsAtEnd (R.remaining client.old)) }
@@ -43,9 +43,9 @@ pub(crate) fn receive<R: Read>(alloc: Global, client: &mut R) -> Result<Vec<u8>,
 {
     match receive_request(alloc, client) {
         Ok(request) => Ok(request),
-        Err(ServeFault::CutShort) => Err(Unreceived::CutShort),
-        Err(ServeFault::OutOfMemory) => Err(Unreceived::OutOfMemory),
-        Err(ServeFault::Read | ServeFault::Write(_)) => Err(Unreceived::Unread(ReceiveError {
+        Err(ServeFault::CutShort) => Err(ReceiveFault::CutShort),
+        Err(ServeFault::OutOfMemory) => Err(ReceiveFault::OutOfMemory),
+        Err(ServeFault::Read | ServeFault::Write(_)) => Err(ReceiveFault::Unread(ReceiveError {
             client: PhantomData,
         })),
     }

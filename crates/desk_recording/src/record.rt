@@ -1,4 +1,4 @@
-//! What keeps requests and answers.
+//! The interface of a request journal.
 
 ghost use Rattle.std.specs.Prelude.{◌≡◌, IfSome, List, OnOk, Option, None};
 ghost use Rattle.std.specs.Result.{is_ok};
@@ -11,29 +11,29 @@ use desk_program::ExchangeEnd;
 use io_ends::Moment;
 use std::marker::PhantomData;
 
-/// What came of a connection.
+/// A request and its answer on one connection.
 #[derive(Clone, Copy)]
 pub struct Exchange<'a> {
-    /// The bytes of the request that were left unread: none, where the desk answered it.
+    /// The bytes of the request that the desk did not read: none if it answered.
     pub unread: &'a [u8],
-    /// The answer, or what there is of it.
+    /// The answer, or the part of it that was made.
     pub sent: &'a [u8],
-    /// What is said to have come of the request.
+    /// Whether the request was whole, and whether it was answered.
     pub outcome: ExchangeEnd,
 }
 
-/// A record, to which is appended. What can't be appended leaves no part of itself that is read.
+/// A request journal, to which entries are appended. An entry that can't be appended whole isn't read back.
 pub trait Record {
-    /// Why something is not kept. A caller that knows the trait alone has one only from a call that failed.
+    /// Why a call failed. Generic code can get one only from a call that failed.
     type Fault: Drop;
 
-    /// What was kept, in its order, if it is known.
+    /// The steps that were written, in their order, if they are known.
     ghost steps: { Self → Option (List Step) } = { λ _. None };
 
-    /// The text of what was kept, and the second of the last request in it, if they are known.
+    /// The text of the journal, and the second of the last request in it, if they are known.
     ghost noted: { Self → Option Noted } = { λ _. None };
 
-    /// Keeps the enrolments that are made now: they are on the disk.
+    /// Appends new enrolments, and flushes the journal to the disk.
     ///
     /// # Errors
     ///
@@ -44,8 +44,8 @@ pub trait Record {
             (λ n. with_news n news.now) }
         ensures named { IfSome (noted self.old) (λ _. OnOk result (AreNamed news.now)) };
 
-    /// Keeps a request that was taken at a moment: it, and all before it, is on the disk. No bytes stand for
-    /// a connection of which no whole request came.
+    /// Appends a request received at `moment`, and flushes the journal to the disk. If `bytes` is empty, no whole
+    /// request came, and no entry is appended.
     ///
     /// # Errors
     ///
@@ -56,8 +56,8 @@ pub trait Record {
         ensures noted { NotesOnDisk (noted self.old) (noted self.new) (is_ok result)
             (λ n. with_request n moment.second bytes.now) };
 
-    /// Keeps the answer to the request that was kept last: it is written, and on the disk with the next
-    /// request.
+    /// Appends the answer to the last request, without flushing it: it is on the disk with the next request, and a
+    /// lost answer is made again by the recovery.
     ///
     /// # Errors
     ///
@@ -68,20 +68,20 @@ pub trait Record {
         ensures noted { Notes (noted self.old) (noted self.new) (is_ok result)
             (λ n. with_answer n connection.entry.sent.now) };
 
-    /// Notes that the answer to the request that was kept last is not kept.
+    /// Notes that the answer to the last request isn't appended.
     fn lose_answer(&mut self, connection: Exchange<'_>)
         ensures steps { AddsStep (steps self.old) (steps self.new) (Lost (parting_of connection.entry)) }
         ensures noted { noted self.new ≡ noted self.old };
 }
 
-/// That a record of this type failed. Only an error of such a record makes one.
+/// That a journal of type `R` failed. Only an error of such a journal makes one.
 #[derive_where(Clone, Copy)]
 pub struct RecordFault<R> {
     record: PhantomData<R>,
 }
 
 impl<R: Record> RecordFault<R> {
-    /// By an error of a record.
+    /// Made of an error of the journal.
     pub(crate) fn by(_fault: R::Fault) -> RecordFault<R> {
         RecordFault {
             record: PhantomData,

@@ -1,4 +1,4 @@
-//! What a record left undone, done at its desk.
+//! Recovery at a start: what the end of the last journal file says is done at the desk.
 
 ghost use Rattle.std.specs.Prelude.{◌≡◌, ◌≤◌, ◌⊎◌, IsTrue, IfErr, IfOk, OnOk};
 ghost use Rattle.desk_rules.specs.Limits.{max_priority};
@@ -29,16 +29,16 @@ use io_ends::Moment;
 use std::alloc::{AllocError, Global};
 use volume4d::MAX_SECOND;
 
-/// Why what a record of this type left undone is not done.
+/// Why a recovery failed; `R` is the journal that is written meanwhile.
 #[derive_where(Clone, Copy)]
 pub enum Unrecovered<R> {
-    /// Memory ran out at the desk.
+    /// Memory ran out.
     OutOfMemory,
     /// The desk's store failed.
     Store,
-    /// The second of the request is no moment.
+    /// The second of the request is out of range.
     Clock,
-    /// The record failed to keep the request, or its answer.
+    /// The request or its answer could not be written to the journal.
     JournalError(RecordFault<R>),
 }
 
@@ -58,8 +58,8 @@ impl<R> From<Unrecovered<R>> for ErrorCode {
     }
 }
 
-/// Those of the enrolments whose operators are not on a roll, in their order, under ceilings of at most
-/// 1,000.
+/// Those of `enrolments` whose operators aren't among `roll`, the enrolled ones, in their order. A ceiling above
+/// 1,000 is left out.
 ///
 /// # Errors
 ///
@@ -69,8 +69,8 @@ pub fn missing_of(
     roll: &[Enrolment],
     enrolments: &[Enrolment],
 ) -> Result<Vec<Enrolment>, AllocError>
-    ensures are { IfOk result (λ missing. missing.items ≡ spec.missing_of roll.now enrolments.now) }
-    ensures small { IfOk result (λ missing. AreEnrolments missing.items) }
+    ensures missing { IfOk result (λ missing. missing.items ≡ spec.missing_of roll.now enrolments.now) }
+    ensures in_range { IfOk result (λ missing. AreEnrolments missing.items) }
 {
     let mut missing = Vec::new(alloc);
     for enrolment in enrolments {
@@ -81,32 +81,31 @@ pub fn missing_of(
     Ok(missing)
 }
 
-// Whether an enrolment is one of an operator that is not on a roll.
+// Whether the operator of `enrolment` isn't enrolled, and its ceiling is at most 1,000.
 fn is_missing(roll: &[Enrolment], enrolment: &Enrolment) -> bool
-    ensures value { result ≡ spec.is_missing roll.now enrolment.now }
-    ensures small { IsTrue result → enrolment.now.ceiling ≤ max_priority }
+    ensures missing { result ≡ spec.is_missing roll.now enrolment.now }
+    ensures in_range { IsTrue result → enrolment.now.ceiling ≤ max_priority }
 {
     if enrolment.ceiling > MAX_PRIORITY {
         return false;
     }
-    !is_listed(roll, &enrolment.operator)
+    !is_enrolled(roll, &enrolment.operator)
 }
 
-// Whether an operator is on a roll.
-fn is_listed(roll: &[Enrolment], operator: &Operator) -> bool
+// Whether `operator` is among `roll`.
+fn is_enrolled(roll: &[Enrolment], operator: &Operator) -> bool
     ensures { result ≡ spec.is_on_roll roll.now operator.now }
 {
     roll.iter().any(|enrolment| enrolment.operator == *operator)
 }
 
-/// Has the desk plan on a record's terms, enrols the operators that are missing, and asks the request again
-/// that the record left unanswered, at its second. The request is kept before it is asked, and its answer
-/// then.
+/// Sets the terms of the last journal at the desk, enrols the operators that are `missing`, and repeats the request
+/// `asked` that has no answer there, at its second. The request is written to the new `journal` before it is carried
+/// out, and its answer after that.
 ///
 /// # Errors
 ///
-/// As `Unrecovered` says. What is left then is what the clause says: a request that was not answered changed
-/// nothing.
+/// As `Unrecovered` says. A request that got no answer has changed nothing then.
 #[tactic(auto, using(crate::proofs::RecoveringLemmas::recovers, crate::proofs::RecoveringLemmas::unlisted))]
 pub fn recover<S: PlanStore, R: Record>(
     alloc: Global,
@@ -127,14 +126,14 @@ pub fn recover<S: PlanStore, R: Record>(
         → HasRisen (S.faults desk.old.store) (S.faults desk.new.store)) }
 {
     if let Err(fault) = set_up(desk, terms, missing) {
-        return Err(unlisted(fault));
+        return Err(enrolment_error(fault));
     }
-    ask_if_any(alloc, desk, asked, journal)
+    redo_if_pending(alloc, desk, asked, journal)
 }
 
-// Why an operator could not be listed.
-fn unlisted<R>(fault: DeskFault) -> Unrecovered<R>
-    ensures is { IsBreakdown fault → spec.failure_of result ≡ enrolment_failure fault }
+// The error of a recovery at which an operator could not be enrolled.
+fn enrolment_error<R>(fault: DeskFault) -> Unrecovered<R>
+    ensures failure { IsBreakdown fault → spec.failure_of result ≡ enrolment_failure fault }
     ensures cause { IsBreakdown fault → spec.failure_of result ≡ ErrorCode.Store → fault ≡ DeskFault.Store }
 {
     match fault {
@@ -143,8 +142,8 @@ fn unlisted<R>(fault: DeskFault) -> Unrecovered<R>
     }
 }
 
-// Asks the request again that is unanswered, if there is one.
-fn ask_if_any<S: PlanStore, R: Record>(
+// Repeats the request `asked` that has no answer, if there is one.
+fn redo_if_pending<S: PlanStore, R: Record>(
     alloc: Global,
     desk: &mut Desk<S>,
     asked: Option<Unanswered>,
@@ -159,14 +158,14 @@ fn ask_if_any<S: PlanStore, R: Record>(
         → HasRisen (S.faults desk.old.store) (S.faults desk.new.store)) }
 {
     match asked {
-        Some(asked) => ask_again(alloc, desk, asked, journal),
+        Some(asked) => redo_request(alloc, desk, asked, journal),
         None => Ok(()),
     }
 }
 
-// Asks a request again at its second.
+// Repeats a request at its second, and writes it and its answer to `journal`.
 #[tactic(auto, using(crate::proofs::RecoveringLemmas::both_added))]
-fn ask_again<S: PlanStore, R: Record>(
+fn redo_request<S: PlanStore, R: Record>(
     alloc: Global,
     desk: &mut Desk<S>,
     asked: Unanswered,
@@ -192,22 +191,22 @@ fn ask_again<S: PlanStore, R: Record>(
         return Err(Unrecovered::JournalError(RecordFault::by(fault)));
     }
     match answer_one(alloc, desk, &sent) {
-        Ok(answer) => keep_again(journal, &answer),
+        Ok(answer) => record_redone_answer(journal, &answer),
         Err(fault) => {
-            journal.lose_answer(reported_again(b""));
-            Err(unanswered_by(fault))
+            journal.lose_answer(exchange_without_client(b""));
+            Err(replay_error(fault))
         }
     }
 }
 
-// Keeps an answer that goes to no client.
-fn keep_again<R: Record>(journal: &mut R, answer: &[u8]) -> Result<(), Unrecovered<R>>
+// Writes the answer to the repeated request, which isn't sent to any client, to `journal`.
+fn record_redone_answer<R: Record>(journal: &mut R, answer: &[u8]) -> Result<(), Unrecovered<R>>
     ensures ok { OnOk result
         (AddsStep (R.steps journal.old) (R.steps journal.new) (Answered (reported_again answer.now))) }
     ensures err { IfErr result (λ why. (spec.failure_of why ≡ ErrorCode.Broken)
         × AddsStep (R.steps journal.old) (R.steps journal.new) (Lost (reported_again answer.now))) }
 {
-    let connection = reported_again(answer);
+    let connection = exchange_without_client(answer);
     match journal.keep_answer(connection) {
         Ok(()) => Ok(()),
         Err(fault) => {
@@ -217,8 +216,8 @@ fn keep_again<R: Record>(journal: &mut R, answer: &[u8]) -> Result<(), Unrecover
     }
 }
 
-// An answer that goes to no client.
-fn reported_again(answer: &[u8]) -> Exchange<'_>
+// The exchange of a repeated request: the whole request was answered, but there is no client.
+fn exchange_without_client(answer: &[u8]) -> Exchange<'_>
     ensures { parting_of result ≡ spec.reported_again answer.now }
 {
     Exchange {
@@ -231,9 +230,9 @@ fn reported_again(answer: &[u8]) -> Exchange<'_>
     }
 }
 
-// Why the desk did not answer.
-fn unanswered_by<R>(fault: ReplayFault) -> Unrecovered<R>
-    ensures own { (spec.failure_of result ≡ ErrorCode.Memory) ⊎ (spec.failure_of result ≡ ErrorCode.Store) }
+// The error of a recovery at which a request could not be repeated.
+fn replay_error<R>(fault: ReplayFault) -> Unrecovered<R>
+    ensures memory_or_store { (spec.failure_of result ≡ ErrorCode.Memory) ⊎ (spec.failure_of result ≡ ErrorCode.Store) }
     ensures cause { IsOwn fault → spec.failure_of result ≡ ErrorCode.Store → fault ≡ ReplayFault.Store }
 {
     match fault {

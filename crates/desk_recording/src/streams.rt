@@ -1,4 +1,4 @@
-//! The streams of a connection that is recorded.
+//! The buffered streams of a connection that is recorded.
 
 ghost use Rattle.std.specs.Prelude.{◌≡◌, Some};
 ghost use Rattle.std.specs.Io.{ReadsAtMost, WritesAtMost};
@@ -8,11 +8,11 @@ ghost use Rattle.std.specs.Io.KnownBytes.{ReadConsumes, WriteAppends};
 use crate::receiving::ReceiveError;
 use std::io::{self, Cursor, Read, Write};
 
-/// A request that was kept, to be read by the desk, and the client that sent it.
+/// A buffered request, which is in the journal already and is to be read by the desk; and its client.
 #[derive(Drop)]
 pub struct Given<I> {
     pub(crate) request: Cursor<Vec<u8>>,
-    // Why the client's bytes could not be read, if so: then no request was kept.
+    // Why the client's bytes could not be read, if so: then the request is empty and not in the journal.
     pub(crate) unread: Option<ReceiveError<I>>,
     pub(crate) client: I,
 }
@@ -25,7 +25,7 @@ impl<I> Read for Given<I> {
     }
 }
 
-/// An answer that is to be kept before it is sent, and where it is to be sent.
+/// A buffered answer, which is to be appended to the journal before it is sent; and its client.
 #[derive(Drop)]
 pub struct Held<O> {
     pub(crate) answer: Vec<u8>,

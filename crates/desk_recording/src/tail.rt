@@ -1,4 +1,4 @@
-//! The end of a record: what it leaves to do.
+//! The end of a journal file: what a recovery has to do.
 
 ghost use Rattle.std.specs.Prelude.{◌≡◌, IfErr, IfOk};
 ghost use Rattle.std.specs.Io.KnownBytes.{Consumes};
@@ -21,53 +21,53 @@ use volume4d::MAX_SECOND;
 /// The version of the format.
 const VERSION: &[u8] = b"1";
 
-/// How many bytes an entry has beside its own.
-const BESIDE: u64 = 87;
+/// The length of an entry without its own bytes.
+const OVERHEAD: u64 = 87;
 
-/// A request that is recorded and has no answer, or one that says that the desk failed.
+/// A recorded request without an answer, or whose answer is a 500.
 #[derive(Debug, Drop)]
 pub struct Unanswered {
-    /// The Unix second at which it was asked, at most 253,370,764,800.
+    /// Its Unix second, at most 253,370,764,800.
     pub second: u64,
     pub request: Vec<u8>,
 }
 
-/// What a record says as it ends.
+/// What the entries of a journal file say up to its end.
 #[derive(Debug, Drop)]
 pub struct Tail {
-    /// Its number in its folder, if it has begun.
+    /// The number of the file in its folder, if it has a first entry.
     pub record: Option<u64>,
-    /// The priorities that it permits.
+    /// The permitted priorities.
     pub permitted: Vec<u32>,
-    /// The terms of its desk.
+    /// The settings of the desk that wrote it.
     pub terms: Terms,
-    /// The operators behind its last request.
+    /// The operators that were enrolled after the last request.
     pub operators: Vec<Enrolment>,
-    /// Its last request, if that is unanswered.
+    /// The last request, if it has no answer or a 500.
     pub asked: Option<Unanswered>,
-    /// How many bytes its whole entries have.
+    /// The length of all whole entries, in bytes.
     pub size: u64,
 }
 
-/// What stands behind the last whole entry of a record.
+/// What follows the last whole entry of a journal file.
 #[derive(Clone, Copy, Debug, PartialEq, Eq)]
 pub enum TailEnd {
     /// Nothing.
     End,
-    /// The beginning of an entry, which is too short.
+    /// A truncated entry, as a crash may leave it behind.
     Short,
-    /// Something else.
+    /// Something else: the file is damaged.
     Damaged,
 }
 
-/// Why it is not reported what a record leaves to do.
+/// Why the end of a journal file could not be read.
 #[derive(Clone, Copy, Debug, PartialEq, Eq)]
 pub enum TailFault {
     /// A read failed.
     Read,
     /// Memory ran out.
     OutOfMemory,
-    /// No desk writes such an entry there.
+    /// An entry that no desk writes at its place.
     NoRecord,
 }
 
@@ -83,8 +83,8 @@ impl From<AllocError> for TailFault {
 }
 
 impl Tail {
-    // Nothing was read.
-    fn none(alloc: Global) -> Tail
+    // The state before the first entry.
+    fn empty(alloc: Global) -> Tail
         ensures { tail_shown result ≡ nothing_said }
     {
         Tail {
@@ -98,7 +98,8 @@ impl Tail {
     }
 }
 
-/// Reads one record to its end, or to what is no whole entry, and reports what stands there.
+/// Reads a journal file up to its end or to the first bytes that are no whole entry, and returns what the entries
+/// say and what follows them.
 ///
 /// # Errors
 ///
@@ -107,9 +108,9 @@ pub fn read_tail<R: Read>(alloc: Global, input: &mut R) -> Result<(Tail, TailEnd
     ensures ok { IfOk result (λ read. IsTail (R.remaining input.old) read.1 (tail_shown read.0)) }
     ensures err { IfErr result (HasNoTail (R.remaining input.old)) }
 {
-    let mut tail = Tail::none(alloc);
+    let mut tail = Tail::empty(alloc);
     for _ in 0..u64::MAX {
-        match read_one(alloc, input, &mut tail) {
+        match read_next_entry(alloc, input, &mut tail) {
             Ok(None) => {}
             Ok(Some(ended)) => return Ok((tail, ended)),
             Err(fault) => return Err(fault),
@@ -118,8 +119,8 @@ pub fn read_tail<R: Read>(alloc: Global, input: &mut R) -> Result<(Tail, TailEnd
     Err(TailFault::Read)
 }
 
-// Reads the next entry and notes it, or answers what stands there.
-fn read_one<R: Read>(
+// Reads the next entry and applies it to `tail`. If there is none, returns what follows instead.
+fn read_next_entry<R: Read>(
     alloc: Global,
     input: &mut R,
     tail: &mut Tail,
@@ -129,7 +130,7 @@ fn read_one<R: Read>(
 {
     match read_entry(alloc, input) {
         Ok(Some(entry)) => {
-            note(tail, entry)?;
+            apply_entry(tail, entry)?;
             Ok(None)
         }
         Ok(None) => Ok(Some(TailEnd::End)),
@@ -140,9 +141,9 @@ fn read_one<R: Read>(
     }
 }
 
-// Notes what an entry says.
+// Applies an entry to `tail` and counts its bytes. The first entry has to be the header.
 #[tactic(auto, unfolding(crate::specs::Tail::said))]
-fn note(tail: &mut Tail, entry: Entry) -> Result<(), TailFault>
+fn apply_entry(tail: &mut Tail, entry: Entry) -> Result<(), TailFault>
     ensures { Notes result (said (tail_shown tail.old) (entry_shown entry)) (tail_shown tail.new) }
 {
     let Entry {
@@ -154,32 +155,32 @@ fn note(tail: &mut Tail, entry: Entry) -> Result<(), TailFault>
         return Err(TailFault::NoRecord);
     }
     lengths();
-    tail.size = tail.size.saturating_add(BESIDE + bytes.len() as u64);
-    note_within(tail, kind, number, bytes)
+    tail.size = tail.size.saturating_add(OVERHEAD + bytes.len() as u64);
+    apply_by_kind(tail, kind, number, bytes)
 }
 
-// Notes what an entry says, whose bytes are counted.
-fn note_within(tail: &mut Tail, kind: Kind, number: u64, bytes: Vec<u8>) -> Result<(), TailFault>
+// Applies an entry to `tail`, by its kind.
+fn apply_by_kind(tail: &mut Tail, kind: Kind, number: u64, bytes: Vec<u8>) -> Result<(), TailFault>
     ensures { Notes result (spec.said_within kind (tail_shown tail.old) number bytes.items)
         (tail_shown tail.new) }
 {
     match kind {
-        Kind::Record => begin(tail, number, &bytes),
+        Kind::Record => apply_header(tail, number, &bytes),
         Kind::Permitted if !bytes.is_empty() => Err(TailFault::NoRecord),
-        Kind::Permitted => permit(tail, number),
+        Kind::Permitted => apply_permitted(tail, number),
         Kind::Spans if !bytes.is_empty() => Err(TailFault::NoRecord),
-        Kind::Spans => limit_spans(tail, number),
+        Kind::Spans => apply_spans_limit(tail, number),
         Kind::Cells if !bytes.is_empty() => Err(TailFault::NoRecord),
-        Kind::Cells => limit_cells(tail, number),
-        Kind::Operator => list(tail, number, &bytes),
-        Kind::Request => ask(tail, number, bytes),
-        Kind::Answer => answer(tail, number, &bytes),
+        Kind::Cells => apply_cells_limit(tail, number),
+        Kind::Operator => apply_operator(tail, number, &bytes),
+        Kind::Request => apply_request(tail, number, bytes),
+        Kind::Answer => apply_answer(tail, number, &bytes),
     }
 }
 
-// The record begins.
+// Applies the first entry: the file's number and the version of the format.
 #[tactic(auto, unfolding(crate::specs::Tail::said_record))]
-fn begin(tail: &mut Tail, number: u64, version: &[u8]) -> Result<(), TailFault>
+fn apply_header(tail: &mut Tail, number: u64, version: &[u8]) -> Result<(), TailFault>
     ensures { Notes result (spec.said_record (tail_shown tail.old) number version.now) (tail_shown tail.new) }
 {
     if tail.record.is_some() {
@@ -192,9 +193,9 @@ fn begin(tail: &mut Tail, number: u64, version: &[u8]) -> Result<(), TailFault>
     Ok(())
 }
 
-// A priority is permitted beside the others.
+// Adds a permitted priority.
 #[tactic(auto, unfolding(crate::specs::Tail::said_permitted))]
-fn permit(tail: &mut Tail, priority: u64) -> Result<(), TailFault>
+fn apply_permitted(tail: &mut Tail, priority: u64) -> Result<(), TailFault>
     ensures { Notes result (spec.said_permitted (tail_shown tail.old) priority) (tail_shown tail.new) }
 {
     if priority > u64::from(MAX_PRIORITY) {
@@ -210,9 +211,9 @@ fn permit(tail: &mut Tail, priority: u64) -> Result<(), TailFault>
     Ok(())
 }
 
-// An operator's live plans may have so many spans.
+// Sets the limit on the spans of an operator's live plans.
 #[tactic(auto, unfolding(crate::specs::Tail::said_spans))]
-fn limit_spans(tail: &mut Tail, spans: u64) -> Result<(), TailFault>
+fn apply_spans_limit(tail: &mut Tail, spans: u64) -> Result<(), TailFault>
     ensures { Notes result (spec.said_spans (tail_shown tail.old) spans) (tail_shown tail.new) }
 {
     if spans < 1 || spans > u64::from(MAX_SPANS) {
@@ -222,9 +223,9 @@ fn limit_spans(tail: &mut Tail, spans: u64) -> Result<(), TailFault>
     Ok(())
 }
 
-// An operator's plans may have so many cells.
+// Sets the limit on the cells of all plans of an operator.
 #[tactic(auto, unfolding(crate::specs::Tail::said_cells))]
-fn limit_cells(tail: &mut Tail, cells: u64) -> Result<(), TailFault>
+fn apply_cells_limit(tail: &mut Tail, cells: u64) -> Result<(), TailFault>
     ensures { Notes result (spec.said_cells (tail_shown tail.old) cells) (tail_shown tail.new) }
 {
     if cells < 1 || cells > u64::from(MAX_TOTAL_CELLS) {
@@ -234,9 +235,9 @@ fn limit_cells(tail: &mut Tail, cells: u64) -> Result<(), TailFault>
     Ok(())
 }
 
-// An operator is listed.
+// Adds an enrolled operator.
 #[tactic(auto, unfolding(crate::specs::Tail::said_operator))]
-fn list(tail: &mut Tail, ceiling: u64, name: &[u8]) -> Result<(), TailFault>
+fn apply_operator(tail: &mut Tail, ceiling: u64, name: &[u8]) -> Result<(), TailFault>
     ensures { Notes result (spec.said_operator (tail_shown tail.old) ceiling name.now) (tail_shown tail.new) }
 {
     let Some(operator) = Operator::try_new(name) else {
@@ -256,9 +257,9 @@ fn list(tail: &mut Tail, ceiling: u64, name: &[u8]) -> Result<(), TailFault>
     Ok(())
 }
 
-// A request is asked.
+// Notes a request, which has no answer yet, and drops the operators before it: the desk has enrolled these.
 #[tactic(auto, unfolding(crate::specs::Tail::said_request))]
-fn ask(tail: &mut Tail, second: u64, request: Vec<u8>) -> Result<(), TailFault>
+fn apply_request(tail: &mut Tail, second: u64, request: Vec<u8>) -> Result<(), TailFault>
     ensures { Notes result (spec.said_request (tail_shown tail.old) second request.items)
         (tail_shown tail.new) }
 {
@@ -273,9 +274,9 @@ fn ask(tail: &mut Tail, second: u64, request: Vec<u8>) -> Result<(), TailFault>
     Ok(())
 }
 
-// The request is answered.
+// Notes the answer to the last request. After a 500 the request still counts as unanswered.
 #[tactic(auto, unfolding(crate::specs::Tail::said_answer))]
-fn answer(tail: &mut Tail, second: u64, answer: &[u8]) -> Result<(), TailFault>
+fn apply_answer(tail: &mut Tail, second: u64, answer: &[u8]) -> Result<(), TailFault>
     ensures { Notes result (spec.said_answer (tail_shown tail.old) second answer.now) (tail_shown tail.new) }
 {
     let Some(asked) = &tail.asked else {

@@ -1,4 +1,4 @@
-//! A record that is written to a journal.
+//! The request journal over an append-only file.
 
 ghost use Rattle.std.specs.Prelude.{◌≡◌, map, nat_abs, [], ◌∷◌, None, IfOk, IfSome, OnErr, OnOk};
 ghost use Rattle.std.specs.Result.{is_ok};
@@ -18,17 +18,17 @@ use desk_record::{Kind, write_entry};
 use io_ends::Moment;
 use std::alloc::{AllocError, Global};
 
-/// A record that is written to a journal, entry by entry.
+/// A request journal that is written to an append-only file, entry by entry.
 #[derive(Drop)]
 pub struct WrittenRecord<J: Drop> {
     alloc: Global,
     journal: J,
-    // The second of the request that was kept last.
+    // The second of the last request.
     second: u64,
 }
 
 impl<J: Journal + Drop> WrittenRecord<J> {
-    /// A record that goes on in a journal.
+    /// A request journal that goes on at the end of this file.
     pub fn new(alloc: Global, journal: J) -> WrittenRecord<J>
         ensures { result.journal ≡ journal }
     {
@@ -39,11 +39,11 @@ impl<J: Journal + Drop> WrittenRecord<J> {
         }
     }
 
-    /// Has all that was kept on the disk.
+    /// Flushes all that was appended to the disk.
     ///
     /// # Errors
     ///
-    /// The journal's own.
+    /// The error of the file.
     pub fn sync(&mut self) -> Result<(), J::Fault>
         ensures { MakesWrite (J.writes self.old.journal) (J.writes self.new.journal) (is_ok result) Synced }
     {
@@ -65,9 +65,9 @@ impl<J: Journal + Drop> WrittenRecord<J> {
         append_text(&mut self.journal, &text)
     }
 
-    // Appends the entries of operators that are enrolled.
+    // Appends an entry for each new enrolment.
     #[tactic(auto, using(crate::proofs::WritingLemmas::extends_none))]
-    fn append_news(&mut self, news: &[Enrolment]) -> Result<(), Unwritten<J::Fault>>
+    fn append_enrolments(&mut self, news: &[Enrolment]) -> Result<(), Unwritten<J::Fault>>
         ensures done { OnOk result (FollowsWrites (J.writes self.old.journal) (J.writes self.new.journal)
             (Appended (entries (map operator_entry news.now)) ∷ [])) }
         ensures stops { OnErr result (IsNotWritten (J.writes self.old.journal) (J.writes self.new.journal)) }
@@ -76,12 +76,12 @@ impl<J: Journal + Drop> WrittenRecord<J> {
         ensures named { OnOk result (AreNamed news.now) }
         ensures second { self.new.second ≡ self.old.second }
     {
-        let text = news_text(self.alloc, news)?;
+        let text = enrolment_entries(self.alloc, news)?;
         append_text(&mut self.journal, &text)
     }
 }
 
-// Appends a text.
+// Appends `text` to the file.
 #[tactic(auto, using(crate::proofs::WritingLemmas::extends_by))]
 fn append_text<J: Journal>(journal: &mut J, text: &[u8]) -> Result<(), Unwritten<J::Fault>>
     ensures done { OnOk result
@@ -92,8 +92,8 @@ fn append_text<J: Journal>(journal: &mut J, text: &[u8]) -> Result<(), Unwritten
     append_to(journal, text)
 }
 
-// The entries of operators that are enrolled.
-fn news_text(alloc: Global, news: &[Enrolment]) -> Result<Vec<u8>, AllocError>
+// The entries for new enrolments, in their order.
+fn enrolment_entries(alloc: Global, news: &[Enrolment]) -> Result<Vec<u8>, AllocError>
     ensures text { IfOk result (λ text. text.items ≡ entries (map operator_entry news.now)) }
     ensures named { IfOk result (λ _. AreNamed news.now) }
 {
@@ -114,6 +114,7 @@ impl<J: Journal + Drop> Record for WrittenRecord<J> {
 
     ghost noted = { λ s. noted_in s.second (J.writes s.journal) };
 
+    // Appends an entry for each new enrolment, and flushes them.
     fn keep_news(&mut self, news: &[Enrolment]) -> Result<(), Unwritten<J::Fault>>
         ensures steps { AddsIf None None (is_ok result) (Enrolled news.now) }
         ensures noted { NotesOnDisk (noted_in self.old.second (J.writes self.old.journal))
@@ -129,10 +130,11 @@ impl<J: Journal + Drop> Record for WrittenRecord<J> {
         if news.is_empty() {
             return Ok(());
         }
-        self.append_news(news)?;
+        self.append_enrolments(news)?;
         sync_to(&mut self.journal)
     }
 
+    // Appends the entry of a request, unless it is empty, and flushes it.
     fn keep_request(&mut self, moment: Moment, bytes: &[u8]) -> Result<(), Unwritten<J::Fault>>
         ensures steps { AddsIf None None (is_ok result) (Asked moment.second bytes.now) }
         ensures noted { NotesOnDisk (noted_in self.old.second (J.writes self.old.journal))
@@ -151,6 +153,7 @@ impl<J: Journal + Drop> Record for WrittenRecord<J> {
         sync_to(&mut self.journal)
     }
 
+    // Appends the entry of the answer to the last request, unless it is empty, without flushing it.
     fn keep_answer(&mut self, connection: Exchange<'_>) -> Result<(), Unwritten<J::Fault>>
         ensures steps { AddsIf None None (is_ok result) (Answered (parting_of connection.entry)) }
         ensures noted { Notes (noted_in self.old.second (J.writes self.old.journal))
@@ -166,5 +169,6 @@ impl<J: Journal + Drop> Record for WrittenRecord<J> {
         self.append(Kind::Answer, self.second, connection.sent)
     }
 
+    // Writes nothing: a journal has no entry for a lost answer.
     fn lose_answer(&mut self, _connection: Exchange<'_>) {}
 }

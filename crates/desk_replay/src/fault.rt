@@ -1,20 +1,20 @@
-//! Why an entry is not played.
+//! Why an entry can't be replayed.
 
 use desk_run::DeskFault;
 use std::alloc::AllocError;
 
-/// Why an entry is not played.
+/// Why an entry can't be replayed.
 #[derive(Clone, Copy, Debug, PartialEq, Eq)]
 pub enum ReplayFault {
     /// Memory ran out.
     OutOfMemory,
     /// The store failed.
     Store,
-    /// No record has such an entry there.
+    /// No journal has such an entry at this place.
     NoRecord,
-    /// A record begins that is not the next of its folder.
+    /// A journal file begins that is not the next of its folder.
     NotNext,
-    /// The desk gives a request another answer than the recorded one.
+    /// The desk's answer differs from the recorded one.
     Differs,
 }
 

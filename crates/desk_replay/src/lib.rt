@@ -1,4 +1,4 @@
-//! Records played again at a desk, entry by entry, each answer compared with the recorded one.
+//! Replay of a request journal at a desk, entry by entry: each answer is compared with the recorded one.
 #![tactic(auto)]
 
 mod fault;

@@ -1,4 +1,4 @@
-//! The line of a replay: a record played at the desk that was opened for it, and what is said of it.
+//! The command `replay`, once its database is open: the journal is replayed, and the result is printed.
 
 ghost use Rattle.std.specs.Prelude.{◌≡◌, ◌⊎◌, IfErr, IfOk, is_some, string_bytes};
 ghost use Rattle.desk_store.specs.StoreFaults.{IsHonest};
@@ -21,10 +21,10 @@ use io_ends::{WriteError, write_whole};
 use std::alloc::{AllocError, Global};
 use std::io::{Read, Write};
 
-/// Plays the record of the input at the desk that was opened for it, up to the first request that is asked
-/// later than `until` (a Unix second), if that is given. Prints how many requests were played and how many of
-/// them made a change, and answers how it ended and the desk. If an entry is not played, then where and why
-/// goes to `errors`, and the word of that failure; if no desk was opened, the word alone.
+/// Replays the journal `input` at the desk `opened`, up to the first request whose Unix second is greater than
+/// `until`, if that is given. Prints how many requests were replayed and how many of them changed the database, and
+/// returns the exit status and the desk. If an entry can't be replayed, where and why goes to `errors`, and then the
+/// error code; if no desk could be opened, only the error code.
 pub fn replay_opened<S: PlanStore + Drop, R: Read, W: Write, E: Write>(
     alloc: Global,
     until: Option<u64>,
@@ -42,15 +42,15 @@ pub fn replay_opened<S: PlanStore + Drop, R: Read, W: Write, E: Write>(
 {
     match opened {
         Ok(mut desk) => {
-            let exit = replay_here(alloc, until, &mut desk, input, output, errors);
+            let exit = replay_at_desk(alloc, until, &mut desk, input, output, errors);
             (exit, Some(desk))
         }
         Err(failure) => (report_exit(errors, Err(failure)), None),
     }
 }
 
-// Plays the record of the input at a desk, and reports what came of it.
-fn replay_here<S: PlanStore, R: Read, W: Write, E: Write>(
+// Replays the journal `input` at an open desk, and prints the result.
+fn replay_at_desk<S: PlanStore, R: Read, W: Write, E: Write>(
     alloc: Global,
     until: Option<u64>,
     desk: &mut Desk<S>,
@@ -68,7 +68,7 @@ fn replay_here<S: PlanStore, R: Read, W: Write, E: Write>(
     report_end(alloc, &replayed, output, errors)
 }
 
-// Reports what came of a replay, and answers how it ended.
+// Prints the result of a replay: a summary if all was replayed, else where and why it stopped.
 fn report_end<W: Write, E: Write>(
     alloc: Global,
     replayed: &Replayed,
@@ -81,18 +81,18 @@ fn report_end<W: Write, E: Write>(
 {
     let requests = replayed.progress.requests;
     let changes = replayed.progress.changes;
-    match failure_of_end(replayed.ended) {
-        None => report_exit(errors, print_replayed(alloc, requests, changes, output)),
+    match end_error(replayed.ended) {
+        None => report_exit(errors, print_summary(alloc, requests, changes, output)),
         Some(failure) => {
-            let cause = cause_of_end(replayed.ended);
-            report_place(alloc, requests, replayed.place, cause, errors);
+            let cause = end_cause(replayed.ended);
+            report_cause(alloc, requests, replayed.place, cause, errors);
             report_exit(errors, Err(failure))
         }
     }
 }
 
-// Why a replay did not play all that was to be played, by its end.
-fn failure_of_end(ended: ReplayEnd) -> Option<ErrorCode>
+// The error code of the command for the end of a replay. None if all was replayed.
+fn end_error(ended: ReplayEnd) -> Option<ErrorCode>
     ensures { result ≡ spec.failure_of_end ended }
 {
     match ended {
@@ -109,8 +109,8 @@ fn failure_of_end(ended: ReplayEnd) -> Option<ErrorCode>
     }
 }
 
-// The same in words.
-fn cause_of_end(ended: ReplayEnd) -> &'static str
+// Why a replay ended, in words for the administrator.
+fn end_cause(ended: ReplayEnd) -> &'static str
     ensures { result.now ≡ spec.cause_of_end ended }
 {
     match ended {
@@ -127,9 +127,9 @@ fn cause_of_end(ended: ReplayEnd) -> &'static str
     }
 }
 
-// Prints that all was played.
+// Prints the summary of a complete replay.
 #[tactic(auto, using(crate::proofs::ReportingLemmas::begun_part))]
-fn print_replayed<W: Write>(
+fn print_summary<W: Write>(
     alloc: Global,
     requests: u64,
     changes: u64,
@@ -138,41 +138,41 @@ fn print_replayed<W: Write>(
     ensures { IsLinePrinted result (replayed_line requests changes) (W.contents output.old)
         (W.contents output.new) }
 {
-    let text = replayed_text(alloc, requests, changes)?;
+    let text = summary_line(alloc, requests, changes)?;
     write_whole(output, text.as_bytes())?;
     Ok(())
 }
 
-// The line that reports that all was played.
+// The text of this summary.
 #[tactic(auto, unfolding(crate::specs::ReplayReported::replayed_line))]
-fn replayed_text(alloc: Global, requests: u64, changes: u64) -> Result<String, AllocError>
+fn summary_line(alloc: Global, requests: u64, changes: u64) -> Result<String, AllocError>
     ensures { IfOk result (λ text. string_bytes text ≡ replayed_line requests changes) }
 {
     format!(in alloc; "replayed {requests} requests, {changes} changes, all answers alike\n")
 }
 
-// Reports where and why a replay ended. A fault of the writer is passed over, and so is want of memory.
-fn report_place<E: Write>(alloc: Global, requests: u64, place: u64, cause: &str, errors: &mut E)
+// Prints where and why a replay stopped. Write errors are ignored; if memory runs out, nothing is printed.
+fn report_cause<E: Write>(alloc: Global, requests: u64, place: u64, cause: &str, errors: &mut E)
     ensures { IsLineWritten (place_line requests place cause.now) (E.contents errors.old)
         (E.contents errors.new)
         ⊎ (E.contents errors.new ≡ E.contents errors.old) }
 {
-    if let Ok(text) = place_text(alloc, requests, place, cause) {
-        let _ = write_reported(errors, &text);
+    if let Ok(text) = cause_line(alloc, requests, place, cause) {
+        let _ = write_line(errors, &text);
     }
 }
 
-// The line that reports where and why a replay ended.
+// The line that says where and why a replay stopped.
 #[tactic(auto, unfolding(crate::specs::ReplayReported::place_line))]
-fn place_text(alloc: Global, requests: u64, place: u64, cause: &str) -> Result<String, AllocError>
+fn cause_line(alloc: Global, requests: u64, place: u64, cause: &str) -> Result<String, AllocError>
     ensures { IfOk result (λ text. string_bytes text ≡ place_line requests place cause.now) }
 {
     format!(in alloc; "uss_desk: request {requests}, at byte {place}: {cause}\n")
 }
 
-// Writes a text, and answers where it was broken off, if it was.
+// Writes `text`, and returns the write error, if there was one.
 #[tactic(auto, using(crate::proofs::ReportingLemmas::begun_part))]
-fn write_reported<E: Write>(errors: &mut E, text: &str) -> Option<WriteError<E>>
+fn write_line<E: Write>(errors: &mut E, text: &str) -> Option<WriteError<E>>
     ensures { HasWritten (is_some result) text.now (E.contents errors.old) (E.contents errors.new) }
 {
     match write_whole(errors, text.as_bytes()) {

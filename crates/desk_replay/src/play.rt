@@ -1,4 +1,4 @@
-//! Requests and answers of a record, played at a desk.
+//! Entries of a journal, replayed at a desk.
 
 ghost use Rattle.std.specs.Prelude.{◌≡◌, ◌⊎◌, IfErr, IfOk, OnErr, OnOk};
 ghost use Rattle.desk_store.specs.StoreFaults.{HasRisen, IsHonest};
@@ -15,7 +15,7 @@ ghost use Rattle.desk_replay.specs.declared.fault.ReplayFault.TheVariants as rep
 
 use crate::fault::ReplayFault;
 use crate::progress::{Asking, Progress};
-use crate::terms::{begin, enrol, limit_cells, limit_spans, permit};
+use crate::terms::{begin_journal, enrol, limit_cells, limit_spans, permit};
 use desk_record::{Entry, Kind};
 use desk_run::Desk;
 use desk_store::PlanStore;
@@ -25,20 +25,20 @@ use io_ends::Moment;
 use std::alloc::{AllocError, Global};
 use volume4d::MAX_SECOND;
 
-/// Plays one entry at a desk.
+/// Replays one entry at a desk.
 ///
 /// # Errors
 ///
-/// `NoRecord`, `NotNext` or `Differs` by the entry, `OutOfMemory` or `Store` by the desk. The content and the
-/// progress are as they were.
+/// `NoRecord`, `NotNext` or `Differs` because of the entry, `OutOfMemory` or `Store` because of the desk. Database
+/// and `progress` are unchanged then.
 #[tactic(auto, unfolding(crate::specs::Replaying::taken))]
-pub(crate) fn take_entry<S: PlanStore>(
+pub(crate) fn play_entry<S: PlanStore>(
     alloc: Global,
     desk: &mut Desk<S>,
     progress: &mut Progress,
     entry: Entry,
 ) -> Result<(), ReplayFault>
-    ensures given { IsHonest (S.doubt desk.new.store) → StepsAt S.content result
+    ensures steps { IsHonest (S.doubt desk.new.store) → StepsAt S.content result
         (λ s. taken s (entry_shown entry)) (course desk.old desk.new) (course progress.old progress.new) }
     ensures remembered { Remembers S.doubt S.faults S.is_shielded desk.old.store desk.new.store }
 {
@@ -48,16 +48,16 @@ pub(crate) fn take_entry<S: PlanStore>(
         bytes,
     } = entry;
     if kind == Kind::Record {
-        return begin(alloc, desk, progress, number, &bytes);
+        return begin_journal(alloc, desk, progress, number, &bytes);
     }
     if progress.record.is_none() {
         return Err(ReplayFault::NoRecord);
     }
-    take_within(alloc, desk, progress, kind, number, bytes)
+    play_entry_after_header(alloc, desk, progress, kind, number, bytes)
 }
 
-// Plays an entry other than a record's first.
-fn take_within<S: PlanStore>(
+// Replays an entry that isn't the first of a journal file.
+fn play_entry_after_header<S: PlanStore>(
     alloc: Global,
     desk: &mut Desk<S>,
     progress: &mut Progress,
@@ -65,7 +65,7 @@ fn take_within<S: PlanStore>(
     number: u64,
     bytes: Vec<u8>,
 ) -> Result<(), ReplayFault>
-    ensures given { IsHonest (S.doubt desk.new.store) → StepsAt S.content result
+    ensures steps { IsHonest (S.doubt desk.new.store) → StepsAt S.content result
         (λ s. spec.taken_within kind s number bytes.items) (course desk.old desk.new)
         (course progress.old progress.new) }
     ensures remembered { Remembers S.doubt S.faults S.is_shielded desk.old.store desk.new.store }
@@ -79,21 +79,22 @@ fn take_within<S: PlanStore>(
         Kind::Cells if !bytes.is_empty() => Err(ReplayFault::NoRecord),
         Kind::Cells => limit_cells(desk, progress, number),
         Kind::Operator => enrol(desk, progress, number, &bytes),
-        Kind::Request => ask(alloc, desk, progress, number, bytes),
-        Kind::Answer => compare(progress, number, &bytes),
+        Kind::Request => replay_request(alloc, desk, progress, number, bytes),
+        Kind::Answer => compare_answer(progress, number, &bytes),
     }
 }
 
-// Has a request answered at its moment, if it is its turn.
+// Carries out a recorded request at its `second`, if a request may come here, and notes that its recorded answer is
+// to follow.
 #[tactic(auto, unfolding(crate::specs::Replaying::requested))]
-fn ask<S: PlanStore>(
+fn replay_request<S: PlanStore>(
     alloc: Global,
     desk: &mut Desk<S>,
     progress: &mut Progress,
     second: u64,
     request: Vec<u8>,
 ) -> Result<(), ReplayFault>
-    ensures given { IsHonest (S.doubt desk.new.store) → StepsAt S.content result
+    ensures steps { IsHonest (S.doubt desk.new.store) → StepsAt S.content result
         (λ s. requested s second request.items) (course desk.old desk.new)
         (course progress.old progress.new) }
     ensures remembered { Remembers S.doubt S.faults S.is_shielded desk.old.store desk.new.store }
@@ -101,17 +102,17 @@ fn ask<S: PlanStore>(
     if second > MAX_SECOND as u64 {
         return Err(ReplayFault::NoRecord);
     }
-    let before = turn(alloc, &progress.asking, second, &request)?;
+    let before = first_answer_if_repeated(alloc, &progress.asking, second, &request)?;
     let moment = Moment {
         second: second as i64,
     };
     let sent = (moment, request);
-    let answer = report_one(alloc, desk, &sent)?;
+    let answer = answer_in_full(alloc, desk, &sent)?;
     if before.is_none() {
         progress.requests = progress.requests.saturating_add(1);
     }
     let had_changed = has_changed(&progress.asking);
-    progress.changes = with_change(had_changed, answer.made_change, progress.changes);
+    progress.changes = count_change(had_changed, answer.made_change, progress.changes);
     let (_, request) = sent;
     progress.asking = Some(Asking {
         second,
@@ -124,7 +125,7 @@ fn ask<S: PlanStore>(
     Ok(())
 }
 
-// Whether the request that is asked made a change before.
+// Whether the request that is repeated, if any, changed the database the first time.
 fn has_changed(asking: &Option<Asking>) -> bool
     ensures { result ≡ spec.has_changed (asking_in asking.now) }
 {
@@ -134,8 +135,8 @@ fn has_changed(asking: &Option<Asking>) -> bool
     }
 }
 
-// How many requests made a change, with one that made one before or makes one now.
-fn with_change(before: bool, now: bool, changes: u64) -> u64
+// The count of requests that changed the database, after one more; a repeated request is counted once.
+fn count_change(before: bool, now: bool, changes: u64) -> u64
     ensures { result ≡ spec.with_change before now changes }
 {
     if now && !before {
@@ -145,8 +146,9 @@ fn with_change(before: bool, now: bool, changes: u64) -> u64
     }
 }
 
-// The first answer to a request that is asked again, if it is.
-fn turn(
+// The first answer to this request if it repeats the unanswered one of the file before; None if it is new. An error
+// if another request is still unanswered.
+fn first_answer_if_repeated(
     alloc: Global,
     asking: &Option<Asking>,
     second: u64,
@@ -170,12 +172,12 @@ fn turn(
     Ok(Some(Vec::from_slice(alloc, first)?))
 }
 
-/// The answer to one request, the bytes of a whole one with its moment.
+/// Carries out `sent`, the moment and the bytes of one whole request, and returns the answer.
 ///
 /// # Errors
 ///
-/// `OutOfMemory` or `Store` by the desk, which changed nothing then.
-// Long: the answer, the world that it leaves, each fault and what a crash leaves have each a clause.
+/// `OutOfMemory` or `Store` because of the desk; nothing changed then.
+// Long: the answer, the state after it, each fault and the crash states have each a clause.
 pub fn answer_one<S: PlanStore>(
     alloc: Global,
     desk: &mut Desk<S>,
@@ -183,7 +185,7 @@ pub fn answer_one<S: PlanStore>(
 ) -> Result<Vec<u8>, ReplayFault>
     ensures ok { IsHonest (S.doubt desk.new.store) → IfOk result (λ answer. answer.items
         ≡ text_for (world_of S.content desk.old) sent.now.0.second (asked_in sent.now.1.items)) }
-    ensures left { IsHonest (S.doubt desk.new.store) → IfOk result (λ _. world_of S.content desk.new
+    ensures state { IsHonest (S.doubt desk.new.store) → IfOk result (λ _. world_of S.content desk.new
         ≡ world_after (world_of S.content desk.old) sent.now.0.second (asked_in sent.now.1.items)) }
     ensures err { IsHonest (S.doubt desk.new.store) → OnErr result
         (world_of S.content desk.new ≡ world_of S.content desk.old) }
@@ -193,13 +195,13 @@ pub fn answer_one<S: PlanStore>(
         → HasRisen (S.faults desk.old.store) (S.faults desk.new.store)) }
     ensures remembered { Remembers S.doubt S.faults S.is_shielded desk.old.store desk.new.store }
 {
-    let answer = report_one(alloc, desk, sent)?;
+    let answer = answer_in_full(alloc, desk, sent)?;
     Ok(answer.bytes)
 }
 
-// The answer to one request, the bytes of a whole one with its moment, and whether a change was made.
-// Long: the answer, the world that it leaves, each fault and what a crash leaves have each a clause.
-fn report_one<S: PlanStore>(
+// As `answer_one`, but returns all of the answer, also whether the database was changed.
+// Long: the answer, the state after it, each fault and the crash states have each a clause.
+fn answer_in_full<S: PlanStore>(
     alloc: Global,
     desk: &mut Desk<S>,
     sent: &(Moment, Vec<u8>),
@@ -208,7 +210,7 @@ fn report_one<S: PlanStore>(
         ≡ text_for (world_of S.content desk.old) sent.now.0.second (asked_in sent.now.1.items)) }
     ensures change { IsHonest (S.doubt desk.new.store) → IfOk result (λ answer. answer.made_change
         ≡ makes_change_for (world_of S.content desk.old) sent.now.0.second (asked_in sent.now.1.items)) }
-    ensures left { IsHonest (S.doubt desk.new.store) → IfOk result (λ _. world_of S.content desk.new
+    ensures state { IsHonest (S.doubt desk.new.store) → IfOk result (λ _. world_of S.content desk.new
         ≡ world_after (world_of S.content desk.old) sent.now.0.second (asked_in sent.now.1.items)) }
     ensures err { OnErr result (world_of S.content desk.new ≡ world_of S.content desk.old) }
     ensures fault { IfErr result IsOwn }
@@ -225,9 +227,10 @@ fn report_one<S: PlanStore>(
     }
 }
 
-// Compares the recorded answer with the desk's.
+// Compares a recorded answer with the desk's. If the recorded one is a 500, another answer is accepted, but the
+// request stays unanswered: the next file has to repeat it.
 #[tactic(auto, unfolding(crate::specs::Replaying::taken_answer))]
-fn compare(progress: &mut Progress, second: u64, answer: &[u8]) -> Result<(), ReplayFault>
+fn compare_answer(progress: &mut Progress, second: u64, answer: &[u8]) -> Result<(), ReplayFault>
     ensures { (w : DeskWorld)
         → GivesOutcome result (taken_answer (progress_state w progress.old) second answer.now)
         (progress_state w progress.old) (progress_state w progress.new) }
@@ -238,7 +241,7 @@ fn compare(progress: &mut Progress, second: u64, answer: &[u8]) -> Result<(), Re
     if asking.reopened || asking.second != second {
         return Err(ReplayFault::NoRecord);
     }
-    if is_alike(asking, answer) {
+    if is_expected(asking, answer) {
         progress.asking = None;
         return Ok(());
     }
@@ -249,22 +252,22 @@ fn compare(progress: &mut Progress, second: u64, answer: &[u8]) -> Result<(), Re
     }
 }
 
-/// Whether an answer says that the desk failed.
+/// Whether `answer` has the status 500: the desk failed.
 pub fn is_500(answer: &[u8]) -> bool
     ensures { result ≡ is_failure answer.now }
 {
     answer == out_of_memory_answer() || answer == store_answer()
 }
 
-// Whether an answer is the desk's, now or when the request was asked first.
-fn is_alike(asking: &Asking, answer: &[u8]) -> bool
+// Whether `answer` is the desk's answer to the request, now or when it was carried out first.
+fn is_expected(asking: &Asking, answer: &[u8]) -> bool
     ensures { result ≡ spec.is_alike (asking_shown asking.now) answer.now }
 {
-    answer == asking.answer.as_slice() || is_first(&asking.before, answer)
+    answer == asking.answer.as_slice() || is_first_answer(&asking.before, answer)
 }
 
-// Whether this is the first answer.
-fn is_first(before: &Option<Vec<u8>>, answer: &[u8]) -> bool
+// Whether `answer` is the first answer to a repeated request.
+fn is_first_answer(before: &Option<Vec<u8>>, answer: &[u8]) -> bool
     ensures { result ≡ spec.is_first (bytes_of (λ v. v.items) before.now) answer.now }
 {
     match before {

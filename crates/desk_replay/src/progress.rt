@@ -1,4 +1,4 @@
-//! How far a record was played.
+//! How far a journal was replayed.
 
 ghost use Rattle.std.specs.Prelude.{◌≡◌};
 ghost use Rattle.desk_run.specs.DeskWorld.{DeskWorld};
@@ -8,41 +8,41 @@ ghost use Rattle.desk_replay.specs.Running.{start};
 use desk_rules::terms::Terms;
 use std::alloc::Global;
 
-/// A request that was asked, and whose recorded answer is still to come.
+/// A request that was carried out, and whose recorded answer is still to come.
 #[derive(Debug, Drop)]
 pub struct Asking {
-    /// The Unix second at which it was asked.
+    /// The Unix second of the request.
     pub second: u64,
     pub request: Vec<u8>,
-    /// What the desk answers.
+    /// The desk's answer.
     pub answer: Vec<u8>,
-    /// What it answered before, if the request is asked again: the desk that wrote the record may have
-    /// made the change by then, or not.
+    /// The desk's first answer, if the request is repeated. Either may be recorded: before the repetition, the desk
+    /// that wrote the journal may or may not have made the change.
     pub before: Option<Vec<u8>>,
-    /// A record has begun since, in which the request is to be asked again.
+    /// Whether a journal file has begun since, which has to repeat the request.
     pub reopened: bool,
-    /// It made a change, when it was asked now or before.
+    /// Whether the request changed the database, now or the first time.
     pub made_change: bool,
 }
 
-/// How far records were played.
+/// How far a journal was replayed.
 #[derive(Debug, Drop)]
 pub struct Progress {
-    /// The number of the record in its folder, if one has begun.
+    /// The number of the current journal file in its folder, if one has begun.
     pub record: Option<u64>,
     /// The priorities that it permitted so far.
     pub permitted: Vec<u32>,
-    /// The terms that it has so far.
+    /// The settings that it has so far.
     pub terms: Terms,
     pub asking: Option<Asking>,
-    /// How many requests were played, those that are asked again once.
+    /// How many requests were replayed; a repeated one counts once.
     pub requests: u64,
-    /// How many of them made a change.
+    /// How many of them changed the database.
     pub changes: u64,
 }
 
 impl Progress {
-    /// No record has begun.
+    /// The progress before the first entry.
     pub fn none(alloc: Global) -> Progress
         ensures { (w : DeskWorld) → progress_state w result ≡ start w }
     {
@@ -57,7 +57,7 @@ impl Progress {
     }
 }
 
-/// Whether a record of this number may begin after the last one.
+/// Whether the journal file `number` may follow the file `last`: it is the next one, or the first that is replayed.
 pub(crate) fn may_follow(last: Option<u64>, number: u64) -> bool
     ensures { result ≡ follows last number }
 {

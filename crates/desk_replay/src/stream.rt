@@ -1,4 +1,4 @@
-//! A stream of entries, played one after the other.
+//! A journal as a stream of entries, replayed one after the other.
 
 ghost use Rattle.std.specs.Prelude.{◌≡◌};
 ghost use Rattle.desk_store.specs.StoreFaults.{IsHonest};
@@ -12,7 +12,7 @@ ghost use Rattle.desk_replay.specs.Running.{HasReplayed, Steps};
 ghost use Rattle.desk_replay.specs.Running as spec;
 
 use crate::fault::ReplayFault;
-use crate::play::take_entry;
+use crate::play::play_entry;
 use crate::progress::Progress;
 use desk_record::{Entry, Kind, ReadFault, lengths, read_entry};
 use desk_run::Desk;
@@ -20,34 +20,33 @@ use desk_store::PlanStore;
 use std::alloc::Global;
 use std::io::Read;
 
-/// How many bytes an entry has beside its own: those of its line, and the line feed.
-const LINE_AND_END: u64 = 87;
+/// The length of an entry without its own bytes: its line, and the line feed at its end.
+const ENTRY_OVERHEAD: u64 = 87;
 
 /// Why a replay ended.
 #[derive(Clone, Copy, Debug, PartialEq, Eq)]
 pub enum ReplayEnd {
-    /// The input came to its end, after a whole entry.
+    /// The input ended after a whole entry.
     End,
-    /// The next request is asked later than what was to be played.
+    /// The next request is later than those to be replayed.
     Until,
-    /// The next entry was not read.
+    /// The next entry could not be read.
     Unread(ReadFault),
-    /// The next entry was not played.
+    /// The next entry could not be replayed.
     Unplayed(ReplayFault),
 }
 
-/// What came of a replay.
+/// The result of a replay.
 #[derive(Debug, Drop)]
 pub struct Replayed {
     pub progress: Progress,
-    /// How many bytes the entries have that were played, as many as 64 bits hold at most: so many are before
-    /// the one at which it ended.
+    /// The length of the entries that were replayed, in bytes, at most `u64::MAX`: the offset of the next entry.
     pub place: u64,
     pub ended: ReplayEnd,
 }
 
-/// Plays records at a desk, entry by entry as they come, up to the first request that is asked later than
-/// `until` (a Unix second), if that is given.
+/// Replays a journal at a desk, entry by entry, up to the first request whose Unix second is greater than `until`,
+/// if that is given.
 pub fn replay<S: PlanStore, R: Read>(
     alloc: Global,
     desk: &mut Desk<S>,
@@ -62,7 +61,7 @@ pub fn replay<S: PlanStore, R: Read>(
     let mut progress = Progress::none(alloc);
     let mut place: u64 = 0;
     for _ in 0..u64::MAX {
-        match replay_one(alloc, desk, &mut progress, until, input) {
+        match replay_next(alloc, desk, &mut progress, until, input) {
             Ok(size) => place = place.saturating_add(size),
             Err(ended) => {
                 return Replayed {
@@ -80,9 +79,8 @@ pub fn replay<S: PlanStore, R: Read>(
     }
 }
 
-// Reads the next entry and plays it, and answers how many bytes it has. The error says why there is no more
-// to play.
-fn replay_one<S: PlanStore, R: Read>(
+// Reads and replays the next entry, and returns its length in bytes. The error says why the replay ends.
+fn replay_next<S: PlanStore, R: Read>(
     alloc: Global,
     desk: &mut Desk<S>,
     progress: &mut Progress,
@@ -99,26 +97,26 @@ fn replay_one<S: PlanStore, R: Read>(
         Ok(None) => return Err(ReplayEnd::End),
         Err(fault) => return Err(ReplayEnd::Unread(fault)),
     };
-    if is_later(until, &entry) {
+    if is_after_until(until, &entry) {
         return Err(ReplayEnd::Until);
     }
-    let size = size_of(&entry);
-    match take_entry(alloc, desk, progress, entry) {
+    let size = entry_size(&entry);
+    match play_entry(alloc, desk, progress, entry) {
         Ok(()) => Ok(size),
         Err(fault) => Err(ReplayEnd::Unplayed(fault)),
     }
 }
 
-// How many bytes an entry has.
-fn size_of(one: &Entry) -> u64
+// The length of an entry, in bytes.
+fn entry_size(one: &Entry) -> u64
     ensures { result ≡ spec.size_of (entry (entry_shown one.now)) }
 {
     lengths();
-    (one.bytes.len() as u64).saturating_add(LINE_AND_END)
+    (one.bytes.len() as u64).saturating_add(ENTRY_OVERHEAD)
 }
 
-// Whether this is a request that is asked later.
-fn is_later(until: Option<u64>, entry: &Entry) -> bool
+// Whether `entry` is a request whose second is greater than `until`.
+fn is_after_until(until: Option<u64>, entry: &Entry) -> bool
     ensures { result ≡ spec.is_too_late until entry.now.kind entry.now.number }
 {
     match until {

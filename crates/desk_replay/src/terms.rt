@@ -1,4 +1,4 @@
-//! The terms of the desk that wrote a record.
+//! The settings at the beginning of a journal file: they are set at the desk that replays it.
 
 ghost use Rattle.std.specs.Prelude.{◌≡◌};
 ghost use Rattle.desk_store.specs.StoreFaults.{IsHonest};
@@ -19,16 +19,17 @@ use std::alloc::Global;
 /// The version of the format.
 const VERSION: &[u8] = b"1";
 
-/// Begins a record: no priority is permitted yet, and any number of spans and of cells.
+/// Begins a journal file: removes all settings, and has an unanswered request repeated. An error if the version or
+/// the file's `number` isn't the expected one.
 #[tactic(auto, unfolding(crate::specs::Replaying::begun))]
-pub(crate) fn begin<S: PlanStore>(
+pub(crate) fn begin_journal<S: PlanStore>(
     alloc: Global,
     desk: &mut Desk<S>,
     progress: &mut Progress,
     number: u64,
     version: &[u8],
 ) -> Result<(), ReplayFault>
-    ensures given { StepsAt S.content result (λ s. begun s number version.now) (course desk.old desk.new)
+    ensures steps { StepsAt S.content result (λ s. begun s number version.now) (course desk.old desk.new)
         (course progress.old progress.new) }
     ensures store { desk.new.store ≡ desk.old.store }
 {
@@ -48,14 +49,14 @@ pub(crate) fn begin<S: PlanStore>(
     Ok(())
 }
 
-/// Permits a priority beside the others.
+/// Adds a permitted priority: plans of equal priority may overlap.
 #[tactic(auto, unfolding(crate::specs::Replaying::permitted))]
 pub(crate) fn permit<S: PlanStore>(
     desk: &mut Desk<S>,
     progress: &mut Progress,
     priority: u64,
 ) -> Result<(), ReplayFault>
-    ensures given { StepsAt S.content result (λ s. permitted s priority) (course desk.old desk.new)
+    ensures steps { StepsAt S.content result (λ s. permitted s priority) (course desk.old desk.new)
         (course progress.old progress.new) }
     ensures store { desk.new.store ≡ desk.old.store }
 {
@@ -74,14 +75,14 @@ pub(crate) fn permit<S: PlanStore>(
     Ok(())
 }
 
-/// Has an operator's live plans have so many spans at most.
+/// Limits the spans of an operator's live plans.
 #[tactic(auto, unfolding(crate::specs::Replaying::spanned))]
 pub(crate) fn limit_spans<S: PlanStore>(
     desk: &mut Desk<S>,
     progress: &mut Progress,
     spans: u64,
 ) -> Result<(), ReplayFault>
-    ensures given { StepsAt S.content result (λ s. spanned s spans) (course desk.old desk.new)
+    ensures steps { StepsAt S.content result (λ s. spanned s spans) (course desk.old desk.new)
         (course progress.old progress.new) }
     ensures store { desk.new.store ≡ desk.old.store }
 {
@@ -93,14 +94,14 @@ pub(crate) fn limit_spans<S: PlanStore>(
     Ok(())
 }
 
-/// Has an operator's plans have so many cells at most.
+/// Limits the cells of all plans of an operator.
 #[tactic(auto, unfolding(crate::specs::Replaying::celled))]
 pub(crate) fn limit_cells<S: PlanStore>(
     desk: &mut Desk<S>,
     progress: &mut Progress,
     cells: u64,
 ) -> Result<(), ReplayFault>
-    ensures given { StepsAt S.content result (λ s. celled s cells) (course desk.old desk.new)
+    ensures steps { StepsAt S.content result (λ s. celled s cells) (course desk.old desk.new)
         (course progress.old progress.new) }
     ensures store { desk.new.store ≡ desk.old.store }
 {
@@ -112,7 +113,7 @@ pub(crate) fn limit_cells<S: PlanStore>(
     Ok(())
 }
 
-/// Enrols an operator.
+/// Enrols the operator `name`, or replaces its ceiling.
 #[tactic(auto, unfolding(crate::specs::Replaying::listed))]
 pub(crate) fn enrol<S: PlanStore>(
     desk: &mut Desk<S>,
@@ -120,7 +121,7 @@ pub(crate) fn enrol<S: PlanStore>(
     ceiling: u64,
     name: &[u8],
 ) -> Result<(), ReplayFault>
-    ensures given { IsHonest (S.doubt desk.new.store) → StepsAt S.content result
+    ensures steps { IsHonest (S.doubt desk.new.store) → StepsAt S.content result
         (λ s. listed s ceiling name.now) (course desk.old desk.new) (course progress.now progress.now) }
     ensures remembered { Remembers S.doubt S.faults S.is_shielded desk.old.store desk.new.store }
 {

@@ -1,4 +1,4 @@
-//! Requests answered at a desk, from bytes to bytes.
+//! One request answered by a desk, from bytes to bytes.
 
 ghost use Rattle.std.specs.Prelude.{◌≡◌, ◌≢◌, false, IfErr, IfOk, OnOk, OnErr, Ok};
 ghost use Rattle.request_parser.specs.Messages.{message_read, message_shown};
@@ -25,10 +25,10 @@ use io_ends::Moment;
 use request_parser::{Message, ReadError, WireFault, read_asked, read_message};
 use std::alloc::{AllocError, Global};
 
-/// The room that is reserved before a request is answered, in bytes.
-const ANSWER_ROOM: usize = 512;
+/// How many bytes are reserved before a request is carried out: enough for an answer 500.
+const RESERVED_LEN: usize = 512;
 
-// An answer to a request at which the desk did not fail.
+// An answer with another status than 500.
 #[derive(Drop)]
 struct Response {
     status: u16,
@@ -36,12 +36,12 @@ struct Response {
     made_change: bool,
 }
 
-/// Answers `text`, the bytes of one whole request, at a moment, and makes its change.
+/// Carries out `text`, the bytes of one whole request, at `moment`, and returns the answer.
 ///
 /// # Errors
 ///
-/// `AllocError` if the room for an answer was refused: nothing changed. If a later growth was refused, or
-/// the store failed, the answer says so, and nothing changed; but the next start may find the change made.
+/// `AllocError` if memory runs out at the beginning: nothing changed. If memory runs out later, or the store
+/// fails, the answer has the status 500 and nothing changed; but the next start may find the change made.
 pub fn answer<S: PlanStore>(
     alloc: Global,
     desk: &mut Desk<S>,
@@ -56,12 +56,12 @@ pub fn answer<S: PlanStore>(
     Ok(answer.bytes)
 }
 
-/// Answers `text` as `answer` does, and reports all of the answer: its status code, why the desk failed, if
-/// it did, and whether a change was made.
+/// Carries out `text` as `answer` does, and also returns the status code, why the desk failed, if it did, and
+/// whether the database was changed.
 ///
 /// # Errors
 ///
-/// `AllocError` if the room for an answer was refused: nothing changed.
+/// `AllocError` if memory runs out at the beginning: nothing changed.
 pub fn answer_with_status<S: PlanStore>(
     alloc: Global,
     desk: &mut Desk<S>,
@@ -77,11 +77,11 @@ pub fn answer_with_status<S: PlanStore>(
     answer_request(alloc, desk, moment, &read_message(text))
 }
 
-/// Answers the request that was read, or its fault, at a moment.
+/// Carries out a request that is split into head and body already; a fault of these is answered, too.
 ///
 /// # Errors
 ///
-/// `AllocError` if the room for an answer was refused: nothing changed.
+/// `AllocError` if memory runs out at the beginning: nothing changed.
 pub fn answer_request<S: PlanStore>(
     alloc: Global,
     desk: &mut Desk<S>,
@@ -95,7 +95,7 @@ pub fn answer_request<S: PlanStore>(
         (failure_reported result) }
     ensures err { OnErr result (desk.new ≡ desk.old) }
 {
-    let mut room = Vec::with_capacity(alloc, ANSWER_ROOM)?;
+    let mut room = Vec::with_capacity(alloc, RESERVED_LEN)?;
     match respond(alloc, desk, moment, request) {
         Ok(response) => Ok(Answer {
             status: response.status,
@@ -115,7 +115,7 @@ pub fn answer_request<S: PlanStore>(
     }
 }
 
-// Answers the request that was read, or its fault, unless the desk fails.
+// The answer to such a request or fault. An error says why the answer has to be a 500.
 fn respond<S: PlanStore>(
     alloc: Global,
     desk: &mut Desk<S>,
@@ -134,7 +134,7 @@ fn respond<S: PlanStore>(
     }
 }
 
-// Answers a message.
+// Parses a request and carries it out.
 fn answer_message<S: PlanStore>(
     alloc: Global,
     desk: &mut Desk<S>,
@@ -154,7 +154,7 @@ fn answer_message<S: PlanStore>(
     }
 }
 
-// Answers what is asked.
+// Carries out a call: prepares its reply and its change, and then commits it.
 fn answer_call<S: PlanStore>(
     alloc: Global,
     desk: &mut Desk<S>,
@@ -175,7 +175,7 @@ fn answer_call<S: PlanStore>(
     }
 }
 
-// Writes the answer, and then makes the change that goes with it.
+// Makes the answer, and only then commits the change, so that nothing can fail after the commit.
 fn answer_pending<S: PlanStore>(
     alloc: Global,
     desk: &mut Desk<S>,
@@ -204,12 +204,12 @@ fn answer_pending<S: PlanStore>(
     }
 }
 
-// The answer to a request that is refused.
+// The answer with the error that `refusal` says.
 #[tactic(auto, unfolding(crate::specs::RefusalTexts::refusal_text))]
 fn refuse(alloc: Global, refusal: Refusal) -> Result<Response, ServerError>
     ensures bytes { IfOk result (λ r. r.bytes.items ≡ refusal_text refusal) }
     ensures status { IfOk result (λ r. r.status ≡ refusal_status refusal) }
-    ensures other { IfOk result (λ r. r.status ≢ 500) }
+    ensures not_500 { IfOk result (λ r. r.status ≢ 500) }
     ensures change { IfOk result (λ r. r.made_change ≡ false) }
     ensures error { IfErr result (λ e. e ≡ ServerError.OutOfMemory) }
 {

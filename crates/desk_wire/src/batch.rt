@@ -1,4 +1,4 @@
-//! Batches: the answers to requests that are all at hand.
+//! Batches: a list of requests answered in order.
 
 ghost use Rattle.std.specs.Prelude.{◌≡◌, ◌≤◌, IfOk, OnErr, OnOk, map};
 ghost use Rattle.desk_store.specs.StoreFrames.{Remembers};
@@ -19,7 +19,7 @@ use io_ends::Moment;
 use request_parser::read_message;
 use std::alloc::{AllocError, Global};
 
-/// The answers to requests, in their order.
+/// The answers to a list of requests, in its order, as far as they were made.
 #[derive(Debug, Drop)]
 pub struct Answers {
     pub answers: Vec<Vec<u8>>,
@@ -28,25 +28,25 @@ pub struct Answers {
 }
 
 impl Answers {
-    /// The same answers, and the same end.
+    /// A copy of these answers.
     ///
     /// # Errors
     ///
-    /// `AllocError` for want of memory.
+    /// `AllocError` if memory runs out.
     pub fn copy(&self) -> Result<Answers, AllocError>
         ensures answers { IfOk result (λ copy. map (λ v. v.items) copy.answers.items
             ≡ map (λ v. v.items) self.now.answers.items) }
         ensures ended { IfOk result (λ copy. copy.ended ≡ self.now.ended) }
     {
-        let answers = copies(&self.answers)?;
+        let answers = copy_answers(&self.answers)?;
         let ended = self.ended;
         let copy = Answers { answers, ended };
         Ok(copy)
     }
 }
 
-// Vectors of equal bytes.
-fn copies(answers: &Vec<Vec<u8>>) -> Result<Vec<Vec<u8>>, AllocError>
+// A copy of each answer, in their order.
+fn copy_answers(answers: &Vec<Vec<u8>>) -> Result<Vec<Vec<u8>>, AllocError>
     ensures { IfOk result (λ copies. map (λ v. v.items) copies.items
         ≡ map (λ v. v.items) answers.now.items) }
 {
@@ -61,20 +61,20 @@ fn copies(answers: &Vec<Vec<u8>>) -> Result<Vec<Vec<u8>>, AllocError>
 /// Why there are no more answers.
 #[derive(Clone, Copy, Debug, PartialEq, Eq)]
 pub enum AnswersEnd {
-    /// Each request is answered.
+    /// All requests are answered.
     All,
     /// The last answer has the status 500.
     Broken,
-    /// There was no memory for the next answer; its request changed nothing.
+    /// Memory ran out before the next request was carried out; it changed nothing.
     NoMemory,
 }
 
-/// Answers requests, each the bytes of one whole request with its moment, until an answer has the status
-/// 500.
+/// Answers `requests` in order, each the bytes of one whole request with its moment, until an answer has the
+/// status 500.
 ///
 /// # Errors
 ///
-/// `AllocError` if the room for all answers was refused: nothing changed.
+/// `AllocError` if the list of answers can't be allocated: nothing changed.
 pub fn answer_all<S: PlanStore>(
     alloc: Global,
     desk: &mut Desk<S>,

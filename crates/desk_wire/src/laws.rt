@@ -24,10 +24,10 @@ pub fn headline()
     ensures { Headline }
 {}
 
-/// Two runs, from worlds in which an operator owns the same, with the same requests of that operator
+/// Take two runs from states in which `operator` owns the same, with the same requests of that operator
 /// in the same order and at the same moments. If others hold the same before each of these requests,
-/// then their answers are equal byte for byte, and the operator owns the same after each of them and
-/// at the end, whatever requests of others stand between.
+/// then the answers to these are equal byte for byte, and the operator owns the same after each of them
+/// and at the end, whatever requests of others come between.
 pub fn two_runs()
     ensures { (operator : List ℕ) (v w : DeskWorld) (requests others : List Sent) →
         OwnAlike operator v w → requests_of operator requests ≡ requests_of operator others →
@@ -35,22 +35,21 @@ pub fn two_runs()
         IsSameFor operator v requests w others }
 {}
 
-/// The laws above, of the answers that a desk gave to a list of requests (the clause of `answer_all`).
+/// The two laws above, for the answers that a desk gave to a list of requests (by the clause of `answer_all`).
 /// `specs/GivenLaws.antt` says this part by part.
 pub fn answers_given()
     ensures { AnswersGiven }
 {}
 
-/// The laws above, of what a desk wrote for a stream of requests (the clause of `play_all`), if its
-/// store is honest. `specs/GivenLaws.antt` says this part by part.
+/// The two laws above, for what a desk wrote for a stream of requests (by the clause of `play_all`), if its
+/// storage is intact. `specs/GivenLaws.antt` says this part by part.
 pub fn stream_given()
     ensures { StreamGiven }
 {}
 
-/// Kept: what a start may find of the desk, whatever ended the run over a stream (the clause `kept` of
-/// `play_all`, of a desk whose content was kept when the run began): the content that the answered requests
-/// left, or the content that these and the next one left. After n answers other than a 500 these are the
-/// first n requests of the stream.
+/// Kept: a start after a stream, however that ended, finds the state after the first `n` requests of the stream,
+/// or after the first `n` and the next one. Here `n` requests were answered, none with a 500, and the state before
+/// was durable (by the clause `kept` of `play_all`).
 pub fn kept()
     ensures { (ended : PlayEnd) (n : ℕ) (passage : Passage) (stream : List ℕ) (w : DeskWorld)
         (moment : ℤ) (after : DeskWorld) (found : Option World) →
@@ -58,15 +57,16 @@ pub fn kept()
         IsFoundInStream w moment stream n found }
 {}
 
-/// Repeated: a request that is asked twice in a row, at one moment, leaves what it leaves once.
+/// Repeated: requests are idempotent. The same request twice in a row, at the same moment, results in the same
+/// state as once.
 pub fn repeated()
     ensures { (w : DeskWorld) (moment : ℤ) (request : List ℕ) →
         world_after (world_after w moment (asked request)) moment (asked request)
         ≡ world_after w moment (asked request) }
 {}
 
-/// Whatever follows a request in a stream, the request is the stream's first: so what is taken of a
-/// stream, and how it is cut into requests, has one answer.
+/// The framing is unambiguous: if a stream begins with a request, its first request is that one, whatever follows.
+/// So there is one way to split a stream into requests.
 pub fn request_ends()
     ensures { (request rest : List ℕ) → IsRequest request →
         request_len (request ++ rest) ≡ Some (length request) }

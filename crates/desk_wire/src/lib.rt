@@ -1,4 +1,4 @@
-//! The wire: requests answered at a desk, from bytes to bytes.
+//! The interface in bytes: requests answered by a desk, one at a time or over a stream.
 #![tactic(auto)]
 
 mod answering;

@@ -1,4 +1,4 @@
-//! Runs over a stream: requests served one after the other.
+//! Serving a stream: its requests are answered one after the other.
 
 ghost use Rattle.std.specs.Prelude.{◌≡◌, ◌≤◌, ◌==◌};
 ghost use Rattle.desk_store.specs.StoreFrames.{Remembers};
@@ -19,19 +19,20 @@ use io_ends::{Moment, PlayEnd, Served};
 use std::alloc::{AllocError, Global};
 use std::io::{Read, Write};
 
-// The most requests that one run answers.
+// The maximum number of requests that are answered of one stream.
 const MAX_ANSWERED: u32 = 1_000_000;
 
-/// What came of a run over a stream.
+/// The result of serving a stream.
 #[derive(Clone, Copy, Debug, PartialEq, Eq)]
 pub struct Played {
     /// How many requests were answered.
     pub answered: u32,
-    /// Why the run ended.
+    /// Why it ended.
     pub ended: PlayEnd,
 }
 
-/// Serves one request after the other, all at one moment.
+/// Answers the requests of `input` one after the other, all at the same `moment`, until one of the ends of
+/// `PlayEnd`.
 pub fn play_all<S: PlanStore, R: Read, W: Write>(
     alloc: Global,
     desk: &mut Desk<S>,
@@ -82,7 +83,7 @@ pub fn play_all<S: PlanStore, R: Read, W: Write>(
     }
 }
 
-// Whether an answer with this status says that the desk failed.
+// Whether `status` is 500: the desk failed.
 fn is_server_error(status: u16) -> bool
     ensures { result ≡ (status == 500) }
 {

@@ -1,4 +1,4 @@
-//! Why a request is refused before any rule is asked.
+//! Errors of requests to which no rule of planning is applied.
 
 ghost use Rattle.std.specs.Prelude.{◌≡◌, option_map};
 ghost use Rattle.desk_wire.specs.RefusalTexts as spec;
@@ -6,10 +6,10 @@ ghost use Rattle.desk_wire.specs.RefusalTexts as spec;
 use http::StatusCode;
 use request_parser::WireFault;
 
-/// Why a request is refused before any rule is asked.
+/// Why a request is answered with an error before any rule of planning is applied.
 #[derive(Clone, Copy, Debug, PartialEq, Eq)]
 pub enum Refusal {
-    /// The bytes have this fault.
+    /// The request has this fault.
     Fault(WireFault),
     /// The operator is not enrolled.
     UnknownOperator,
@@ -29,7 +29,7 @@ impl Refusal {
         }
     }
 
-    /// The word that the answer has as `error`.
+    /// The error code in the answer's body, `{"error":WORD}`.
     pub fn word(self) -> &'static str
         ensures { result.now ≡ spec.refusal_word self }
     {
@@ -40,7 +40,7 @@ impl Refusal {
         }
     }
 
-    /// The methods that the answer lists, if the method is at fault (RFC 9110, section 15.5.6).
+    /// The methods that the field `allow` lists, if the status is 405 (RFC 9110, section 15.5.6).
     pub fn allow(self) -> Option<&'static str>
         ensures { option_map (λ s. s.now) result ≡ spec.refusal_allow self }
     {

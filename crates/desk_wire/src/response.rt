@@ -1,4 +1,4 @@
-//! Answers with their status codes, and why a desk failed to make one.
+//! Answers with their status codes, and why a desk failed to answer.
 
 ghost use Rattle.std.specs.Prelude.{◌≡◌, ◌≤◌, IfOk, length};
 ghost use Rattle.desk_wire.specs.RefusalTexts as spec;
@@ -7,25 +7,25 @@ ghost use Rattle.desk_wire.specs.declared.response.ServerError.TheVariants as er
 use desk_writing::{out_of_memory_answer, store_answer};
 use std::alloc::AllocError;
 
-/// An answer.
+/// The answer to a request.
 #[derive(Debug, Drop)]
 pub struct Answer {
     /// The status code.
     pub status: u16,
-    /// The whole text.
+    /// The whole HTTP response.
     pub bytes: Vec<u8>,
     /// Why the desk failed, if the status is 500.
     pub error: Option<ServerError>,
-    /// Whether a change was made: a plan was stored or closed, or some were taken out.
+    /// Whether the database was changed: a plan was stored or closed, or plans were removed.
     pub made_change: bool,
 }
 
 impl Answer {
-    /// An equal answer.
+    /// A copy of this answer.
     ///
     /// # Errors
     ///
-    /// `AllocError` for want of memory.
+    /// `AllocError` if memory runs out.
     pub fn copy(&self) -> Result<Answer, AllocError>
         ensures status { IfOk result (λ copy. copy.status ≡ self.now.status) }
         ensures bytes { IfOk result (λ copy. copy.bytes.items ≡ self.now.bytes.items) }
@@ -51,7 +51,7 @@ pub enum ServerError {
 }
 
 impl ServerError {
-    /// The whole answer, which takes no memory.
+    /// The whole HTTP response, which needs no allocation.
     pub fn answer(self) -> &'static [u8]
         ensures value { result.now ≡ spec.server_error_text self }
         ensures room { length result.now ≤ 512 }

@@ -24,14 +24,14 @@ use request_parser::{Front, HEAD_ROOM, Message, WireFault, is_ended, read_front}
 use std::alloc::Global;
 use std::io::{self, Read, Write};
 
-/// The most reads that one request may take.
+/// The maximum number of reads for one request.
 const MAX_READS: u32 = 200_000;
 
-/// How many bytes of a body are read at a time, at most.
+/// The maximum number of bytes of a body that are read at once.
 const CHUNK: usize = 4_096;
 
-/// Reads one request, the head byte by byte, and leaves the rest unread; answers it at a moment, and writes
-/// the answer. Interrupted reads and writes are tried again.
+/// Reads one request from `input`, carries it out at `moment`, and writes the answer to `output`. The head is read
+/// byte by byte, so that nothing after the request is consumed. Interrupted reads and writes are retried.
 ///
 /// # Errors
 ///
@@ -57,16 +57,16 @@ pub fn serve_one<S: PlanStore, R: Read, W: Write>(
     if text.is_empty() {
         return Ok(Served::End);
     }
-    let front = front_of(&text);
-    let body = receive_body(alloc, input, size_of(&front), &mut reads)?;
-    let request = message_of(front, &body);
+    let front = parse_front(&text);
+    let body = receive_body(alloc, input, body_size(&front), &mut reads)?;
+    let request = attach_body(front, &body);
     let answer = answer_request(alloc, desk, moment, &request)?;
     write_whole(output, &answer.bytes)?;
-    Ok(answered(answer.status, &request))
+    Ok(served(answer.status, &request))
 }
 
-/// Reads one request, the head byte by byte, and leaves the rest unread: its bytes, or none if the input has
-/// ended. Interrupted reads are tried again.
+/// Reads the bytes of one request; they are empty if the input has ended. The head is read byte by byte, so that
+/// nothing after the request is consumed. Interrupted reads are retried.
 ///
 /// # Errors
 ///
@@ -82,12 +82,12 @@ pub fn receive_request<R: Read>(alloc: Global, input: &mut R) -> Result<Vec<u8>,
     if head.is_empty() {
         return Ok(head);
     }
-    let body = receive_body(alloc, input, size_of(&front_of(&head)), &mut reads)?;
-    whole_of(head, &body)
+    let body = receive_body(alloc, input, body_size(&parse_front(&head)), &mut reads)?;
+    append_body(head, &body)
 }
 
-// A head and its body.
-fn whole_of(mut head: Vec<u8>, body: &[u8]) -> Result<Vec<u8>, ServeFault>
+// Appends the body to the head.
+fn append_body(mut head: Vec<u8>, body: &[u8]) -> Result<Vec<u8>, ServeFault>
     ensures ok { IfOk result (λ whole. whole.items ≡ head.items ++ body.now) }
     ensures err { IfErr result (λ fault. fault ≡ serve_fault.OutOfMemory) }
 {
@@ -95,8 +95,8 @@ fn whole_of(mut head: Vec<u8>, body: &[u8]) -> Result<Vec<u8>, ServeFault>
     Ok(head)
 }
 
-// What came of a request that was answered with this status: it is framed where it could be read.
-fn answered(status: u16, request: &Result<Message<'_>, WireFault>) -> Served
+// The result for a request that was answered with `status`: framed if it could be split into head and body.
+fn served(status: u16, request: &Result<Message<'_>, WireFault>) -> Served
     ensures { result ≡ Served.Answered status (is_ok request.now) }
 {
     Served::Answered {
@@ -105,9 +105,9 @@ fn answered(status: u16, request: &Result<Message<'_>, WireFault>) -> Served
     }
 }
 
-// The head that was received, and how many bytes follow it, or its first fault.
+// Parses `text`, the bytes read as a head, and finds the length of the body that is to follow.
 #[tactic(auto, unfolding(crate::specs::Streams::front_read))]
-fn front_of(text: &[u8]) -> Result<Front<'_>, WireFault>
+fn parse_front(text: &[u8]) -> Result<Front<'_>, WireFault>
     ensures { front_reading result ≡ front_read text.now }
 {
     if is_ended(text) {
@@ -117,8 +117,8 @@ fn front_of(text: &[u8]) -> Result<Front<'_>, WireFault>
     }
 }
 
-// How many bytes of a body follow: none after a fault.
-fn size_of(front: &Result<Front<'_>, WireFault>) -> u64
+// The length of the body that is to be read: 0 after a fault, since it isn't known then.
+fn body_size(front: &Result<Front<'_>, WireFault>) -> u64
     ensures { result ≡ size_said (front_reading front.now) }
 {
     match front {
@@ -127,8 +127,8 @@ fn size_of(front: &Result<Front<'_>, WireFault>) -> u64
     }
 }
 
-// The message of a front and its body.
-fn message_of<'t>(
+// The request with this head and `body`, unless the head has a fault.
+fn attach_body<'t>(
     front: Result<Front<'t>, WireFault>,
     body: &'t [u8],
 ) -> Result<Message<'t>, WireFault>
@@ -140,8 +140,8 @@ fn message_of<'t>(
     }
 }
 
-// Reads a head byte by byte, as far as its end or as there is room for one. It is empty if the input
-// has ended.
+// Reads a head byte by byte, up to its end or to `HEAD_ROOM` bytes. It is empty if the input had
+// ended.
 fn receive_head<R: Read>(
     alloc: Global,
     input: &mut R,
@@ -178,7 +178,7 @@ fn receive_byte<R: Read>(input: &mut R, reads: &mut u32) -> Result<Option<u8>, S
     ensures fault { IfErr result (λ f. f ≡ serve_fault.Read) }
 {
     let mut room = [0u8];
-    let count = receive_some(input, &mut room, reads)?;
+    let count = receive_retrying(input, &mut room, reads)?;
     Ok((count > 0).then_some(room[0]))
 }
 
@@ -202,7 +202,7 @@ fn receive_body<R: Read>(
             return Ok(body);
         }
         let room = left.min(CHUNK as u64) as usize;
-        let count = receive_some(input, &mut chunk[..room], reads)?;
+        let count = receive_retrying(input, &mut chunk[..room], reads)?;
         if count == 0 {
             return Err(ServeFault::CutShort);
         }
@@ -212,8 +212,8 @@ fn receive_body<R: Read>(
     Ok(body)
 }
 
-// Reads once, and again if that was interrupted, while reads are left.
-fn receive_some<R: Read>(
+// Reads once into `room`, and retries an interrupted read while `reads`, the reads left, is above 0.
+fn receive_retrying<R: Read>(
     input: &mut R,
     room: &mut [u8],
     reads: &mut u32,
@@ -234,7 +234,7 @@ fn receive_some<R: Read>(
     Err(ServeFault::Read)
 }
 
-// Reads once, and takes one from the reads that are left, whatever comes of it.
+// Reads once, and counts that in `left`, the reads left, even if it fails.
 fn read_counted<R: Read>(input: &mut R, room: &mut [u8], left: &mut u32) -> io::Result<usize>
     requires { 0 < left.old }
     ensures bound { ReadsAtMost result room.new }

@@ -15,7 +15,7 @@ use serde_json::{Value, json};
 use std::alloc::{AllocError, Global};
 use volume4d::Meeting;
 
-/// The body of the answer that gives a reply.
+/// The JSON body of the answer for `reply`.
 pub fn reply_value(alloc: Global, reply: &Reply) -> Result<Value, AllocError>
     ensures { IfOk result (λ v. view v ≡ reply_data (said_in reply.now)) }
 {
@@ -28,19 +28,21 @@ pub fn reply_value(alloc: Global, reply: &Reply) -> Result<Value, AllocError>
     }
 }
 
-/// The body of the answer that a request is refused for this reason.
+/// The JSON body of an error: `{"error":WORD}`.
 pub fn error_value(alloc: Global, word: &str) -> Result<Value, AllocError>
     ensures { IfOk result (λ v. view v ≡ error_data word.now) }
 {
     json!(in alloc; {"error": word})
 }
 
+// The body of the answer to `GET /status`.
 fn ready_value(alloc: Global) -> Result<Value, AllocError>
     ensures { IfOk result (λ v. view v ≡ ready_data) }
 {
     json!(in alloc; {"status": "Ready"})
 }
 
+// The body of the answer to a clear that removed `count` plans.
 fn cleared_value(alloc: Global, count: u32) -> Result<Value, AllocError>
     ensures { IfOk result (λ v. view v ≡ cleared_data count) }
 {
@@ -48,19 +50,20 @@ fn cleared_value(alloc: Global, count: u32) -> Result<Value, AllocError>
     json!(in alloc; {"outcome": {"message": message.as_str(), "success": true}})
 }
 
+// The body of the answer to a PUT or a DELETE.
 fn put_value(alloc: Global, put: PutReply) -> Result<Value, AllocError>
     ensures { IfOk result (λ v. view v ≡ put_data put.status put.result put.note put.meeting) }
 {
     match put.meeting {
         Some(meeting) => {
             let conflict = conflict_value(alloc, meeting)?;
-            blocked_value(alloc, put.status, put.result, put.note, conflict)
+            outcome_with_conflict_value(alloc, put.status, put.result, put.note, conflict)
         }
         None => outcome_value(alloc, put.status, put.result, put.note),
     }
 }
 
-// What came of a request.
+// The result of a PUT or a DELETE without a conflict.
 fn outcome_value(
     alloc: Global,
     status: PlanStatus,
@@ -76,8 +79,8 @@ fn outcome_value(
     })
 }
 
-// The same with a conflict.
-fn blocked_value(
+// The result of a PUT with a conflict.
+fn outcome_with_conflict_value(
     alloc: Global,
     status: PlanStatus,
     outcome: PlanResult,
@@ -95,7 +98,7 @@ fn blocked_value(
     })
 }
 
-/// The first blocked point.
+/// The `conflict` of a plan: its first blocked point, and the priority held there.
 pub fn conflict_value(alloc: Global, meeting: Meeting) -> Result<Value, AllocError>
     ensures { IfOk result (λ v. view v ≡ conflict_data meeting) }
 {

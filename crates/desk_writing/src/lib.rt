@@ -1,4 +1,4 @@
-//! Answers as bytes: what a desk replies, and why it refuses, as responses of HTTP with JSON bodies.
+//! Answers as bytes: replies and errors as HTTP responses with JSON bodies.
 #![tactic(auto)]
 
 mod json_out;

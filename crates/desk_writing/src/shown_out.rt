@@ -1,4 +1,4 @@
-//! Plans as they are shown, as JSON.
+//! Plans as JSON, as List and Show return them.
 
 ghost use Rattle.std.specs.Prelude.{◌≡◌, IfOk, codes};
 ghost use Rattle.serde_json.specs.Data.{object, member};
@@ -14,7 +14,7 @@ use serde_json::{Value, json};
 use std::alloc::{AllocError, Global};
 use volume4d::{Area, Footprint, Volume, Window};
 
-/// The body that lists plans.
+/// The JSON body that lists `plans`, in their order.
 pub fn plans_value(alloc: Global, plans: &[Shown]) -> Result<Value, AllocError>
     ensures { IfOk result (λ v. view v ≡ plans_data plans.now) }
 {
@@ -25,7 +25,7 @@ pub fn plans_value(alloc: Global, plans: &[Shown]) -> Result<Value, AllocError>
     json!(in alloc; {"flight_plans": values})
 }
 
-/// The body that shows a plan.
+/// The JSON of a plan, with its conflict if it has one.
 pub fn shown_value(alloc: Global, shown: &Shown) -> Result<Value, AllocError>
     ensures { IfOk result (λ v. view v ≡ shown_data shown.now) }
 {
@@ -33,13 +33,13 @@ pub fn shown_value(alloc: Global, shown: &Shown) -> Result<Value, AllocError>
     match shown.conflict {
         Some(meeting) => {
             let conflict = conflict_value(alloc, meeting)?;
-            blocked_plan_value(alloc, shown, area, conflict)
+            plan_with_conflict_value(alloc, shown, area, conflict)
         }
         None => plan_value(alloc, shown, area),
     }
 }
 
-// A plan with its area.
+// A plan without a conflict; `area` is its area as JSON.
 fn plan_value(alloc: Global, shown: &Shown, area: Value) -> Result<Value, AllocError>
     ensures { IfOk result (λ v. view v
         ≡ object (member (codes "area") (view area) (row_members shown.now))) }
@@ -55,8 +55,8 @@ fn plan_value(alloc: Global, shown: &Shown, area: Value) -> Result<Value, AllocE
     })
 }
 
-// The same with a conflict.
-fn blocked_plan_value(
+// A plan with a conflict; `area` and `conflict` are JSON already.
+fn plan_with_conflict_value(
     alloc: Global,
     shown: &Shown,
     area: Value,
@@ -77,6 +77,7 @@ fn blocked_plan_value(
     })
 }
 
+// The volumes of an area, in their order.
 fn area_value(alloc: Global, area: &Area) -> Result<Value, AllocError>
     ensures { IfOk result (λ v. view v ≡ area_data area.now) }
 {
@@ -87,6 +88,7 @@ fn area_value(alloc: Global, area: &Area) -> Result<Value, AllocError>
     Ok(Value::Array(values))
 }
 
+// A volume: its footprint as it was requested, its altitudes and its seconds.
 fn volume_value(alloc: Global, volume: &Volume) -> Result<Value, AllocError>
     ensures { IfOk result (λ v. view v ≡ volume_data volume.now) }
 {
@@ -102,7 +104,7 @@ fn volume_value(alloc: Global, volume: &Volume) -> Result<Value, AllocError>
     }
 }
 
-// The cells' tokens, in their order.
+// The tokens of `cells`, in their order.
 fn cells_value(alloc: Global, cells: &[CellId]) -> Result<Value, AllocError>
     ensures { IfOk result (λ v. view v ≡ cells_data cells.now) }
 {
@@ -113,7 +115,7 @@ fn cells_value(alloc: Global, cells: &[CellId]) -> Result<Value, AllocError>
     Ok(Value::Array(values))
 }
 
-// A volume of cells.
+// A volume over a list of cells; `cells` is that list as JSON.
 fn cells_volume_value(alloc: Global, window: Window, cells: Value) -> Result<Value, AllocError>
     ensures { IfOk result (λ v. view v
         ≡ volume_with window (member (codes "cells") (view cells))) }
@@ -127,7 +129,7 @@ fn cells_volume_value(alloc: Global, window: Window, cells: Value) -> Result<Val
     })
 }
 
-// A rectangle, as it was asked.
+// A rectangle, as it was requested.
 fn rectangle_value(alloc: Global, rect: &Rect) -> Result<Value, AllocError>
     ensures { IfOk result (λ v. view v ≡ rectangle_data rect.now) }
 {
@@ -141,7 +143,7 @@ fn rectangle_value(alloc: Global, rect: &Rect) -> Result<Value, AllocError>
     })
 }
 
-// A volume over a rectangle.
+// A volume over a rectangle; `rectangle` is that as JSON.
 fn rectangle_volume_value(
     alloc: Global,
     volume: &Volume,

@@ -1,4 +1,4 @@
-//! The bytes of answers.
+//! The bytes of answers: HTTP/1.1 responses.
 ghost use Rattle.std.specs.Prelude.{◌≡◌, ◌≤◌, IfOk, None, codes, false, length, option_map, string_bytes};
 ghost use Rattle.serde_json.specs.View.{view};
 ghost use Rattle.serde_json.specs.Written.{has_float};
@@ -12,7 +12,7 @@ use http::StatusCode;
 use serde_json::Value;
 use std::alloc::{AllocError, Global};
 
-/// The answer that gives a reply.
+/// The response for `reply`, with the status 200.
 #[tactic(auto, unfolding(crate::specs::ReplyText::reply_text))]
 pub fn reply_answer(alloc: Global, reply: &Reply) -> Result<Vec<u8>, AllocError>
     ensures { IfOk result (λ v. v.items ≡ reply_text (said_in reply.now)) }
@@ -21,8 +21,8 @@ pub fn reply_answer(alloc: Global, reply: &Reply) -> Result<Vec<u8>, AllocError>
     json_answer(alloc, StatusCode::OK, None, &value)
 }
 
-/// The answer that a request is refused with this status, for the reason that `word` names. With the
-/// status 405 it says which methods there are, and else `allow` is `None`.
+/// The response with an error: its status code, and `word` as its error code. `allow` lists the resource's
+/// methods if the status is 405, and else is `None`.
 #[tactic(auto, unfolding(crate::specs::Answer::error_text))]
 pub fn error_answer(
     alloc: Global,
@@ -37,7 +37,7 @@ pub fn error_answer(
     json_answer(alloc, status, allow, &value)
 }
 
-/// The answer if memory ran out: it takes no memory itself.
+/// The response if memory ran out. It is static, since nothing can be allocated then.
 pub fn out_of_memory_answer() -> &'static [u8]
     ensures value { result.now ≡ error_text 500 None (codes "out_of_memory") }
     ensures room { length result.now ≤ 512 }
@@ -46,7 +46,7 @@ pub fn out_of_memory_answer() -> &'static [u8]
     content-length: 25\r\nconnection: close\r\n\r\n{\"error\":\"out_of_memory\"}"
 }
 
-/// The answer if the store failed: it takes no memory.
+/// The response if the store failed. It is static, so it can be sent even if memory is short.
 pub fn store_answer() -> &'static [u8]
     ensures value { result.now ≡ error_text 500 None (codes "store") }
     ensures room { length result.now ≤ 512 }
@@ -55,7 +55,7 @@ pub fn store_answer() -> &'static [u8]
     content-length: 17\r\nconnection: close\r\n\r\n{\"error\":\"store\"}"
 }
 
-// The whole text of an answer whose body is this value.
+// The response with this status, whose body is `value`.
 #[tactic(auto, unfolding(crate::specs::Answer::json_answer))]
 fn json_answer(
     alloc: Global,
@@ -68,11 +68,11 @@ fn json_answer(
         ≡ json_answer status (option_map (λ s. s.now) allow.entry) (view value.now)) }
 {
     let body = value.to_string(alloc)?;
-    Ok(answer(alloc, status, allow, body.as_str())?.into_bytes())
+    Ok(response_text(alloc, status, allow, body.as_str())?.into_bytes())
 }
 
-// The whole text of an answer with this status and body.
-fn answer(
+// The response with this status and body.
+fn response_text(
     alloc: Global,
     status: StatusCode,
     allow: Option<&str>,
@@ -89,7 +89,7 @@ fn answer(
     )
 }
 
-// The line of the field `allow`, if there are methods to list.
+// The field line `allow` for these methods; the empty text if there are none.
 fn allow_line(alloc: Global, allow: Option<&str>) -> Result<String, AllocError>
     ensures { IfOk result (λ s. string_bytes s ≡ allow_line (option_map (λ s. s.now) allow.entry)) }
 {

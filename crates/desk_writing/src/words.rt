@@ -1,11 +1,11 @@
-//! The words of InterUSS flight_planning v1 in answers, and the desk's own notes.
+//! The words in answers: those of InterUSS flight_planning v1, and the desk's own notes.
 
 ghost use Rattle.std.specs.Prelude.{◌≡◌};
 ghost use Rattle.desk_writing.specs.PlanWords as words;
 
 use desk_rules::words::{Aircraft, Note, PlanResult, PlanStatus, Usage};
 
-/// `flight_plan_status`
+/// The value of `flight_plan_status` in an answer.
 pub fn status_word(status: PlanStatus) -> &'static str
     ensures { result.now ≡ words.status_word status }
 {
@@ -18,7 +18,7 @@ pub fn status_word(status: PlanStatus) -> &'static str
     }
 }
 
-/// `planning_result`
+/// The value of `planning_result` in an answer.
 pub fn result_word(outcome: PlanResult) -> &'static str
     ensures { result.now ≡ words.result_word outcome }
 {
@@ -29,6 +29,7 @@ pub fn result_word(outcome: PlanResult) -> &'static str
     }
 }
 
+// The word for `note`: why a PUT was rejected or not supported.
 fn note_word(note: Note) -> &'static str
     ensures { result.now ≡ words.note_word note }
 {
@@ -47,7 +48,7 @@ fn note_word(note: Note) -> &'static str
     }
 }
 
-/// `notes`: the note's word, or the empty text
+/// The value of `notes` in an answer: the note's word, or the empty text.
 pub fn notes_text(note: Option<Note>) -> &'static str
     ensures { result.now ≡ words.notes_text note }
 {
@@ -57,7 +58,7 @@ pub fn notes_text(note: Option<Note>) -> &'static str
     }
 }
 
-/// `usage_state`
+/// The value of `usage_state` in an answer.
 pub fn usage_word(usage: Usage) -> &'static str
     ensures { result.now ≡ words.usage_word usage }
 {
@@ -68,7 +69,7 @@ pub fn usage_word(usage: Usage) -> &'static str
     }
 }
 
-/// `uas_state`
+/// The value of `uas_state` in an answer.
 pub fn aircraft_word(aircraft: Aircraft) -> &'static str
     ensures { result.now ≡ words.aircraft_word aircraft }
 {

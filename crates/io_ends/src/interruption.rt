@@ -1,11 +1,11 @@
-//! Which failures of a stream are tried again.
+//! Which IO errors are retried.
 
 ghost use Rattle.std.specs.Prelude.{◌≡◌, ◌↔◌, IsTrue};
 ghost use Rattle.std.specs.IoError.{error_kind};
 
 use std::io::{self, ErrorKind};
 
-/// Whether what failed so is tried again.
+/// Whether `error` only says that the call was interrupted by a signal: then the call is retried.
 pub fn is_interrupted(error: &io::Error) -> bool
     ensures { IsTrue result ↔ (error_kind error.now ≡ ErrorKind.Interrupted) }
 {

@@ -1,4 +1,4 @@
-//! How the writing of bytes ends, a request of a stream, and a run over one; and moments.
+//! Results of writing bytes, of serving one request of a stream, and of serving a whole stream; and timestamps.
 #![tactic(auto)]
 
 mod interruption;

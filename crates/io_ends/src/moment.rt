@@ -1,11 +1,11 @@
-//! Moments: the Unix seconds at which requests are answered.
+//! Moments: the Unix seconds at which requests are decided.
 
 ghost use Rattle.std.specs.Prelude.{◌≡◌, None, IfSome};
 ghost use Rattle.io_ends.specs.Moments.{IsMoment};
 
 use volume4d::MAX_SECOND;
 
-/// A moment: a Unix second from 0 to 253,370,764,800, the beginning of the year 9999.
+/// The timestamp of a request: a Unix second from 0 to 253,370,764,800, the beginning of the year 9999.
 #[derive(Clone, Copy, Debug, PartialEq, Eq)]
 pub struct Moment {
     pub second: i64,

@@ -1,16 +1,15 @@
-//! Why a run over the requests of a stream ended.
+//! Why serving the requests of a stream ended.
 
 use crate::serving::ServeFault;
 
-/// Why a run over a stream ended. After an answer they are sought in the order `Broken`,
-/// `Unframed`, `Limit`.
+/// Why serving a stream ended. After an answer, `Broken` is checked first, then `Unframed`, then `Limit`.
 #[derive(Clone, Copy, Debug, PartialEq, Eq)]
 pub enum PlayEnd {
     /// The input ended before any byte of a request.
     End,
-    /// The place of the next request is unknown.
+    /// It isn't known where the next request begins.
     Unframed,
-    /// The last answer has status 500. The next start may find the change of its request made.
+    /// The last answer has the status 500. Its request's change may still be found at the next start.
     Broken,
     /// 1,000,000 requests were answered.
     Limit,

@@ -1,4 +1,4 @@
-//! What came of one request of a stream, or why it has no whole answer.
+//! The result of serving one request of a stream.
 
 ghost use Rattle.std.specs.Prelude.{◌≡◌};
 ghost use Rattle.io_ends.specs.declared.serving.ServeFault.TheVariants as serve_fault;
@@ -8,10 +8,10 @@ use std::alloc::AllocError;
 use std::error::Error;
 use std::fmt;
 
-/// What came of one request of a stream.
+/// The result of serving one request of a stream.
 #[derive(Clone, Copy, Debug, PartialEq, Eq)]
 pub enum Served {
-    /// It was answered with this status. It is `framed` if the place of the next request is known.
+    /// It was answered with this status code. It is `framed` if it is known where the next request begins.
     Answered { status: u16, framed: bool },
     /// The input ended before any byte.
     End,
@@ -22,7 +22,7 @@ pub enum Served {
 pub enum ServeFault {
     /// A read failed, or the request takes more than 200,000 reads.
     Read,
-    /// The writing of the answer broke off. The change of the request stands.
+    /// Writing the answer failed part-way. The request's change was made.
     Write(PartialWrite),
     /// The input ended inside a request. Nothing was written or changed.
     CutShort,
@@ -52,10 +52,10 @@ impl fmt::Display for ServeFault {
 impl Error for ServeFault {}
 
 impl<W> From<WriteError<W>> for ServeFault {
-    ghost from_gives = { λ cut e. e ≡ serve_fault.Write cut.fault };
+    ghost from_gives = { λ error e. e ≡ serve_fault.Write error.fault };
 
-    fn from(cut: WriteError<W>) -> ServeFault {
-        ServeFault::Write(cut.fault())
+    fn from(error: WriteError<W>) -> ServeFault {
+        ServeFault::Write(error.fault())
     }
 }
 

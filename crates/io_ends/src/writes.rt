@@ -1,4 +1,4 @@
-//! Writes that are counted, one call of a writer each.
+//! Counted calls of `Write::write`.
 
 ghost use Rattle.std.specs.Prelude.{◌≡◌, ◌↔◌, ◌+◌, ◌<◌, ◌^◌, ◌-◌, IsTrue};
 ghost use Rattle.std.specs.Io.{WritesAtMost};
@@ -8,18 +8,18 @@ ghost use Rattle.io_ends.specs.Writes.{IsLast};
 use crate::interruption::is_interrupted;
 use std::io::{self, Write};
 
-/// How the last of some writes came out.
+/// The result of the last call of `write`.
 #[derive(Clone, Copy, Debug, PartialEq, Eq)]
 pub enum LastWrite {
-    /// It took some bytes or was interrupted, or there was none: another may follow.
+    /// It took some bytes or was interrupted, or there was no call yet: another may follow.
     Passed,
-    /// It took nothing.
+    /// It took no byte.
     Nothing,
-    /// It failed, and was not just interrupted.
+    /// It failed, by another error than an interruption.
     Failed,
 }
 
-/// How many writes there were, and how the last of them came out. Only `write_counted` counts one more.
+/// How many calls of `write` there were, and the result of the last. Only `write_counted` adds to the count.
 #[derive(Clone, Copy, Debug, PartialEq, Eq)]
 pub struct Writes {
     count: usize,
@@ -27,7 +27,7 @@ pub struct Writes {
 }
 
 impl Writes {
-    // No write yet.
+    // The state before the first call.
     pub(crate) fn none() -> Writes
         ensures count { result.count ≡ 0 }
         ensures last { result.last ≡ LastWrite.Passed }
@@ -38,21 +38,21 @@ impl Writes {
         }
     }
 
-    /// How many writes there were.
+    /// The number of calls.
     pub fn count(self) -> usize
         ensures { result ≡ self.count }
     {
         self.count
     }
 
-    // Whether another may follow.
-    pub(crate) fn may_go_on(self) -> bool
+    // Whether another call may follow: the last one neither failed nor took no byte.
+    pub(crate) fn may_continue(self) -> bool
         ensures { IsTrue result ↔ (self.last ≡ LastWrite.Passed) }
     {
         matches!(self.last, LastWrite::Passed)
     }
 
-    /// How the last of them came out.
+    /// The result of the last call.
     pub fn last(self) -> LastWrite
         ensures { result ≡ self.last }
     {
@@ -60,7 +60,7 @@ impl Writes {
     }
 }
 
-// Writes once, after writes that all passed, and counts it, whatever comes of it.
+// Calls `write` once, and counts the call in `writes` even if it fails.
 pub(crate) fn write_counted<W: Write>(
     output: &mut W,
     bytes: &[u8],
@@ -75,12 +75,12 @@ pub(crate) fn write_counted<W: Write>(
 {
     let written = output.write(bytes);
     writes.count += 1;
-    writes.last = last_of(&written);
+    writes.last = classify_write(&written);
     written
 }
 
-// How a write came out.
-fn last_of(written: &io::Result<usize>) -> LastWrite
+// Sorts the result of one call of `write`.
+fn classify_write(written: &io::Result<usize>) -> LastWrite
     ensures { IsLast written.now result }
 {
     match written {

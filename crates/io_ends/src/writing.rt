@@ -1,4 +1,4 @@
-//! The writing of bytes, whole or broken off.
+//! Writing all of some bytes, and what is known if that fails.
 
 ghost use Rattle.std.specs.Prelude.{◌≡◌, ◌≢◌, ◌≤◌, ◌+◌, ℕ, length, take, IfErr, IfOk, OnErr, OnOk};
 ghost use Rattle.std.specs.Io.KnownBytes.{Appends};
@@ -9,23 +9,23 @@ use crate::writes::{LastWrite, Writes, write_counted};
 use std::io::{self, Write};
 use std::marker::PhantomData;
 
-/// How many writes an answer may take beside one for each of its bytes.
+/// How many calls of `write` are allowed beside one for each byte.
 const SPARE_WRITES: usize = 1_000;
 
-/// Why the writing of bytes ended.
+/// Why writing bytes ended.
 #[derive(Clone, Copy, Debug, PartialEq, Eq)]
 pub enum WriteStop {
     /// All bytes are written.
     Whole,
-    /// A write failed, and was not just interrupted.
+    /// A call failed, by another error than an interruption.
     Failed,
-    /// A write took nothing.
+    /// A call took no byte.
     Nothing,
-    /// There were as many writes as the bytes and 1,000, and bytes are left.
+    /// There were 1,000 calls more than bytes, and bytes are left.
     Limit,
 }
 
-/// The writing of bytes that broke off before the last of them.
+/// How far a write came that ended before the last byte.
 #[derive(Clone, Copy, Debug, PartialEq, Eq)]
 pub struct PartialWrite {
     sent: usize,
@@ -34,21 +34,21 @@ pub struct PartialWrite {
 }
 
 impl PartialWrite {
-    /// How many bytes were written: the first ones.
+    /// The length of the prefix that was written.
     pub fn sent(self) -> usize
         ensures { result ≡ self.sent }
     {
         self.sent
     }
 
-    /// Why no more were: another end than `Whole`.
+    /// Why no more was written; never `Whole`.
     pub fn end(self) -> WriteStop
         ensures { result ≡ self.end }
     {
         self.end
     }
 
-    /// The writes that there were.
+    /// The calls of `write` that were made.
     pub fn writes(self) -> Writes
         ensures { result ≡ self.writes }
     {
@@ -56,8 +56,8 @@ impl PartialWrite {
     }
 }
 
-/// The writing of bytes by a writer of this type that broke off. Only `write_whole` makes one, so what has
-/// one has asked a writer of this type: if that may be any writer's, the one that it was handed.
+/// That a writer of type `W` failed part-way. Only `write_whole` makes one: so a function that is generic in `W`
+/// and returns one has called the writer that it was given.
 #[derive_where(Clone, Copy, Debug, PartialEq, Eq)]
 pub struct WriteError<W> {
     fault: PartialWrite,
@@ -65,7 +65,7 @@ pub struct WriteError<W> {
 }
 
 impl<W> WriteError<W> {
-    /// How many bytes were written, and why no more were.
+    /// How much was written, and why no more.
     pub fn fault(self) -> PartialWrite
         ensures { result ≡ self.fault }
     {
@@ -73,36 +73,36 @@ impl<W> WriteError<W> {
     }
 }
 
-// How many bytes were written, the first ones, and by which writes.
+// The length of the prefix that was written, and the calls of `write` that were made.
 #[derive(Clone, Copy)]
 struct Written {
     sent: usize,
     writes: Writes,
 }
 
-/// Writes all bytes, in at most as many writes as they are and 1,000.
+/// Writes all of `bytes`, in at most `bytes.len() + 1_000` calls of `write`; interrupted calls are retried.
 ///
 /// # Errors
 ///
-/// How many bytes were written, and why no more were.
+/// `WriteError` says how many bytes were written, and why no more.
 #[tactic(auto, using(crate::proofs::WritingLemmas::written_all))]
 pub fn write_whole<W: Write>(output: &mut W, bytes: &[u8]) -> Result<(), WriteError<W>>
     ensures ok { OnOk result (Appends (W.contents output.old) (W.contents output.new) bytes.now) }
-    ensures err { IfErr result (λ cut. BreaksOff bytes.now (W.contents output.old)
-        (W.contents output.new) cut.fault) }
+    ensures err { IfErr result (λ error. BreaksOff bytes.now (W.contents output.old)
+        (W.contents output.new) error.fault) }
 {
     let Written { sent, writes } = write_most(output, bytes);
     if sent == bytes.len() {
         return Ok(());
     }
-    let end = end_of(writes.last());
+    let end = stop_reason(writes.last());
     Err(WriteError {
         fault: PartialWrite { sent, end, writes },
         writer: PhantomData,
     })
 }
 
-// Writes the first bytes, as many as the output takes in so many writes.
+// Writes `bytes` until all are written, a call fails or takes no byte, or the allowed calls are used up.
 fn write_most<W: Write>(output: &mut W, bytes: &[u8]) -> Written
     ensures written { Appends (W.contents output.old) (W.contents output.new)
         (take result.sent bytes.now) }
@@ -116,24 +116,24 @@ fn write_most<W: Write>(output: &mut W, bytes: &[u8]) -> Written
         if sent == bytes.len() {
             return Written { sent, writes };
         }
-        sent += taken(write_counted(output, &bytes[sent..], &mut writes));
-        if !writes.may_go_on() {
+        sent += count_or_zero(write_counted(output, &bytes[sent..], &mut writes));
+        if !writes.may_continue() {
             return Written { sent, writes };
         }
     }
     Written { sent, writes }
 }
 
-// How many bytes a write took.
-fn taken(written: io::Result<usize>) -> usize
+// How many bytes a call took: none if it failed.
+fn count_or_zero(written: io::Result<usize>) -> usize
     ensures ok { IfOk written (λ count. result ≡ count) }
     ensures err { OnErr written (result ≡ 0) }
 {
     written.unwrap_or(0)
 }
 
-// Why the writing of bytes ended that are not all written, by how the last write came out.
-fn end_of(last: LastWrite) -> WriteStop
+// Why a write ended before the last byte, by the result of its last call.
+fn stop_reason(last: LastWrite) -> WriteStop
     ensures { (writes : Writes) → (count : ℕ) → writes.last ≡ last
         → (last ≡ LastWrite.Passed → writes.count ≡ count + spare_writes) → EndsBy result writes count }
 {

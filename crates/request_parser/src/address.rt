@@ -1,4 +1,4 @@
-//! Addresses: who asks for what at which resource.
+//! Addresses: the action, the operator and the plan id of a request, from its head.
 
 ghost use Rattle.std.specs.Prelude.{◌≡◌, codes};
 ghost use Rattle.request_parser.specs.Addresses.{address_of, address_shown, operator_of};
@@ -12,16 +12,16 @@ use crate::routes::find_target;
 use crate::wire_fault::WireFault;
 use desk_rules::operator::Operator;
 
-/// Who asks for what at which resource.
+/// What the head of a request says: the action, the operator and the plan id.
 #[derive(Clone, Copy)]
 pub struct Address<'t> {
     pub action: Action,
     pub operator: Operator,
-    /// The id of a flight plan, as it is written. Empty if the resource is another.
+    /// The id in the path of a flight plan, not parsed yet. Empty at another resource.
     pub id: &'t str,
 }
 
-/// The address that a head gives.
+/// Reads the action, the operator and the plan id from `head`.
 ///
 /// # Errors
 ///
@@ -46,11 +46,11 @@ pub fn read_address<'t>(head: &Head<'t>) -> Result<Address<'t>, WireFault>
     })
 }
 
-// The operator, if `x-operator` is there once with a name.
+// The operator, from the field `x-operator`. None if that doesn't occur just once, or is no operator's name.
 fn find_operator(head: &Head<'_>) -> Option<Operator>
     ensures { result ≡ operator_of (count_in (codes "x-operator") head.now.fields) }
 {
-    match head.once(b"x-operator") {
+    match head.field(b"x-operator") {
         Occurrence::Value(name) => Operator::try_new(name),
         _ => None,
     }

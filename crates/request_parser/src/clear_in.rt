@@ -1,4 +1,4 @@
-//! Requests to clear, from the JSON of their bodies.
+//! Requests to clear an area, from the JSON of their bodies.
 
 ghost use Rattle.serde_json.specs.View.{view};
 ghost use Rattle.request_parser.specs.Readings.{GivesIfRoom};
@@ -11,7 +11,7 @@ use serde_json::Value;
 use std::alloc::Global;
 use volume4d::Volume;
 
-/// The volume that a body asks to clear.
+/// Parses the body of a request to clear: the volume whose plans are to be removed.
 ///
 /// # Errors
 ///
@@ -25,7 +25,7 @@ pub fn read_clear(alloc: Global, body: &[u8]) -> Result<Volume, ReadError>
     read_extent(alloc, &value)
 }
 
-// The volume that a value asks to clear.
+// Reads that volume, the member `extent`, from the body's JSON.
 #[tactic(auto, unfolding(crate::specs::ClearIn::clear_of))]
 fn read_extent(alloc: Global, value: &Value) -> Result<Volume, ReadError>
     ensures { GivesIfRoom (λ volume. volume) result (spec.clear_of (view value.now)) }

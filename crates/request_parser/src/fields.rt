@@ -1,4 +1,4 @@
-//! Fields of a head: found by their names, whatever their case, and read as numbers.
+//! Fields of a head: found by their names, in any case of letters, and read as numbers.
 
 ghost use Rattle.std.specs.Prelude.{◌≡◌, length, map, All};
 ghost use Rattle.httparse.specs.Spans.{IsHeaderWithin, header_bytes};
@@ -6,10 +6,10 @@ ghost use Rattle.request_parser.specs.Fields.{count_in, count_shown, decimal_of}
 
 use httparse::spans::HeaderSpan;
 
-/// The most digits of a number: each number of so many digits is a `u64`.
-const DIGIT_ROOM: usize = 19;
+/// The maximum number of digits of a number: each number of so many digits fits a `u64`.
+const MAX_DIGITS: usize = 19;
 
-/// How often a field is there, with its value if it is there once.
+/// How often a field occurs, with its value if it occurs once.
 #[derive(Clone, Copy, Debug, PartialEq, Eq)]
 pub enum Occurrence<'t> {
     Absent,
@@ -17,8 +17,8 @@ pub enum Occurrence<'t> {
     More,
 }
 
-/// How often a field of that name, in any case, is among `headers`, which lie in `text`.
-pub fn find_single<'t>(text: &'t [u8], headers: &[HeaderSpan], name: &[u8]) -> Occurrence<'t>
+/// How often the field `name` occurs among `headers`, which are spans of `text`, in any case of letters.
+pub fn find_field<'t>(text: &'t [u8], headers: &[HeaderSpan], name: &[u8]) -> Occurrence<'t>
     requires { All (IsHeaderWithin (length text.now)) headers.now }
     ensures { count_shown result ≡ count_in name.now (map (header_bytes text.now) headers.now) }
 {
@@ -34,11 +34,11 @@ pub fn find_single<'t>(text: &'t [u8], headers: &[HeaderSpan], name: &[u8]) -> O
     found
 }
 
-/// The number that 1 to 19 digits write. None for every other text.
+/// Parses 1 to 19 decimal digits. None for every other text.
 pub fn read_decimal(digits: &[u8]) -> Option<u64>
     ensures { result ≡ decimal_of digits.now }
 {
-    if digits.is_empty() || digits.len() > DIGIT_ROOM {
+    if digits.is_empty() || digits.len() > MAX_DIGITS {
         return None;
     }
     let mut total = 0;

@@ -1,16 +1,16 @@
-//! Framing: the end of a request's head in its bytes.
+//! Framing: where a request's head ends in its bytes.
 
 ghost use Rattle.std.specs.Prelude.{◌≡◌, ◌≤◌, length, IfSome};
 ghost use Rattle.request_parser.specs.Framing.{ends_head, head_len};
 ghost use Rattle.request_parser.specs.WireLimits.{head_room};
 
-/// The most bytes that a head may have.
+/// The maximum length of a head, in bytes.
 pub const HEAD_ROOM: usize = 16_384;
 
-/// The length of the head that `text` begins with: of its shortest prefix that ends in LF LF or in
+/// The length of the head at the start of `text`: of the shortest prefix that ends in LF LF or in
 /// LF CR LF. None if no head ends within the first `HEAD_ROOM` bytes.
 pub fn head_length(text: &[u8]) -> Option<usize>
-    ensures value { result ≡ head_len head_room text.now }
+    ensures shortest { result ≡ head_len head_room text.now }
     ensures within { IfSome result (λ n. n ≤ length text.now) }
 {
     let room = text.len().min(HEAD_ROOM);
@@ -22,7 +22,7 @@ pub fn head_length(text: &[u8]) -> Option<usize>
     None
 }
 
-/// Whether a head ends at the end of `text`.
+/// Whether `text` ends with an empty line, as a complete head does.
 pub fn is_ended(text: &[u8]) -> bool
     ensures { result ≡ ends_head text.now }
 {

@@ -6,20 +6,20 @@ ghost use Rattle.request_parser.specs.Fields.{count_in, count_shown};
 ghost use Rattle.request_parser.specs.WireLimits.{field_room};
 ghost use Rattle.request_parser.specs.Heads.{HeadParts, head_parts, head_within, parts_at};
 
-use crate::fields::{Occurrence, find_single};
+use crate::fields::{Occurrence, find_field};
 use httparse::Status;
 use httparse::spans::{EMPTY_HEADER_SPAN, HeaderSpan, RequestSpans, parse_request};
 use std::marker::Model;
 
-/// The most fields that a head may have.
-const FIELD_ROOM: usize = 64;
+/// The maximum number of fields of a head.
+const MAX_FIELDS: usize = 64;
 
-/// A request head: its text, and the places of its parts in it.
+/// A request head: its text, and the spans of its parts in it.
 #[derive(Drop)]
 pub struct Head<'t> {
     text: &'t [u8],
     spans: RequestSpans,
-    headers: [HeaderSpan; FIELD_ROOM],
+    headers: [HeaderSpan; MAX_FIELDS],
 }
 
 impl<'t> Model for Head<'t> {
@@ -31,7 +31,7 @@ impl<'t> Model for Head<'t> {
 }
 
 impl<'t> Head<'t> {
-    /// The method, a token.
+    /// The method, as it was sent.
     pub fn method(&self) -> &'t [u8]
         ensures { result.now ≡ self.now.method }
     {
@@ -45,20 +45,20 @@ impl<'t> Head<'t> {
         self.spans.path.of(self.text)
     }
 
-    /// How often a field of that name, in any case, is there, with its value if it is there once.
-    pub fn once(&self, name: &[u8]) -> Occurrence<'t>
+    /// How often the field `name` occurs, in any case of letters, with its value if it occurs once.
+    pub fn field(&self, name: &[u8]) -> Occurrence<'t>
         ensures { count_shown result ≡ count_in name.now self.now.fields }
     {
-        find_single(self.text, &self.headers[..self.spans.headers], name)
+        find_field(self.text, &self.headers[..self.spans.headers], name)
     }
 }
 
-/// The head that the whole text is. None if the text is not a head, or has more than `FIELD_ROOM`
-/// fields.
+/// Parses `text` as one whole head. None if it is malformed, incomplete, followed by other bytes, or has more
+/// than `MAX_FIELDS` fields.
 pub fn read_head(text: &[u8]) -> Option<Head<'_>>
     ensures { result ≡ option_map head_parts (head_within field_room text.now) }
 {
-    let mut headers = [EMPTY_HEADER_SPAN; FIELD_ROOM];
+    let mut headers = [EMPTY_HEADER_SPAN; MAX_FIELDS];
     let Ok(Status::Complete(spans)) = parse_request(text, &mut headers) else {
         return None;
     };

@@ -9,7 +9,7 @@ use crate::wire_fault::{ReadError, WireFault};
 use serde_json::Value;
 use std::alloc::Global;
 
-/// The value of a body.
+/// Parses a body as JSON.
 #[tactic(auto, unfolding(crate::specs::JsonIn::body_value))]
 pub fn read_json(alloc: Global, body: &[u8]) -> Result<Value, ReadError>
     ensures { GivesIfRoom view result (body_value body.now) }
@@ -21,29 +21,29 @@ pub fn read_json(alloc: Global, body: &[u8]) -> Result<Value, ReadError>
     }
 }
 
-/// A member that is a text.
+/// The member `key` of an object, if it is a string.
 pub fn text_at<'a>(value: &'a Value, key: &str) -> Option<&'a str>
     ensures { option_map (λ s. s.now) result ≡ spec.text_at key.now (view value.now) }
 {
     value.get(key)?.as_str()
 }
 
-/// A member that is a whole number which fits 64 bits.
+/// The member `key` of an object, if it is an integer that fits an `i64`.
 pub fn whole_at(value: &Value, key: &str) -> Option<i64>
     ensures { result ≡ spec.whole_at key.now (view value.now) }
 {
     value.get(key)?.as_i64()
 }
 
-/// A member that is there and is not null.
-pub fn present<'a>(value: &'a Value, key: &str) -> Option<&'a Value>
+/// The member `key` of an object, if there is one and it isn't null.
+pub fn non_null_at<'a>(value: &'a Value, key: &str) -> Option<&'a Value>
     ensures { option_map (λ v. view v.now) result ≡ spec.present key.now (view value.now) }
 {
     let member = value.get(key)?;
     if member.is_null() { None } else { Some(member) }
 }
 
-/// A member that is an array.
+/// The member `key` of an object, if it is an array.
 pub fn array_at<'a>(value: &'a Value, key: &str) -> Option<&'a [Value]>
     ensures { option_map (λ items. items_view items.now) result
         ≡ spec.array_at key.now (view value.now) }

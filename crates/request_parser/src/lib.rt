@@ -1,4 +1,4 @@
-//! Requests from bytes: what the bytes of one whole request ask of a desk, or their first fault.
+//! The parser of requests: from the bytes of one whole request to the operator and its call, or the first fault.
 #![tactic(auto)]
 
 mod address;

@@ -1,4 +1,4 @@
-//! Messages: one request, cut into its head and its body.
+//! Messages: one request, split into its head and its body.
 
 ghost use Rattle.std.specs.Prelude.{◌≡◌, codes};
 ghost use Rattle.request_parser.specs.Readings.{Gives};
@@ -11,10 +11,10 @@ use crate::framing::{HEAD_ROOM, head_length};
 use crate::head::{Head, read_head};
 use crate::wire_fault::WireFault;
 
-/// The most bytes that a body may have.
-const BODY_ROOM: u64 = 131_072;
+/// The maximum length of a body, in bytes.
+const MAX_BODY_LEN: u64 = 131_072;
 
-/// One request.
+/// One request, split into its head and its body.
 #[derive(Drop)]
 pub struct Message<'t> {
     pub head: Head<'t>,
@@ -22,19 +22,19 @@ pub struct Message<'t> {
     pub body: &'t [u8],
 }
 
-/// A head, and how many bytes of a body follow it.
+/// A head, and the length of the body that follows it.
 #[derive(Drop)]
 pub struct Front<'t> {
     pub head: Head<'t>,
     pub size: u64,
 }
 
-/// The one request that `text` is (RFC 9112, section 2.1).
+/// Splits `text`, one whole request, into its head and its body (RFC 9112, section 2.1).
 ///
 /// # Errors
 ///
 /// The first fault of its framing: `HeadTooLarge`; `BadHead`; `TransferEncoding`; `ContentLength`;
-/// `BodyTooLarge`; `BadHead` if bytes of the body are missing or too many.
+/// `BodyTooLarge`; `BadHead` if the body is shorter or longer than the head says.
 #[tactic(auto, unfolding(crate::specs::Messages::message_in))]
 pub fn read_message(text: &[u8]) -> Result<Message<'_>, WireFault>
     ensures { message_read result ≡ message_in text.now }
@@ -53,7 +53,7 @@ pub fn read_message(text: &[u8]) -> Result<Message<'_>, WireFault>
     })
 }
 
-/// The head that the whole of `text` is, and how many bytes follow it.
+/// Parses `text` as one whole head, and finds the length of the body that is to follow.
 ///
 /// # Errors
 ///
@@ -69,7 +69,7 @@ pub fn read_front(text: &[u8]) -> Result<Front<'_>, WireFault>
     Ok(Front { head, size })
 }
 
-// The fault of a text in which no head ends.
+// The fault of `text`, in which no head ends: incomplete, or too long already.
 fn unended_fault(text: &[u8]) -> WireFault
     ensures { result ≡ unended text.now }
 {
@@ -80,30 +80,30 @@ fn unended_fault(text: &[u8]) -> WireFault
     }
 }
 
-// How many bytes the body of a request has, by its head. The faults are `TransferEncoding`,
-// `ContentLength` and `BodyTooLarge`, sought in this order.
+// The length of the body that is to follow `head`, in bytes. The faults `TransferEncoding`,
+// `ContentLength` and `BodyTooLarge` are checked in this order.
 #[tactic(auto, unfolding(crate::specs::Messages::body_len))]
 fn read_body_length(head: &Head<'_>) -> Result<u64, WireFault>
     ensures { result ≡ body_len head.now.fields }
 {
-    if !matches!(head.once(b"transfer-encoding"), Occurrence::Absent) {
+    if !matches!(head.field(b"transfer-encoding"), Occurrence::Absent) {
         return Err(WireFault::TransferEncoding);
     }
     let Some(size) = read_content_length(head) else {
         return Err(WireFault::ContentLength);
     };
-    if size > BODY_ROOM {
+    if size > MAX_BODY_LEN {
         return Err(WireFault::BodyTooLarge);
     }
     Ok(size)
 }
 
-// The number of the content-length field, 0 if there is no such field. None if it is there more
-// than once or is not a number.
+// The value of the content-length field; 0 if there is no such field. None if it occurs more
+// than once or isn't 1 to 19 digits.
 fn read_content_length(head: &Head<'_>) -> Option<u64>
     ensures { result ≡ length_of (count_in (codes "content-length") head.now.fields) }
 {
-    match head.once(b"content-length") {
+    match head.field(b"content-length") {
         Occurrence::Absent => Some(0),
         Occurrence::Value(digits) => read_decimal(digits),
         Occurrence::More => None,

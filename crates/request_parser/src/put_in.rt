@@ -1,11 +1,11 @@
-//! Requests for plans, from the JSON of their bodies.
+//! Requests to put a plan, from the JSON of their bodies.
 ghost use Rattle.std.specs.Prelude.{◌≡◌, option_and_then};
 ghost use Rattle.serde_json.specs.View.{view};
 ghost use Rattle.request_parser.specs.Readings.{GivesIfRoom};
 ghost use Rattle.request_parser.specs.JsonIn.{whole_of};
 ghost use Rattle.request_parser.specs.PutIn as spec;
 
-use crate::json_in::{array_at, present, read_json, text_at};
+use crate::json_in::{array_at, non_null_at, read_json, text_at};
 use crate::volume_in::read_area;
 use crate::wire_fault::{ReadError, WireFault};
 use desk_rules::decide::MAX_PRIORITY;
@@ -15,7 +15,7 @@ use desk_rules::words::{Aircraft, Style, Usage};
 use serde_json::Value;
 use std::alloc::Global;
 
-/// The request for the plan of this id that a body is.
+/// Parses the body of a PUT of the plan `id`.
 ///
 /// # Errors
 ///
@@ -29,18 +29,18 @@ pub fn read_put(alloc: Global, id: PlanId, body: &[u8]) -> Result<PutCall, ReadE
     read_members(alloc, id, &value)
 }
 
-// The request that a value is.
+// Reads the members of such a request, in the order in which their faults are reported.
 #[tactic(auto, unfolding(crate::specs::PutIn::put_of))]
 fn read_members(alloc: Global, id: PlanId, value: &Value) -> Result<PutCall, ReadError>
     ensures { GivesIfRoom (λ call. call) result (spec.put_of id (view value.now)) }
 {
-    let style = style_at(value).ok_or(WireFault::BadMember)?;
+    let style = read_style(value).ok_or(WireFault::BadMember)?;
     let plan = value.get("flight_plan").ok_or(WireFault::BadMember)?;
     let information = plan.get("basic_information").ok_or(WireFault::BadMember)?;
-    let usage = usage_at(information).ok_or(WireFault::BadMember)?;
-    let aircraft = aircraft_at(information).ok_or(WireFault::BadMember)?;
+    let usage = read_usage(information).ok_or(WireFault::BadMember)?;
+    let aircraft = read_aircraft(information).ok_or(WireFault::BadMember)?;
     let items = array_at(information, "area").ok_or(WireFault::BadMember)?;
-    let priority = priority_of(plan)?;
+    let priority = read_priority(plan)?;
     let area = read_area(alloc, items)?;
     Ok(PutCall {
         id,
@@ -52,50 +52,55 @@ fn read_members(alloc: Global, id: PlanId, value: &Value) -> Result<PutCall, Rea
     })
 }
 
-// The priority of a `flight_plan`.
+// The priority of a `flight_plan`: 0 if `astm_f3548_21`, or its `priority`, is missing or null.
 #[tactic(auto, unfolding(crate::specs::PutIn::priority_of))]
-fn priority_of(plan: &Value) -> Result<u32, WireFault>
+fn read_priority(plan: &Value) -> Result<u32, WireFault>
     ensures { result ≡ spec.priority_of (view plan.now) }
 {
-    let Some(rules) = present(plan, "astm_f3548_21") else {
+    let Some(rules) = non_null_at(plan, "astm_f3548_21") else {
         return Ok(0);
     };
     if !rules.is_object() {
         return Err(WireFault::BadMember);
     }
-    match present(rules, "priority") {
-        Some(priority) => priority_number(priority).ok_or(WireFault::BadMember),
+    match non_null_at(rules, "priority") {
+        Some(priority) => read_priority_number(priority).ok_or(WireFault::BadMember),
         None => Ok(0),
     }
 }
 
-fn priority_number(value: &Value) -> Option<u32>
+// A priority: an integer from 0 to `MAX_PRIORITY`.
+fn read_priority_number(value: &Value) -> Option<u32>
     ensures { result ≡ option_and_then spec.priority_number (whole_of (view value.now)) }
 {
     let priority = u32::try_from(value.as_i64()?).ok()?;
     (priority <= MAX_PRIORITY).then_some(priority)
 }
 
-fn style_at(value: &Value) -> Option<Style>
+// Reads `execution_style`.
+fn read_style(value: &Value) -> Option<Style>
     ensures { result ≡ spec.style_at (view value.now) }
 {
-    style_of(text_at(value, "execution_style")?)
+    parse_style(text_at(value, "execution_style")?)
 }
 
-fn usage_at(value: &Value) -> Option<Usage>
+// Reads `usage_state`.
+fn read_usage(value: &Value) -> Option<Usage>
     ensures { result ≡ spec.usage_at (view value.now) }
 {
-    usage_of(text_at(value, "usage_state")?)
+    parse_usage(text_at(value, "usage_state")?)
 }
 
-fn aircraft_at(value: &Value) -> Option<Aircraft>
+// Reads `uas_state`.
+fn read_aircraft(value: &Value) -> Option<Aircraft>
     ensures { result ≡ spec.aircraft_at (view value.now) }
 {
-    aircraft_of(text_at(value, "uas_state")?)
+    parse_aircraft(text_at(value, "uas_state")?)
 }
 
+// Parses the word of an execution style, in InterUSS flight_planning v1.
 #[tactic(auto, unfolding(crate::specs::PutIn::style_of))]
-fn style_of(word: &str) -> Option<Style>
+fn parse_style(word: &str) -> Option<Style>
     ensures { result ≡ spec.style_of word.now }
 {
     match word {
@@ -106,8 +111,9 @@ fn style_of(word: &str) -> Option<Style>
     }
 }
 
+// Parses the word of a usage state, in InterUSS flight_planning v1.
 #[tactic(auto, unfolding(crate::specs::PutIn::usage_of))]
-fn usage_of(word: &str) -> Option<Usage>
+fn parse_usage(word: &str) -> Option<Usage>
     ensures { result ≡ spec.usage_of word.now }
 {
     match word {
@@ -118,8 +124,9 @@ fn usage_of(word: &str) -> Option<Usage>
     }
 }
 
+// Parses the word of an aircraft state, in InterUSS flight_planning v1.
 #[tactic(auto, unfolding(crate::specs::PutIn::aircraft_of))]
-fn aircraft_of(word: &str) -> Option<Aircraft>
+fn parse_aircraft(word: &str) -> Option<Aircraft>
     ensures { result ≡ spec.aircraft_of word.now }
 {
     match word {

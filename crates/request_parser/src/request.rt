@@ -1,4 +1,4 @@
-//! Requests: what the bytes of one whole request ask.
+//! Requests: from bytes to the operator and its call.
 
 ghost use Rattle.std.specs.Prelude.{◌≡◌};
 ghost use Rattle.request_parser.specs.Addresses.{address_shown};
@@ -16,11 +16,11 @@ use desk_rules::call::{Asked, Call};
 use desk_rules::plan_id::PlanId;
 use std::alloc::Global;
 
-/// What `text`, the bytes of one whole request, asks.
+/// Parses `text`, the bytes of one whole request.
 ///
 /// # Errors
 ///
-/// `OutOfMemory`, or the first fault of the text: of its framing, of its address, of its body.
+/// `OutOfMemory`, or the first fault: of the framing, then of the head, then of the body.
 #[tactic(auto, unfolding(crate::specs::Requests::asked))]
 pub fn read_request(alloc: Global, text: &[u8]) -> Result<Asked, ReadError>
     ensures { GivesIfRoom (λ asked. asked) result (asked text.now) }
@@ -29,11 +29,11 @@ pub fn read_request(alloc: Global, text: &[u8]) -> Result<Asked, ReadError>
     read_asked(alloc, &message)
 }
 
-/// What a message asks.
+/// Parses a request that is split into head and body already.
 ///
 /// # Errors
 ///
-/// `OutOfMemory`, or the first fault of its address, then of its id, then of its body.
+/// `OutOfMemory`, or the first fault: of path, method and operator, then of the plan id, then of the body.
 #[tactic(auto, unfolding(crate::specs::Requests::asked_by))]
 pub fn read_asked(alloc: Global, message: &Message<'_>) -> Result<Asked, ReadError>
     ensures { GivesIfRoom (λ asked. asked) result (asked_by (message_shown message.now)) }
@@ -44,7 +44,7 @@ pub fn read_asked(alloc: Global, message: &Message<'_>) -> Result<Asked, ReadErr
     }
 }
 
-// What the operator at an address asks with a body.
+// The operator of `address` and its call. Only a PUT and a clear read `body`.
 fn read_call(alloc: Global, address: &Address<'_>, body: &[u8]) -> Result<Asked, ReadError>
     ensures { GivesIfRoom (λ asked. asked) result (asked_at (address_shown address.now) body.now) }
 {
@@ -52,16 +52,16 @@ fn read_call(alloc: Global, address: &Address<'_>, body: &[u8]) -> Result<Asked,
     let call = match address.action {
         Action::Status => Call::Status,
         Action::List => Call::List,
-        Action::Show => Call::Show(read_id(address.id)?),
-        Action::Delete => Call::Delete(read_id(address.id)?),
-        Action::Put => Call::Put(read_put(alloc, read_id(address.id)?, body)?),
+        Action::Show => Call::Show(read_plan_id(address.id)?),
+        Action::Delete => Call::Delete(read_plan_id(address.id)?),
+        Action::Put => Call::Put(read_put(alloc, read_plan_id(address.id)?, body)?),
         Action::Clear => Call::Clear(read_clear(alloc, body)?),
     };
     Ok(Asked { operator, call })
 }
 
-// The id of a flight plan, from its text.
-fn read_id(text: &str) -> Result<PlanId, WireFault>
+// Parses the id of a flight plan, a UUID.
+fn read_plan_id(text: &str) -> Result<PlanId, WireFault>
     ensures { result ≡ id_of text.now }
 {
     match PlanId::try_parse(text) {

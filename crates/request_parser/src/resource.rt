@@ -1,10 +1,10 @@
-//! The desk's resources, with their methods.
+//! The resources of the interface, with their methods.
 
 ghost use Rattle.std.specs.Prelude.{◌≡◌};
 ghost use Rattle.request_parser.specs.Resources as spec;
 ghost use Rattle.request_parser.specs.declared.resource.Route.TheVariants as route;
 
-/// A resource of the desk, by the path that it has.
+/// A resource of the interface, by its path.
 #[derive(Clone, Copy, Debug, PartialEq, Eq)]
 pub enum Route {
     /// `/status`
@@ -17,7 +17,7 @@ pub enum Route {
     ClearAreaRequests,
 }
 
-/// What a method does at a resource.
+/// What a request does: a method of a resource.
 #[derive(Clone, Copy, Debug, PartialEq, Eq)]
 pub enum Action {
     /// Asks whether the desk is ready.
@@ -30,12 +30,12 @@ pub enum Action {
     Put,
     /// Closes a plan.
     Delete,
-    /// Takes out the operator's plans in a volume.
+    /// Removes the operator's plans in a volume.
     Clear,
 }
 
 impl Route {
-    /// What a method does at this resource. None if the resource has no such method.
+    /// The action of `method` at this resource. None if the resource has no such method.
     #[tactic(auto, unfolding(crate::specs::Resources::action_of))]
     pub fn action(self, method: &[u8]) -> Option<Action>
         ensures { result ≡ spec.action_of self method.now }
@@ -60,7 +60,7 @@ impl Route {
     }
 }
 
-// What a method does at a flight plan.
+// The action of `method` at a flight plan. None if it has no such method.
 #[tactic(auto, unfolding(crate::specs::Resources::action_of))]
 fn plan_action(method: &[u8]) -> Option<Action>
     ensures { result ≡ spec.action_of route.FlightPlan method.now }

@@ -1,4 +1,4 @@
-//! Routes: which resource the path of a request names.
+//! Routes: from the target of a request to the resource that it names.
 
 ghost use Rattle.std.specs.Prelude.{◌≡◌, option_map};
 ghost use Rattle.request_parser.specs.Routes as spec;
@@ -6,18 +6,18 @@ ghost use Rattle.request_parser.specs.Routes.{path_of, plan_id_in, rest_in, rout
 
 use crate::resource::Route;
 
-// What the path of a flight plan begins with; its id follows.
+// The path of a flight plan, up to its id.
 const PLANS_FOLDER: &str = "/flight_plans/";
 
-/// The resource that a request names.
+/// The resource that a request target names.
 #[derive(Clone, Copy)]
 pub struct Target<'t> {
     pub route: Route,
-    /// The id of a flight plan, as it is written. Empty if the resource is another.
+    /// The id in the path of a flight plan, not parsed yet. Empty at another resource.
     pub id: &'t str,
 }
 
-/// The resource that a request target names. None if it names none.
+/// The resource that `target`, a request target, names. None if it names none, or isn't UTF-8.
 pub fn find_target(target: &[u8]) -> Option<Target<'_>>
     ensures { option_map target_shown result ≡ route_in target.now }
 {
@@ -27,7 +27,7 @@ pub fn find_target(target: &[u8]) -> Option<Target<'_>>
     }
 }
 
-// The path of a request target: what stands before its first `?`.
+// The path of a request target: all before its first `?`. The query is ignored.
 fn read_path(target: &str) -> &str
     ensures { result.now ≡ path_of target.now }
 {
@@ -37,51 +37,51 @@ fn read_path(target: &str) -> &str
     }
 }
 
-// The resource of a path. None for every path that has none.
+// The resource at `path`. None if there is none.
 #[tactic(auto, unfolding(crate::specs::Routes::route_of))]
 fn find_route(path: &str) -> Option<Target<'_>>
     ensures { option_map target_shown result ≡ route_of path.now }
 {
     if path == "/clear_area_requests" {
-        return Some(whole(Route::ClearAreaRequests));
+        return Some(target_without_id(Route::ClearAreaRequests));
     }
     if path == "/flight_plans" {
-        return Some(whole(Route::FlightPlans));
+        return Some(target_without_id(Route::FlightPlans));
     }
     if path == "/status" {
-        return Some(whole(Route::Status));
+        return Some(target_without_id(Route::Status));
     }
-    let id = plan_id(path)?;
+    let id = find_plan_id(path)?;
     Some(Target {
         route: Route::FlightPlan,
         id,
     })
 }
 
-// A resource whose path names no plan.
-fn whole(route: Route) -> Target<'static>
+// The target of a resource whose path has no plan id.
+fn target_without_id(route: Route) -> Target<'static>
     ensures { target_shown result ≡ spec.whole route }
 {
     Target { route, id: "" }
 }
 
-// The id of the flight plan that a path names: one segment that isn't empty.
+// The id in the path of a flight plan, not parsed yet. None if `path` isn't that of a flight plan.
 #[tactic(auto, unfolding(crate::specs::Routes::plan_id_in))]
-fn plan_id(path: &str) -> Option<&str>
+fn find_plan_id(path: &str) -> Option<&str>
     ensures { option_map (λ id. id.now) result ≡ plan_id_in path.now }
 {
-    let id = behind_folder(path)?;
+    let id = strip_plans_folder(path)?;
     if is_segment(id) { Some(id) } else { None }
 }
 
-// What stands behind the folder of the flight plans.
-fn behind_folder(path: &str) -> Option<&str>
+// The rest of `path` after `PLANS_FOLDER`. None if it doesn't begin with that.
+fn strip_plans_folder(path: &str) -> Option<&str>
     ensures { option_map (λ rest. rest.now) result ≡ rest_in path.now }
 {
     path.strip_prefix(PLANS_FOLDER)
 }
 
-// Whether a text is one segment of a path that isn't empty.
+// Whether `text` is one path segment: not empty, and without a slash.
 fn is_segment(text: &str) -> bool
     ensures { result ≡ spec.is_segment text.now }
 {

@@ -1,4 +1,4 @@
-//! The volumes of requests, from JSON.
+//! The volumes of requests, from their JSON.
 ghost use Rattle.std.specs.Prelude.{◌≡◌, option_map};
 ghost use Rattle.std.specs.Int.{is_in_range};
 ghost use Rattle.std.specs.Result.{result_ok};
@@ -11,8 +11,8 @@ ghost use Rattle.request_parser.specs.Readings.{GivesIfRoom};
 ghost use Rattle.request_parser.specs.JsonIn.{each};
 ghost use Rattle.request_parser.specs.VolumeIn as spec;
 
-use crate::json_in::{present, text_at, whole_at};
-use crate::times::{end_of, start_of};
+use crate::json_in::{non_null_at, text_at, whole_at};
+use crate::times::{parse_end, parse_start};
 use crate::wire_fault::{ReadError, WireFault};
 use s2_cellid::CellId;
 use s2_cover::Rect;
@@ -20,23 +20,25 @@ use serde_json::Value;
 use std::alloc::Global;
 use volume4d::{Area, Footprint, MAX_VOLUMES, Volume, VolumeFault, Window};
 
-/// The volumes of a plan's area.
+/// Reads the area of a plan: 1 to `MAX_VOLUMES` volumes.
 pub fn read_area(alloc: Global, items: &[Value]) -> Result<Area, ReadError>
     ensures { GivesIfRoom (λ area. area) result (spec.area_of (items_view items.now)) }
 {
-    if !is_area_count(items.len()) {
+    if !is_volume_count(items.len()) {
         return Err(ReadError::Fault(WireFault::BadVolume));
     }
     let volumes = read_volumes(alloc, items)?;
     Area::try_new(volumes).ok_or(ReadError::Fault(WireFault::BadVolume))
 }
 
-fn is_area_count(count: usize) -> bool
+// Whether an area may have `count` volumes.
+fn is_volume_count(count: usize) -> bool
     ensures { result ≡ is_in_range 1 max_volumes count }
 {
     (1..=MAX_VOLUMES).contains(&count)
 }
 
+// Reads a volume from each of `items`, in their order.
 fn read_volumes(alloc: Global, items: &[Value]) -> Result<Vec<Volume>, ReadError>
     ensures { GivesIfRoom (λ v. v.items) result (each spec.volume_of (items_view items.now)) }
 {
@@ -47,7 +49,7 @@ fn read_volumes(alloc: Global, items: &[Value]) -> Result<Vec<Volume>, ReadError
     Ok(volumes)
 }
 
-/// A volume.
+/// Reads a volume: a footprint with altitudes and times.
 ///
 /// # Errors
 ///
@@ -57,14 +59,14 @@ pub fn read_volume(alloc: Global, value: &Value) -> Result<Volume, ReadError>
     ensures { GivesIfRoom (λ volume. volume) result (spec.volume_of (view value.now)) }
 {
     let shape = value.get("volume").ok_or(WireFault::BadVolume)?;
-    let window = window_of(value, shape)?;
+    let window = read_window(value, shape)?;
     let footprint = read_footprint(alloc, shape)?;
-    volume_over(alloc, footprint, window)
+    make_volume(alloc, footprint, window)
 }
 
-// The volume over a footprint in a window.
+// Makes a volume of a footprint and a window, unless the footprint has too many cells.
 #[tactic(auto, unfolding(crate::specs::VolumeIn::volume_over))]
-fn volume_over(alloc: Global, footprint: Footprint, window: Window) -> Result<Volume, ReadError>
+fn make_volume(alloc: Global, footprint: Footprint, window: Window) -> Result<Volume, ReadError>
     ensures { GivesIfRoom (λ volume. volume) result (spec.volume_over (shape_of footprint) window) }
 {
     match Volume::try_new(alloc, footprint, window) {
@@ -75,19 +77,19 @@ fn volume_over(alloc: Global, footprint: Footprint, window: Window) -> Result<Vo
     }
 }
 
-// The footprint of a volume's `volume`: its `cells` or its `rectangle`.
+// Reads the footprint: either `cells` or `rectangle`, the other one missing or null.
 #[tactic(auto, unfolding(crate::specs::VolumeIn::footprint_of))]
 fn read_footprint(alloc: Global, shape: &Value) -> Result<Footprint, ReadError>
     ensures { GivesIfRoom shape_of result (spec.footprint_of (view shape.now)) }
 {
-    match (present(shape, "cells"), present(shape, "rectangle")) {
+    match (non_null_at(shape, "cells"), non_null_at(shape, "rectangle")) {
         (Some(list), None) => Ok(Footprint::Cells(read_cells(alloc, list)?)),
-        (None, Some(parts)) => Ok(Footprint::Rectangle(rectangle_of(parts)?)),
+        (None, Some(parts)) => Ok(Footprint::Rectangle(read_rectangle(parts)?)),
         _ => Err(ReadError::Fault(WireFault::BadVolume)),
     }
 }
 
-// A cell list.
+// Reads the value of `cells`: an array of S2 tokens.
 #[tactic(auto, unfolding(crate::specs::VolumeIn::cells_of))]
 fn read_cells(alloc: Global, list: &Value) -> Result<Vec<CellId>, ReadError>
     ensures { GivesIfRoom (λ v. v.items) result (spec.cells_of (view list.now)) }
@@ -96,9 +98,9 @@ fn read_cells(alloc: Global, list: &Value) -> Result<Vec<CellId>, ReadError>
     read_tokens(alloc, items)
 }
 
-// A rectangle.
+// Reads the value of `rectangle`.
 #[tactic(auto, unfolding(crate::specs::VolumeIn::rectangle_of))]
-fn rectangle_of(value: &Value) -> Result<Rect, WireFault>
+fn read_rectangle(value: &Value) -> Result<Rect, WireFault>
     ensures { result ≡ spec.rectangle_of (view value.now) }
 {
     let face = natural_at(value, "face").ok_or(WireFault::BadVolume)?;
@@ -110,7 +112,7 @@ fn rectangle_of(value: &Value) -> Result<Rect, WireFault>
     checked_rect(face, i_min, i_max, j_min, j_max, level).ok_or(WireFault::BadVolume)
 }
 
-// The rectangle of numbers of any size.
+// The rectangle with these parts. None if a part is out of range, or a minimum above its maximum.
 fn checked_rect(
     face: u64,
     i_min: u64,
@@ -137,25 +139,26 @@ fn checked_rect(
     Rect::try_new(face, i_min, i_max, j_min, j_max, level).ok()
 }
 
-// A member that is a whole number and not negative.
+// The member `key` of an object, if it is an integer that isn't negative.
 fn natural_at(value: &Value, key: &str) -> Option<u64>
     ensures { result ≡ spec.natural_at key.now (view value.now) }
 {
     u64::try_from(whole_at(value, key)?).ok()
 }
 
+// Reads a cell from each of `items`, S2 tokens, in their order.
 fn read_tokens(alloc: Global, items: &[Value]) -> Result<Vec<CellId>, ReadError>
     ensures { GivesIfRoom (λ v. v.items) result (each spec.token_of (items_view items.now)) }
 {
     let mut cells = Vec::new(alloc);
     for item in items {
-        cells.push(token_of(item)?)?;
+        cells.push(read_cell(item)?)?;
     }
     Ok(cells)
 }
 
-// An S2 token.
-fn token_of(value: &Value) -> Result<CellId, WireFault>
+// Reads a cell from its S2 token.
+fn read_cell(value: &Value) -> Result<CellId, WireFault>
     ensures { result ≡ spec.token_of (view value.now) }
 {
     let text = value.as_str().ok_or(WireFault::BadVolume)?;
@@ -165,19 +168,19 @@ fn token_of(value: &Value) -> Result<CellId, WireFault>
     }
 }
 
-// The altitudes and times of a volume.
+// Reads the altitudes of a volume, from `shape`, and its times, from `value`.
 #[tactic(auto, unfolding(crate::specs::VolumeIn::window_of))]
-fn window_of(value: &Value, shape: &Value) -> Result<Window, WireFault>
+fn read_window(value: &Value, shape: &Value) -> Result<Window, WireFault>
     ensures { result ≡ spec.window_of (view value.now) (view shape.now) }
 {
     let lower = whole_at(shape, "altitude_lower").ok_or(WireFault::BadVolume)?;
     let upper = whole_at(shape, "altitude_upper").ok_or(WireFault::BadVolume)?;
-    let start = start_at(value).ok_or(WireFault::BadVolume)?;
-    let end = end_at(value).ok_or(WireFault::BadVolume)?;
+    let start = read_start(value).ok_or(WireFault::BadVolume)?;
+    let end = read_end(value).ok_or(WireFault::BadVolume)?;
     checked_window(lower, upper, start, end).ok_or(WireFault::BadVolume)
 }
 
-// The window of whole numbers of any size.
+// The window with these altitudes (dm) and Unix seconds. None if they are out of range.
 fn checked_window(lower: i64, upper: i64, start: i64, end: i64) -> Option<Window>
     ensures { result ≡ result_ok
         (window_or_fault (record { lower = lower; upper = upper; start = start; end = end })) }
@@ -187,26 +190,28 @@ fn checked_window(lower: i64, upper: i64, start: i64, end: i64) -> Option<Window
     Window::try_new(lower, upper, start, end).ok()
 }
 
-fn start_at(value: &Value) -> Option<i64>
+// Reads `time_start`, rounded down to a Unix second.
+fn read_start(value: &Value) -> Option<i64>
     ensures { result ≡ spec.start_at (view value.now) }
 {
-    start_of(time_at(value, "time_start")?.as_bytes())
+    parse_start(time_at(value, "time_start")?.as_bytes())
 }
 
-fn end_at(value: &Value) -> Option<i64>
+// Reads `time_end`, rounded up to a Unix second.
+fn read_end(value: &Value) -> Option<i64>
     ensures { result ≡ spec.end_at (view value.now) }
 {
-    end_of(time_at(value, "time_end")?.as_bytes())
+    parse_end(time_at(value, "time_end")?.as_bytes())
 }
 
-// The text of a member that is a time.
+// The text of the member `key` of an object, a time.
 fn time_at<'a>(value: &'a Value, key: &str) -> Option<&'a str>
     ensures { option_map (λ s. s.now) result ≡ spec.time_at key.now (view value.now) }
 {
     time_text(value.get(key)?)
 }
 
-// The text of a time, whose format is `RFC3339`.
+// The text of a time: its `value`, if its `format` is `RFC3339`.
 #[tactic(auto, unfolding(crate::specs::VolumeIn::time_text))]
 fn time_text<'a>(value: &'a Value) -> Option<&'a str>
     ensures { option_map (λ s. s.now) result ≡ spec.time_text (view value.now) }

@@ -1,4 +1,4 @@
-//! Why a request is refused before it is a call.
+//! Why a request is refused before it is parsed to a call.
 
 ghost use Rattle.std.specs.Prelude.{◌≡◌, option_map};
 ghost use Rattle.request_parser.specs.FaultWords as spec;
@@ -10,7 +10,7 @@ use std::alloc::{AllocError, AllocFailed};
 use std::error::Error;
 use std::fmt;
 
-/// A fault of a request, in the order in which faults are sought.
+/// A fault of a request. They are checked in this order, and the first one is reported.
 #[derive(Clone, Copy, Debug, PartialEq, Eq)]
 pub enum WireFault {
     /// No head ends within the first 16,384 bytes.
@@ -19,15 +19,15 @@ pub enum WireFault {
     BadHead,
     /// The head has a transfer-encoding field.
     TransferEncoding,
-    /// The content-length is there more than once, or is not 1 to 19 digits.
+    /// The field content-length occurs more than once, or is not 1 to 19 digits.
     ContentLength,
-    /// The content-length is above 131,072.
+    /// The content-length is greater than 131,072.
     BodyTooLarge,
     /// No resource has this path.
     NoRoute,
     /// The resource with this path has no such method.
     Method(Route),
-    /// `x-operator` is not there exactly once with an operator's name.
+    /// The field `x-operator` does not occur exactly once with an operator's name.
     BadOperator,
     /// The id in the path is not a UUID.
     BadPlanId,
@@ -37,7 +37,7 @@ pub enum WireFault {
     BadMember,
     /// A volume is malformed or out of its limits, or there are too few or too many volumes.
     BadVolume,
-    /// A rectangle takes too many cells.
+    /// The cover of a rectangle has too many cells.
     TooManyCells,
 }
 
@@ -62,7 +62,7 @@ impl WireFault {
         }
     }
 
-    /// The word that the answer has as `error`.
+    /// The error code in the answer's body, `{"error":WORD}`.
     pub fn word(self) -> &'static str
         ensures { result.now ≡ spec.fault_word self }
     {
@@ -81,7 +81,7 @@ impl WireFault {
         }
     }
 
-    /// The methods of the resource, if the answer has the field `allow` (RFC 9110, section 15.5.6).
+    /// The methods that the field `allow` lists, if the status is 405 (RFC 9110, section 15.5.6).
     pub fn allow(self) -> Option<&'static str>
         ensures { option_map (λ s. s.now) result ≡ spec.fault_allow self }
     {
@@ -118,7 +118,7 @@ impl fmt::Display for WireFault {
 
 impl Error for WireFault {}
 
-/// Why a request could not be read.
+/// Why a request could not be parsed.
 #[derive(Clone, Copy, Debug, PartialEq, Eq)]
 pub enum ReadError {
     /// Memory ran out.

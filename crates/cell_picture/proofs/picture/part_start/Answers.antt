@@ -3,4 +3,4 @@ use Rattle.cell_picture.proofs.picture.part_start.Goals as goal
 
 pub returns : goal.returns
 unfolding part_start
-returns c = rw (← c.tall-tall.ensures, ← c.line-line.ensures) c.format.ensures.ok
+returns c = rw (← c.pixel_height-tall.ensures, ← c.line_width-line.ensures) c.format.ensures.ok

@@ -14,15 +14,15 @@ returns-clause-given c =
     ap (λ x. map (λ v. v.now) x.now) c.unwrap_or.ensures
     ∙ words_read c.get_strs.result _ _
     (c.get_strs.ensures ∙ raw_values-rows (found_of c.args.given.now) (codes "enrolments")) refl in
-    IfOk-weaker c.enrolments_of.result _ _
-    (λ e h. enrolments_read e.items c.unwrap_or.result.now _ h words) c.enrolments_of.ensures.given
+    IfOk-weaker c.parse_enrolments.result _ _
+    (λ e h. enrolments_read e.items c.unwrap_or.result.now _ h words) c.parse_enrolments.ensures.given
 
-pub returns-clause-lacks : goal.returns-clause-lacks
-returns-clause-lacks c =
+pub returns-clause-refused : goal.returns-clause-refused
+returns-clause-refused c =
     let words : map (λ v. v.now) c.unwrap_or.result.now
     ≡ unwrap_or (all_of (codes "enrolments") (rows_of (found_of c.args.given.now))) [] =
     ap (λ x. map (λ v. v.now) x.now) c.unwrap_or.ensures
     ∙ words_read c.get_strs.result _ _
     (c.get_strs.ensures ∙ raw_values-rows (found_of c.args.given.now) (codes "enrolments")) refl in
-    lacks_same _ _ c.enrolments_of.result
-    (λ es h. enrolments_back es c.unwrap_or.result.now _ h words) c.enrolments_of.ensures.lacks
+    lacks_same _ _ c.parse_enrolments.result
+    (λ es h. enrolments_back es c.unwrap_or.result.now _ h words) c.parse_enrolments.ensures.refused

@@ -3,7 +3,7 @@ use Rattle.desk_cli.specs.Equal.{ArePermittedBy}
 use Rattle.desk_cli.specs.Grammar.{Lacks}
 use Rattle.desk_cli.proofs.line.read_permitted.Goals as goal
 
-pub returns-clause-lacks : goal.returns-clause-lacks
-returns-clause-lacks c =
-    subst (λ word. Lacks (ArePermittedBy word) c.permitted_by.result) c.text_of.ensures
-    c.permitted_by.ensures.lacks
+pub returns-clause-refused : goal.returns-clause-refused
+returns-clause-refused c =
+    subst (λ word. Lacks (ArePermittedBy word) c.parse_permitted_option.result) c.argument.ensures
+    c.parse_permitted_option.ensures.refused

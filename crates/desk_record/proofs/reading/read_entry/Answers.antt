@@ -9,7 +9,7 @@ pub returns-in_default-clause-fault : goal.returns-in_default-clause-fault
 returns-in_default-clause-fault g c =
     let text = c.in_ok-text.text.items in
     let long : length text ≡ 86 =
-    omega (arith, c.in_ok-text.ensures.within, c.if-len-lt-LINE.false, c.len.ensures) in
+    omega (arith, c.in_ok-text.ensures.within, c.if-len-lt-LINE_LEN.false, c.len.ensures) in
     not_line _ _ text c.in_ok-text.ensures.taken long
     (ap line_in (sym c.deref.ensures.value) ∙ sym c.in_ok-line.ensures
     ∙ ap (option_map line_shown) c.in_default.is)
@@ -18,7 +18,7 @@ pub returns-then-is_empty-2-clause-fault : goal.returns-then-is_empty-2-clause-f
 returns-then-is_empty-2-clause-fault g c =
     let text = c.in_ok-text.text.items in
     let long : length text ≡ 86 =
-    omega (arith, c.in_ok-text.ensures.within, c.if-len-lt-LINE.false, c.len.ensures) in
+    omega (arith, c.in_ok-text.ensures.within, c.if-len-lt-LINE_LEN.false, c.len.ensures) in
     let none = none_there c.in_ok-last.last.len (length c.in_ok-last.last.items) c.if-is_empty-2.ensures
     c.in_ok-last.last.ok.0 in
     lacks_bytes _ _ text c.in_ok-text.ensures.taken long (line_shown c.in-Some.line)
@@ -32,11 +32,11 @@ pub returns-then-not-branch-clause-fault : goal.returns-then-not-branch-clause-f
 returns-then-not-branch-clause-fault g c =
     let text = c.in_ok-text.text.items in
     let long : length text ≡ 86 =
-    omega (arith, c.in_ok-text.ensures.within, c.if-len-lt-LINE.false, c.len.ensures) in
+    omega (arith, c.in_ok-text.ensures.within, c.if-len-lt-LINE_LEN.false, c.len.ensures) in
     let reported =
     (λ i. has_bytes (line_shown c.in-Some.line) (sym c.deref-2.ensures.value i)
     (sym c.deref-3.ensures.value i))
-    ∙ sym c.in_ok-is_sound.ensures ∙ c.if-not-branch.true in
+    ∙ sym c.in_ok-is_intact.ensures ∙ c.if-not-branch.true in
     unsound _ _ text c.in_ok-text.ensures.taken long (line_shown c.in-Some.line)
     (ap line_in (sym c.deref.ensures.value) ∙ sym c.in_ok-line.ensures
     ∙ ap (option_map line_shown) c.in-Some.is)
@@ -50,11 +50,11 @@ pub returns-clause-entry : goal.returns-clause-entry
 returns-clause-entry g c =
     let text = c.in_ok-text.text.items in
     let long : length text ≡ 86 =
-    omega (arith, c.in_ok-text.ensures.within, c.if-len-lt-LINE.false, c.len.ensures) in
+    omega (arith, c.in_ok-text.ensures.within, c.if-len-lt-LINE_LEN.false, c.len.ensures) in
     let reported =
     (λ i. has_bytes (line_shown c.in-Some.line) (sym c.deref-2.ensures.value i)
     (sym c.deref-3.ensures.value i))
-    ∙ sym c.in_ok-is_sound.ensures ∙ c.if-not-branch.false in
+    ∙ sym c.in_ok-is_intact.ensures ∙ c.if-not-branch.false in
     sound _ _ text c.in_ok-text.ensures.taken long (line_shown c.in-Some.line)
     (ap line_in (sym c.deref.ensures.value) ∙ sym c.in_ok-line.ensures
     ∙ ap (option_map line_shown) c.in-Some.is)

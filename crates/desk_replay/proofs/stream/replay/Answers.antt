@@ -17,21 +17,21 @@ loop-init g c =
 
 pub loop-preserved : goal.loop-preserved
 loop-preserved g c = record {
-  played = one_more _ _ _ _ _ _ _ _ _ (was_honest c.replay_one.ensures.remembered.doubt)
+  played = one_more _ _ _ _ _ _ _ _ _ (was_honest c.replay_next.ensures.remembered.doubt)
       c.saturating_add-place.ensures c.loop.invariant.played c.in-Ok.ensures.steps;
-  doubt = omega (arith, c.loop.invariant.doubt, c.replay_one.ensures.remembered.doubt);
-  counted = omega (arith, c.loop.invariant.counted, c.replay_one.ensures.remembered.counted);
-  shield = λ s. c.replay_one.ensures.remembered.shield (c.loop.invariant.shield s);
+  doubt = omega (arith, c.loop.invariant.doubt, c.replay_next.ensures.remembered.doubt);
+  counted = omega (arith, c.loop.invariant.counted, c.replay_next.ensures.remembered.counted);
+  shield = λ s. c.replay_next.ensures.remembered.shield (c.loop.invariant.shield s);
 }
 
 pub returns-in-Err-clause-played : goal.returns-in-Err-clause-played
 returns-in-Err-clause-played g c =
-    no_more _ _ _ _ _ _ _ _ _ (was_honest c.replay_one.ensures.remembered.doubt) c.loop.invariant.played
+    no_more _ _ _ _ _ _ _ _ _ (was_honest c.replay_next.ensures.remembered.doubt) c.loop.invariant.played
     c.in-Err.ensures.steps
 
 pub returns-in-Err-clause-remembered : goal.returns-in-Err-clause-remembered
 returns-in-Err-clause-remembered g c = record {
-  doubt = omega (arith, c.loop.invariant.doubt, c.replay_one.ensures.remembered.doubt);
-  counted = omega (arith, c.loop.invariant.counted, c.replay_one.ensures.remembered.counted);
-  shield = λ s. c.replay_one.ensures.remembered.shield (c.loop.invariant.shield s);
+  doubt = omega (arith, c.loop.invariant.doubt, c.replay_next.ensures.remembered.doubt);
+  counted = omega (arith, c.loop.invariant.counted, c.replay_next.ensures.remembered.counted);
+  shield = λ s. c.replay_next.ensures.remembered.shield (c.loop.invariant.shield s);
 }

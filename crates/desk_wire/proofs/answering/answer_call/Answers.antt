@@ -54,7 +54,7 @@ returns-in-Err-UnknownOperator-clause-made g c =
     (λ honest. IfOk-weaker c.refuse.result _ _ (λ r reported. reported
     ∙ status_unanswered w c.args.moment.second c.args.asked.now unknown_operator
     (rw c.in-Err-UnknownOperator.field-0-is at fault honest)) c.refuse.ensures.status)
-    c.refuse.ensures.other
+    c.refuse.ensures.not_500
     (λ honest. IfOk-weaker c.refuse.result _ _ (λ r reported. reported
     ∙ change_unanswered w c.args.moment.second c.args.asked.now unknown_operator
     (rw c.in-Err-UnknownOperator.field-0-is at fault honest)) c.refuse.ensures.change)
@@ -76,7 +76,7 @@ returns-in-Err-NoSuchPlan-clause-made g c =
     (λ honest. IfOk-weaker c.refuse-in-Err-NoSuchPlan.result _ _ (λ r reported. reported
     ∙ status_unanswered w c.args.moment.second c.args.asked.now no_such_plan
     (rw c.in-Err-NoSuchPlan.field-0-is at fault honest)) c.refuse-in-Err-NoSuchPlan.ensures.status)
-    c.refuse-in-Err-NoSuchPlan.ensures.other
+    c.refuse-in-Err-NoSuchPlan.ensures.not_500
     (λ honest. IfOk-weaker c.refuse-in-Err-NoSuchPlan.result _ _ (λ r reported. reported
     ∙ change_unanswered w c.args.moment.second c.args.asked.now no_such_plan
     (rw c.in-Err-NoSuchPlan.field-0-is at fault honest)) c.refuse-in-Err-NoSuchPlan.ensures.change)

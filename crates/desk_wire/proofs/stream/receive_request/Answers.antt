@@ -9,9 +9,9 @@ returns-in_err-body-clause-fault g c =
     let head = c.in_ok-head.head.items in
     let some = some_count c.in_ok-head.head.len (length head) c.if-is_empty.ensures
     (sym c.in_ok-head.head.ok.0) in
-    let front = c.front_of.ensures ∙ ap front_read c.deref.ensures.value in
-    let size = c.size_of.ensures ∙ ap size_said front in
-    stopped_so (IfSome (g.R.Read.remaining c.receive_head.new.input) (λ rest. length rest < c.size_of.result))
+    let front = c.parse_front.ensures ∙ ap front_read c.deref.ensures.value in
+    let size = c.body_size.ensures ∙ ap size_said front in
+    stopped_so (IfSome (g.R.Read.remaining c.receive_head.new.input) (λ rest. length rest < c.body_size.result))
     (IfSome (g.R.Read.remaining c.args.input.now) IsCut)
     c.from_residual-in_err-body.result c.in_err-body.field-0.0
     c.from_residual-in_err-body.ensures.1 c.in_err-body.ensures.fault
@@ -26,12 +26,12 @@ returns-clause-taken g c =
     let body = c.in_ok-body.body.items in
     let some = some_count c.in_ok-head.head.len (length head) c.if-is_empty.ensures
     (sym c.in_ok-head.head.ok.0) in
-    let front = c.front_of.ensures ∙ ap front_read c.deref.ensures.value in
+    let front = c.parse_front.ensures ∙ ap front_read c.deref.ensures.value in
     let got = received (g.R.Read.remaining c.args.input.now) (g.R.Read.remaining c.receive_head.new.input)
-    (g.R.Read.remaining c.receive_body.new.input) head body (front_reading c.front_of.result)
-    (with_body (front_reading c.front_of.result) body)
+    (g.R.Read.remaining c.receive_body.new.input) head body (front_reading c.parse_front.result)
+    (with_body (front_reading c.parse_front.result) body)
     c.in_ok-head.ensures.taken (c.in_ok-head.ensures.front some) front c.in_ok-body.ensures.taken
-    (c.in_ok-body.ensures.size ∙ c.size_of.ensures) refl in
-    taken_so (λ v. v.items) c.whole_of.result (g.R.Read.remaining c.args.input.now)
+    (c.in_ok-body.ensures.size ∙ c.body_size.ensures) refl in
+    taken_so (λ v. v.items) c.append_body.result (g.R.Read.remaining c.args.input.now)
     (g.R.Read.remaining c.receive_body.new.input) (head ++ body)
-    (rw c.deref-2.ensures.value at c.whole_of.ensures.ok) got.taken
+    (rw c.deref-2.ensures.value at c.append_body.ensures.ok) got.taken

@@ -9,7 +9,7 @@ returns-in-Ok-keep_request-clause-taken g c =
     let old = c.args.self.now.journal in
     let new = c.keep_request.new.self in
     let moment = c.in-Ok.taken.moment in
-    let request = c.in-Ok-request_of.received.request.items in
+    let request = c.in-Ok-receive_or_empty.received.request.items in
     rw (c.new.ensures.position, c.new.ensures.inner)
     (subst (λ b. TakesArrival (reported_by g.R.Record old b) (reported_by g.R.Record new b)
     (arrived moment.second (Some request))) c.if-is_some.ensures
@@ -17,7 +17,7 @@ returns-in-Ok-keep_request-clause-taken g c =
     moment.second request (rw c.deref.ensures.value at c.in-Ok-keep_request.ensures.steps)
     (rw c.deref.ensures.value at c.in-Ok-keep_request.ensures.noted)
     moment.in_range
-    (λ some. (c.in-Ok-request_of.ensures.whole some).whole)))
+    (λ some. (c.in-Ok-receive_or_empty.ensures.whole some).whole)))
 
 pub returns-in-Err-keep_request-clause-same : goal.returns-in-Err-keep_request-clause-same
 returns-in-Err-keep_request-clause-same g c =

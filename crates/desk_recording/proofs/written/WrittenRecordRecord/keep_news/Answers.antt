@@ -7,8 +7,8 @@ use Rattle.desk_recording.proofs.written.WrittenRecordRecord.keep_news.Goals as 
 
 pub returns-clause-noted : goal.returns-clause-noted
 returns-clause-noted g c =
-    notes_synced c.args.self.now.second c.append_news.new.self.second
+    notes_synced c.args.self.now.second c.append_enrolments.new.self.second
     (g.J.Journal.writes c.args.self.now.journal) (entries (map operator_entry c.args.news.now))
-    (λ n. with_news n c.args.news.now) (λ text. rw c.append_news.ensures.second refl)
-    (g.J.Journal.writes c.append_news.new.self.journal) (g.J.Journal.writes c.sync_to.new.journal)
-    (is_ok c.sync_to.result) c.in_ok-append_news.ensures.text c.sync_to.ensures.done
+    (λ n. with_news n c.args.news.now) (λ text. rw c.append_enrolments.ensures.second refl)
+    (g.J.Journal.writes c.append_enrolments.new.self.journal) (g.J.Journal.writes c.sync_to.new.journal)
+    (is_ok c.sync_to.result) c.in_ok-append_enrolments.ensures.text c.sync_to.ensures.done

@@ -1,0 +1,13 @@
+use Rattle.std.proofs.Common.{◌∙◌, ap, map}
+use Rattle.desk_rules.specs.Permission.{permitted_in}
+use Rattle.desk_cli.specs.Equal.{priority_in}
+use Rattle.desk_cli.proofs.LackLemmas.{not_permitted}
+use Rattle.desk_cli.proofs.equal.parse_permitted.Goals as goal
+
+pub returns-in_default-clause-refused : goal.returns-in_default-clause-refused
+returns-in_default-clause-refused c = λ ps h.
+    not_permitted c.args.word.now ps c.in_ok-priorities.priorities.items c.try_new.result c.in_default.field-0
+    (c.try_new.ensures ∙ ap permitted_in c.deref-2.ensures.value) c.in_default.is
+    (c.in_ok-priorities.ensures.given
+    ∙ (ap (λ xs. map priority_in (map (λ part. part.now) xs)) c.deref.ensures.value
+    ∙ ap (map priority_in) c.in_ok-split_at_commas.ensures)) h

@@ -1,0 +1,12 @@
+use Rattle.std.proofs.Common.{◌≡◌, ◌++◌, map, drop}
+use Rattle.desk_record.specs.Record.{entries}
+use Rattle.desk_program.specs.Recorded.{AreNamed, operator_entry}
+use Rattle.desk_recording.proofs.written.enrolment_entries.Given as goal
+
+-- the text, with the entries of the operators that are left, is that of all; and if their names are those of
+-- operators, all are
+abbrev pub invariant-loop-enrolment : goal.invariant-loop-enrolment
+invariant-loop-enrolment l =
+    (l.text.items ++ entries (map operator_entry (drop l.enrolment-index l.fn.news))
+    ≡ entries (map operator_entry l.fn.news))
+    × (AreNamed (drop l.enrolment-index l.fn.news) → AreNamed l.fn.news)
