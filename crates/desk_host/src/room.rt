@@ -1,4 +1,4 @@
-//! Room for a new file: nothing stands at its names, and it can be made.
+//! Checks that a new file can be made: nothing exists at its names, and its folder can be written.
 
 ghost use Rattle.std.specs.Prelude.{OnErr, OnOk, List, is_ok, ℕ};
 ghost use Rattle.host_files.specs.Naming.{AreNames, Cleared, Follows, Free, IsNotFree, Takes, Tried, free_steps};
@@ -7,21 +7,21 @@ ghost use Rattle.host_files.specs.FolderSteps.{steps_of};
 use host_files::access::new_cause;
 use host_files::naming::{Folder, NewFile};
 
-/// What stands in the way of a new file.
+/// What prevents a new file.
 #[derive(Clone, Copy, Debug, PartialEq, Eq)]
 pub struct Taken<'n> {
-    /// The path at which it stands.
+    /// The path at which it can't be made.
     pub path: &'n str,
-    /// Why there is no room.
+    /// Why it can't be made there.
     pub cause: &'static str,
 }
 
-/// Makes room for a new file: there is nothing at its names then, and it can be made. What a copy that was
-/// cut off left there is removed, but nothing of what is copied (`source`).
+/// Checks that a new file can be made, and that nothing exists at its final and temporary names. What an
+/// interrupted copy left at the latter is removed first, but never the file to be copied (`source`).
 ///
 /// # Errors
 ///
-/// What stands in the way.
+/// What prevents the new file.
 pub fn make_room<'n, P: Folder>(
     folder: &mut P,
     source: &str,
@@ -40,7 +40,7 @@ pub fn make_room<'n, P: Folder>(
     try_part(folder, &names.part)
 }
 
-// Finds that there can be a new file at a path; or what stands there.
+// Checks that nothing exists at a path.
 fn find_free<'n, P: Folder>(folder: &mut P, path: &'n str) -> Result<(), Taken<'n>>
     ensures { Takes (steps_of P.Folder folder.old folder.new) (is_ok result) (Free path.now) }
 {
@@ -50,7 +50,7 @@ fn find_free<'n, P: Folder>(folder: &mut P, path: &'n str) -> Result<(), Taken<'
     }
 }
 
-// Removes what a copy left at two paths; or what stays there.
+// Removes the file and the WAL that an interrupted copy may have left under temporary names.
 fn clear_part<'n, P: Folder>(
     folder: &mut P,
     source: &str,
@@ -66,7 +66,7 @@ fn clear_part<'n, P: Folder>(
     }
 }
 
-// Tries to make a file at a path, which is gone again; or why it can't be made.
+// Checks that a file can be made at a path. It is removed again.
 fn try_part<'n, P: Folder>(folder: &mut P, path: &'n str) -> Result<(), Taken<'n>>
     ensures { Takes (steps_of P.Folder folder.old folder.new) (is_ok result) (Tried path.now) }
 {
