@@ -1,5 +1,5 @@
-//! The file that a line opens, put in order before that if its tables stand in another, once a scratch copy
-//! of it was read as a desk's.
+//! Puts the tables of a database file in canonical order before a command opens it, once a repaired scratch
+//! copy of it was read as a valid database.
 
 ghost use Rattle.std.specs.Prelude.{◌≡◌, IfErr, IfNone, IfOk, Ok, OnErr, OnOk, false, true};
 ghost use Rattle.sqlite_wal.specs.Files.{image_at};
@@ -30,26 +30,26 @@ use sqlite_disk::Disk;
 use std::alloc::Global;
 use std::io::Write;
 
-// What is said of a file that can't be put in order, though it can be had.
+// The cause for a file that can be opened but not reordered.
 const UNWRITTEN: &str = "it can't be written: a full disk, or one that fails";
 
-/// A file that a line is about to open.
+/// A file that a command is about to open.
 #[derive(Clone, Copy)]
 pub struct ReorderTarget<'p> {
     /// Its path.
     pub path: &'p str,
-    /// The way in which it would be read.
+    /// How it would be read.
     pub way: ReadMode,
-    /// Whether the line takes a file of schema 1.
+    /// Whether the command accepts a file of schema 1.
     pub takes_old: bool,
 }
 
-/// Puts the file of a database in order, if its tables stand in another, and reports that. A file of schema 1
-/// is taken, or not (`takes_old`). Of files nothing is known.
+/// Puts the tables of a database in canonical order if they are in another, and reports that. A file of
+/// schema 1 is accepted if `takes_old`. The contract assumes nothing about the content of files.
 ///
 /// # Errors
 ///
-/// Why it can't be put in order, which is reported.
+/// Why that failed, which is reported.
 #[tactic(auto, using(crate::proofs::ReorderLemmas::reorder_fails))]
 pub fn reorder_for(
     host: LocalHost<'_>,
@@ -74,7 +74,7 @@ pub fn reorder_for(
     done_of(reorder(host, &mut folder, file, Unknown, &mut host.errors()))
 }
 
-/// What came of it. The scratch copy that was read, on whatever disk it is, is closed.
+/// The result of `reorder` alone. The scratch copy is closed.
 pub fn done_of<D: Disk + Drop>(
     reordered: (Result<(), ErrorCode>, Option<Judged<D>>),
 ) -> Result<(), ErrorCode>
@@ -84,14 +84,14 @@ pub fn done_of<D: Disk + Drop>(
     done
 }
 
-/// Puts a file in order, if its tables stand in another: a scratch copy that lists them in a desk's own is
-/// made, read and removed, and if it is a desk's that the line takes, the file is put in the same order. That
-/// the file was put in order goes to `errors`, or why not; a fault there is passed over. Answered with it is
-/// the connection to the scratch copy, or why that can't be read; nothing if there was no scratch copy.
+/// Puts the tables of a file in canonical order if they are in another. A repaired scratch copy is made, read
+/// and removed; if it is a valid database that the command accepts, the file itself is reordered. Success or
+/// the cause of failure goes to `errors`; a failed write there is ignored. Also returns the connection to the
+/// scratch copy, or why that can't be read; `None` if there was no scratch copy.
 ///
 /// # Errors
 ///
-/// Why the file can't be put in order. Nothing is asked of it then, but if it was that which failed.
+/// Why the file can't be reordered. It is unchanged, unless reordering itself failed.
 pub fn reorder<F: Start, P: Folder, E: Write>(
     host: LocalHost<'_>,
     folder: &mut P,
@@ -110,7 +110,7 @@ pub fn reorder<F: Start, P: Folder, E: Write>(
     }
 }
 
-// Makes the scratch copy of a file that is disordered, and puts the file in order by what that shows.
+// Makes and reads a repaired scratch copy of a file, and reorders the file if that is valid.
 fn reorder_by_scratch<F: Start, P: Folder, E: Write>(
     host: LocalHost<'_>,
     folder: &mut P,
@@ -132,8 +132,8 @@ fn reorder_by_scratch<F: Start, P: Folder, E: Write>(
     (done, Some(judged))
 }
 
-// Removes the scratch copy of a file, and puts the file in order, if the scratch copy was read as a desk's
-// that the line takes.
+// Removes the scratch copy of a file, and reorders the file if its scratch copy was read (`found`) as a valid
+// database that the command accepts.
 fn order_by_scratch<D: Disk + Drop, P: Folder, E: Write>(
     host: LocalHost<'_>,
     folder: &mut P,
@@ -158,8 +158,8 @@ fn order_by_scratch<D: Disk + Drop, P: Folder, E: Write>(
     }
 }
 
-// Whether the scratch copy of a file, at another path, was read as a desk's that the line takes; or reports
-// why not. The scratch copy is still there.
+// Whether the scratch copy of a file was read as a valid database that the command accepts; reports why if it
+// wasn't. The scratch copy still exists, since the report may read it again.
 fn judge<D: Disk + Drop, E: Write>(
     host: LocalHost<'_>,
     file: ReorderTarget<'_>,
@@ -187,7 +187,7 @@ fn judge<D: Disk + Drop, E: Write>(
     }
 }
 
-// Puts a file in order, and reports that; or reports why not.
+// Reorders a file, and reports that it succeeded or why it failed.
 fn order<P: Folder, E: Write>(
     host: LocalHost<'_>,
     folder: &mut P,
@@ -208,7 +208,7 @@ fn order<P: Folder, E: Write>(
     Ok(())
 }
 
-// Whether a line doesn't take a file, since that is of schema 1.
+// Whether a command refuses a file since that is of schema 1.
 fn is_too_old(takes_old: bool, is_old: bool) -> bool
     ensures old { result ≡ true → (takes_old ≡ false) × (is_old ≡ true) }
     ensures taken { result ≡ false → takes_old ≡ false → is_old ≡ false }
@@ -219,14 +219,14 @@ fn is_too_old(takes_old: bool, is_old: bool) -> bool
     is_old
 }
 
-// Reports that a file was put in order. A fault of the writer is passed over, and so is lack of memory.
+// Reports that a file was reordered. A failed write and running out of memory are ignored.
 fn report_reordered<E: Write>(alloc: Global, path: &str, errors: &mut E)
     ensures { IsWrittenIfRoom (spec.reordered_line path.now) (bytes_written E.Write errors.old errors.new) }
 {
     report_of(alloc, path, reordered_text(), errors);
 }
 
-// What is said of a file that was put in order.
+// What is reported of a file that was reordered.
 fn reordered_text() -> &'static str
     ensures { result.now ≡ spec.reordered_text }
 {
