@@ -1,5 +1,5 @@
-//! The folder of a desk's records: what the last one left undone is done at the desk that is open, and then
-//! the next one is begun. No clause reports what the operating system did.
+//! The journal folder of a desk: what the last journal left pending is recovered at the open desk, and then
+//! the next one is begun. No contract says what the operating system did.
 
 ghost use Rattle.std.specs.Prelude.{◌≡◌, ◌⊎◌, ◌++◌, ◌↔◌, false, true, IfErr, IfOk, IfSome, IsSome, IsTrue};
 ghost use Rattle.std.specs.Prelude.{None, Ok, OnErr, OnOk, Some, option_map};
@@ -40,7 +40,7 @@ use std::fs::{self, File};
 use std::io::{self, Write};
 use std::time::SystemTime;
 
-/// The file of a record. That it can't be written is reported on the standard error, once.
+/// The file of a journal. That it can't be written is reported on the standard error, once.
 #[derive(Drop)]
 pub struct LocalJournal<'s> {
     host: LocalHost<'s>,
@@ -49,14 +49,14 @@ pub struct LocalJournal<'s> {
     is_reported: bool,
 }
 
-/// An error of the file of a record, which is reported.
+/// An error of writing a journal, which was reported.
 #[derive(Drop)]
 pub struct FileError {
     error: io::Error,
 }
 
 impl LocalJournal<'_> {
-    // Reports that the record can't be written, if that is so and wasn't reported, and hands the error on.
+    // Returns the result of writing the journal; the first error is reported.
     fn hand_on(&mut self, done: io::Result<()>) -> Result<(), FileError>
         ensures { HandsOn done self.old self.new result }
     {
@@ -91,25 +91,25 @@ impl Journal for LocalJournal<'_> {
     }
 }
 
-/// What keeps the requests and the answers of a line.
+/// The journal of a command, which gets its requests and answers.
 pub type LocalRecord<'s> = WrittenRecord<LocalJournal<'s>>;
 
-/// The folder of a desk's records, as it is found before the desk is opened.
+/// The journal folder of a desk, as it is before the desk is opened.
 #[derive(Drop)]
 pub struct RecordFolder<'s> {
     host: LocalHost<'s>,
     path: &'s str,
-    // the number of its last record, or 0, and how many bytes that has
+    // the number of the last journal and its size in bytes; 0 if there is none
     number: u64,
     len: u64,
-    // whether that was tested once the desk was open, so that no other desk of this file writes here
+    // whether both were confirmed once the desk was open, when no other desk of its file writes here
     is_held: bool,
-    // what the last record left undone, until it is done
+    // the recovery that the last journal asks for, until it is done
     undone: Option<PendingRecovery<'s>>,
 }
 
-// What the last record of a folder left undone at a file: what it says as it ends, and what stands behind
-// that.
+// The recovery that the last journal asks for at a database file: what the journal's end says, and what
+// follows its last whole entry.
 #[derive(Drop)]
 struct PendingRecovery<'s> {
     file: &'s str,
@@ -118,12 +118,12 @@ struct PendingRecovery<'s> {
     ended: TailEnd,
 }
 
-/// The folder in which a command records what it does, if it names one. Its desk is not opened yet.
+/// The journal folder of a command, if it names one, before its desk is opened.
 ///
 /// # Errors
 ///
-/// `Store` if the database is in memory, or its file is gone; `Write` if the folder can't be read, or nothing
-/// goes on from its last record; `Memory`. Why is reported.
+/// `Store` if the database is in memory, or its file is missing; `Write` if the folder can't be read, or its
+/// last journal can't be continued; `Memory`. The cause is reported.
 pub fn folder_for<'s>(
     host: LocalHost<'s>,
     words: &'s DeskArgs,
@@ -153,7 +153,7 @@ pub fn folder_for<'s>(
     }))
 }
 
-// The number of a folder's last record and how many bytes that has, each 0 if there is none.
+// The number and the size in bytes of a folder's last journal, both 0 if there is none.
 fn extent_of(last: &Option<JournalFile>) -> (u64, u64)
     ensures { result ≡ spec.extent_of last.now }
 {
@@ -163,7 +163,8 @@ fn extent_of(last: &Option<JournalFile>) -> (u64, u64)
     }
 }
 
-// What is undone at a desk in memory, which goes on from no record: nothing.
+// The pending recovery of a desk in memory: none, since it continues no journal. Only `play` may write one,
+// in an empty folder.
 fn alone<'s>(
     host: LocalHost<'_>,
     folder: &str,
@@ -185,8 +186,7 @@ fn alone<'s>(
     }
 }
 
-// What the last record of a folder left undone at the desk's file, if there is a record, and it left
-// something.
+// The recovery that the last journal of a folder asks for at the database file `file`, if any.
 fn undone_at<'s>(
     host: LocalHost<'_>,
     folder: &str,
@@ -213,7 +213,7 @@ fn undone_at<'s>(
     }))
 }
 
-// What a record leaves undone, if that is something.
+// `left`, if there is anything to recover.
 fn undone_by(left: PendingRecovery<'_>) -> Option<PendingRecovery<'_>>
     ensures none { LeavesNothing left.entry.tail left.entry.ended → result ≡ None }
     ensures some { (result ≡ Some left.entry) ⊎ LeavesNothing left.entry.tail left.entry.ended }
@@ -224,7 +224,7 @@ fn undone_by(left: PendingRecovery<'_>) -> Option<PendingRecovery<'_>>
     Some(left)
 }
 
-// What the last record of a folder says as it ends.
+// What the end of the last journal says, or why that can't be continued.
 fn read_last(host: LocalHost<'_>, last: &JournalFile) -> Result<(Tail, TailEnd), JournalError>
     ensures { IfOk result (λ read. MayGoOn last.now.number read.0 read.1) }
 {
@@ -232,7 +232,7 @@ fn read_last(host: LocalHost<'_>, last: &JournalFile) -> Result<(Tail, TailEnd),
     going_on(last.number, tail, ended)
 }
 
-// The end of a record, or why nothing goes on from it.
+// The end of a journal, or why that can't be continued.
 fn going_on(number: u64, tail: Tail, ended: TailEnd) -> Result<(Tail, TailEnd), JournalError>
     ensures { GoesOnUnless (spec.cause_of_tail number tail.record ended) (tail, ended) result }
 {
@@ -242,8 +242,8 @@ fn going_on(number: u64, tail: Tail, ended: TailEnd) -> Result<(Tail, TailEnd), 
     }
 }
 
-// Why nothing goes on from a last record, if so: by the number in its name, that of its first entry, if that
-// is whole, and what stands behind its last whole entry.
+// Why a journal can't be continued, if so: by the number in its name, the number in its first entry if that
+// is whole (`begun`), and what follows its last whole entry (`ended`).
 fn cause_of_tail(number: u64, begun: Option<u64>, ended: TailEnd) -> Option<&'static str>
     ensures { option_map (λ cause. cause.now) result ≡ spec.cause_of_tail number begun ended }
 {
@@ -255,15 +255,15 @@ fn cause_of_tail(number: u64, begun: Option<u64>, ended: TailEnd) -> Option<&'st
     }
 }
 
-// Whether a record leaves nothing to do: it is whole, no operator stands behind its last request, and that is
-// answered.
+// Whether a journal leaves nothing to recover: it is whole, its last request is answered, and no enrolment
+// follows that.
 fn leaves_nothing(tail: &Tail, ended: TailEnd) -> bool
     ensures { IsTrue result ↔ LeavesNothing tail.now ended }
 {
     ended == TailEnd::End && tail.asked.is_none() && tail.operators.is_empty()
 }
 
-// The value, or the failure once its cause is reported.
+// The value; or the error code, once its cause is reported.
 fn reported<T: Drop>(
     host: LocalHost<'_>,
     folder: &str,
@@ -282,7 +282,7 @@ fn reported<T: Drop>(
     }
 }
 
-// The failure of a database, once its cause is reported.
+// Reports the cause at a path, and returns the error code `Store`.
 fn store_failure(host: LocalHost<'_>, path: &str, cause: &str) -> ErrorCode
     ensures { result ≡ ErrorCode.Store }
 {
@@ -291,21 +291,20 @@ fn store_failure(host: LocalHost<'_>, path: &str, cause: &str) -> ErrorCode
 }
 
 impl<'s> RecordFolder<'s> {
-    /// Whether its last record left something undone.
+    /// Whether the last journal left anything to recover.
     pub fn has_undone(&self) -> bool
         ensures { result ≡ is_some self.now.undone }
     {
         self.undone.is_some()
     }
 
-    /// The desk that was opened over files, as one that was just opened, once what the last record left
-    /// undone is done there. If that can't be done it is closed. The operators that it has are noted in
-    /// `roll`.
+    /// Recovers at the open desk what the last journal left pending. Returns the desk as if it was just
+    /// opened, with its operators noted in `roll`. If recovery fails, the desk is closed.
     ///
     /// # Errors
     ///
-    /// `Write` if the folder can't be read or written, or has another last record than it had; `Store` by the
-    /// desk, or if that can't be closed; `Broken` if a request can't be kept; `Memory`; `Clock`. Why is
+    /// `Write` if the folder can't be read or written, or its last journal has changed; `Store` if the desk
+    /// fails or can't be closed; `Broken` if a request can't be recorded; `Memory`; `Clock`. The cause is
     /// reported.
     pub fn finish<D: Disk + Drop, N: OpenPaths + Drop>(
         &mut self,
@@ -327,7 +326,7 @@ impl<'s> RecordFolder<'s> {
         }
     }
 
-    // Does at a desk what the last record left undone.
+    // Recovers at a desk what the last journal left pending.
     fn recover<D: Disk + Drop, N: OpenPaths + Drop>(
         &mut self,
         undone: PendingRecovery<'_>,
@@ -374,8 +373,8 @@ impl<'s> RecordFolder<'s> {
         Ok(())
     }
 
-    // Tests that the last record is still the last one and as long as it was, if that wasn't tested yet. The
-    // desk is open, so that no other desk of its file goes on from it.
+    // Checks that the last journal and its size are unchanged, unless that was done before. The desk is open,
+    // so from now on no other desk of its file writes here.
     fn hold(&mut self) -> Result<(), ErrorCode>
         ensures held { OnOk result (self.new ≡ record self.old { is_held = true }) }
         ensures same { OnErr result (self.new ≡ self.old) }
@@ -395,7 +394,7 @@ impl<'s> RecordFolder<'s> {
         Ok(())
     }
 
-    /// The record of a command, if its desk is open.
+    /// Begins the journal of a command, if its desk is open.
     ///
     /// # Errors
     ///
@@ -417,12 +416,12 @@ impl<'s> RecordFolder<'s> {
         Ok(Some(self.begin(terms, enrolments, roll)?))
     }
 
-    /// Begins the record of a command at its open desk, which plans on these terms then and has the operators
-    /// of the roll, before the command enrols its own.
+    /// Begins the journal of a command at its open desk: with the terms, the operators in `roll`, and those
+    /// that the command enrols.
     ///
     /// # Errors
     ///
-    /// `Write` if the folder can't be written, or has another last record than it had; `Memory`; `Clock`. Why
+    /// `Write` if the folder can't be written, or its last journal has changed; `Memory`; `Clock`. The cause
     /// is reported.
     fn begin(
         mut self,
@@ -446,7 +445,8 @@ impl<'s> RecordFolder<'s> {
     }
 }
 
-// A failure at a desk over the file at a path, once the desk is closed; or that this can't be done.
+// Closes a desk that failed, and returns its error code; or `Store`, which is reported, if it can't be
+// closed.
 fn failure_closed<D: Disk + Drop, N: OpenPaths + Drop>(
     host: LocalHost<'_>,
     file: &str,
@@ -461,7 +461,7 @@ fn failure_closed<D: Disk + Drop, N: OpenPaths + Drop>(
     store_failure(host, file, "it can't be closed")
 }
 
-// Whether a desk was closed, on whatever disk it was.
+// Whether a desk was closed, with its files at their paths.
 fn is_closed<D: Disk + Drop, E>(ended: (ExitReport<E>, Option<CloseReport<D>>)) -> bool
     ensures { result ≡ files.is_closed ended.1 }
 {
@@ -471,7 +471,7 @@ fn is_closed<D: Disk + Drop, E>(ended: (ExitReport<E>, Option<CloseReport<D>>)) 
     }
 }
 
-// The number of the record after this one.
+// The number of the next journal; the error `Write`, which is reported, if 64 bits don't hold it.
 fn next_number(host: LocalHost<'_>, folder: &str, number: u64) -> Result<u64, ErrorCode>
     ensures { result ≡ spec.next_number number }
 {
@@ -481,7 +481,7 @@ fn next_number(host: LocalHost<'_>, folder: &str, number: u64) -> Result<u64, Er
     }
 }
 
-// Operators, and others behind them.
+// `operators` followed by `others`.
 fn joined(mut operators: Vec<Enrolment>, others: &[Enrolment]) -> Result<Vec<Enrolment>, AllocError>
     ensures { IfOk result (λ all. all.items ≡ operators.items ++ others.now) }
 {
@@ -489,7 +489,7 @@ fn joined(mut operators: Vec<Enrolment>, others: &[Enrolment]) -> Result<Vec<Enr
     Ok(operators)
 }
 
-// Makes the file of a new record, with its beginning.
+// Makes the file of a new journal under its temporary name, and writes the first entries.
 fn begin_part<'s>(
     host: LocalHost<'s>,
     folder: &'s str,
@@ -511,7 +511,7 @@ fn begin_part<'s>(
     }
 }
 
-// The Unix second that the clock gives.
+// The Unix second of the clock; the error `Clock` if there is none.
 fn second_now(host: LocalHost<'_>) -> Result<u64, ErrorCode>
     ensures { IfErr result (λ f. f ≡ ErrorCode.Clock) }
 {
@@ -524,11 +524,11 @@ fn second_now(host: LocalHost<'_>) -> Result<u64, ErrorCode>
     }
 }
 
-// That a request that is asked again, or its answer, is not recorded. Why is reported.
+// A repeated request, or its answer, can't be recorded. The cause was reported.
 #[derive(Drop)]
 struct Unrecorded;
 
-// The record of a request that is asked again: it gets its name once the request is in it.
+// The journal of a request that recovery repeats. It gets its final name once the request is in it.
 #[derive(Drop)]
 struct AskedRecord<'s> {
     host: LocalHost<'s>,
@@ -540,7 +540,7 @@ struct AskedRecord<'s> {
 }
 
 impl<'s> AskedRecord<'s> {
-    // The record, with the request in it, under its name.
+    // Makes the journal with the request in it, under its final name.
     fn begin(&mut self, moment: Moment, bytes: &[u8]) -> Result<LocalRecord<'s>, ErrorCode>
         ensures same { self.new ≡ self.old }
         ensures fault { IfErr result IsUnbegun }

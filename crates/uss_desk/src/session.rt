@@ -1,5 +1,5 @@
-//! A command of a desk: what it needs is got ready, its desk is opened, and then it is carried out there. No
-//! clause reports what the operating system did.
+//! A command with a desk: what it needs is prepared, its desk is opened, and it runs there. No contract says
+//! what the operating system did.
 
 ghost use Rattle.std.specs.Prelude.{◌≡◌, ◌↔◌, [], Err, IfErr, IfOk, IsTrue, None};
 ghost use Rattle.std.specs.Option.{is_some};
@@ -35,7 +35,7 @@ use sqlite::Unknown;
 use sqlite_disk::Disk;
 use std::io::{BufReader, Stderr, Stdin, Stdout, Write};
 
-/// What a command needs beside its desk and the paths of that.
+/// What a command needs beside its desk and the desk's paths.
 #[derive(Drop)]
 struct Session<'s> {
     host: LocalHost<'s>,
@@ -50,7 +50,7 @@ struct Session<'s> {
 }
 
 impl<'s> Session<'s> {
-    // Gets ready what a command needs, with the paths of its desk. Nothing is opened yet.
+    // Prepares what a command needs, and the paths of its database. The desk isn't opened yet.
     fn prepare(
         host: LocalHost<'s>,
         words: &'s DeskArgs,
@@ -84,7 +84,7 @@ impl<'s> Session<'s> {
         Ok((session, paths))
     }
 
-    // Whether the last record left something undone, so that the desk's file has to be there.
+    // Whether the last journal left anything to recover: then the database file must exist.
     fn has_undone(&self) -> bool
         ensures { result ≡ is_some (spec.undone_of self.now.folder) }
     {
@@ -94,7 +94,7 @@ impl<'s> Session<'s> {
         }
     }
 
-    // The desk that was opened over files, at which all is done that the last record left undone.
+    // The desk that was opened over files, once what the last journal left pending is recovered there.
     fn recover<D: Disk + Drop, N: OpenPaths + Drop>(
         &mut self,
         opened: Result<DeskAt<D, N>, ErrorCode>,
@@ -114,14 +114,14 @@ impl<'s> Session<'s> {
         }
     }
 
-    // Whether it is known that no operator is enrolled, and the command names none.
+    // Whether the desk is known to have no operator, and the command enrols none.
     fn is_unenrolled(&self) -> bool
         ensures { IsTrue result ↔ IsUnenrolled self.now }
     {
         self.roll.is_empty() && enrols_none(self.words, self.enrolments)
     }
 
-    // Reports that no operator is enrolled, if that is known of the desk, and the command names none.
+    // Reports that no operator is enrolled, if the desk is known to have none and the command enrols none.
     fn report_if_unenrolled<E: Write>(&self, errors: &mut E)
         ensures reported { IsUnenrolled self.now
             → IsWrittenIfRoom (unenrolled_line (file_of self.now.words.now.database))
@@ -134,8 +134,8 @@ impl<'s> Session<'s> {
         }
     }
 
-    // Carries a command out at the desk that was opened for it, each request recorded if it keeps a journal:
-    // those of an input, or those of connections at a port. Answers the exit status and the desk.
+    // Runs a command at the desk that was opened for it, and returns the exit status with the desk. If the
+    // command keeps a journal, each request of its input or port is recorded.
     fn run<D: Disk + Drop, N: OpenPaths + Drop>(
         self,
         action: DeskCommand<'_>,
@@ -183,21 +183,21 @@ impl<'s> Session<'s> {
     }
 }
 
-// Whether a command names no operator, so that its desk may have none.
+// Whether a command enrols no operator, and names no file of enrolments.
 fn enrols_none(words: &DeskArgs, enrolments: &[Enrolment]) -> bool
     ensures { IsTrue result ↔ (enrolments.now ≡ []) × (words.now.operators ≡ None) }
 {
     enrolments.is_empty() && words.operators.is_none()
 }
 
-/// Does what a command does at its desk, with the standard streams, the network and the clock, closes the
-/// desk, and answers the exit status. A file whose tables stand in another order is put in order before. Of
-/// files nothing is known.
+/// Runs a command at its desk with the standard streams, the network and the clock, closes the desk, and
+/// returns the exit status. Tables in a non-canonical order are reordered first. The contract assumes nothing
+/// about the content of files.
 ///
 /// # Errors
 ///
-/// Why the desk is not opened: its log, its file of enrolments, its tables or the folder of its records,
-/// which is reported; or memory ran out.
+/// Why the desk isn't opened: its WAL, its file of enrolments, its tables or its journal folder, which is
+/// reported; or memory ran out.
 pub fn at_desk(
     host: LocalHost<'_>,
     words: &DeskArgs,
