@@ -146,7 +146,7 @@ pub fn check_file<F: Start, W: Write + Drop, E: Write + Drop>(
         (ended E.Write result.0 writers.old.errors writers.new.errors) result.1
         (bytes_written W.Write writers.old.output writers.new.output) }
 {
-    match look_for(host, database, start) {
+    match look_in_database(host, database, start) {
         Ok((connection, file)) => {
             let exit = print_checked(
                 host.alloc(),
@@ -191,7 +191,7 @@ fn report_unread<E: Write>(
 
 // The statistics of a database, with the connection that read it. A database in memory is refused.
 #[tactic(auto, using(crate::proofs::KeepLemmas::look_fails))]
-fn look_for<F: Start>(
+fn look_in_database<F: Start>(
     host: LocalHost<'_>,
     database: &Database,
     start: F,
@@ -221,37 +221,37 @@ pub fn look_in<F: Start>(
 {
     let log = name_with(host.alloc(), path, "-wal")?;
     // This closes the file, which releases the lock of any connection to it: so the connection comes later.
-    let bulk = bulk_at(&host, path, &log, has_checksums(host.rt, path));
+    let stats = stats_at(&host, path, &log, has_checksums(host.rt, path));
     match look_at(host.rt, path, start) {
-        Ok((connection, holdings)) => Ok((connection, reported_of(&holdings, bulk))),
+        Ok((connection, holdings)) => Ok((connection, checked_file(&holdings, stats))),
         Err(refused) => Err(OpenError::of(refused)),
     }
 }
 
 // What `check` reports of a file, from the counts of its rows and the other statistics.
-fn reported_of(holdings: &DbStats, bulk: FileStats) -> CheckedFile
+fn checked_file(holdings: &DbStats, stats: FileStats) -> CheckedFile
     ensures counted { (w : World) → AreHoldingsOf holdings.now w → ReportsHoldings result w }
     ensures schema { result.is_old ≡ holdings.now.is_old }
-    ensures bulk { (result.has_checksums ≡ bulk.has_checksums) × (result.size ≡ bulk.size)
-        × (result.log ≡ bulk.log) }
+    ensures stats { (result.has_checksums ≡ stats.has_checksums) × (result.size ≡ stats.size)
+        × (result.log ≡ stats.log) }
 {
     CheckedFile {
         is_old: holdings.is_old,
-        has_checksums: bulk.has_checksums,
+        has_checksums: stats.has_checksums,
         operators: holdings.operators,
         plans: holdings.plans,
         live: holdings.live,
         spans: holdings.spans,
         most_spans: holdings.most_spans,
         most_cells: holdings.most_cells,
-        size: bulk.size,
-        log: bulk.log,
+        size: stats.size,
+        log: stats.log,
     }
 }
 
 // The sizes of the file `path` and of its WAL `log`, each 0 if it can't be reached; `has_checksums` is
 // already known.
-fn bulk_at<F: HostFiles>(files: &F, path: &str, log: &str, has_checksums: bool) -> FileStats
+fn stats_at<F: HostFiles>(files: &F, path: &str, log: &str, has_checksums: bool) -> FileStats
     ensures sums { result.has_checksums ≡ has_checksums }
     ensures sizes { IfSome (F.answers files.now) (λ it. (result.size ≡ found_size (it.found path.now))
         × (result.log ≡ found_size (it.found log.now))) }
@@ -294,7 +294,7 @@ pub fn copy_file<F: Start, N: Start, P: Folder, W: Write + Drop, E: Write + Drop
     ensures named { IsNamedIf result.1 (string_bytes words.now.to) (steps_of P.Folder folder.old folder.new) }
     ensures own { LeavesOthers (string_bytes words.now.to) (steps_of P.Folder folder.old folder.new) }
 {
-    match copy_for(host, folder, words, scratch, starts, &mut writers.errors) {
+    match copy_database(host, folder, words, scratch, starts, &mut writers.errors) {
         Ok(copies) => {
             let exit = print_holdings(
                 host.alloc(),
@@ -337,7 +337,7 @@ fn print_holdings<W: Write, E: Write>(
 // Copies a database to a new file. It is written under a temporary name, and renamed once it is on the disk,
 // so that an interrupted copy leaves nothing under the final name.
 #[tactic(auto, using(host_files::proofs::lemmas::Naming::leaves_none, host_files::proofs::lemmas::Naming::leaves_all))]
-fn copy_for<F: Start, N: Start, P: Folder, E: Write>(
+fn copy_database<F: Start, N: Start, P: Folder, E: Write>(
     host: LocalHost<'_>,
     folder: &mut P,
     words: &CopyArgs,
@@ -362,8 +362,8 @@ fn copy_for<F: Start, N: Start, P: Folder, E: Write>(
         return Err(CopyError::untried(failure));
     }
     let source = CopySource::of(path, scratch);
-    let copied = copy_closed(host, source.path, &names.part, starts);
-    keep_copy(host, folder, source, &names, copied, errors)
+    let copied = copy_and_close(host, source.path, &names.part, starts);
+    publish_or_discard(host, folder, source, &names, copied, errors)
 }
 
 // A file to be copied: its name in reports, and the path at which it is read.
@@ -388,7 +388,7 @@ impl<'s> CopySource<'s> {
 
 // Gives the new files their final names if the copy succeeded; else removes what was made. A failure is
 // reported.
-fn keep_copy<D: Disk + Drop, N: Disk + Drop, P: Folder, E: Write>(
+fn publish_or_discard<D: Disk + Drop, N: Disk + Drop, P: Folder, E: Write>(
     host: LocalHost<'_>,
     folder: &mut P,
     source: CopySource<'_>,
@@ -408,7 +408,7 @@ fn keep_copy<D: Disk + Drop, N: Disk + Drop, P: Folder, E: Write>(
     let copies = match copied {
         Ok(copies) => copies,
         Err(uncopied) => {
-            give_up(host, folder, source, names, uncopied.failure, errors);
+            report_and_discard(host, folder, source, names, uncopied.failure, errors);
             return Err(uncopied);
         }
     };
@@ -446,7 +446,7 @@ fn publish_copy<P: Folder, E: Write>(
 }
 
 // Copies the database at `path` to new files at `to`, and closes these.
-fn copy_closed<F: Start, N: Start>(
+fn copy_and_close<F: Start, N: Start>(
     host: LocalHost<'_>,
     path: &str,
     to: &str,
@@ -456,11 +456,11 @@ fn copy_closed<F: Start, N: Start>(
         (IsCopyMade ⟦<FileFrom<N> as Disk>⟧ (image_at F.Start) (image_at N.Start)) }
     ensures fault { IfErr result (FailsAtFiles (image_at F.Start) (image_at N.Start)) }
 {
-    close_copied(copy_from(host.rt, path, starts.source, to, starts.copy))
+    close_if_copied(copy_from(host.rt, path, starts.source, to, starts.copy))
 }
 
 // Closes the new files if they were made, or returns why they weren't.
-fn close_copied<D: Disk + Drop, N: Disk + Drop>(
+fn close_if_copied<D: Disk + Drop, N: Disk + Drop>(
     copied: Result<Copied<D, N>, CopyFault<D, N>>,
 ) -> Result<Copies<D, N>, CopyEnd<D, N>>
     ensures made { (image other : Image) → IfOk copied (IsStoredAs image other)
@@ -525,7 +525,7 @@ fn make_room_or_report<P: Folder, E: Write>(
 
 // Reports why a copy failed, and removes what was made. If no new file was made, the cause is in the source.
 #[tactic(auto, using(host_files::proofs::lemmas::Reporting::reports_nothing))]
-fn give_up<P: Folder, E: Write>(
+fn report_and_discard<P: Folder, E: Write>(
     host: LocalHost<'_>,
     folder: &mut P,
     source: CopySource<'_>,

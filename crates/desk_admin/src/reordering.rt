@@ -17,7 +17,7 @@ ghost use Rattle.host_files.specs.Reporting.{IsWrittenIfRoom, Reports};
 
 use crate::causes::report_cause;
 use crate::keeping::look_in;
-use crate::scratch_copies::{CheckResult, Judged};
+use crate::scratch_copies::{CheckResult, ReadResult};
 use desk_cli::{Database, ErrorCode};
 use desk_host::scratch::{ScratchCopy, make_scratch, remove_scratch};
 use desk_host::ways::{ReadMode, read_mode};
@@ -29,6 +29,9 @@ use sqlite::{FileFrom, Start, Unknown};
 use sqlite_disk::Disk;
 use std::alloc::Global;
 use std::io::Write;
+
+// What is reported of a file that was reordered.
+const REORDERED: &str = "its tables are put in a desk's own order";
 
 // The cause for a file that can be opened but not reordered.
 const UNWRITTEN: &str = "it can't be written: a full disk, or one that fails";
@@ -71,12 +74,12 @@ pub fn reorder_for(
         takes_old,
     };
     let mut folder = host;
-    done_of(reorder(host, &mut folder, file, Unknown, &mut host.errors()))
+    result_of(reorder(host, &mut folder, file, Unknown, &mut host.errors()))
 }
 
 /// The result of `reorder` alone. The scratch copy is closed.
-pub fn done_of<D: Disk + Drop>(
-    reordered: (Result<(), ErrorCode>, Option<Judged<D>>),
+pub fn result_of<D: Disk + Drop>(
+    reordered: (Result<(), ErrorCode>, Option<ReadResult<D>>),
 ) -> Result<(), ErrorCode>
     ensures { result ≡ reordered.0 }
 {
@@ -98,7 +101,7 @@ pub fn reorder<F: Start, P: Folder, E: Write>(
     file: ReorderTarget<'_>,
     start: F,
     errors: &mut E,
-) -> (Result<(), ErrorCode>, Option<Judged<FileFrom<F>>>)
+) -> (Result<(), ErrorCode>, Option<ReadResult<FileFrom<F>>>)
     ensures reordered { IsReorderedIf (image_at F.Start) file.entry.path.now file.entry.takes_old
         file.entry.way result.0 result.1 (steps_of P.Folder folder.old folder.new) }
     ensures reported { IsReorderReported file.entry.path.now result.0 result.1
@@ -117,7 +120,7 @@ fn reorder_by_scratch<F: Start, P: Folder, E: Write>(
     file: ReorderTarget<'_>,
     start: F,
     errors: &mut E,
-) -> (Result<(), ErrorCode>, Option<Judged<FileFrom<F>>>)
+) -> (Result<(), ErrorCode>, Option<ReadResult<FileFrom<F>>>)
     ensures reordered { IsReordered (image_at F.Start) file.entry.path.now file.entry.takes_old
         result.0 result.1 (steps_of P.Folder folder.old folder.new) }
     ensures reported { IsReorderReported file.entry.path.now result.0 result.1
@@ -128,20 +131,20 @@ fn reorder_by_scratch<F: Start, P: Folder, E: Write>(
         Err(failure) => return (Err(failure), None),
     };
     let found = look_in(host, &scratch.path, start);
-    let (done, judged) = order_by_scratch(host, folder, file, &scratch, found, errors);
+    let (done, judged) = reorder_if_valid(host, folder, file, &scratch, found, errors);
     (done, Some(judged))
 }
 
 // Removes the scratch copy of a file, and reorders the file if its scratch copy was read (`found`) as a valid
 // database that the command accepts.
-fn order_by_scratch<D: Disk + Drop, P: Folder, E: Write>(
+fn reorder_if_valid<D: Disk + Drop, P: Folder, E: Write>(
     host: LocalHost<'_>,
     folder: &mut P,
     file: ReorderTarget<'_>,
     scratch: &ScratchCopy,
     found: CheckResult<D>,
     errors: &mut E,
-) -> (Result<(), ErrorCode>, Judged<D>)
+) -> (Result<(), ErrorCode>, ReadResult<D>)
     ensures ordered { (image : Image) → IfOk found (λ it. IsReadAs image it.0 it.1)
         → IfErr found (FailsToRead image) → AreTwins file.entry.path.now scratch.now
         → IsOrderedByScratch image file.entry.path.now file.entry.takes_old result.0 result.1
@@ -150,23 +153,23 @@ fn order_by_scratch<D: Disk + Drop, P: Folder, E: Write>(
         (bytes_written E.Write errors.old errors.new)) }
     ensures reported { OnErr result.0 (Reports (bytes_written E.Write errors.old errors.new)) }
 {
-    let (admitted, judged) = judge(host, file, &scratch.path, found, errors);
+    let (admitted, judged) = admit_scratch(host, file, &scratch.path, found, errors);
     remove_scratch(folder, scratch);
     match admitted {
-        Ok(()) => (order(host, folder, file.path, errors), judged),
+        Ok(()) => (reorder_or_report(host, folder, file.path, errors), judged),
         Err(failure) => (Err(failure), judged),
     }
 }
 
 // Whether the scratch copy of a file was read as a valid database that the command accepts; reports why if it
 // wasn't. The scratch copy still exists, since the report may read it again.
-fn judge<D: Disk + Drop, E: Write>(
+fn admit_scratch<D: Disk + Drop, E: Write>(
     host: LocalHost<'_>,
     file: ReorderTarget<'_>,
     scratch: &str,
     found: CheckResult<D>,
     errors: &mut E,
-) -> (Result<(), ErrorCode>, Judged<D>)
+) -> (Result<(), ErrorCode>, ReadResult<D>)
     ensures admitted { (image : Image) → IfOk found (λ it. IsReadAs image it.0 it.1)
         → IfErr found (FailsToRead image) → IsAdmitted image file.entry.takes_old result.0 result.1 }
     ensures quiet { OnOk result.0 (E.contents errors.new ≡ E.contents errors.old) }
@@ -188,7 +191,7 @@ fn judge<D: Disk + Drop, E: Write>(
 }
 
 // Reorders a file, and reports that it succeeded or why it failed.
-fn order<P: Folder, E: Write>(
+fn reorder_or_report<P: Folder, E: Write>(
     host: LocalHost<'_>,
     folder: &mut P,
     path: &str,
@@ -204,7 +207,7 @@ fn order<P: Folder, E: Write>(
         report_of(host.alloc(), path, cause, errors);
         return Err(ErrorCode::Store);
     }
-    report_reordered(host.alloc(), path, errors);
+    report_of(host.alloc(), path, REORDERED, errors);
     Ok(())
 }
 
@@ -217,18 +220,4 @@ fn is_too_old(takes_old: bool, is_old: bool) -> bool
         return false;
     }
     is_old
-}
-
-// Reports that a file was reordered. A failed write and running out of memory are ignored.
-fn report_reordered<E: Write>(alloc: Global, path: &str, errors: &mut E)
-    ensures { IsWrittenIfRoom (spec.reordered_line path.now) (bytes_written E.Write errors.old errors.new) }
-{
-    report_of(alloc, path, reordered_text(), errors);
-}
-
-// What is reported of a file that was reordered.
-fn reordered_text() -> &'static str
-    ensures { result.now ≡ spec.reordered_text }
-{
-    "its tables are put in a desk's own order"
 }

@@ -56,7 +56,7 @@ impl Rows {
 }
 
 /// A connection to files of a disk `D`, or why these were refused.
-pub type Judged<D> = Result<Connection<FileStore<D>>, OpenError<D>>;
+pub type ReadResult<D> = Result<Connection<FileStore<D>>, OpenError<D>>;
 
 /// The same, with the statistics of the files.
 pub type CheckResult<D> = Result<(Connection<FileStore<D>>, CheckedFile), OpenError<D>>;
@@ -99,7 +99,7 @@ pub fn check_by_scratch<F: Start, P: Folder, W: Write + Drop, E: Write + Drop>(
 }
 
 /// The exit status of `check_by_scratch`. The scratch copy is closed.
-pub fn status_judged<D: Disk + Drop, E>(judged: (ExitReport<E>, Option<Judged<D>>)) -> u8
+pub fn status_judged<D: Disk + Drop, E>(judged: (ExitReport<E>, Option<ReadResult<D>>)) -> u8
     ensures { result ≡ judged.0.status }
 {
     let (exit, _) = judged;
@@ -115,14 +115,14 @@ fn report_found<D: Disk + Drop, W: Write + Drop, E: Write + Drop>(
     way: ReadMode,
     found: CheckResult<D>,
     writers: &mut Writers<W, E>,
-) -> (ExitReport<E>, Judged<D>)
+) -> (ExitReport<E>, ReadResult<D>)
     ensures { (image : Image) → IfOk found (λ it. IsReadAs image it.0 it.1) → IfErr found (FailsToRead image)
         → IsJudged image path.now way result.1 (ended E.Write result.0 writers.old.errors writers.new.errors)
         (bytes_written W.Write writers.old.output writers.new.output) }
 {
     match found {
         Ok((connection, file)) => {
-            report_taken(host.alloc(), path, way, &mut writers.errors);
+            report_defect(host.alloc(), path, way, &mut writers.errors);
             let exit = print_checked(
                 host.alloc(),
                 &file,
@@ -132,7 +132,7 @@ fn report_found<D: Disk + Drop, W: Write + Drop, E: Write + Drop>(
             (exit, Ok(connection))
         }
         Err(unread) => {
-            let exit = refuse(
+            let exit = report_refused(
                 host,
                 path,
                 scratch,
@@ -146,7 +146,7 @@ fn report_found<D: Disk + Drop, W: Write + Drop, E: Write + Drop>(
 }
 
 // Reports what is wrong with a file whose scratch copy is a valid database: its checksums or its table order.
-fn report_taken<E: Write>(alloc: Global, path: &str, way: ReadMode, errors: &mut E)
+fn report_defect<E: Write>(alloc: Global, path: &str, way: ReadMode, errors: &mut E)
     ensures { IsNotedIf (spec.taken_line path.now way) (bytes_written E.Write errors.old errors.new) }
 {
     match way {
@@ -157,7 +157,7 @@ fn report_taken<E: Write>(alloc: Global, path: &str, way: ReadMode, errors: &mut
 }
 
 // Reports why the scratch copy of a file is refused, and prints the error code.
-fn refuse<E: Write>(
+fn report_refused<E: Write>(
     host: LocalHost<'_>,
     path: &str,
     scratch: &str,
@@ -168,15 +168,21 @@ fn refuse<E: Write>(
     ensures { IsScratchRefused path.now way failure (ended E.Write result errors.old errors.new) }
 {
     match way {
-        ReadMode::BadChecksums(pages) => refuse_rows(host.alloc(), path, pages, failure, errors),
+        ReadMode::BadChecksums(pages) => report_invalid_rows(
+            host.alloc(),
+            path,
+            pages,
+            failure,
+            errors,
+        ),
         ReadMode::Itself | ReadMode::Damaged | ReadMode::OtherOrder => {
-            refuse_as(host, path, scratch, failure, errors)
+            report_refused_as(host, path, scratch, failure, errors)
         }
     }
 }
 
 // Reports why the scratch copy of a file is refused, under the name of the file, and prints the error code.
-fn refuse_as<E: Write>(
+fn report_refused_as<E: Write>(
     host: LocalHost<'_>,
     path: &str,
     scratch: &str,
@@ -191,7 +197,7 @@ fn refuse_as<E: Write>(
 
 // Reports that the rows of a file with wrong checksums are invalid, and prints the error code. If memory ran
 // out, only that code is printed: it says nothing about the rows.
-fn refuse_rows<E: Write>(
+fn report_invalid_rows<E: Write>(
     alloc: Global,
     path: &str,
     pages: u64,
@@ -276,7 +282,7 @@ fn report_rows<E: Write>(alloc: Global, path: &str, pages: u64, rows: Rows, erro
     ensures { IsWrittenIfRoom (spec.rows_line path.now pages rows)
         (bytes_written E.Write errors.old errors.new) }
 {
-    if let Ok(line) = unsummed_line(alloc, path, pages, rows.text()) {
+    if let Ok(line) = bad_checksums_line(alloc, path, pages, rows.text()) {
         report_line(&line, errors);
     }
 }
@@ -290,9 +296,14 @@ fn report_order<E: Write>(alloc: Global, path: &str, errors: &mut E)
 }
 
 // The line that reports wrong checksums, and what is known of the rows.
-#[tactic(auto, unfolding(crate::specs::ScratchCopies::unsummed_line))]
-fn unsummed_line(alloc: Global, path: &str, pages: u64, text: &str) -> Result<String, AllocError>
-    ensures { IfOk result (λ line. string_bytes line ≡ spec.unsummed_line path.now pages text.now) }
+#[tactic(auto, unfolding(crate::specs::ScratchCopies::bad_checksums_line))]
+fn bad_checksums_line(
+    alloc: Global,
+    path: &str,
+    pages: u64,
+    text: &str,
+) -> Result<String, AllocError>
+    ensures { IfOk result (λ line. string_bytes line ≡ spec.bad_checksums_line path.now pages text.now) }
 {
     format!(in alloc;
         "uss_desk: {path}: {pages} pages without their sums, as sqlite3 leaves them; the rows {text}\n"

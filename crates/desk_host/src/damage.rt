@@ -98,13 +98,13 @@ fn check_beside<F: HostFiles, E: Write>(
     ensures opens { OpensAtMost F.HostFiles path.now files.old files.new }
 {
     let found = find_log(alloc, files, path)?;
-    judge_found(alloc, path, is_copied, found, errors)
+    check_found(alloc, path, is_copied, found, errors)
 }
 
 // Refuses a file if the WAL that was found exists without it or is damaged, and reports why; else returns
 // whether the WAL is damaged, which only a command that copies the file accepts.
 #[tactic(auto, using(crate::proofs::LossLemmas::begins))]
-fn judge_found<R: Read + Drop, E: Write>(
+fn check_found<R: Read + Drop, E: Write>(
     alloc: Global,
     path: &str,
     is_copied: bool,

@@ -110,7 +110,7 @@ pub fn last_record(rt: &HostRuntime, folder: &str) -> Result<Option<JournalFile>
     let mut greatest = None;
     for entry in fs::read_dir(rt, folder)? {
         let entry = entry?;
-        greatest = greater_of(rt.alloc(), folder, greatest, entry.file_name())?;
+        greatest = greater_journal(rt.alloc(), folder, greatest, entry.file_name())?;
     }
     let Some(Greatest { number, path }) = greatest else {
         return Ok(None);
@@ -120,7 +120,7 @@ pub fn last_record(rt: &HostRuntime, folder: &str) -> Result<Option<JournalFile>
 }
 
 // The journal with the greatest number: `greatest`, or the one called `name`, if that has a greater one.
-fn greater_of(
+fn greater_journal(
     alloc: Global,
     folder: &str,
     greatest: Option<Greatest>,
@@ -155,7 +155,7 @@ fn record_number(name: &str) -> Option<u64>
     ensures { IsNumberIn name.now result }
 {
     match stem_of(name) {
-        Some(stem) => number_before(stem),
+        Some(stem) => number_in_stem(stem),
         None => None,
     }
 }
@@ -169,16 +169,16 @@ fn stem_of(name: &str) -> Option<&str>
 }
 
 // The number of a journal, by its name without the extension.
-fn number_before(stem: &str) -> Option<u64>
-    ensures { result ≡ spec.number_before stem.now }
+fn number_in_stem(stem: &str) -> Option<u64>
+    ensures { result ≡ spec.number_in_stem stem.now }
 {
     let (number, second) = stem.split_once('-')?;
-    number_by(number, second)
+    checked_number(number, second)
 }
 
 // The number of a journal, if `number` has ten digits or more, and `second` is made of digits.
-fn number_by(number: &str, second: &str) -> Option<u64>
-    ensures { result ≡ spec.number_by number.now second.now }
+fn checked_number(number: &str, second: &str) -> Option<u64>
+    ensures { result ≡ spec.checked_number number.now second.now }
 {
     if number.len() < DIGITS {
         return None;

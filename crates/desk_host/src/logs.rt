@@ -75,7 +75,7 @@ fn log_beside<F: HostFiles>(
         return Ok(None);
     };
     let name = name_with(alloc, &real, "-wal")?;
-    if !is_judged(files, path, &real, &name) {
+    if !needs_check(files, path, &real, &name) {
         return Ok(None);
     }
     if_there(files.open(&name))
@@ -83,9 +83,9 @@ fn log_beside<F: HostFiles>(
 
 // Whether the WAL `log` of a file has to be checked: it is long enough to be damaged, the file isn't empty,
 // and no other program has it open. `real` is `path` with all links resolved.
-fn is_judged<F: HostFiles>(files: &mut F, path: &str, real: &str, log: &str) -> bool
+fn needs_check<F: HostFiles>(files: &mut F, path: &str, real: &str, log: &str) -> bool
     ensures answer { IfSome (F.answers files.old) (λ it.
-        result ≡ spec.is_judged it path.now real.now log.now) }
+        result ≡ spec.needs_check it path.now real.now log.now) }
     ensures same { F.answers files.new ≡ F.answers files.old }
     ensures opens { OpensAtMost F.HostFiles path.now files.old files.new }
 {

@@ -34,7 +34,7 @@ const MAX_BYTES: u64 = 1_048_576;
 const TOO_LONG: &str = "longer than 1,048,576 bytes";
 
 /// How many malformed lines are reported one by one each time the file is read.
-const TOLD_LINES: u32 = 20;
+const MAX_REPORTED_LINES: u32 = 20;
 
 /// When a file was last changed, and its length in bytes. While both stay the same, the file isn't read
 /// again.
@@ -295,7 +295,7 @@ fn text_of(alloc: Global, bytes: &[u8]) -> Result<String, FileReadError>
 #[derive(Clone, Copy)]
 struct LineCounts {
     lines: u32,
-    unread: u32,
+    malformed: u32,
 }
 
 impl LineCounts {
@@ -305,10 +305,10 @@ impl LineCounts {
     {
         LineCounts {
             lines: self.lines.saturating_add(1),
-            unread: if is_unread(line) {
-                self.unread.saturating_add(1)
+            malformed: if is_malformed(line) {
+                self.malformed.saturating_add(1)
             } else {
-                self.unread
+                self.malformed
             },
         }
     }
@@ -325,22 +325,22 @@ fn report_lines<E: Write>(
     ensures reported { IfOk result (λ _. AreReported
         (reported.lines_reported path.now (map (λ line. line.now) lines.now))
         (E.contents errors.old) (E.contents errors.new)) }
-    ensures some { Reports (bytes_written E.Write errors.old errors.new) }
+    ensures appended { Reports (bytes_written E.Write errors.old errors.new) }
 {
     let mut counted = LineCounts {
         lines: 0,
-        unread: 0,
+        malformed: 0,
     };
     for line in lines {
         counted = counted.with(line);
-        report_next(alloc, path, line, counted, errors)?;
+        report_if_malformed(alloc, path, line, counted, errors)?;
     }
-    report_rest(alloc, path, counted.unread, errors)
+    report_rest(alloc, path, counted.malformed, errors)
 }
 
-// Reports the line that was counted last, if it is malformed and one of the first `TOLD_LINES` that are.
+// Reports the last line counted, if it is malformed and one of the first `MAX_REPORTED_LINES` that are.
 #[tactic(auto, using(host_files::proofs::lemmas::Reporting::reports_nothing, crate::proofs::ReportedLemmas::reported_one))]
-fn report_next<E: Write>(
+fn report_if_malformed<E: Write>(
     alloc: Global,
     path: &str,
     line: &str,
@@ -349,37 +349,37 @@ fn report_next<E: Write>(
 ) -> Result<(), AllocError>
     ensures reported { IfOk result (λ _. AreReported (reported.line_reported path.now line.now counted)
         (E.contents errors.old) (E.contents errors.new)) }
-    ensures some { Reports (bytes_written E.Write errors.old errors.new) }
+    ensures appended { Reports (bytes_written E.Write errors.old errors.new) }
 {
-    if is_unread(line) {
-        if counted.unread <= TOLD_LINES {
+    if is_malformed(line) {
+        if counted.malformed <= MAX_REPORTED_LINES {
             report_line(alloc, path, counted.lines, errors)?;
         }
     }
     Ok(())
 }
 
-// Reports how many malformed lines there are beyond the first `TOLD_LINES`, if any.
+// Reports how many malformed lines there are beyond the first `MAX_REPORTED_LINES`, if any.
 #[tactic(auto, using(host_files::proofs::lemmas::Reporting::reports_nothing, crate::proofs::ReportedLemmas::reported_one))]
 fn report_rest<E: Write>(
     alloc: Global,
     path: &str,
-    unread: u32,
+    malformed: u32,
     errors: &mut E,
 ) -> Result<(), AllocError>
-    ensures reported { IfOk result (λ _. AreReported (reported.rest_reported path.now unread)
+    ensures reported { IfOk result (λ _. AreReported (reported.rest_reported path.now malformed)
         (E.contents errors.old) (E.contents errors.new)) }
-    ensures some { Reports (bytes_written E.Write errors.old errors.new) }
+    ensures appended { Reports (bytes_written E.Write errors.old errors.new) }
 {
-    if unread > TOLD_LINES {
-        report_more(alloc, path, unread - TOLD_LINES, errors)?;
+    if malformed > MAX_REPORTED_LINES {
+        report_more(alloc, path, malformed - MAX_REPORTED_LINES, errors)?;
     }
     Ok(())
 }
 
 // Whether a line is malformed: it is neither empty nor an enrolment.
-fn is_unread(line: &str) -> bool
-    ensures { result ≡ spec.is_unread line.now }
+fn is_malformed(line: &str) -> bool
+    ensures { result ≡ spec.is_malformed line.now }
 {
     if line.is_empty() {
         return false;
@@ -395,19 +395,20 @@ fn report_line<E: Write>(
     number: u32,
     errors: &mut E,
 ) -> Result<(), AllocError>
-    ensures reported { IfOk result (λ _. IsWrittenIfRoom (line_of path.now (spec.unread_line number))
+    ensures reported { IfOk result (λ _. IsWrittenIfRoom (line_of path.now (spec.malformed_line number))
         (bytes_written E.Write errors.old errors.new)) }
     ensures unreported { IfErr result (λ _. E.contents errors.new ≡ E.contents errors.old) }
-    ensures some { Reports (bytes_written E.Write errors.old errors.new) }
+    ensures appended { Reports (bytes_written E.Write errors.old errors.new) }
 {
-    let text = line_text(alloc, number)?;
+    let text = malformed_text(alloc, number)?;
     report_of(alloc, path, &text, errors);
     Ok(())
 }
 
-#[tactic(auto, unfolding(crate::specs::Operators::unread_line))]
-fn line_text(alloc: Global, number: u32) -> Result<String, AllocError>
-    ensures { IfOk result (λ text. string_bytes text ≡ spec.unread_line number) }
+// What is reported of the malformed line with this number.
+#[tactic(auto, unfolding(crate::specs::Operators::malformed_line))]
+fn malformed_text(alloc: Global, number: u32) -> Result<String, AllocError>
+    ensures { IfOk result (λ text. string_bytes text ≡ spec.malformed_line number) }
 {
     format!(in alloc; "line {number} is not NAME CEILING, and passed over")
 }
@@ -423,15 +424,16 @@ fn report_more<E: Write>(
     ensures reported { IfOk result (λ _. IsWrittenIfRoom (line_of path.now (spec.more_lines count))
         (bytes_written E.Write errors.old errors.new)) }
     ensures unreported { IfErr result (λ _. E.contents errors.new ≡ E.contents errors.old) }
-    ensures some { Reports (bytes_written E.Write errors.old errors.new) }
+    ensures appended { Reports (bytes_written E.Write errors.old errors.new) }
 {
-    let text = more_text(alloc, count)?;
+    let text = more_malformed_text(alloc, count)?;
     report_of(alloc, path, &text, errors);
     Ok(())
 }
 
+// What is reported of `count` more malformed lines.
 #[tactic(auto, unfolding(crate::specs::Operators::more_lines))]
-fn more_text(alloc: Global, count: u32) -> Result<String, AllocError>
+fn more_malformed_text(alloc: Global, count: u32) -> Result<String, AllocError>
     ensures { IfOk result (λ text. string_bytes text ≡ spec.more_lines count) }
 {
     format!(in alloc; "{count} more such lines")

@@ -32,16 +32,16 @@ pub fn make_room<'n, P: Folder>(
     ensures taken { (to : List ℕ) → AreNames to names.now
         → OnErr result (IsNotFree to (steps_of P.Folder folder.old folder.new)) }
 {
-    find_free(folder, &names.to)?;
-    find_free(folder, &names.to_log)?;
+    check_free(folder, &names.to)?;
+    check_free(folder, &names.to_log)?;
     clear_part(folder, source, &names.part, &names.part_log)?;
-    find_free(folder, &names.part)?;
-    find_free(folder, &names.part_log)?;
-    try_part(folder, &names.part)
+    check_free(folder, &names.part)?;
+    check_free(folder, &names.part_log)?;
+    check_writable(folder, &names.part)
 }
 
 // Checks that nothing exists at a path.
-fn find_free<'n, P: Folder>(folder: &mut P, path: &'n str) -> Result<(), Taken<'n>>
+fn check_free<'n, P: Folder>(folder: &mut P, path: &'n str) -> Result<(), Taken<'n>>
     ensures { Takes (steps_of P.Folder folder.old folder.new) (is_ok result) (Free path.now) }
 {
     match new_cause(folder, path) {
@@ -67,7 +67,7 @@ fn clear_part<'n, P: Folder>(
 }
 
 // Checks that a file can be made at a path. It is removed again.
-fn try_part<'n, P: Folder>(folder: &mut P, path: &'n str) -> Result<(), Taken<'n>>
+fn check_writable<'n, P: Folder>(folder: &mut P, path: &'n str) -> Result<(), Taken<'n>>
     ensures { Takes (steps_of P.Folder folder.old folder.new) (is_ok result) (Tried path.now) }
 {
     match folder.try_file(path) {

@@ -52,11 +52,11 @@ impl ReadMode {
 pub fn read_mode(rt: &HostRuntime, path: &str, is_damaged: bool) -> ReadMode
     ensures { MayBeRead is_damaged (access.is_no_path path.now) result }
 {
-    way_at(rt.alloc(), &LocalHost::new(rt), path, is_damaged)
+    mode_at(rt.alloc(), &LocalHost::new(rt), path, is_damaged)
 }
 
 // What `read_mode` returns, over any `HostFiles`.
-fn way_at<F: HostFiles>(alloc: Global, files: &F, path: &str, is_damaged: bool) -> ReadMode
+fn mode_at<F: HostFiles>(alloc: Global, files: &F, path: &str, is_damaged: bool) -> ReadMode
     ensures way { IfSome (F.answers files.now) (λ it. IsWayAt it path.now is_damaged result) }
     ensures may { MayBeRead is_damaged (access.is_no_path path.now) result }
 {

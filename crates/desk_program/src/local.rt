@@ -25,7 +25,7 @@ use volume4d::MAX_SECOND;
 pub struct LocalPort<'s, N: Net, C, G: Drop, E> {
     net: &'s N,
     clock: &'s C,
-    register: G,
+    enrolment_source: G,
     alloc: Global,
     errors: E,
     listener: Option<N::Listener>,
@@ -39,11 +39,11 @@ impl<'s, N: Net, C: Clock, G: EnrolmentSource + Drop, E: Write> LocalPort<'s, N,
     pub fn new(
         net: &'s N,
         clock: &'s C,
-        register: G,
+        enrolment_source: G,
         alloc: Global,
         errors: E,
     ) -> LocalPort<'s, N, C, G, E>
-        ensures register { result.register ≡ register }
+        ensures enrolment_source { result.enrolment_source ≡ enrolment_source }
         ensures listener { result.listener ≡ None }
         ensures waiting { result.waiting ≡ None }
         ensures errors { result.errors ≡ errors }
@@ -51,7 +51,7 @@ impl<'s, N: Net, C: Clock, G: EnrolmentSource + Drop, E: Write> LocalPort<'s, N,
         LocalPort {
             net,
             clock,
-            register,
+            enrolment_source,
             alloc,
             errors,
             listener: None,
@@ -102,7 +102,7 @@ impl<'s, N: Net, C: Clock, G: EnrolmentSource + Drop, E: Write> Port for LocalPo
 
     fn news(&mut self, alloc: Global) -> Result<Vec<Enrolment>, ErrorCode> {
         self.waiting = Some(self.next_stream()?);
-        self.register.look(alloc)
+        self.enrolment_source.look(alloc)
     }
 
     fn take(
@@ -162,7 +162,7 @@ fn port_text(alloc: Global, number: u16, cause: &str) -> Result<String, AllocErr
 fn port_cause(kind: ErrorKind) -> &'static str
     ensures used { kind ≡ ErrorKind.AddrInUse → result.now ≡ codes "in use by another program" }
     ensures denied { kind ≡ ErrorKind.PermissionDenied → result.now ≡ codes "no right to it" }
-    ensures other { kind ≢ ErrorKind.AddrInUse → kind ≢ ErrorKind.PermissionDenied
+    ensures unknown { kind ≢ ErrorKind.AddrInUse → kind ≢ ErrorKind.PermissionDenied
         → result.now ≡ codes "it can't be had" }
 {
     match kind {

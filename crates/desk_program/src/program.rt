@@ -63,7 +63,7 @@ pub fn play<S: PlanStore, R: Read, W: Write, E: Write>(
         return report_exit(errors, Err(ErrorCode::from(fault)));
     }
     let played = play_all(alloc, desk, line.moment, input, output);
-    report_exit(errors, done_after(played.ended))
+    report_exit(errors, play_result(played.ended))
 }
 
 /// Enrols an operator at a desk, and prints a line that says so. The line is made first, so that nothing is
@@ -109,7 +109,7 @@ fn enrolled_text(alloc: Global, enrolment: &Enrolment) -> Result<String, AllocEr
 }
 
 // The result of a run over an input: an error unless it ended with the input.
-fn done_after(ended: PlayEnd) -> Result<(), ErrorCode>
+fn play_result(ended: PlayEnd) -> Result<(), ErrorCode>
     ensures { result ≡ done_unless (spec.failure_after ended) }
 {
     match failure_after(ended) {
@@ -149,21 +149,24 @@ pub fn set_up<S: PlanStore>(
 /// # Errors
 ///
 /// The first error of an enrolment, `OutOfMemory` or `Store`. The operators before it stay enrolled.
-pub fn enrol_news<S: PlanStore>(desk: &mut Desk<S>, news: &[Enrolment]) -> Result<(), DeskFault>
-    requires { AreEnrolments news.now }
-    ensures listed { HasListedNews (IsHonest (S.doubt desk.new.store)) result news.now
+pub fn enrol_new<S: PlanStore>(
+    desk: &mut Desk<S>,
+    new_enrolments: &[Enrolment],
+) -> Result<(), DeskFault>
+    requires { AreEnrolments new_enrolments.now }
+    ensures listed { HasListedNews (IsHonest (S.doubt desk.new.store)) result new_enrolments.now
         (world_of S.content desk.old) (world_of S.content desk.new) }
-    ensures found { IsHonest (S.doubt desk.new.store) → FindsNews result news.now
+    ensures found { IsHonest (S.doubt desk.new.store) → FindsNews result new_enrolments.now
         (world_of S.content desk.old) (world_of S.content desk.new) (S.may_leave desk.old.store)
         (S.may_leave desk.new.store) }
     ensures fault { IfErr result IsBreakdown }
     ensures remembered { Remembers S.doubt S.faults S.is_shielded desk.old.store desk.new.store }
     ensures cause { IfErr result (IsStoreCounted S.faults desk.old.store desk.new.store) }
 {
-    if news.is_empty() {
+    if new_enrolments.is_empty() {
         return Ok(());
     }
-    enrol_all(desk, news)
+    enrol_all(desk, new_enrolments)
 }
 
 // Enrols operators in the order given: a name given twice has its last ceiling. After the first error,

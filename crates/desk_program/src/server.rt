@@ -19,7 +19,7 @@ ghost use Rattle.desk_program.specs.Serving.{IsAskedToListen, IsAtPort, IsDenied
 ghost use Rattle.desk_program.specs.Serving.{PrintsIfListening, first_failure, listening_line};
 
 use crate::port::{ClientStream, ExchangeEnd, Port};
-use crate::program::{enrol_news, set_up};
+use crate::program::{enrol_new, set_up};
 use desk_cli::{ErrorCode, ExitReport, PlayArgs, ServeArgs, report_exit};
 use desk_run::Desk;
 use desk_store::PlanStore;
@@ -55,12 +55,12 @@ pub fn serve<S: PlanStore, P: Port, W: Write, E: Write>(
     ensures remembered { Remembers S.doubt S.faults S.is_shielded desk.old.store desk.new.store }
     ensures cause { HasCause S.PlanStore desk.old desk.new (ended E.Write result errors.old errors.new) }
 {
-    report_exit(errors, serve_line(alloc, port, line, desk, output))
+    report_exit(errors, try_serve(alloc, port, line, desk, output))
 }
 
 // Sets the terms of a desk, enrols operators, and serves connections at the port.
 // Long: what is sent, the crash states, what is printed, and why it ends have a clause each.
-fn serve_line<S: PlanStore, P: Port, W: Write>(
+fn try_serve<S: PlanStore, P: Port, W: Write>(
     alloc: Global,
     port: &mut P,
     line: &ServeArgs,
@@ -178,8 +178,8 @@ fn serve_connection<S: PlanStore, P: Port>(
     ensures remembered { Remembers S.doubt S.faults S.is_shielded desk.old.store desk.new.store }
     ensures cause { IsEndCounted result (S.faults desk.old.store) (S.faults desk.new.store) }
 {
-    let news = port.news(alloc)?;
-    enrol_news(desk, &news)?;
+    let enrolments = port.news(alloc)?;
+    enrol_new(desk, &enrolments)?;
     let mut client = port.take(alloc)?;
     let served = serve_one(
         alloc,
@@ -189,7 +189,7 @@ fn serve_connection<S: PlanStore, P: Port>(
         &mut client.output,
     );
     let closed = port.close(client.input, client.output, outcome_of(&served));
-    done_after(served, closed)
+    exchange_result(served, closed)
 }
 
 // How a request ended, as the port needs to know when its connection is closed.
@@ -203,7 +203,7 @@ fn outcome_of(served: &Result<Served, ServeFault>) -> ExchangeEnd
 }
 
 // Why the desk stops after a request, if so; else the result of closing the connection.
-fn done_after(
+fn exchange_result(
     served: Result<Served, ServeFault>,
     closed: Result<(), ErrorCode>,
 ) -> Result<(), ErrorCode>

@@ -53,7 +53,7 @@ pub fn report_store<E: Write>(
 )
     ensures { Reports (bytes_written E.Write errors.old errors.new) }
 {
-    match pages_of(&LocalHost::new(rt), path, state) {
+    match bad_checksum_count(&LocalHost::new(rt), path, state) {
         Some(count) => report_pages(rt.alloc(), name, count, errors),
         None => {
             let cause = cause_of(&mut LocalHost::new(rt), path, state);
@@ -64,8 +64,8 @@ pub fn report_store<E: Write>(
 
 // How many pages of a file have wrong checksums. `None` if none have, or the file isn't refused for its
 // pages.
-fn pages_of<F: HostFiles>(files: &F, path: &str, state: FileState) -> Option<u64>
-    ensures { IfSome (F.answers files.now) (λ it. result ≡ spec.pages_of it path.now state) }
+fn bad_checksum_count<F: HostFiles>(files: &F, path: &str, state: FileState) -> Option<u64>
+    ensures { IfSome (F.answers files.now) (λ it. result ≡ spec.bad_checksum_count it path.now state) }
 {
     if !may_be_damaged(state) {
         return None;

@@ -44,7 +44,7 @@ pub fn probe_access<F: HostFiles>(files: &mut F, path: &str) -> Option<Denial>
     ensures opens { OpensAtMost F.HostFiles path.now files.old files.new }
 {
     let opened = files.open(path);
-    denial_beside(files, path, unread_of(&opened))
+    denial_after_open(files, path, open_error(&opened))
 }
 
 // How the file at a path begins, or why it can't be opened.
@@ -53,14 +53,14 @@ fn probe_start<F: HostFiles>(files: &mut F, path: &str) -> Result<Start, Denial>
     ensures opens { OpensAtMost F.HostFiles path.now files.old files.new }
 {
     let opened = files.open(path);
-    match denial_beside(files, path, unread_of(&opened)) {
+    match denial_after_open(files, path, open_error(&opened)) {
         Some(denial) => Err(denial),
         None => Ok(start_of(first_bytes(opened))),
     }
 }
 
 // The error of opening a file, if that failed.
-fn unread_of<R>(opened: &Result<R, ErrorKind>) -> Option<ErrorKind>
+fn open_error<R>(opened: &Result<R, ErrorKind>) -> Option<ErrorKind>
     ensures { result ≡ error_of opened.now }
 {
     match opened {
@@ -71,12 +71,12 @@ fn unread_of<R>(opened: &Result<R, ErrorKind>) -> Option<ErrorKind>
 
 // Why a file can't be opened: by the error of opening it for reading (`unread`), then of opening it for
 // writing, then of opening it as SQLite does.
-fn denial_beside<F: HostFiles>(
+fn denial_after_open<F: HostFiles>(
     files: &mut F,
     path: &str,
     unread: Option<ErrorKind>,
 ) -> Option<Denial>
-    ensures answer { IfSome (F.answers files.old) (λ it. result ≡ spec.denial_beside it path.now unread) }
+    ensures answer { IfSome (F.answers files.old) (λ it. result ≡ spec.denial_after_open it path.now unread) }
     ensures opens { OpensAtMost F.HostFiles path.now files.old files.new }
 {
     if let Some(denial) = reading_denial(unread) {

@@ -27,12 +27,12 @@ pub fn close_after<D: Disk + Drop, N: OpenPaths + Drop, E: Write>(
         return (ExitReport::silent(status), None);
     };
     let closed = desk.into_store().close();
-    let exit = end_closed(status, &closed, errors);
+    let exit = exit_closed(status, &closed, errors);
     (exit, Some(closed))
 }
 
 // The exit report of a command whose desk was closed, or can't be.
-fn end_closed<D: Disk, E: Write>(
+fn exit_closed<D: Disk, E: Write>(
     status: u8,
     closed: &CloseReport<D>,
     errors: &mut E,
@@ -42,14 +42,14 @@ fn end_closed<D: Disk, E: Write>(
 {
     match &closed.files {
         Ok(_) if closed.are_at_paths => ExitReport::silent(status),
-        Ok(_) => end_unclosed(status, errors),
-        Err(_) => end_unclosed(status, errors),
+        Ok(_) => exit_unclosed(status, errors),
+        Err(_) => exit_unclosed(status, errors),
     }
 }
 
 // The exit report of a command whose desk can't be closed, or whose files were no longer at their paths: the
 // error `Store`, unless the command had failed before.
-fn end_unclosed<E: Write>(status: u8, errors: &mut E) -> ExitReport<E>
+fn exit_unclosed<E: Write>(status: u8, errors: &mut E) -> ExitReport<E>
     ensures { IsUnclosed status (ending result (E.contents errors.old) (E.contents errors.new)) }
 {
     if status == 0 {

@@ -57,7 +57,7 @@ pub struct FileError {
 
 impl LocalJournal<'_> {
     // Returns the result of writing the journal; the first error is reported.
-    fn hand_on(&mut self, done: io::Result<()>) -> Result<(), FileError>
+    fn report_error(&mut self, done: io::Result<()>) -> Result<(), FileError>
         ensures { HandsOn done self.old self.new result }
     {
         let Err(error) = done else {
@@ -82,12 +82,12 @@ impl Journal for LocalJournal<'_> {
 
     fn append(&mut self, bytes: &[u8]) -> Result<(), FileError> {
         let done = self.file.write_all(bytes);
-        self.hand_on(done)
+        self.report_error(done)
     }
 
     fn sync(&mut self) -> Result<(), FileError> {
         let done = self.file.sync_data();
-        self.hand_on(done)
+        self.report_error(done)
     }
 }
 
@@ -96,7 +96,7 @@ pub type LocalRecord<'s> = WrittenRecord<LocalJournal<'s>>;
 
 /// The journal folder of a desk, as it is before the desk is opened.
 #[derive(Drop)]
-pub struct RecordFolder<'s> {
+pub struct JournalFolder<'s> {
     host: LocalHost<'s>,
     path: &'s str,
     // the number of the last journal and its size in bytes; 0 if there is none
@@ -128,7 +128,7 @@ pub fn folder_for<'s>(
     host: LocalHost<'s>,
     words: &'s DeskArgs,
     action: DeskCommand<'_>,
-) -> Result<Option<RecordFolder<'s>>, ErrorCode>
+) -> Result<Option<JournalFolder<'s>>, ErrorCode>
     ensures none { words.now.folder ≡ None → result ≡ Ok None }
     ensures some { IsSome words.now.folder → IfOk result IsSome }
     ensures begun { IfOk result (λ found. IfSome found (λ folder. folder.is_held ≡ false)) }
@@ -137,13 +137,13 @@ pub fn folder_for<'s>(
     let Some(path) = words.folder.as_deref() else {
         return Ok(None);
     };
-    let last = reported(host, path, last_record(host.rt, path))?;
+    let last = or_report(host, path, last_record(host.rt, path))?;
     let (number, len) = extent_of(&last);
     let undone = match words.database.path() {
-        Some(file) => undone_at(host, path, file, last)?,
-        None => alone(host, path, action, last.is_some())?,
+        Some(file) => recovery_at(host, path, file, last)?,
+        None => recovery_in_memory(host, path, action, last.is_some())?,
     };
-    Ok(Some(RecordFolder {
+    Ok(Some(JournalFolder {
         host,
         path,
         number,
@@ -165,7 +165,7 @@ fn extent_of(last: &Option<JournalFile>) -> (u64, u64)
 
 // The pending recovery of a desk in memory: none, since it continues no journal. Only `play` may write one,
 // in an empty folder.
-fn alone<'s>(
+fn recovery_in_memory<'s>(
     host: LocalHost<'_>,
     folder: &str,
     action: DeskCommand<'_>,
@@ -175,26 +175,26 @@ fn alone<'s>(
 {
     match action {
         DeskCommand::Play(_) if has_records => {
-            reported(
+            or_report(
                 host,
                 folder,
                 Err(JournalError::Cause("records of another desk")),
             )
         }
         DeskCommand::Play(_) => Ok(None),
-        _ => Err(store_failure(host, folder, "a record needs a database in a file")),
+        _ => Err(report_store_failure(host, folder, "a record needs a database in a file")),
     }
 }
 
 // The recovery that the last journal of a folder asks for at the database file `file`, if any.
-fn undone_at<'s>(
+fn recovery_at<'s>(
     host: LocalHost<'_>,
     folder: &str,
     file: &'s str,
     last: Option<JournalFile>,
 ) -> Result<Option<PendingRecovery<'s>>, ErrorCode>
     ensures none { last ≡ None → result ≡ Ok None }
-    ensures is { IfOk result (λ undone. IfSome undone (λ it.
+    ensures pending { IfOk result (λ undone. IfSome undone (λ it.
         IsSomeAnd last (λ found. IsUndoneAt file.now found it))) }
     ensures fault { IfErr result IsUnfound }
 {
@@ -202,10 +202,10 @@ fn undone_at<'s>(
         return Ok(None);
     };
     if !matches!(fs::exists(host.rt, file), Ok(true)) {
-        return Err(store_failure(host, file, "no such file, and there are records of it"));
+        return Err(report_store_failure(host, file, "no such file, and there are records of it"));
     }
-    let (tail, ended) = reported(host, folder, read_last(host, &record))?;
-    Ok(undone_by(PendingRecovery {
+    let (tail, ended) = or_report(host, folder, read_last(host, &record))?;
+    Ok(recovery_if_any(PendingRecovery {
         file,
         record,
         tail,
@@ -214,11 +214,11 @@ fn undone_at<'s>(
 }
 
 // `left`, if there is anything to recover.
-fn undone_by(left: PendingRecovery<'_>) -> Option<PendingRecovery<'_>>
+fn recovery_if_any(left: PendingRecovery<'_>) -> Option<PendingRecovery<'_>>
     ensures none { LeavesNothing left.entry.tail left.entry.ended → result ≡ None }
     ensures some { (result ≡ Some left.entry) ⊎ LeavesNothing left.entry.tail left.entry.ended }
 {
-    if leaves_nothing(&left.tail, left.ended) {
+    if is_complete(&left.tail, left.ended) {
         return None;
     }
     Some(left)
@@ -229,11 +229,11 @@ fn read_last(host: LocalHost<'_>, last: &JournalFile) -> Result<(Tail, TailEnd),
     ensures { IfOk result (λ read. MayGoOn last.now.number read.0 read.1) }
 {
     let (tail, ended) = tail_of(host.rt, last)?;
-    going_on(last.number, tail, ended)
+    check_tail(last.number, tail, ended)
 }
 
 // The end of a journal, or why that can't be continued.
-fn going_on(number: u64, tail: Tail, ended: TailEnd) -> Result<(Tail, TailEnd), JournalError>
+fn check_tail(number: u64, tail: Tail, ended: TailEnd) -> Result<(Tail, TailEnd), JournalError>
     ensures { GoesOnUnless (spec.cause_of_tail number tail.record ended) (tail, ended) result }
 {
     match cause_of_tail(number, tail.record, ended) {
@@ -257,19 +257,19 @@ fn cause_of_tail(number: u64, begun: Option<u64>, ended: TailEnd) -> Option<&'st
 
 // Whether a journal leaves nothing to recover: it is whole, its last request is answered, and no enrolment
 // follows that.
-fn leaves_nothing(tail: &Tail, ended: TailEnd) -> bool
+fn is_complete(tail: &Tail, ended: TailEnd) -> bool
     ensures { IsTrue result ↔ LeavesNothing tail.now ended }
 {
     ended == TailEnd::End && tail.asked.is_none() && tail.operators.is_empty()
 }
 
 // The value; or the error code, once its cause is reported.
-fn reported<T: Drop>(
+fn or_report<T: Drop>(
     host: LocalHost<'_>,
     folder: &str,
     done: Result<T, JournalError>,
 ) -> Result<T, ErrorCode>
-    ensures is { result ≡ spec.failure_of done }
+    ensures converted { result ≡ spec.failure_of done }
     ensures fault { IfErr result IsKeptOut }
 {
     match done {
@@ -283,16 +283,16 @@ fn reported<T: Drop>(
 }
 
 // Reports the cause at a path, and returns the error code `Store`.
-fn store_failure(host: LocalHost<'_>, path: &str, cause: &str) -> ErrorCode
+fn report_store_failure(host: LocalHost<'_>, path: &str, cause: &str) -> ErrorCode
     ensures { result ≡ ErrorCode.Store }
 {
     report_of(host.alloc(), path, cause, &mut host.errors());
     ErrorCode::Store
 }
 
-impl<'s> RecordFolder<'s> {
+impl<'s> JournalFolder<'s> {
     /// Whether the last journal left anything to recover.
-    pub fn has_undone(&self) -> bool
+    pub fn needs_recovery(&self) -> bool
         ensures { result ≡ is_some self.now.undone }
     {
         self.undone.is_some()
@@ -322,7 +322,7 @@ impl<'s> RecordFolder<'s> {
         let file = undone.file;
         match self.recover(undone, &mut desk, roll) {
             Ok(()) => Ok(opened_anew(desk, roll)),
-            Err(failure) => Err(failure_closed(self.host, file, desk, failure)),
+            Err(failure) => Err(close_failed(self.host, file, desk, failure)),
         }
     }
 
@@ -340,7 +340,7 @@ impl<'s> RecordFolder<'s> {
         ensures undone { self.new.undone ≡ self.old.undone }
         ensures number { OnOk result (IsNumbered undone.entry.tail.asked self.old.number self.new.number) }
     {
-        self.hold()?;
+        self.check_unchanged()?;
         let (host, path) = (self.host, self.path);
         let PendingRecovery {
             record,
@@ -349,14 +349,14 @@ impl<'s> RecordFolder<'s> {
             ..
         } = undone;
         if ended == TailEnd::Short {
-            reported(host, path, move_rest(host.rt, &record, tail.size))?;
+            or_report(host, path, move_rest(host.rt, &record, tail.size))?;
         }
         let Some(operators) = roll.take() else {
             return Err(ErrorCode::Memory);
         };
         let missing = missing_of(host.alloc(), &operators, &tail.operators)?;
         let number = next_number(host, path, self.number)?;
-        let mut keeper = AskedRecord {
+        let mut journal = LocalRecoveryJournal {
             host,
             folder: path,
             number,
@@ -366,7 +366,7 @@ impl<'s> RecordFolder<'s> {
         };
         let (terms, asked) = (tail.terms, tail.asked);
         let is_asked = asked.is_some();
-        recover(host.alloc(), desk, &terms, &missing, asked, &mut keeper)?;
+        recover(host.alloc(), desk, &terms, &missing, asked, &mut journal)?;
         if is_asked {
             self.number = number;
         }
@@ -375,7 +375,7 @@ impl<'s> RecordFolder<'s> {
 
     // Checks that the last journal and its size are unchanged, unless that was done before. The desk is open,
     // so from now on no other desk of its file writes here.
-    fn hold(&mut self) -> Result<(), ErrorCode>
+    fn check_unchanged(&mut self) -> Result<(), ErrorCode>
         ensures held { OnOk result (self.new ≡ record self.old { is_held = true }) }
         ensures same { OnErr result (self.new ≡ self.old) }
         ensures once { IsTrue self.old.is_held → result ≡ Ok (tt {0}) }
@@ -385,7 +385,7 @@ impl<'s> RecordFolder<'s> {
             return Ok(());
         }
         let (host, path) = (self.host, self.path);
-        let (number, len) = extent_of(&reported(host, path, last_record(host.rt, path))?);
+        let (number, len) = extent_of(&or_report(host, path, last_record(host.rt, path))?);
         if number != self.number || len != self.len {
             report_of(host.alloc(), path, IN_USE, &mut host.errors());
             return Err(ErrorCode::Write);
@@ -431,7 +431,7 @@ impl<'s> RecordFolder<'s> {
     ) -> Result<LocalRecord<'s>, ErrorCode>
         ensures { IfErr result IsUnbegun }
     {
-        self.hold()?;
+        self.check_unchanged()?;
         let (host, path) = (self.host, self.path);
         let Some(operators) = roll.take() else {
             return Err(ErrorCode::Memory);
@@ -440,14 +440,14 @@ impl<'s> RecordFolder<'s> {
         let operators = joined(operators, enrolments)?;
         let journal = begin_part(host, path, number, terms, &operators)?;
         let second = second_now(host)?;
-        reported(host, path, name_part(host.rt, path, number, second))?;
+        or_report(host, path, name_part(host.rt, path, number, second))?;
         Ok(WrittenRecord::new(host.alloc(), journal))
     }
 }
 
 // Closes a desk that failed, and returns its error code; or `Store`, which is reported, if it can't be
 // closed.
-fn failure_closed<D: Disk + Drop, N: OpenPaths + Drop>(
+fn close_failed<D: Disk + Drop, N: OpenPaths + Drop>(
     host: LocalHost<'_>,
     file: &str,
     desk: DeskAt<D, N>,
@@ -458,7 +458,7 @@ fn failure_closed<D: Disk + Drop, N: OpenPaths + Drop>(
     if is_closed(close_after(1, Some(desk), &mut host.errors())) {
         return failure;
     }
-    store_failure(host, file, "it can't be closed")
+    report_store_failure(host, file, "it can't be closed")
 }
 
 // Whether a desk was closed, with its files at their paths.
@@ -477,7 +477,7 @@ fn next_number(host: LocalHost<'_>, folder: &str, number: u64) -> Result<u64, Er
 {
     match number.checked_add(1) {
         Some(next) => Ok(next),
-        None => reported(host, folder, Err(JournalError::Cause("no number is left"))),
+        None => or_report(host, folder, Err(JournalError::Cause("no number is left"))),
     }
 }
 
@@ -502,7 +502,7 @@ fn begin_part<'s>(
     let mut journal = LocalJournal {
         host,
         folder,
-        file: reported(host, folder, make_part(host.rt, folder, number))?,
+        file: or_report(host, folder, make_part(host.rt, folder, number))?,
         is_reported: false,
     };
     match begin_record(host.alloc(), &mut journal, number, terms, operators) {
@@ -526,11 +526,11 @@ fn second_now(host: LocalHost<'_>) -> Result<u64, ErrorCode>
 
 // A repeated request, or its answer, can't be recorded. The cause was reported.
 #[derive(Drop)]
-struct Unrecorded;
+struct RecordError;
 
 // The journal of a request that recovery repeats. It gets its final name once the request is in it.
 #[derive(Drop)]
-struct AskedRecord<'s> {
+struct LocalRecoveryJournal<'s> {
     host: LocalHost<'s>,
     folder: &'s str,
     number: u64,
@@ -539,7 +539,7 @@ struct AskedRecord<'s> {
     record: Option<LocalRecord<'s>>,
 }
 
-impl<'s> AskedRecord<'s> {
+impl<'s> LocalRecoveryJournal<'s> {
     // Makes the journal with the request in it, under its final name.
     fn begin(&mut self, moment: Moment, bytes: &[u8]) -> Result<LocalRecord<'s>, ErrorCode>
         ensures same { self.new ≡ self.old }
@@ -557,7 +557,7 @@ impl<'s> AskedRecord<'s> {
             return Err(ErrorCode::Write);
         }
         let second = second_now(self.host)?;
-        reported(
+        or_report(
             self.host,
             self.folder,
             name_part(self.host.rt, self.folder, self.number, second),
@@ -566,29 +566,29 @@ impl<'s> AskedRecord<'s> {
     }
 }
 
-impl Record for AskedRecord<'_> {
-    type Fault = Unrecorded;
+impl Record for LocalRecoveryJournal<'_> {
+    type Fault = RecordError;
 
-    fn keep_news(&mut self, _news: &[Enrolment]) -> Result<(), Unrecorded> {
-        Err(Unrecorded)
+    fn keep_news(&mut self, _news: &[Enrolment]) -> Result<(), RecordError> {
+        Err(RecordError)
     }
 
-    fn keep_request(&mut self, moment: Moment, bytes: &[u8]) -> Result<(), Unrecorded> {
+    fn keep_request(&mut self, moment: Moment, bytes: &[u8]) -> Result<(), RecordError> {
         self.record = self.begin(moment, bytes).ok();
         match self.record {
             Some(_) => Ok(()),
-            None => Err(Unrecorded),
+            None => Err(RecordError),
         }
     }
 
-    fn keep_answer(&mut self, connection: Exchange<'_>) -> Result<(), Unrecorded> {
+    fn keep_answer(&mut self, connection: Exchange<'_>) -> Result<(), RecordError> {
         let Some(record) = &mut self.record else {
-            return Err(Unrecorded);
+            return Err(RecordError);
         };
         if record.keep_answer(connection).is_ok() && record.sync().is_ok() {
             return Ok(());
         }
-        Err(Unrecorded)
+        Err(RecordError)
     }
 
     fn lose_answer(&mut self, _connection: Exchange<'_>) {}

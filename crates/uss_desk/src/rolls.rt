@@ -61,8 +61,8 @@ impl NotedOperators {
 
     /// The noted operators, ascending by name, if they were noted. Another `take` needs another `note`.
     pub fn take(&mut self) -> Option<Vec<Enrolment>>
-        ensures value { result ≡ self.old.operators }
-        ensures left { self.new ≡ record self.old { operators = None } }
+        ensures taken { result ≡ self.old.operators }
+        ensures rest { self.new ≡ record self.old { operators = None } }
     {
         self.operators.take()
     }

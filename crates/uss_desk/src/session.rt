@@ -17,7 +17,7 @@ use crate::closing::{close_after, status_closed};
 use crate::fail;
 use crate::opening::{DeskAt, Opened, open_database};
 use crate::playing::play_line;
-use crate::recording::{RecordFolder, folder_for};
+use crate::recording::{JournalFolder, folder_for};
 use crate::refusals::report_refusal;
 use crate::rolls::NotedOperators;
 use crate::running::run_line;
@@ -43,9 +43,9 @@ struct Session<'s> {
     // the operators that it enrols first
     enrolments: &'s [Enrolment],
     streams: Streams<BufReader<Stdin>, Stdout, Stderr>,
-    register: EnrolmentFile<'s, LocalHost<'s>>,
+    enrolment_file: EnrolmentFile<'s, LocalHost<'s>>,
     // the folder of its journal, if it keeps one
-    folder: Option<RecordFolder<'s>>,
+    folder: Option<JournalFolder<'s>>,
     roll: NotedOperators,
 }
 
@@ -63,7 +63,7 @@ impl<'s> Session<'s> {
         let Ok(input) = BufReader::new(host.alloc(), host.input()) else {
             return Err(ErrorCode::Memory);
         };
-        let register = operators_of(host.rt, host, words.operators.as_deref())?;
+        let enrolment_file = operators_of(host.rt, host, words.operators.as_deref())?;
         let paths = paths_at(host.rt, &words.database)?;
         reorder_for(host, &words.database, false)?;
         let folder = folder_for(host, words, action)?;
@@ -77,7 +77,7 @@ impl<'s> Session<'s> {
                 output: host.output(),
                 errors: host.errors(),
             },
-            register,
+            enrolment_file,
             folder,
             roll,
         };
@@ -85,11 +85,11 @@ impl<'s> Session<'s> {
     }
 
     // Whether the last journal left anything to recover: then the database file must exist.
-    fn has_undone(&self) -> bool
+    fn needs_recovery(&self) -> bool
         ensures { result ≡ is_some (spec.undone_of self.now.folder) }
     {
         match &self.folder {
-            Some(folder) => folder.has_undone(),
+            Some(folder) => folder.needs_recovery(),
             None => false,
         }
     }
@@ -148,7 +148,7 @@ impl<'s> Session<'s> {
             words,
             enrolments,
             mut streams,
-            register,
+            enrolment_file,
             folder,
             roll,
         } = self;
@@ -161,7 +161,7 @@ impl<'s> Session<'s> {
             Ok(record) => record,
             Err(failure) => return (fail(host, failure), opened.ok()),
         };
-        let mut port = LocalPort::new(host.rt, host.rt, register, alloc, host.errors());
+        let mut port = LocalPort::new(host.rt, host.rt, enrolment_file, alloc, host.errors());
         let (exit, desk) = match (record, action) {
             (Some(record), DeskCommand::Play(words)) => {
                 let Streams {
@@ -213,7 +213,7 @@ pub fn at_desk(
             Ok(session.run(action, desk).0)
         }
         Opened::Files(found) => {
-            let is_made = !session.has_undone();
+            let is_made = !session.needs_recovery();
             report_refusal(host, &words.database, is_made, &found, &mut host.errors());
             let desk = session.recover(or_failure(found));
             if desk.is_ok() {
