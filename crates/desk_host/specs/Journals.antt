@@ -52,7 +52,7 @@ checked_number number second = if nat_lt (length number) 10 then None
 -- so, by the name without its extension
 abbrev pub number_in_stem : List ℕ → Option ℕ
 number_in_stem stem =
-    option_and_then (λ at. checked_number (take at stem) (drop (at + 1) stem)) (position is_dash stem)
+    option_and_then (λ i. checked_number (take i stem) (drop (i + 1) stem)) (position is_dash stem)
 
 -- a name is that of a journal of this number, or has none
 abbrev pub IsNumberIn : List ℕ → Option ℕ → Type 0
