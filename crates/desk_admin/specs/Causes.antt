@@ -4,7 +4,7 @@ use Rattle.db_file.specs.Orders.{order_text}
 use Rattle.table_load.specs.declared.naming.InvalidPart.{InvalidPart}
 use Rattle.table_load.specs.declared.naming.InvalidPart.TheVariants as part
 
--- what is said of the part of a file that is that of no desk
+-- what is reported of the invalid part of a file
 abbrev pub part_text : InvalidPart → List ℕ
 part_text part.NoTable = codes "no table"
 part_text part.OtherTables = codes "other tables than a desk's"
@@ -24,7 +24,7 @@ abbrev pub named_text : Option InvalidPart → List ℕ
 named_text None = codes "no table, other tables than a desk's, or rows of no content"
 named_text (Some it) = part_text it
 
--- a text is reported of a file that holds no desk: its tables stand in another order, a part of it is named,
--- or none is
+-- a text is reported of a file that is no valid database: its tables are in a non-canonical order, a part of
+-- it is named, or none is
 abbrev pub IsNoDeskText : List ℕ → Type 0
 IsNoDeskText text = (text ≡ order_text) ⊎ ((part : Option InvalidPart) × (text ≡ named_text part))

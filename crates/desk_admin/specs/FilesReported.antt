@@ -51,7 +51,7 @@ pub record ReportsHoldings (file : CheckedFile) (w : World) : Type 0 where
   pub most_cells : IsMostCells w.plans file.most_cells
 
 module _ {D : Type 0} {g : disk.Ghosts D} (image : Image) where
-  -- what is said of files that held this, as a connection read it, which leaves their rows
+  -- what is reported of files that held this, as a connection read it, which leaves their rows
   pub record IsReadAs (left : Held (FileStore D g)) (file : CheckedFile) : Type 0 where
     pub w : World
     pub reported : ReportsHoldings file w
@@ -63,7 +63,7 @@ module _ {D : Type 0} {g : disk.Ghosts D} (image : Image) where
   FailsToRead it = IsUnreadFor it opening.OutOfMemory
       ⊎ FailsOver (λ files. AreNotRead image files.fault files.connection) it
 
-  -- why no content is said of a database: it is in memory, or its files are not read
+  -- why no content is reported of a database: it is in memory, or its files are not read
   abbrev pub FailsToLook : Database → OpenError D g → Type 0
   FailsToLook database it = (IsInMemory database × IsUnreadFor it opening.Store) ⊎ FailsToRead it
 
@@ -139,7 +139,7 @@ module _ {D E : Type 0} {g : disk.Ghosts D} {k : disk.Ghosts E} (image other : I
     pub unprinted : o.writes.after ≡ o.writes.before
 
 module _ {D E : Type 0} {g : disk.Ghosts D} (k : disk.Ghosts E) (image other : Image) where
-  -- a connection to files that held this leaves them, and new files, whose log is empty, have their content:
+  -- a connection to files that held this leaves them, and new files, whose WAL is empty, have their content:
   -- a store of it was made there and closed
   pub record IsCopyMade (copies : Held (FileStore D g) × (Files E × DbStats)) : Type 0 where
     pub w : World

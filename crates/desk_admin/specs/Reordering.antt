@@ -1,5 +1,5 @@
--- Reordering: the file that a line opens is put in a desk's own order, once its scratch copy was read as a
--- desk's.
+-- Reordering: the file that a command opens is put in canonical order, once its scratch copy was read as a
+-- valid database.
 use Rattle.std.specs.Prelude.{◌≡◌, ⊤, Bool, true, false, List, ℕ, [], ◌∷◌, codes}
 use Rattle.std.specs.Prelude.{Option, None, Some, Result, Ok, Err}
 use Rattle.std.specs.Result.{IsErrAnd}
@@ -20,11 +20,11 @@ use Rattle.host_files.specs.Reporting.{IsWrittenIfRoom, Reports, line_of}
 use Rattle.host_files.specs.Naming.{Failed, Follows, Ordered, Step, Steps}
 use Rattle.desk_host.specs.Scratch.{AreRemoved, IsUntwinned, making, scratch_of}
 
--- what is said of a file that is put in order
+-- what is reported of a file that is reordered
 abbrev pub reordered_text : List ℕ
 reordered_text = codes "its tables are put in a desk's own order"
 
--- a file is put in order, or that can't be done
+-- a file is reordered, or that can't be done
 abbrev pub IsOrderedOr : List ℕ → Result ⊤ ErrorCode → Steps → Type 0
 IsOrderedOr path (Ok done) steps = Follows steps (Ordered path ∷ [])
 IsOrderedOr path (Err f) steps = (f ≡ failure.Store) × Follows steps (Failed ∷ [])
@@ -35,13 +35,13 @@ IsOrderedIf path (Ok it) done steps = IsOrderedOr path done steps
 IsOrderedIf path (Err f) done steps = (done ≡ Err f) × (steps.after ≡ steps.before)
 
 module _ {D : Type 0} {g : disk.Ghosts D} (image : Image) (takes : Bool) where
-  -- a scratch copy was read as a desk's that the line takes
+  -- a scratch copy was read as a valid database that the command accepts
   pub record IsTaken (left : Held (FileStore D g)) : Type 0 where
     pub file : CheckedFile
     pub read : IsReadAs image left file
     pub taken : takes ≡ false → file.is_old ≡ false
 
-  -- it was read as a desk's, and the line doesn't take it, as it has rows of schema 1
+  -- it was read as a valid database, and the command doesn't accept it, as it has rows of schema 1
   pub record IsTooOld (left : Held (FileStore D g)) (f : ErrorCode) : Type 0 where
     pub file : CheckedFile
     pub read : IsReadAs image left file
@@ -57,7 +57,7 @@ module _ {D : Type 0} {g : disk.Ghosts D} (image : Image) (takes : Bool) where
   IsAdmitted admitted (Err unread) = FailsToRead image unread × (admitted ≡ Err unread.failure)
 
 module _ {D : Type 0} {g : disk.Ghosts D} (image : Image) (path : List ℕ) (takes : Bool) where
-  -- a scratch copy is admitted or not, and is removed; then the file is put in order, if it was
+  -- a scratch copy is admitted or not, and is removed; then the file is reordered, if it was
   pub record IsOrderedByScratch (done : Result ⊤ ErrorCode)
       (judged : Result (Held (FileStore D g)) (OpenError D g)) (steps : Steps) : Type 0 where
     pub admitted : Result ⊤ ErrorCode
@@ -73,7 +73,7 @@ module _ {D : Type 0} {g : disk.Ghosts D} (image : Image) (path : List ℕ) (tak
     pub made : Follows (course steps.before from) (making path (scratch_of path) true)
     pub ordered : IsOrderedByScratch done judged (course from steps.after)
 
-  -- what is done of a disordered file: so, or there is no scratch copy
+  -- what is done of a file in non-canonical order: so, or there is no scratch copy
   abbrev pub IsReordered :
       Result ⊤ ErrorCode → Option (Result (Held (FileStore D g)) (OpenError D g)) → Steps → Type 0
   IsReordered done (Some judged) steps = WasJudged done judged steps
@@ -89,11 +89,11 @@ module _ {D : Type 0} {g : disk.Ghosts D} (image : Image) (path : List ℕ) (tak
   IsReorderedIf way.OtherOrder done judged steps = IsReordered done judged steps
   IsReorderedIf _ done judged steps = IsLeftAlone done judged steps
 
--- the line that reports that a file was put in order
+-- the line that reports that a file was reordered
 abbrev pub reordered_line : List ℕ → List ℕ
 reordered_line path = line_of path reordered_text
 
--- of a file that was put in order that is reported, of one that is left nothing, and else why
+-- of a file that was reordered that is reported, of one that is left nothing, and else why
 abbrev pub IsReorderReported :
     {X : Type 0} → List ℕ → Result ⊤ ErrorCode → Option X → Course (Option (List ℕ)) → Type 0
 IsReorderReported path (Ok done) None writes = writes.after ≡ writes.before

@@ -35,19 +35,19 @@ rows_text rows.OfADesk = codes "are a desk's"
 rows_text rows.OfNoDesk = codes "are no desk's"
 rows_text rows.TestedAlone = codes "alone were tested"
 
--- the line that says of pages without their sums, and what their rows are
-unfoldable pub unsummed_line : List ℕ → ℕ → List ℕ → List ℕ
-unsummed_line path pages text =
+-- the line that reports pages with wrong checksums, and what their rows are
+unfoldable pub bad_checksums_line : List ℕ → ℕ → List ℕ → List ℕ
+bad_checksums_line path pages text =
     codes "uss_desk: " ++ (path ++ (codes ": " ++ (decimal pages
     ++ (codes " pages without their sums, as sqlite3 leaves them; the rows " ++ (text ++ codes "\n")))))
 
 abbrev pub rows_line : List ℕ → ℕ → Rows → List ℕ
-rows_line path pages it = unsummed_line path pages (rows_text it)
+rows_line path pages it = bad_checksums_line path pages (rows_text it)
 
 abbrev pub order_line : List ℕ → List ℕ
 order_line path = line_of path order_text
 
--- what is said of a file that is read in a way, by a scratch copy whose rows are a desk's
+-- what is reported of a file that is read in a way, by a scratch copy that is a valid database
 abbrev pub taken_line : List ℕ → ReadMode → Option (List ℕ)
 taken_line path way.Itself = None
 taken_line path way.Damaged = None
@@ -67,18 +67,18 @@ pub record FailsUntwinned (scratch : List ℕ) (o : AdminOutside) : Type 0 where
   pub reported : FailsReporting failure o.end
   pub unprinted : o.writes.after ≡ o.writes.before
 
--- the rows of a file are no desk's, which is reported
+-- the rows of a file are invalid, which is reported
 pub record FailsNoted (path : List ℕ) (pages : ℕ) (end : Ending) : Type 0 where
   pub between : Option (List ℕ)
   pub noted : IsWrittenIfRoom (rows_line path pages rows.OfNoDesk) (course end.before between)
   pub fails : FailsWith failure.Store (record end { before = between })
 
--- by why they could not be read: want of memory says nothing of them
+-- by why they could not be read: running out of memory says nothing about them
 abbrev pub AreRowsRefused : List ℕ → ℕ → ErrorCode → Ending → Type 0
 AreRowsRefused path pages f end = ((f ≡ failure.Memory) × FailsWith failure.Memory end)
     ⊎ ((f ≢ failure.Memory) × FailsNoted path pages end)
 
--- so, if its pages lack their sums; else why is reported, and then this failure
+-- so, if its pages have wrong checksums; else why is reported, and then this failure
 abbrev pub IsScratchRefused : List ℕ → ReadMode → ErrorCode → Ending → Type 0
 IsScratchRefused path way.Itself f end = FailsReporting f end
 IsScratchRefused path way.Damaged f end = FailsReporting f end
@@ -88,7 +88,8 @@ IsScratchRefused path way.OtherOrder f end = FailsReporting f end
 -- ---- a look
 
 module _ {D : Type 0} {g : disk.Ghosts D} (image : Image) (path : List ℕ) (way : ReadMode) where
-  -- the rows of a file are a desk's, and what is said of its way is reported, and what they are
+  -- the rows of a file are those of a valid database, and what is reported of its way is reported, and what
+  -- they are
   pub record IsTakenByRows (left : Held (FileStore D g)) (end : Ending) (writes : Course (Option (List ℕ)))
       : Type 0 where
     pub between : Option (List ℕ)
@@ -98,7 +99,7 @@ module _ {D : Type 0} {g : disk.Ghosts D} (image : Image) (path : List ℕ) (way
     pub printed : IsTextPrinted (checked_line file) (record end { before = between })
         writes.before writes.after
 
-  -- they can't be read as a desk's, and nothing is printed
+  -- they can't be read as those of a valid database, and nothing is printed
   pub record IsRefusedByRows (it : OpenError D g) (end : Ending) (writes : Course (Option (List ℕ)))
       : Type 0 where
     pub look : FailsToRead image it
@@ -123,7 +124,7 @@ pub record WasScratch (source scratch : List ℕ) (mended : Bool) (steps : Steps
 
 -- ---- a copy
 
--- that the sums were not tested is reported, if the copy of such a file was made
+-- that the checksums were not tested is reported, if the copy of such a file was made
 abbrev pub IsTestReported : List ℕ → ReadMode → ℕ → Course (Option (List ℕ)) → Type 0
 IsTestReported path way status writes = MatchOption (untested way status) (writes.after ≡ writes.before)
     (λ pages. IsWrittenIfRoom (rows_line path pages rows.TestedAlone) writes)

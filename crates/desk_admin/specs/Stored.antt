@@ -13,7 +13,7 @@ use Rattle.desk_tables.specs.Store.{Shown}
 use Rattle.table_load.specs.declared.looking.DbStats.{DbStats}
 use Rattle.host_files.specs.declared.files.Found.{Found}
 
--- how many bytes were found at a path; none if nothing is reached
+-- how many bytes were found at a path; none if nothing can be reached
 abbrev pub found_size : Result Found ErrorKind → ℕ
 found_size (Ok found) = found.len
 found_size (Err kind) = 0

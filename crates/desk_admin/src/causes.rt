@@ -1,5 +1,5 @@
-//! Why a file can't be opened, as far as that can be reported afterwards: a line for the administrator.
-//! Clauses say that something is reported, and not what.
+//! Reports to the administrator why a database can't be opened. Clauses say that something is reported, and
+//! not what.
 
 ghost use Rattle.std.specs.Prelude.{◌≡◌, IfErr, IfOk, None};
 ghost use Rattle.desk_program.specs.Outside.{bytes_written};
@@ -19,7 +19,7 @@ use sqlite::Unknown;
 use sqlite_disk::Disk;
 use std::io::Write;
 
-/// Reports why a database can't be opened by a line that makes its file where there is none.
+/// Reports why a database can't be opened, for a command that makes a missing file.
 #[tactic(auto, using(host_files::proofs::lemmas::Reporting::reports_nothing))]
 pub fn report_made<E: Write>(
     host: LocalHost<'_>,
@@ -37,7 +37,8 @@ pub fn report_made<E: Write>(
     }
 }
 
-/// Reports why a database can't be opened, if it is in a file that has to be there.
+/// Reports why a database can't be opened, for a command that needs its file to exist. Nothing is reported of
+/// a database in memory.
 #[tactic(auto, using(host_files::proofs::lemmas::Reporting::reports_nothing))]
 pub fn report_database<E: Write>(
     host: LocalHost<'_>,
@@ -53,8 +54,8 @@ pub fn report_database<E: Write>(
     }
 }
 
-/// Reports why the file at a path can't be opened: `uss_desk: NAME: CAUSE`. A fault of the writer is passed
-/// over.
+/// Reports why the file at `path` can't be opened: `uss_desk: NAME: CAUSE`. Only `Store`, `NotADesk` and
+/// `OldSchema` have a cause to report. A failed write is ignored.
 #[tactic(auto, using(host_files::proofs::lemmas::Reporting::reports_nothing))]
 pub fn report_cause<E: Write>(
     host: LocalHost<'_>,
@@ -80,7 +81,7 @@ pub fn report_cause<E: Write>(
     report_of(host.alloc(), name, cause, errors);
 }
 
-// Why a file holds no desk, if that is found once more.
+// Why a file is no valid database. It is read once more to find the invalid part.
 fn desk_cause(host: LocalHost<'_>, path: &str) -> &'static str
     ensures { IsNoDeskText result.now }
 {
@@ -90,7 +91,7 @@ fn desk_cause(host: LocalHost<'_>, path: &str) -> &'static str
     named_cause(part_of(part_at(host.rt, path, Unknown)))
 }
 
-// The part that was named of files, on whatever disk they are. They are closed.
+// The invalid part that was found in a file; `None` if the file couldn't be opened. Its connection is closed.
 fn part_of<D: Disk + Drop>(named: Result<Named<D>, NotOpened<D>>) -> Option<InvalidPart>
     ensures named { IfOk named (λ it. result ≡ it.part) }
     ensures none { IfErr named (λ _. result ≡ None) }
@@ -101,7 +102,7 @@ fn part_of<D: Disk + Drop>(named: Result<Named<D>, NotOpened<D>>) -> Option<Inva
     }
 }
 
-// Why a file holds no desk, by the part that was named of it, if one was.
+// Why a file is no valid database, in words, by the invalid part that was found, if any.
 fn named_cause(named: Option<InvalidPart>) -> &'static str
     ensures { result.now ≡ spec.named_text named }
 {
@@ -111,7 +112,7 @@ fn named_cause(named: Option<InvalidPart>) -> &'static str
     }
 }
 
-// Which part of a file is that of no desk.
+// Why a file with this invalid part is no valid database, in words.
 fn part_cause(part: InvalidPart) -> &'static str
     ensures { result.now ≡ spec.part_text part }
 {

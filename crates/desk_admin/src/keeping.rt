@@ -1,4 +1,4 @@
-//! What an administrator does to a file: a look at what it holds, and a copy of it.
+//! The commands `check` and `copy` on a database file.
 
 ghost use Rattle.std.specs.Prelude.{◌≡◌, ℕ, [], List, IfErr, IfOk, IfSome, Ok};
 ghost use Rattle.std.specs.Prelude.{OnErr, OnOk, option_copied, string_bytes, unwrap_or};
@@ -38,23 +38,23 @@ use std::alloc::{AllocError, Global};
 use std::io::{ErrorKind, Write};
 use std::snapshot::Snapshot;
 
-/// A connection with which a file was read, where `F` stands for what the file held.
+/// A connection with which a file was read. `F` stands for the content that the file had before.
 pub type ReadConnection<F> = Connection<FileStore<FileFrom<F>>>;
 
-/// What was copied from files of a disk `D` to files of `N`: the connection to the first, the new files, and
-/// what they hold.
+/// The result of a copy from files of a disk `D` to files of `N`: the connection to the former, and the new
+/// files with their statistics.
 pub type Copies<D, N> = (Connection<FileStore<D>>, (Files<N>, DbStats));
 
-/// Why nothing was copied. What refused it is closed, and clauses alone read what it was.
+/// Why nothing was copied. The files that were refused are closed; only clauses read the snapshots of them.
 #[derive(Drop)]
 pub struct CopyError<R, M, U: Drop> {
-    /// The failure with which the line ends.
+    /// The error code with which the command ends.
     pub failure: ErrorCode,
-    /// What refused the files that were to be copied, if they were refused.
+    /// The error of the files to be copied, if these were refused.
     pub unread: Option<Snapshot<R>>,
-    /// What refused the new files, if they were refused.
+    /// The error of the new files, if these were refused.
     pub unmade: Option<Snapshot<M>>,
-    /// The log of the new files, if it can't be copied.
+    /// The new files, if their WAL can't be checkpointed.
     pub unclosed: Option<U>,
 }
 
@@ -62,7 +62,7 @@ pub struct CopyError<R, M, U: Drop> {
 pub type CopyEnd<D, N> = CopyError<FilesFault<D>, FilesFault<N>, CheckpointError<N>>;
 
 impl<D: Disk + Drop, N: Disk + Drop> CopyError<FilesFault<D>, FilesFault<N>, CheckpointError<N>> {
-    // No files were asked for, or their names failed.
+    // An error without refused files: none were opened, or the new ones can't be given their names.
     fn untried(failure: ErrorCode) -> CopyEnd<D, N>
         ensures { FailsUntried failure result }
     {
@@ -87,7 +87,7 @@ impl<D: Disk + Drop, N: Disk + Drop> From<AllocError>
     }
 }
 
-// Files were refused, on whatever disks they lie.
+// The error of a copy whose source or new files were refused.
 fn refused_copy<D: Disk + Drop, N: Disk + Drop>(refused: &CopyFault<D, N>) -> CopyEnd<D, N>
     ensures { FailsBy refused.now result }
 {
@@ -107,25 +107,25 @@ fn refused_copy<D: Disk + Drop, N: Disk + Drop>(refused: &CopyFault<D, N>) -> Co
     }
 }
 
-/// What an administrator's command writes to.
+/// The output streams of an administrator's command.
 #[derive(Drop)]
 pub struct Writers<W: Drop, E: Drop> {
-    /// What it prints to.
+    /// Where it prints its result.
     pub output: W,
-    /// What it reports why it fails, and the word of that.
+    /// Where it reports why it fails, and prints the error code.
     pub errors: E,
 }
 
-/// What stands for what the files of a copy held before it.
+/// Stands for the content that the files of a copy had before.
 #[derive(Drop)]
 pub struct Starts<F: Drop, N: Drop> {
-    /// Those that are copied.
+    /// That of the files to be copied.
     pub source: F,
-    /// Those that the copy is made in.
+    /// That of the new files.
     pub copy: N,
 }
 
-// What is known of a file beside what it holds.
+// What is known of a file apart from its rows; sizes are in bytes.
 #[derive(Clone, Copy)]
 struct FileStats {
     has_checksums: bool,
@@ -133,9 +133,9 @@ struct FileStats {
     log: u64,
 }
 
-/// Prints what a database holds, and answers how that ended and the connection with which it was read, or why
-/// it was not. It is left as it is. Why it can't be read, and the word of the failure, go to `errors`; a
-/// fault there is passed over.
+/// Runs the command `check`: prints the statistics of a database, and returns the exit report with the
+/// connection that read it, or why it can't be read. The file isn't changed. Causes and error codes go to
+/// `errors`; a failed write there is ignored.
 pub fn check_file<F: Start, W: Write + Drop, E: Write + Drop>(
     host: LocalHost<'_>,
     database: &Database,
@@ -146,7 +146,7 @@ pub fn check_file<F: Start, W: Write + Drop, E: Write + Drop>(
         (ended E.Write result.0 writers.old.errors writers.new.errors) result.1
         (bytes_written W.Write writers.old.output writers.new.output) }
 {
-    match look_for(host, database, start) {
+    match look_in_database(host, database, start) {
         Ok((connection, file)) => {
             let exit = print_checked(
                 host.alloc(),
@@ -163,7 +163,7 @@ pub fn check_file<F: Start, W: Write + Drop, E: Write + Drop>(
     }
 }
 
-/// The exit status of a look. What was looked at, on whatever disk it is, is closed.
+/// The exit status of `check_file`. The connection is closed.
 pub fn status_checked<D: Disk + Drop, E>(
     checked: (
         ExitReport<E>,
@@ -176,7 +176,7 @@ pub fn status_checked<D: Disk + Drop, E>(
     exit.status
 }
 
-// Reports why a database can't be read, and the word of the failure.
+// Reports why a database can't be read, and prints the error code.
 fn report_unread<E: Write>(
     host: LocalHost<'_>,
     database: &Database,
@@ -189,9 +189,9 @@ fn report_unread<E: Write>(
     report_exit(errors, Err(failure))
 }
 
-// What a database holds, with the connection with which it was read.
+// The statistics of a database, with the connection that read it. A database in memory is refused.
 #[tactic(auto, using(crate::proofs::KeepLemmas::look_fails))]
-fn look_for<F: Start>(
+fn look_in_database<F: Start>(
     host: LocalHost<'_>,
     database: &Database,
     start: F,
@@ -205,11 +205,11 @@ fn look_for<F: Start>(
     }
 }
 
-/// What the file at a path holds, with the connection with which it was read.
+/// The statistics of the file at a path, with the connection that read it.
 ///
 /// # Errors
 ///
-/// What refused it; `Memory` if memory runs out.
+/// Why the file is refused; `Memory` if memory runs out.
 #[tactic(auto, using(crate::proofs::KeepLemmas::read_as, crate::proofs::KeepLemmas::refused_fails))]
 pub fn look_in<F: Start>(
     host: LocalHost<'_>,
@@ -220,37 +220,38 @@ pub fn look_in<F: Start>(
     ensures fault { IfErr result (FailsToRead (image_at F.Start)) }
 {
     let log = name_with(host.alloc(), path, "-wal")?;
-    // No connection has the file yet: that it is closed here would take the connection's lock away.
-    let bulk = bulk_at(&host, path, &log, has_checksums(host.rt, path));
+    // This closes the file, which releases the lock of any connection to it: so the connection comes later.
+    let stats = stats_at(&host, path, &log, has_checksums(host.rt, path));
     match look_at(host.rt, path, start) {
-        Ok((connection, holdings)) => Ok((connection, reported_of(&holdings, bulk))),
+        Ok((connection, holdings)) => Ok((connection, checked_file(&holdings, stats))),
         Err(refused) => Err(OpenError::of(refused)),
     }
 }
 
-// What is said of a file.
-fn reported_of(holdings: &DbStats, bulk: FileStats) -> CheckedFile
+// What `check` reports of a file, from the counts of its rows and the other statistics.
+fn checked_file(holdings: &DbStats, stats: FileStats) -> CheckedFile
     ensures counted { (w : World) → AreHoldingsOf holdings.now w → ReportsHoldings result w }
     ensures schema { result.is_old ≡ holdings.now.is_old }
-    ensures bulk { (result.has_checksums ≡ bulk.has_checksums) × (result.size ≡ bulk.size)
-        × (result.log ≡ bulk.log) }
+    ensures stats { (result.has_checksums ≡ stats.has_checksums) × (result.size ≡ stats.size)
+        × (result.log ≡ stats.log) }
 {
     CheckedFile {
         is_old: holdings.is_old,
-        has_checksums: bulk.has_checksums,
+        has_checksums: stats.has_checksums,
         operators: holdings.operators,
         plans: holdings.plans,
         live: holdings.live,
         spans: holdings.spans,
         most_spans: holdings.most_spans,
         most_cells: holdings.most_cells,
-        size: bulk.size,
-        log: bulk.log,
+        size: stats.size,
+        log: stats.log,
     }
 }
 
-// How large a file and its log are; nothing if they can't be looked at. Whether its pages have sums is known.
-fn bulk_at<F: HostFiles>(files: &F, path: &str, log: &str, has_checksums: bool) -> FileStats
+// The sizes of the file `path` and of its WAL `log`, each 0 if it can't be reached; `has_checksums` is
+// already known.
+fn stats_at<F: HostFiles>(files: &F, path: &str, log: &str, has_checksums: bool) -> FileStats
     ensures sums { result.has_checksums ≡ has_checksums }
     ensures sizes { IfSome (F.answers files.now) (λ it. (result.size ≡ found_size (it.found path.now))
         × (result.log ≡ found_size (it.found log.now))) }
@@ -262,7 +263,7 @@ fn bulk_at<F: HostFiles>(files: &F, path: &str, log: &str, has_checksums: bool) 
     }
 }
 
-// How many bytes were found at a path; none if nothing is reached.
+// The size in bytes of what was found at a path; 0 if nothing can be reached.
 fn size_of(found: Result<Found, ErrorKind>) -> u64
     ensures { result ≡ found_size found }
 {
@@ -272,10 +273,10 @@ fn size_of(found: Result<Found, ErrorKind>) -> u64
     }
 }
 
-/// Copies what a database holds to a new file, prints how much it is, and answers how that ended and the
-/// connection to the first with the new files, or why nothing is copied. The first is left as it is. Why, and
-/// the word of the failure, go to `errors`; a fault there is passed over. If there is a `scratch copy`, the
-/// file is read at that path, and reported of as itself.
+/// Runs the command `copy`: copies a database to a new file, prints how much it has, and returns the exit
+/// report with the connection to the database and the new files, or why nothing was copied. The database
+/// isn't changed. It is read at the path `scratch`, if given, but reported under its own name. Causes and
+/// error codes go to `errors`; a failed write there is ignored.
 #[tactic(auto, using(crate::proofs::KeepLemmas::uncopied))]
 pub fn copy_file<F: Start, N: Start, P: Folder, W: Write + Drop, E: Write + Drop>(
     host: LocalHost<'_>,
@@ -293,7 +294,7 @@ pub fn copy_file<F: Start, N: Start, P: Folder, W: Write + Drop, E: Write + Drop
     ensures named { IsNamedIf result.1 (string_bytes words.now.to) (steps_of P.Folder folder.old folder.new) }
     ensures own { LeavesOthers (string_bytes words.now.to) (steps_of P.Folder folder.old folder.new) }
 {
-    match copy_for(host, folder, words, scratch, starts, &mut writers.errors) {
+    match copy_database(host, folder, words, scratch, starts, &mut writers.errors) {
         Ok(copies) => {
             let exit = print_holdings(
                 host.alloc(),
@@ -310,7 +311,7 @@ pub fn copy_file<F: Start, N: Start, P: Folder, W: Write + Drop, E: Write + Drop
     }
 }
 
-/// The exit status of a copy. What was copied, on whatever disk it is, is closed.
+/// The exit status of `copy_file`. All files are closed.
 pub fn status_copied<D: Disk + Drop, N: Disk + Drop, E>(
     copied: (ExitReport<E>, Result<Copies<D, N>, CopyEnd<D, N>>),
 ) -> u8
@@ -320,7 +321,7 @@ pub fn status_copied<D: Disk + Drop, N: Disk + Drop, E>(
     exit.status
 }
 
-// Prints how much was copied.
+// Prints how many operators and plans were copied.
 fn print_holdings<W: Write, E: Write>(
     alloc: Global,
     holdings: &DbStats,
@@ -333,10 +334,10 @@ fn print_holdings<W: Write, E: Write>(
     print_copied(alloc, holdings.operators, holdings.plans, output, errors)
 }
 
-// Copies what a database holds to a new file. It is written under another name, which it loses once all is on
-// the disk: a copy that is cut off leaves nothing of the new name.
+// Copies a database to a new file. It is written under a temporary name, and renamed once it is on the disk,
+// so that an interrupted copy leaves nothing under the final name.
 #[tactic(auto, using(host_files::proofs::lemmas::Naming::leaves_none, host_files::proofs::lemmas::Naming::leaves_all))]
-fn copy_for<F: Start, N: Start, P: Folder, E: Write>(
+fn copy_database<F: Start, N: Start, P: Folder, E: Write>(
     host: LocalHost<'_>,
     folder: &mut P,
     words: &CopyArgs,
@@ -361,11 +362,11 @@ fn copy_for<F: Start, N: Start, P: Folder, E: Write>(
         return Err(CopyError::untried(failure));
     }
     let source = CopySource::of(path, scratch);
-    let copied = copy_closed(host, source.path, &names.part, starts);
-    keep_copy(host, folder, source, &names, copied, errors)
+    let copied = copy_and_close(host, source.path, &names.part, starts);
+    publish_or_discard(host, folder, source, &names, copied, errors)
 }
 
-// A file that is copied: how it is named, and where it is read.
+// A file to be copied: its name in reports, and the path at which it is read.
 #[derive(Clone, Copy)]
 struct CopySource<'s> {
     name: &'s str,
@@ -373,7 +374,7 @@ struct CopySource<'s> {
 }
 
 impl<'s> CopySource<'s> {
-    // The file at a path, or its scratch copy, if it has one.
+    // The file at `path`, which is read at `scratch` if it has a scratch copy.
     fn of(path: &'s str, scratch: Option<&'s str>) -> CopySource<'s>
         ensures name { result.name.now ≡ path.now }
         ensures path { result.path.now ≡ unwrap_or (option_copied scratch.entry) path.now }
@@ -385,9 +386,9 @@ impl<'s> CopySource<'s> {
     }
 }
 
-// Gives new files their names, if they were made, or removes what was made, on whatever disks the files are.
-// Why they were not made, or have no names, is reported.
-fn keep_copy<D: Disk + Drop, N: Disk + Drop, P: Folder, E: Write>(
+// Gives the new files their final names if the copy succeeded; else removes what was made. A failure is
+// reported.
+fn publish_or_discard<D: Disk + Drop, N: Disk + Drop, P: Folder, E: Write>(
     host: LocalHost<'_>,
     folder: &mut P,
     source: CopySource<'_>,
@@ -407,7 +408,7 @@ fn keep_copy<D: Disk + Drop, N: Disk + Drop, P: Folder, E: Write>(
     let copies = match copied {
         Ok(copies) => copies,
         Err(uncopied) => {
-            give_up(host, folder, source, names, uncopied.failure, errors);
+            report_and_discard(host, folder, source, names, uncopied.failure, errors);
             return Err(uncopied);
         }
     };
@@ -417,7 +418,7 @@ fn keep_copy<D: Disk + Drop, N: Disk + Drop, P: Folder, E: Write>(
     Ok(copies)
 }
 
-// Gives a new file that is whole its name, or reports that it can't be given it.
+// Gives a complete new file its final name, or reports that this failed.
 #[tactic(auto, using(host_files::proofs::lemmas::Reporting::reports_nothing))]
 fn publish_copy<P: Folder, E: Write>(
     alloc: Global,
@@ -444,8 +445,8 @@ fn publish_copy<P: Folder, E: Write>(
     Err(ErrorCode::Store)
 }
 
-// Copies what the file at a path holds to new files at another, and closes these.
-fn copy_closed<F: Start, N: Start>(
+// Copies the database at `path` to new files at `to`, and closes these.
+fn copy_and_close<F: Start, N: Start>(
     host: LocalHost<'_>,
     path: &str,
     to: &str,
@@ -455,11 +456,11 @@ fn copy_closed<F: Start, N: Start>(
         (IsCopyMade ⟦<FileFrom<N> as Disk>⟧ (image_at F.Start) (image_at N.Start)) }
     ensures fault { IfErr result (FailsAtFiles (image_at F.Start) (image_at N.Start)) }
 {
-    close_copied(copy_from(host.rt, path, starts.source, to, starts.copy))
+    close_if_copied(copy_from(host.rt, path, starts.source, to, starts.copy))
 }
 
-// Closes the store of a copy, if it was made, or answers why it was not, on whatever disks the files are.
-fn close_copied<D: Disk + Drop, N: Disk + Drop>(
+// Closes the new files if they were made, or returns why they weren't.
+fn close_if_copied<D: Disk + Drop, N: Disk + Drop>(
     copied: Result<Copied<D, N>, CopyFault<D, N>>,
 ) -> Result<Copies<D, N>, CopyEnd<D, N>>
     ensures made { (image other : Image) → IfOk copied (IsStoredAs image other)
@@ -473,7 +474,7 @@ fn close_copied<D: Disk + Drop, N: Disk + Drop>(
     }
 }
 
-// Closes the store of a copy, on whatever disks it and what was copied are.
+// Closes the new files of a copy: their WAL is checkpointed.
 #[tactic(auto, using(crate::proofs::KeepLemmas::fails_closing))]
 fn close_copy<D: Disk + Drop, N: Disk + Drop>(
     copied: Copied<D, N>,
@@ -495,7 +496,7 @@ fn close_copy<D: Disk + Drop, N: Disk + Drop>(
     }
 }
 
-// Makes room for a new file, or reports what stands in the way. Nothing of what is copied (`source`) is
+// Checks that a new file can be made, or reports what prevents it. The file to be copied (`source`) is never
 // removed.
 #[tactic(auto, using(host_files::proofs::lemmas::Reporting::reports_nothing))]
 fn make_room_or_report<P: Folder, E: Write>(
@@ -522,9 +523,9 @@ fn make_room_or_report<P: Folder, E: Write>(
     }
 }
 
-// Reports why nothing is copied, and removes what was made.
+// Reports why a copy failed, and removes what was made. If no new file was made, the cause is in the source.
 #[tactic(auto, using(host_files::proofs::lemmas::Reporting::reports_nothing))]
-fn give_up<P: Folder, E: Write>(
+fn report_and_discard<P: Folder, E: Write>(
     host: LocalHost<'_>,
     folder: &mut P,
     source: CopySource<'_>,

@@ -1,5 +1,5 @@
-//! What an administrator does to a database file: check it, copy it, put its tables in order; and why a file
-//! is refused.
+//! The administrator's commands on a database file: check it, copy it, put its tables in canonical order; and
+//! the reports of why a file is refused.
 #![tactic(auto)]
 
 pub mod causes;

@@ -1,5 +1,5 @@
-//! The file that a line opens, put in order before that if its tables stand in another, once a scratch copy
-//! of it was read as a desk's.
+//! Puts the tables of a database file in canonical order before a command opens it, once a repaired scratch
+//! copy of it was read as a valid database.
 
 ghost use Rattle.std.specs.Prelude.{◌≡◌, IfErr, IfNone, IfOk, Ok, OnErr, OnOk, false, true};
 ghost use Rattle.sqlite_wal.specs.Files.{image_at};
@@ -17,7 +17,7 @@ ghost use Rattle.host_files.specs.Reporting.{IsWrittenIfRoom, Reports};
 
 use crate::causes::report_cause;
 use crate::keeping::look_in;
-use crate::scratch_copies::{CheckResult, Judged};
+use crate::scratch_copies::{CheckResult, ReadResult};
 use desk_cli::{Database, ErrorCode};
 use desk_host::scratch::{ScratchCopy, make_scratch, remove_scratch};
 use desk_host::ways::{ReadMode, read_mode};
@@ -30,26 +30,29 @@ use sqlite_disk::Disk;
 use std::alloc::Global;
 use std::io::Write;
 
-// What is said of a file that can't be put in order, though it can be had.
+// What is reported of a file that was reordered.
+const REORDERED: &str = "its tables are put in a desk's own order";
+
+// The cause for a file that can be opened but not reordered.
 const UNWRITTEN: &str = "it can't be written: a full disk, or one that fails";
 
-/// A file that a line is about to open.
+/// A file that a command is about to open.
 #[derive(Clone, Copy)]
 pub struct ReorderTarget<'p> {
     /// Its path.
     pub path: &'p str,
-    /// The way in which it would be read.
+    /// How it would be read.
     pub way: ReadMode,
-    /// Whether the line takes a file of schema 1.
+    /// Whether the command accepts a file of schema 1.
     pub takes_old: bool,
 }
 
-/// Puts the file of a database in order, if its tables stand in another, and reports that. A file of schema 1
-/// is taken, or not (`takes_old`). Of files nothing is known.
+/// Puts the tables of a database in canonical order if they are in another, and reports that. A file of
+/// schema 1 is accepted if `takes_old`. The contract assumes nothing about the content of files.
 ///
 /// # Errors
 ///
-/// Why it can't be put in order, which is reported.
+/// Why that failed, which is reported.
 #[tactic(auto, using(crate::proofs::ReorderLemmas::reorder_fails))]
 pub fn reorder_for(
     host: LocalHost<'_>,
@@ -71,12 +74,12 @@ pub fn reorder_for(
         takes_old,
     };
     let mut folder = host;
-    done_of(reorder(host, &mut folder, file, Unknown, &mut host.errors()))
+    result_of(reorder(host, &mut folder, file, Unknown, &mut host.errors()))
 }
 
-/// What came of it. The scratch copy that was read, on whatever disk it is, is closed.
-pub fn done_of<D: Disk + Drop>(
-    reordered: (Result<(), ErrorCode>, Option<Judged<D>>),
+/// The result of `reorder` alone. The scratch copy is closed.
+pub fn result_of<D: Disk + Drop>(
+    reordered: (Result<(), ErrorCode>, Option<ReadResult<D>>),
 ) -> Result<(), ErrorCode>
     ensures { result ≡ reordered.0 }
 {
@@ -84,21 +87,21 @@ pub fn done_of<D: Disk + Drop>(
     done
 }
 
-/// Puts a file in order, if its tables stand in another: a scratch copy that lists them in a desk's own is
-/// made, read and removed, and if it is a desk's that the line takes, the file is put in the same order. That
-/// the file was put in order goes to `errors`, or why not; a fault there is passed over. Answered with it is
-/// the connection to the scratch copy, or why that can't be read; nothing if there was no scratch copy.
+/// Puts the tables of a file in canonical order if they are in another. A repaired scratch copy is made, read
+/// and removed; if it is a valid database that the command accepts, the file itself is reordered. Success or
+/// the cause of failure goes to `errors`; a failed write there is ignored. Also returns the connection to the
+/// scratch copy, or why that can't be read; `None` if there was no scratch copy.
 ///
 /// # Errors
 ///
-/// Why the file can't be put in order. Nothing is asked of it then, but if it was that which failed.
+/// Why the file can't be reordered. It is unchanged, unless reordering itself failed.
 pub fn reorder<F: Start, P: Folder, E: Write>(
     host: LocalHost<'_>,
     folder: &mut P,
     file: ReorderTarget<'_>,
     start: F,
     errors: &mut E,
-) -> (Result<(), ErrorCode>, Option<Judged<FileFrom<F>>>)
+) -> (Result<(), ErrorCode>, Option<ReadResult<FileFrom<F>>>)
     ensures reordered { IsReorderedIf (image_at F.Start) file.entry.path.now file.entry.takes_old
         file.entry.way result.0 result.1 (steps_of P.Folder folder.old folder.new) }
     ensures reported { IsReorderReported file.entry.path.now result.0 result.1
@@ -110,14 +113,14 @@ pub fn reorder<F: Start, P: Folder, E: Write>(
     }
 }
 
-// Makes the scratch copy of a file that is disordered, and puts the file in order by what that shows.
+// Makes and reads a repaired scratch copy of a file, and reorders the file if that is valid.
 fn reorder_by_scratch<F: Start, P: Folder, E: Write>(
     host: LocalHost<'_>,
     folder: &mut P,
     file: ReorderTarget<'_>,
     start: F,
     errors: &mut E,
-) -> (Result<(), ErrorCode>, Option<Judged<FileFrom<F>>>)
+) -> (Result<(), ErrorCode>, Option<ReadResult<FileFrom<F>>>)
     ensures reordered { IsReordered (image_at F.Start) file.entry.path.now file.entry.takes_old
         result.0 result.1 (steps_of P.Folder folder.old folder.new) }
     ensures reported { IsReorderReported file.entry.path.now result.0 result.1
@@ -128,20 +131,20 @@ fn reorder_by_scratch<F: Start, P: Folder, E: Write>(
         Err(failure) => return (Err(failure), None),
     };
     let found = look_in(host, &scratch.path, start);
-    let (done, judged) = order_by_scratch(host, folder, file, &scratch, found, errors);
+    let (done, judged) = reorder_if_valid(host, folder, file, &scratch, found, errors);
     (done, Some(judged))
 }
 
-// Removes the scratch copy of a file, and puts the file in order, if the scratch copy was read as a desk's
-// that the line takes.
-fn order_by_scratch<D: Disk + Drop, P: Folder, E: Write>(
+// Removes the scratch copy of a file, and reorders the file if its scratch copy was read (`found`) as a valid
+// database that the command accepts.
+fn reorder_if_valid<D: Disk + Drop, P: Folder, E: Write>(
     host: LocalHost<'_>,
     folder: &mut P,
     file: ReorderTarget<'_>,
     scratch: &ScratchCopy,
     found: CheckResult<D>,
     errors: &mut E,
-) -> (Result<(), ErrorCode>, Judged<D>)
+) -> (Result<(), ErrorCode>, ReadResult<D>)
     ensures ordered { (image : Image) → IfOk found (λ it. IsReadAs image it.0 it.1)
         → IfErr found (FailsToRead image) → AreTwins file.entry.path.now scratch.now
         → IsOrderedByScratch image file.entry.path.now file.entry.takes_old result.0 result.1
@@ -150,23 +153,23 @@ fn order_by_scratch<D: Disk + Drop, P: Folder, E: Write>(
         (bytes_written E.Write errors.old errors.new)) }
     ensures reported { OnErr result.0 (Reports (bytes_written E.Write errors.old errors.new)) }
 {
-    let (admitted, judged) = judge(host, file, &scratch.path, found, errors);
+    let (admitted, judged) = admit_scratch(host, file, &scratch.path, found, errors);
     remove_scratch(folder, scratch);
     match admitted {
-        Ok(()) => (order(host, folder, file.path, errors), judged),
+        Ok(()) => (reorder_or_report(host, folder, file.path, errors), judged),
         Err(failure) => (Err(failure), judged),
     }
 }
 
-// Whether the scratch copy of a file, at another path, was read as a desk's that the line takes; or reports
-// why not. The scratch copy is still there.
-fn judge<D: Disk + Drop, E: Write>(
+// Whether the scratch copy of a file was read as a valid database that the command accepts; reports why if it
+// wasn't. The scratch copy still exists, since the report may read it again.
+fn admit_scratch<D: Disk + Drop, E: Write>(
     host: LocalHost<'_>,
     file: ReorderTarget<'_>,
     scratch: &str,
     found: CheckResult<D>,
     errors: &mut E,
-) -> (Result<(), ErrorCode>, Judged<D>)
+) -> (Result<(), ErrorCode>, ReadResult<D>)
     ensures admitted { (image : Image) → IfOk found (λ it. IsReadAs image it.0 it.1)
         → IfErr found (FailsToRead image) → IsAdmitted image file.entry.takes_old result.0 result.1 }
     ensures quiet { OnOk result.0 (E.contents errors.new ≡ E.contents errors.old) }
@@ -187,8 +190,8 @@ fn judge<D: Disk + Drop, E: Write>(
     }
 }
 
-// Puts a file in order, and reports that; or reports why not.
-fn order<P: Folder, E: Write>(
+// Reorders a file, and reports that it succeeded or why it failed.
+fn reorder_or_report<P: Folder, E: Write>(
     host: LocalHost<'_>,
     folder: &mut P,
     path: &str,
@@ -204,11 +207,11 @@ fn order<P: Folder, E: Write>(
         report_of(host.alloc(), path, cause, errors);
         return Err(ErrorCode::Store);
     }
-    report_reordered(host.alloc(), path, errors);
+    report_of(host.alloc(), path, REORDERED, errors);
     Ok(())
 }
 
-// Whether a line doesn't take a file, since that is of schema 1.
+// Whether a command refuses a file since that is of schema 1.
 fn is_too_old(takes_old: bool, is_old: bool) -> bool
     ensures old { result ≡ true → (takes_old ≡ false) × (is_old ≡ true) }
     ensures taken { result ≡ false → takes_old ≡ false → is_old ≡ false }
@@ -217,18 +220,4 @@ fn is_too_old(takes_old: bool, is_old: bool) -> bool
         return false;
     }
     is_old
-}
-
-// Reports that a file was put in order. A fault of the writer is passed over, and so is lack of memory.
-fn report_reordered<E: Write>(alloc: Global, path: &str, errors: &mut E)
-    ensures { IsWrittenIfRoom (spec.reordered_line path.now) (bytes_written E.Write errors.old errors.new) }
-{
-    report_of(alloc, path, reordered_text(), errors);
-}
-
-// What is said of a file that was put in order.
-fn reordered_text() -> &'static str
-    ensures { result.now ≡ spec.reordered_text }
-{
-    "its tables are put in a desk's own order"
 }

@@ -1,6 +1,5 @@
-//! A look at a file, and a copy of it, by a scratch copy: a copy beside it, or beside the new file, that is
-//! read in its place and is removed afterwards. The file itself is not opened as a desk's, and so is left as
-//! it is.
+//! The commands `check` and `copy` by a scratch copy, which is read in place of the file and removed
+//! afterwards. The file itself isn't opened as a database, and so isn't changed.
 
 ghost use Rattle.std.specs.Prelude.{◌≡◌, IfErr, IfOk, IfSome, string_bytes};
 ghost use Rattle.sqlite_wal.specs.Files.{image_at};
@@ -32,18 +31,19 @@ use sqlite_disk::Disk;
 use std::alloc::{AllocError, Global};
 use std::io::Write;
 
-/// What is said of the rows of a file whose pages lack their sums.
+/// What is reported of the rows of a file whose pages have wrong checksums.
 #[derive(Clone, Copy, Debug, PartialEq, Eq)]
 pub enum Rows {
-    /// They are a desk's.
+    /// They are those of a valid database.
     OfADesk,
-    /// They are no desk's, or can't be read.
+    /// They are invalid, or can't be read.
     OfNoDesk,
     /// They were copied, and nothing else was tested.
     TestedAlone,
 }
 
 impl Rows {
+    // The words of the report.
     fn text(self) -> &'static str
         ensures { result.now ≡ spec.rows_text self }
     {
@@ -55,16 +55,16 @@ impl Rows {
     }
 }
 
-/// A connection with which the files of a disk `D` were looked at, or what refused them.
-pub type Judged<D> = Result<Connection<FileStore<D>>, OpenError<D>>;
+/// A connection to files of a disk `D`, or why these were refused.
+pub type ReadResult<D> = Result<Connection<FileStore<D>>, OpenError<D>>;
 
-/// The same, with what the files hold.
+/// The same, with the statistics of the files.
 pub type CheckResult<D> = Result<(Connection<FileStore<D>>, CheckedFile), OpenError<D>>;
 
-/// Prints what a file holds, read in its way by a scratch copy beside it, and answers how that ended and the
-/// connection to the scratch copy, or why it can't be read; nothing if there is no scratch copy. What its
-/// rows are, if its pages lack their sums, that its tables stand in another order, or why there is no scratch
-/// copy, and the word of the failure, go to `errors`; a fault there is passed over.
+/// Runs the command `check` by a scratch copy beside the file, made as `way` says. Returns the exit report,
+/// and the connection to the scratch copy or why it can't be read; `None` if there is no scratch copy. What
+/// is wrong with the file (checksums, table order), causes and error codes go to `errors`; a failed write
+/// there is ignored.
 pub fn check_by_scratch<F: Start, P: Folder, W: Write + Drop, E: Write + Drop>(
     host: LocalHost<'_>,
     folder: &mut P,
@@ -98,16 +98,16 @@ pub fn check_by_scratch<F: Start, P: Folder, W: Write + Drop, E: Write + Drop>(
     (exit, Some(judged))
 }
 
-/// The exit status of a look by a scratch copy. What was looked at, on whatever disk it is, is closed.
-pub fn status_judged<D: Disk + Drop, E>(judged: (ExitReport<E>, Option<Judged<D>>)) -> u8
+/// The exit status of `check_by_scratch`. The scratch copy is closed.
+pub fn status_judged<D: Disk + Drop, E>(judged: (ExitReport<E>, Option<ReadResult<D>>)) -> u8
     ensures { result ≡ judged.0.status }
 {
     let (exit, _) = judged;
     exit.status
 }
 
-// Reports what the scratch copy of a file showed, and prints what its rows are. The scratch copy is still
-// there.
+// Prints the statistics of a file, read from its scratch copy, or reports why that is refused. The scratch
+// copy still exists, since the report may read it again.
 fn report_found<D: Disk + Drop, W: Write + Drop, E: Write + Drop>(
     host: LocalHost<'_>,
     path: &str,
@@ -115,14 +115,14 @@ fn report_found<D: Disk + Drop, W: Write + Drop, E: Write + Drop>(
     way: ReadMode,
     found: CheckResult<D>,
     writers: &mut Writers<W, E>,
-) -> (ExitReport<E>, Judged<D>)
+) -> (ExitReport<E>, ReadResult<D>)
     ensures { (image : Image) → IfOk found (λ it. IsReadAs image it.0 it.1) → IfErr found (FailsToRead image)
         → IsJudged image path.now way result.1 (ended E.Write result.0 writers.old.errors writers.new.errors)
         (bytes_written W.Write writers.old.output writers.new.output) }
 {
     match found {
         Ok((connection, file)) => {
-            report_taken(host.alloc(), path, way, &mut writers.errors);
+            report_defect(host.alloc(), path, way, &mut writers.errors);
             let exit = print_checked(
                 host.alloc(),
                 &file,
@@ -132,7 +132,7 @@ fn report_found<D: Disk + Drop, W: Write + Drop, E: Write + Drop>(
             (exit, Ok(connection))
         }
         Err(unread) => {
-            let exit = refuse(
+            let exit = report_refused(
                 host,
                 path,
                 scratch,
@@ -145,8 +145,8 @@ fn report_found<D: Disk + Drop, W: Write + Drop, E: Write + Drop>(
     }
 }
 
-// Prints what is said of the way of a file whose scratch copy is a desk's.
-fn report_taken<E: Write>(alloc: Global, path: &str, way: ReadMode, errors: &mut E)
+// Reports what is wrong with a file whose scratch copy is a valid database: its checksums or its table order.
+fn report_defect<E: Write>(alloc: Global, path: &str, way: ReadMode, errors: &mut E)
     ensures { IsNotedIf (spec.taken_line path.now way) (bytes_written E.Write errors.old errors.new) }
 {
     match way {
@@ -156,8 +156,8 @@ fn report_taken<E: Write>(alloc: Global, path: &str, way: ReadMode, errors: &mut
     }
 }
 
-// Reports why a file whose scratch copy is refused is refused, and the word of the failure.
-fn refuse<E: Write>(
+// Reports why the scratch copy of a file is refused, and prints the error code.
+fn report_refused<E: Write>(
     host: LocalHost<'_>,
     path: &str,
     scratch: &str,
@@ -168,15 +168,21 @@ fn refuse<E: Write>(
     ensures { IsScratchRefused path.now way failure (ended E.Write result errors.old errors.new) }
 {
     match way {
-        ReadMode::BadChecksums(pages) => refuse_rows(host.alloc(), path, pages, failure, errors),
+        ReadMode::BadChecksums(pages) => report_invalid_rows(
+            host.alloc(),
+            path,
+            pages,
+            failure,
+            errors,
+        ),
         ReadMode::Itself | ReadMode::Damaged | ReadMode::OtherOrder => {
-            refuse_as(host, path, scratch, failure, errors)
+            report_refused_as(host, path, scratch, failure, errors)
         }
     }
 }
 
-// Reports what the scratch copy of a file is refused for, as of the file, and the word of the failure.
-fn refuse_as<E: Write>(
+// Reports why the scratch copy of a file is refused, under the name of the file, and prints the error code.
+fn report_refused_as<E: Write>(
     host: LocalHost<'_>,
     path: &str,
     scratch: &str,
@@ -189,9 +195,9 @@ fn refuse_as<E: Write>(
     report_exit(errors, Err(failure))
 }
 
-// Reports that the rows of a scratch copy are no desk's, if it wasn't memory that ran out, and the word of
-// the failure.
-fn refuse_rows<E: Write>(
+// Reports that the rows of a file with wrong checksums are invalid, and prints the error code. If memory ran
+// out, only that code is printed: it says nothing about the rows.
+fn report_invalid_rows<E: Write>(
     alloc: Global,
     path: &str,
     pages: u64,
@@ -209,9 +215,10 @@ fn refuse_rows<E: Write>(
     }
 }
 
-/// Copies what a file holds, read by a scratch copy beside the new file, as `copy_file` does, and answers the
-/// same; nothing if there is no scratch copy. Why there is none, and the word of the failure, go to `errors`;
-/// and if its pages lack their sums and it was copied, that its rows alone were tested.
+/// Runs the command `copy` by a scratch copy beside the new file, made as `way` says and read as by
+/// `copy_file`. Returns the same, but `None` if there is no scratch copy, whose cause goes to `errors` with
+/// the error code. After a copy of a file with wrong checksums, `errors` also gets a line that its rows alone
+/// were tested.
 pub fn copy_by_scratch<F: Start, N: Start, P: Folder, W: Write + Drop, E: Write + Drop>(
     host: LocalHost<'_>,
     folder: &mut P,
@@ -249,7 +256,7 @@ pub fn copy_by_scratch<F: Start, N: Start, P: Folder, W: Write + Drop, E: Write 
     (exit, Some(copied))
 }
 
-/// The exit status of a copy by a scratch copy. What was copied, on whatever disk it is, is closed.
+/// The exit status of `copy_by_scratch`. All files are closed.
 pub fn status_twinned<D: Disk + Drop, N: Disk + Drop, E>(
     copied: (ExitReport<E>, Option<Result<Copies<D, N>, CopyEnd<D, N>>>),
 ) -> u8
@@ -259,7 +266,8 @@ pub fn status_twinned<D: Disk + Drop, N: Disk + Drop, E>(
     exit.status
 }
 
-// Reports that the rows alone were tested of a file that was copied with this status.
+// Reports that nothing but the rows was tested of a file with wrong checksums, if its copy succeeded
+// (`status` is 0).
 fn report_tested<E: Write>(alloc: Global, path: &str, way: ReadMode, status: u8, errors: &mut E)
     ensures { IsTestReported path.now way status (bytes_written E.Write errors.old errors.new) }
 {
@@ -268,29 +276,34 @@ fn report_tested<E: Write>(alloc: Global, path: &str, way: ReadMode, status: u8,
     }
 }
 
-// Reports of a file how many of its pages lack their sums, and what its rows are. A fault of the writer is
-// passed over, and so is lack of memory.
+// Reports how many pages of a file have wrong checksums, and what is known of its rows. A failed write and
+// running out of memory are ignored.
 fn report_rows<E: Write>(alloc: Global, path: &str, pages: u64, rows: Rows, errors: &mut E)
     ensures { IsWrittenIfRoom (spec.rows_line path.now pages rows)
         (bytes_written E.Write errors.old errors.new) }
 {
-    if let Ok(line) = unsummed_line(alloc, path, pages, rows.text()) {
+    if let Ok(line) = bad_checksums_line(alloc, path, pages, rows.text()) {
         report_line(&line, errors);
     }
 }
 
-// Reports that the tables of a file stand in another order. A fault of the writer is passed over, and so is
-// lack of memory.
+// Reports that a file lists its tables in a non-canonical order. A failed write and running out of memory are
+// ignored.
 fn report_order<E: Write>(alloc: Global, path: &str, errors: &mut E)
     ensures { IsWrittenIfRoom (spec.order_line path.now) (bytes_written E.Write errors.old errors.new) }
 {
     report_of(alloc, path, order_text(), errors);
 }
 
-// The line that says of pages without their sums, and what their rows are.
-#[tactic(auto, unfolding(crate::specs::ScratchCopies::unsummed_line))]
-fn unsummed_line(alloc: Global, path: &str, pages: u64, text: &str) -> Result<String, AllocError>
-    ensures { IfOk result (λ line. string_bytes line ≡ spec.unsummed_line path.now pages text.now) }
+// The line that reports wrong checksums, and what is known of the rows.
+#[tactic(auto, unfolding(crate::specs::ScratchCopies::bad_checksums_line))]
+fn bad_checksums_line(
+    alloc: Global,
+    path: &str,
+    pages: u64,
+    text: &str,
+) -> Result<String, AllocError>
+    ensures { IfOk result (λ line. string_bytes line ≡ spec.bad_checksums_line path.now pages text.now) }
 {
     format!(in alloc;
         "uss_desk: {path}: {pages} pages without their sums, as sqlite3 leaves them; the rows {text}\n"

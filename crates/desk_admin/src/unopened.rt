@@ -14,17 +14,18 @@ use sqlite_disk::Disk;
 use std::alloc::AllocError;
 use std::snapshot::Snapshot;
 
-/// Why a database was not opened. What refused it is closed, and clauses alone read what it was.
+/// Why a database was not opened. Files that were refused are closed; only clauses read the snapshot of them.
 #[derive(Drop)]
 pub struct OpenError<D: Disk> {
-    /// The failure with which the line ends.
+    /// The error code with which the command ends.
     pub failure: ErrorCode,
-    /// What refused the files, if files were asked for.
+    /// The error of the files, if these were refused.
     pub refused: Option<Snapshot<FilesFault<D>>>,
 }
 
 impl<D: Disk + Drop> OpenError<D> {
-    /// Files were refused. Their connection is closed, so that they can be looked at again.
+    /// The error of files that were refused. Their connection is closed, so that the report can read them
+    /// again.
     pub fn of(refused: FilesFault<D>) -> OpenError<D>
         ensures failure { result.failure ≡ spec.open_failure refused.fault }
         ensures refused { IsSomeAnd result.refused (λ s. s.value ≡ refused) }
@@ -35,7 +36,7 @@ impl<D: Disk + Drop> OpenError<D> {
         }
     }
 
-    /// No files were asked for.
+    /// An error before any file was opened.
     pub fn unread(fault: OpenFault) -> OpenError<D>
         ensures { IsUnreadFor result fault }
     {
@@ -57,10 +58,10 @@ impl<D: Disk + Drop> From<AllocError> for OpenError<D> {
     }
 }
 
-/// Why files were not opened, where `F` stands for what they held.
+/// Why files were not opened, where `F` stands for their content.
 pub type FileOpenError<F> = OpenError<FileFrom<F>>;
 
-/// What was opened over files, on whatever disk they are, or the failure alone.
+/// What was opened, or the error code alone. Refused files are closed.
 pub fn or_failure<D: Disk + Drop, T>(opened: Result<T, OpenError<D>>) -> Result<T, ErrorCode>
     ensures { result ≡ spec.or_failure opened }
 {
@@ -70,7 +71,8 @@ pub fn or_failure<D: Disk + Drop, T>(opened: Result<T, OpenError<D>>) -> Result<
     }
 }
 
-/// The failure with which the program ends if a database can't be opened: its word is that of `open_word`.
+/// The error code with which the program ends if a database can't be opened. It is printed as `open_word`
+/// says.
 pub fn open_failure(fault: &OpenFault) -> ErrorCode
     ensures failure { result ≡ spec.open_failure fault.now }
     ensures word { failure_word result ≡ open_word fault.now }

@@ -1,5 +1,5 @@
--- Causes: what is said of an error of the operating system at a file of operators, or at a folder of
--- records.
+-- Causes: what is reported of an error of the operating system at a file of operators, or at a folder of
+-- journals.
 use Rattle.std.specs.Prelude.{◌≡◌, ◌⊎◌, ℕ, List, codes, Option, None, Some}
 use Rattle.std.specs.declared.io.ErrorKind.{ErrorKind}
 use Rattle.std.specs.declared.io.ErrorKind.TheVariants as kind
@@ -11,7 +11,7 @@ use Rattle.desk_host.specs.declared.folders.JournalError.TheVariants as unkept
 use Rattle.desk_host.specs.declared.operators.FileReadError.{FileReadError}
 use Rattle.desk_host.specs.declared.operators.FileReadError.TheVariants as unread
 
--- the text that is said of a file that can't be read; none where memory ran out
+-- the text that is reported of a file that can't be read; none where memory ran out
 abbrev pub unread_text : FileReadError → Option (List ℕ)
 unread_text unread.Memory = None
 unread_text (unread.Cause cause) = Some cause.now
@@ -23,12 +23,12 @@ unread_by kind.NotFound = Some (codes "no such file")
 unread_by kind.PermissionDenied = Some (codes "no right to read it")
 unread_by _ = Some (codes "it can't be read")
 
--- the text that is said of a record that can't be read or kept; none where memory ran out
+-- the text that is reported of a journal that can't be read or kept; none where memory ran out
 abbrev pub unkept_text : JournalError → Option (List ℕ)
 unkept_text unkept.Memory = None
 unkept_text (unkept.Cause cause) = Some cause.now
 
--- the same by the kind of the error, and by why the end of a record is not read
+-- the same by the kind of the error, and by why the end of a journal is not read
 abbrev pub unkept_by : ErrorKind → Option (List ℕ)
 unkept_by kind.OutOfMemory = None
 unkept_by kind.NotFound = Some (codes "no such folder")
@@ -45,12 +45,12 @@ unkept_tail tail.OutOfMemory = None
 unkept_tail tail.Read = Some (codes "its last record can't be read")
 unkept_tail tail.NoRecord = Some (codes "its last record is none of a desk")
 
--- why a record can't be read or kept: by an error of the operating system
+-- why a journal can't be read or kept: by an error of the operating system
 pub record IsUnkept (fault : JournalError) : Type 0 where
   pub kind : ErrorKind
   pub text : unkept_text fault ≡ unkept_by kind
 
--- why the end of a record is not read that holds these bytes, if they are known
+-- why the end of a journal is not read that holds these bytes, if they are known
 pub record IsTailFault (bytes : Option (List ℕ)) (fault : JournalError) : Type 0 where
   pub tail : TailFault
   pub has : HasNoTail bytes tail

@@ -1,4 +1,4 @@
--- DamageReported: what is said of a damaged log, and which files are opened.
+-- DamageReported: what is reported of a damaged WAL, and which files are opened.
 use Rattle.std.specs.Prelude.{◌≡◌, ◌⊎◌, ℕ, Bool, true, false, if◌then◌else◌, List, ◌++◌, codes, decimal}
 use Rattle.std.specs.Prelude.{Option, IfSome, Result, Ok, Err}
 use Rattle.std.specs.declared.io.Read as read
@@ -17,13 +17,13 @@ use Rattle.desk_host.specs.declared.damage.LogCheck.{LogCheck}
 use Rattle.desk_host.specs.declared.damage.LogCheckError.{LogCheckError}
 use Rattle.desk_host.specs.declared.damage.LogCheckError.TheVariants as unlooked
 
--- the line that reports the damage in the log of a file
+-- the line that reports the damage in the WAL of a file
 unfoldable pub damage_line : List ℕ → ℕ → ℕ → List ℕ
 damage_line path frame commits =
     codes "uss_desk: " ++ (path ++ (codes ": its log is damaged at frame " ++ (decimal frame ++ (codes ": "
     ++ (decimal commits ++ codes " commits from there on can't be read\n")))))
 
--- a log is damaged, and that is reported, up to the write that broke off
+-- a WAL is damaged, and that is reported, up to the write that broke off
 pub record IsLossReported {E : Type 0} (path log : List ℕ) (cut : Option (WriteError E))
     (writes : Course (Option (List ℕ))) : Type 0 where
   pub frame : ℕ
@@ -31,13 +31,13 @@ pub record IsLossReported {E : Type 0} (path log : List ℕ) (cut : Option (Writ
   pub damaged : IsDamaged log frame commits
   pub reported : IsWrittenUpTo (damage_line path frame commits) cut writes
 
--- a log is not damaged, and nothing is reported
+-- a WAL is not damaged, and nothing is reported
 abbrev pub IsUndamaged : List ℕ → Course (Option (List ℕ)) → Type 0
 IsUndamaged log writes =
     ((frame commits : ℕ) → ¬ IsDamaged log frame commits) × (writes.after ≡ writes.before)
 
--- A file with this log is admitted if the log is not damaged, or if the file is copied: then the loss is
--- reported. It is refused if the log is damaged and the file is not copied. If nothing is known of the log,
+-- A file with this WAL is admitted if the WAL is not damaged, or if the file is copied: then the loss is
+-- reported. It is refused if the WAL is damaged and the file is not copied. If nothing is known of the WAL,
 -- nothing is reported.
 abbrev pub IsLookedAt :
     {E : Type 0} → Bool → List ℕ → List ℕ → Result (LogCheck E) LogCheckError → Course (Option (List ℕ))
@@ -47,23 +47,23 @@ IsLookedAt copied path log (Ok look) writes =
     ⊎ ((look.is_admitted ≡ copied) × (look.is_damaged ≡ true) × IsLossReported path log look.cut writes)
 IsLookedAt copied path log (Err it) writes = writes.after ≡ writes.before
 
--- why nothing is known of a log: memory ran out for the line that reports its damage, or it can't be read
+-- why nothing is known of a WAL: memory ran out for the line that reports its damage, or it can't be read
 abbrev pub HasLogCheckCause : Option (List ℕ) → LogCheckError → Type 0
 HasLogCheckCause log unlooked.OutOfMemory =
     IfSome log (λ bytes. (frame commits : ℕ) × IsDamaged bytes frame commits)
 HasLogCheckCause log (unlooked.Unread fault) = IsUnjudged log fault
 
--- whether a command is begun at a file, by what came of the look at its log, and whether that is damaged
+-- whether a command is begun at a file, by what came of the look at its WAL, and whether that is damaged
 abbrev pub admission_of : {E : Type 0} → Result (LogCheck E) LogCheckError → Result Bool ErrorCode
 admission_of (Ok look) = if look.is_admitted then Ok look.is_damaged else Err failure.DamagedLog
 admission_of (Err unlooked.OutOfMemory) = Err failure.Memory
 admission_of (Err (unlooked.Unread fault)) = Err failure.Store
 
--- what is said of a log that is there without its file
+-- what is reported of a WAL that is there without its file
 abbrev pub alone_text : List ℕ
 alone_text = codes "its log is there without it: was it moved or removed while a desk ran?"
 
--- a look at a log, of which this came
+-- a look at a WAL, of which this came
 pub record HasLooked (E : Type 0) (copied : Bool) (path log : List ℕ) (result : Result Bool ErrorCode)
     (writes : Course (Option (List ℕ))) : Type 0 where
   pub look : Result (LogCheck E) LogCheckError
@@ -72,13 +72,13 @@ pub record HasLooked (E : Type 0) (copied : Bool) (path log : List ℕ) (result 
 
 -- ---- of a log of which nothing is known
 
--- damage is reported, wherever in the log it is
+-- damage is reported, wherever in the WAL it is
 pub record ReportsLoss (path : List ℕ) (writes : Course (Option (List ℕ))) : Type 0 where
   pub frame : ℕ
   pub commits : ℕ
   pub reported : IsWrittenOnce (damage_line path frame commits) writes
 
--- what is reported by what came of a look at a log: damage, of a log that is called damaged; else nothing
+-- what is reported by what came of a look at a WAL: damage, of a WAL that is called damaged; else nothing
 abbrev pub IsLogCheckReported :
     {E : Type 0} → Bool → List ℕ → Result (LogCheck E) LogCheckError → Course (Option (List ℕ)) → Type 0
 IsLogCheckReported copied path (Ok look) writes =
@@ -86,7 +86,7 @@ IsLogCheckReported copied path (Ok look) writes =
     ⊎ ((look.is_admitted ≡ copied) × (look.is_damaged ≡ true) × ReportsLoss path writes)
 IsLogCheckReported copied path (Err it) writes = writes.after ≡ writes.before
 
--- what is reported by what came of it, and of a log that is there without its file
+-- what is reported by what came of it, and of a WAL that is there without its file
 abbrev pub IsBegun : Bool → List ℕ → Result Bool ErrorCode → Course (Option (List ℕ)) → Type 0
 IsBegun copied path (Ok false) writes = writes.after ≡ writes.before
 IsBegun copied path (Ok true) writes = (copied ≡ true) × ReportsLoss path writes
@@ -95,8 +95,8 @@ IsBegun copied path (Err failure.Memory) writes = writes.after ≡ writes.before
 IsBegun copied path (Err failure.Store) writes = IsWrittenIfRoom (line_of path alone_text) writes
 IsBegun copied path (Err it) writes = ⊥
 
--- what comes of the log that was found: a file is refused whose log is there without it, and that is
--- reported; else a log is looked at, if there is one
+-- what comes of the WAL that was found: a file is refused whose WAL is there without it, and that is
+-- reported; else a WAL is looked at, if there is one
 abbrev pub IsJudged :
     {R E : Type 0} → read.Ghosts R → write.Ghosts E → Bool → List ℕ → FoundLog R → Result Bool ErrorCode
     → E → E → Type 0

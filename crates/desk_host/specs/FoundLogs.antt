@@ -1,4 +1,4 @@
--- FoundLogs: what the answers of the operating system say of a file and its log.
+-- FoundLogs: what the answers of the operating system say of a file and its WAL.
 use Rattle.std.specs.Prelude.{◌≡◌, ℕ, ◌==◌, Bool, true, false, nat_le, not, if◌then◌else◌, List, Option, None, Some}
 use Rattle.std.specs.Prelude.{Result, Ok, Err}
 use Rattle.std.specs.Option.{IsSomeAnd}
@@ -22,7 +22,7 @@ abbrev pub is_gone : Result Found ErrorKind → Bool
 is_gone (Err kind.NotFound) = true
 is_gone _ = false
 
--- how many bytes count of what stands at a path: those of a regular file
+-- how many bytes count of what is at a path: those of a regular file
 abbrev pub size_of : Result Found ErrorKind → ℕ
 size_of (Ok found) = if found.is_file then found.len else 0
 size_of (Err error) = 0
@@ -35,7 +35,7 @@ abbrev pub is_held : Option Denial → Bool
 is_held (Some denial.Busy) = true
 is_held _ = false
 
--- nothing is reached, or memory ran out, by the kind of the error
+-- nothing can be reached, or memory ran out, by the kind of the error
 abbrev pub unreached_by : {T : Type 0} → ErrorKind → Result (Option T) ErrorCode
 unreached_by kind.OutOfMemory = Err failure.Memory
 unreached_by _ = Ok None
@@ -45,20 +45,20 @@ abbrev pub if_there : {T : Type 0} → Result T ErrorKind → Result (Option T) 
 if_there (Ok it) = Ok (Some it)
 if_there (Err kind) = unreached_by kind
 
--- a log of so many bytes may have a commit, or be damaged
+-- a WAL of so many bytes may have a commit, or be damaged
 abbrev pub may_have_commit : ℕ → Bool
 may_have_commit size = nat_le least_with_commit size
 
 abbrev pub may_be_damaged : ℕ → Bool
 may_be_damaged size = nat_le least_damaged size
 
--- a log with a commit may be beside a file
+-- a WAL with a commit may be beside a file
 abbrev pub has_commit : Answers → List ℕ → Bool
 has_commit it path = may_have_commit (size_at it (log_of path))
 
--- the log of a file has to be judged, by where the file and the log lie
-abbrev pub is_judged : Answers → List ℕ → List ℕ → List ℕ → Bool
-is_judged it path real log = if size_at it real == 0 then false
+-- the WAL of a file has to be judged, by where the file and the WAL lie
+abbrev pub needs_check : Answers → List ℕ → List ℕ → List ℕ → Bool
+needs_check it path real log = if size_at it real == 0 then false
     else (if may_be_damaged (size_at it log) then not (is_held (it.unheld path)) else false)
 
 -- a path whose file can be opened, by why it can't be
@@ -66,29 +66,29 @@ abbrev pub opened_by : List ℕ → Option ErrorKind → Option (List ℕ)
 opened_by path None = Some path
 opened_by path (Some error) = None
 
--- the path of the log of a file that has to be judged, if it has one that can be opened: beside the file to
+-- the path of the WAL of a file that has to be judged, if it has one that can be opened: beside the file to
 -- which a link leads
 abbrev pub if_opened : Answers → List ℕ → Bool → Option (List ℕ)
 if_opened it log true = opened_by log (it.unread log)
 if_opened it log false = None
 
 abbrev pub judged_by : Answers → List ℕ → Result (List ℕ) ErrorKind → Option (List ℕ)
-judged_by it path (Ok real) = if_opened it (log_of real) (is_judged it path real (log_of real))
+judged_by it path (Ok real) = if_opened it (log_of real) (needs_check it path real (log_of real))
 judged_by it path (Err error) = None
 
 abbrev pub judged_log : Answers → List ℕ → Option (List ℕ)
 judged_log it path = judged_by it path (it.real path)
 
--- that log is open; or there is none
+-- that WAL is open; or there is none
 abbrev pub IsLogBeside : {R : Type 0} → read.Ghosts R → Answers → List ℕ → Option R → Type 0
 IsLogBeside r it path None = judged_log it path ≡ None
 IsLogBeside r it path (Some file) = IsSomeAnd (judged_log it path) (λ log. r.remaining file ≡ it.bytes log)
 
--- the log of a file is there without it
+-- the WAL of a file is there without it
 abbrev pub is_alone : Answers → List ℕ → Bool
 is_alone it path = if is_gone (it.found path) then has_commit it path else false
 
--- what a look for the log of a file finds
+-- what a look for the WAL of a file finds
 abbrev pub IsLogAt : {R : Type 0} → read.Ghosts R → Answers → List ℕ → FoundLog R → Type 0
 IsLogAt r it path log.Alone = is_alone it path ≡ true
 IsLogAt r it path log.Nothing = (is_alone it path ≡ false) × IsLogBeside r it path None

@@ -44,19 +44,19 @@ is_dash byte = byte == 45
 abbrev pub number_of : List ℕ → Option ℕ
 number_of digits = if nat_lt (digits_value 10 digits) (2 ^ 64) then Some (digits_value 10 digits) else None
 
--- the number of a journal, by what stands for it, and for its second
-abbrev pub number_by : List ℕ → List ℕ → Option ℕ
-number_by number second = if nat_lt (length number) 10 then None
+-- the number of a journal, by the digits of it and of its second
+abbrev pub checked_number : List ℕ → List ℕ → Option ℕ
+checked_number number second = if nat_lt (length number) 10 then None
     else (if are_digits number then (if are_digits second then number_of number else None) else None)
 
--- so, by what stands before the end of the name
-abbrev pub number_before : List ℕ → Option ℕ
-number_before stem =
-    option_and_then (λ place. number_by (take place stem) (drop (place + 1) stem)) (position is_dash stem)
+-- so, by the name without its extension
+abbrev pub number_in_stem : List ℕ → Option ℕ
+number_in_stem stem =
+    option_and_then (λ i. checked_number (take i stem) (drop (i + 1) stem)) (position is_dash stem)
 
 -- a name is that of a journal of this number, or has none
 abbrev pub IsNumberIn : List ℕ → Option ℕ → Type 0
-IsNumberIn name number = ((stem : List ℕ) × (name ≡ stem ++ ending) × (number ≡ number_before stem))
+IsNumberIn name number = ((stem : List ℕ) × (name ≡ stem ++ ending) × (number ≡ number_in_stem stem))
     ⊎ (((stem : List ℕ) → name ≢ stem ++ ending) × (number ≡ None))
 
 -- ---- the journal with the greatest number

@@ -27,7 +27,7 @@ abbrev pub ok_of : {A E : Type 0} → Result A E → Option A
 ok_of (Ok it) = Some it
 ok_of (Err e) = None
 
--- what is said of a file gives its length, if it is one; else why it is not read
+-- what is reported of a file gives its length, if it is one; else why it is not read
 abbrev pub IsStampOf : Metadata → Result Stamp FileReadError → Type 0
 IsStampOf said (Ok stamp) = IsFile (file_type said) × (stamp.len ≡ metadata_len said)
 IsStampOf said (Err fault) = ¬ IsFile (file_type said) × (unread_text fault ≡ Some (codes "no file"))
@@ -43,7 +43,7 @@ pub record IsUnreadBySystem (fault : FileReadError) : Type 0 where
 abbrev pub IsUnstamped : FileReadError → Type 0
 IsUnstamped fault = IsUnreadBySystem fault ⊎ (unread_text fault ≡ Some (codes "no file"))
 
--- the most bytes of a file that is read, and what is said of a longer one
+-- the most bytes of a file that is read, and what is reported of a longer one
 abbrev pub max_bytes : ℕ
 max_bytes = 1048576
 
@@ -66,12 +66,12 @@ IsUnreadIf (Some kind) result = IsErrAnd result (λ fault. unread_text fault ≡
 IsUnreadIf None result = ⊤
 
 -- a line is neither empty nor an enrolment
-abbrev pub is_unread : List ℕ → Bool
-is_unread line = if length line == 0 then false else is_none (enrolment_on line)
+abbrev pub is_malformed : List ℕ → Bool
+is_malformed line = if length line == 0 then false else is_none (enrolment_on line)
 
--- what is said of a line that can't be read, and of those past the first ones
-unfoldable pub unread_line : ℕ → List ℕ
-unread_line number = codes "line " ++ (decimal number ++ codes " is not NAME CEILING, and passed over")
+-- what is reported of a line that can't be read, and of those past the first ones
+unfoldable pub malformed_line : ℕ → List ℕ
+malformed_line number = codes "line " ++ (decimal number ++ codes " is not NAME CEILING, and passed over")
 
 unfoldable pub more_lines : ℕ → List ℕ
 more_lines count = decimal count ++ codes " more such lines"
@@ -95,16 +95,16 @@ abbrev pub HasUnreadCause : List ℕ → Course (Option (List Asking)) → FileR
 HasUnreadCause path files Memory = ⊤
 HasUnreadCause path files (Cause text) = IsFileUnread path files
 
--- the news of a file: none if its stamp is the one that was seen; else those of its text, and its stamp is
--- seen then; or it can't be read, and none is
+-- the new enrolments of a file: none if its stamp is the one that was seen; else those of its text, and its
+-- stamp is seen then; or it can't be read, and none is
 pub record AreNewsAt (path : List ℕ) (seen : Course (Option Stamp)) (files : Course (Option (List Asking)))
     (news : List Enrolment) : Type 0
   where
     pub stamp : Option Stamp
     pub between : Option (List Asking)
     pub stamped : Grows files.before between (Stamped path stamp ∷ [])
-    pub reported : (IsSome stamp × (stamp ≡ seen.before) × (seen.after ≡ seen.before) × (files.after ≡ between)
-        × (news ≡ []))
+    pub reported : (IsSome stamp × (stamp ≡ seen.before) × (seen.after ≡ seen.before)
+        × (files.after ≡ between) × (news ≡ []))
         ⊎ ((AreEnrolmentsRead path (course between files.after) news × (seen.after ≡ stamp))
         ⊎ (IsFileUnread path (course between files.after) × (seen.after ≡ None) × (news ≡ [])))
 

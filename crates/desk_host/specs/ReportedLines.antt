@@ -1,8 +1,8 @@
--- ReportedLines: which lines of a file of enrolments are reported as unread.
+-- ReportedLines: which lines of a file of enrolments are reported as malformed.
 use Rattle.std.specs.Prelude.{◌≡◌, ℕ, ◌+◌, ◌-◌, ◌^◌, min, nat_le, nat_lt, if◌then◌else◌, List, [], ◌∷◌, ◌++◌}
 use Rattle.std.specs.Prelude.{Option}
 use Rattle.desk_wire.specs.Passage.{course}
-use Rattle.desk_host.specs.Operators.{is_unread, more_lines, unread_line}
+use Rattle.desk_host.specs.Operators.{is_malformed, more_lines, malformed_line}
 use Rattle.host_files.specs.Reporting.{IsWrittenIfRoom, line_of}
 use Rattle.desk_host.specs.declared.operators.LineCounts.{LineCounts}
 
@@ -24,25 +24,26 @@ one_more count = min (count + 1) (2 ^ 32 - 1)
 abbrev pub counted_with : List ℕ → LineCounts → LineCounts
 counted_with line so_far = record {
   lines = one_more so_far.lines;
-  unread = if is_unread line then one_more so_far.unread else so_far.unread;
+  malformed = if is_malformed line then one_more so_far.malformed else so_far.malformed;
 }
 
--- what is said of the last of the lines that were looked at
+-- what is reported of the last of the lines that were looked at
 abbrev pub line_reported : List ℕ → List ℕ → LineCounts → List (List ℕ)
-line_reported path line so_far = if is_unread line then (if nat_le so_far.unread reported_lines
-    then line_of path (unread_line so_far.lines) ∷ [] else []) else []
+line_reported path line so_far = if is_malformed line then (if nat_le so_far.malformed reported_lines
+    then line_of path (malformed_line so_far.lines) ∷ [] else []) else []
 
--- what is said of those that were not reported one by one
+-- what is reported of those that were not reported one by one
 abbrev pub rest_reported : List ℕ → ℕ → List (List ℕ)
-rest_reported path unread =
-    if nat_lt reported_lines unread then line_of path (more_lines (unread - reported_lines)) ∷ [] else []
+rest_reported path malformed =
+    if nat_lt reported_lines malformed then line_of path (more_lines (malformed - reported_lines)) ∷ []
+    else []
 
--- what is said of lines, once so many were looked at
+-- what is reported of lines, once so many were looked at
 abbrev pub lines_reported_after : List ℕ → LineCounts → List (List ℕ) → List (List ℕ)
-lines_reported_after path so_far [] = rest_reported path so_far.unread
+lines_reported_after path so_far [] = rest_reported path so_far.malformed
 lines_reported_after path so_far (line ∷ lines) = line_reported path line (counted_with line so_far)
     ++ lines_reported_after path (counted_with line so_far) lines
 
--- what is said of all lines of a file
+-- what is reported of all lines of a file
 abbrev pub lines_reported : List ℕ → List (List ℕ) → List (List ℕ)
-lines_reported path lines = lines_reported_after path (record { lines = 0; unread = 0 }) lines
+lines_reported path lines = lines_reported_after path (record { lines = 0; malformed = 0 }) lines

@@ -11,7 +11,7 @@ use Rattle.host_files.specs.Naming.{Cleared, Failed, Follows, Removed, Step, Ste
 abbrev pub scratch_of : List ℕ → List ℕ
 scratch_of path = path ++ codes ".twin"
 
--- the names of the scratch copy beside a path, and of its log
+-- the names of the scratch copy beside a path, and of its WAL
 pub record AreTwins (path : List ℕ) (scratch : ScratchCopy) : Type 0 where
   pub path_is : string_bytes scratch.path ≡ scratch_of path
   pub log_is : string_bytes scratch.log ≡ log_of (scratch_of path)
@@ -27,7 +27,7 @@ pub record IsAsked (step : Step) (steps : Steps) : Type 0 where
   pub is_done : Bool
   pub made : Takes steps is_done step
 
--- a scratch copy and its log are removed, as far as they can be
+-- a scratch copy and its WAL are removed, as far as they can be
 pub record AreRemoved (scratch : List ℕ) (steps : Steps) : Type 0 where
   pub between : Option (List Step)
   pub file : IsAsked (Removed scratch) (course steps.before between)

@@ -1,4 +1,4 @@
-//! The log of a file, looked at before the file is opened.
+//! Checks the WAL of a database file before the file is opened.
 
 ghost use Rattle.std.specs.Prelude.{◌≡◌, ℕ, false, IfErr, IfNone, IfOk, IfSome, List, Ok, length};
 ghost use Rattle.std.specs.Prelude.{string_bytes};
@@ -21,27 +21,27 @@ use io_ends::WriteError;
 use std::alloc::{AllocError, Global};
 use std::io::{Read, Write};
 
-// How many bytes a damaged log has at least.
+// The fewest bytes of a damaged WAL: its header, and two frames with pages of 512 bytes.
 const LEAST_DAMAGED: u64 = 1_104;
 
-// How many a log with a commit has at least.
+// The fewest bytes of a WAL with a commit: its header, and one such frame.
 const LEAST_WITH_A_COMMIT: u64 = 568;
 
-// What is said of a file that isn't there, and its log is.
+// The cause for a WAL whose database file doesn't exist.
 const LOG_ALONE: &str = "its log is there without it: was it moved or removed while a desk ran?";
 
-/// What came of a look at a log that reports its damage to a writer of this type.
+/// The result of the check of a WAL, whose damage is reported to a writer of type `E`.
 #[derive_where(Clone, Copy, Debug, PartialEq, Eq)]
 pub struct LogCheck<E> {
-    /// Whether its file may be opened, or copied.
+    /// Whether the command goes on with the database file.
     pub is_admitted: bool,
-    /// Whether it is damaged.
+    /// Whether the WAL is damaged.
     pub is_damaged: bool,
-    /// Where the line that reports its damage was broken off, if it was.
+    /// Where the write of the report broke off, if it did.
     pub cut: Option<WriteError<E>>,
 }
 
-/// Why nothing is known of a log.
+/// Why a WAL was not checked.
 #[derive(Clone, Copy, Debug, PartialEq, Eq)]
 pub enum LogCheckError {
     /// Memory ran out for the line that reports its damage.
@@ -61,13 +61,14 @@ impl From<AllocError> for LogCheckError {
     }
 }
 
-/// Refuses a file whose log is damaged, or is there without it, and reports why. If it is to be copied, a
-/// copy is made of what can be read, and the loss is reported: then the log is damaged, which is the answer.
-/// A file that another program has open is not looked at: to open it reports that.
+/// Checks the WAL of a database. The file is refused if its WAL is damaged, or exists without it, and why is
+/// reported. A command that copies the file (`is_copied`) goes on with what can be read of a damaged WAL.
+/// Returns whether the WAL is damaged. If another program has the file open, nothing is checked: opening it
+/// reports that.
 ///
 /// # Errors
 ///
-/// `DamagedLog`; `Memory` if memory runs out; `Store` if the log can't be read, or is there without its file.
+/// `DamagedLog`; `Memory` if memory runs out; `Store` if the WAL can't be read, or exists without its file.
 pub fn check_before<E: Write>(
     rt: &HostRuntime,
     database: &Database,
@@ -85,7 +86,7 @@ pub fn check_before<E: Write>(
     }
 }
 
-// The same of the file at a path, among those of any machine.
+// What `check_before` does for the file at a path, over any `HostFiles`.
 fn check_beside<F: HostFiles, E: Write>(
     alloc: Global,
     files: &mut F,
@@ -97,13 +98,13 @@ fn check_beside<F: HostFiles, E: Write>(
     ensures opens { OpensAtMost F.HostFiles path.now files.old files.new }
 {
     let found = find_log(alloc, files, path)?;
-    judge_found(alloc, path, is_copied, found, errors)
+    check_found(alloc, path, is_copied, found, errors)
 }
 
-// Refuses a file whose log was found without it, or damaged, and reports why; or answers whether the log is
-// damaged of a file that is copied.
+// Refuses a file if the WAL that was found exists without it or is damaged, and reports why; else returns
+// whether the WAL is damaged, which only a command that copies the file accepts.
 #[tactic(auto, using(crate::proofs::LossLemmas::begins))]
-fn judge_found<R: Read + Drop, E: Write>(
+fn check_found<R: Read + Drop, E: Write>(
     alloc: Global,
     path: &str,
     is_copied: bool,
@@ -125,7 +126,7 @@ fn judge_found<R: Read + Drop, E: Write>(
     }
 }
 
-// Whether a command is begun at a file, by what came of the look at its log, and whether that is damaged.
+// Whether the WAL of an admitted file is damaged; or the error code, if the file is refused.
 fn admission_of<E>(look: Result<LogCheck<E>, LogCheckError>) -> Result<bool, ErrorCode>
     ensures { result ≡ spec.admission_of look }
 {
@@ -137,12 +138,12 @@ fn admission_of<E>(look: Result<LogCheck<E>, LogCheckError>) -> Result<bool, Err
     }
 }
 
-/// Looks at the log of the file at a path, and reports its damage, if there is some. If the file is to be
-/// copied it is admitted all the same.
+/// Checks a WAL, and reports its damage, if there is some. The file is still admitted if it is only copied
+/// (`is_copied`).
 ///
 /// # Errors
 ///
-/// As `LogCheckError` says.
+/// The WAL can't be read, or memory ran out for the report.
 #[tactic(auto, using(crate::proofs::LossLemmas::loss_reported))]
 pub fn check_log<R: Read, E: Write>(
     alloc: Global,
@@ -175,7 +176,7 @@ pub fn check_log<R: Read, E: Write>(
     }
 }
 
-// Reports that a log is damaged, and answers where that was broken off, if it was.
+// Reports that a WAL is damaged, and returns where the write broke off, if it did.
 fn report_damage<E: Write>(
     alloc: Global,
     path: &str,
@@ -191,7 +192,7 @@ fn report_damage<E: Write>(
     Ok(report_line(&line, errors))
 }
 
-// The line that reports damage.
+// The line that reports damage: from which frame on, and how many commits are lost.
 #[tactic(auto, unfolding(crate::specs::DamageReported::damage_line))]
 fn damage_line(alloc: Global, path: &str, frame: u64, commits: u64) -> Result<String, AllocError>
     ensures { IfOk result (λ line. string_bytes line ≡ spec.damage_line path.now frame commits) }
@@ -202,7 +203,7 @@ fn damage_line(alloc: Global, path: &str, frame: u64, commits: u64) -> Result<St
     )
 }
 
-/// Whether a log of so many bytes may have a commit.
+/// Whether a WAL of `size` bytes is long enough to have a commit.
 pub(crate) fn may_have_commit(size: u64) -> bool
     ensures exact { result ≡ logs.may_have_commit size }
     ensures none { result ≡ false → (log : List ℕ) → length log ≡ size → ¬ HasCommit log }
@@ -211,7 +212,7 @@ pub(crate) fn may_have_commit(size: u64) -> bool
     size >= LEAST_WITH_A_COMMIT
 }
 
-/// Whether a log of so many bytes may be damaged.
+/// Whether a WAL of `size` bytes is long enough to be damaged.
 pub(crate) fn may_be_damaged(size: u64) -> bool
     ensures exact { result ≡ logs.may_be_damaged size }
     ensures none { result ≡ false → (log : List ℕ) → length log ≡ size

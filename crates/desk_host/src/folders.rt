@@ -1,5 +1,5 @@
-//! The folder of a desk's records: the files in it, and how a new one gets its name. No clause reports what
-//! the operating system did.
+//! The folder of a desk's journals: which files it has, and how a new one gets its name. No contract says
+//! what the operating system did.
 
 ghost use Rattle.std.specs.Prelude.{◌≡◌, ◌≢◌, ◌++◌, IfErr, IfOk, IfSome, List, MatchOption};
 ghost use Rattle.std.specs.Prelude.{ℕ, string_bytes, true};
@@ -17,18 +17,18 @@ use std::fs::{self, File, OpenOptions};
 use std::io::{self, BufReader, ErrorKind, Read, Seek, SeekFrom, Write};
 use std::os::unix::fs::OpenOptionsExt;
 
-// What the name of a record ends with.
+// The extension of a journal's name.
 const ENDING: &str = ".record";
 
-// The fewest digits of a record's number in its name.
+// The fewest digits of the number in a journal's name.
 const DIGITS: usize = 10;
 
-/// Why a record can't be read or kept.
+/// Why a journal can't be read or written.
 #[derive(Drop)]
 pub enum JournalError {
     /// Memory ran out.
     Memory,
-    /// Another cause, as it is reported.
+    /// Another cause, in the words of a report.
     Cause(&'static str),
 }
 
@@ -79,29 +79,29 @@ impl From<io::Error> for JournalError {
     }
 }
 
-/// A record of a folder.
+/// A journal in a folder.
 #[derive(Drop)]
 pub struct JournalFile {
     /// The number in its name.
     pub number: u64,
     /// Its path.
     pub path: String,
-    /// How many bytes it has.
+    /// Its size in bytes.
     pub len: u64,
 }
 
-// The greatest number in the name of a record so far, and the path of that record.
+// The journal with the greatest number among the names read so far.
 #[derive(Drop)]
 struct Greatest {
     number: u64,
     path: String,
 }
 
-/// The record of a folder that has the greatest number in its name, if the folder has one.
+/// The journal with the greatest number in its name, if the folder has one.
 ///
 /// # Errors
 ///
-/// As `JournalError` says.
+/// The folder or the journal can't be read, or memory runs out.
 #[tactic(auto, using(crate::proofs::FaultLemmas::memory_unkept))]
 pub fn last_record(rt: &HostRuntime, folder: &str) -> Result<Option<JournalFile>, JournalError>
     ensures found { IfOk result (λ found. IfSome found (IsFoundIn folder.now)) }
@@ -110,7 +110,7 @@ pub fn last_record(rt: &HostRuntime, folder: &str) -> Result<Option<JournalFile>
     let mut greatest = None;
     for entry in fs::read_dir(rt, folder)? {
         let entry = entry?;
-        greatest = greater_of(rt.alloc(), folder, greatest, entry.file_name())?;
+        greatest = greater_journal(rt.alloc(), folder, greatest, entry.file_name())?;
     }
     let Some(Greatest { number, path }) = greatest else {
         return Ok(None);
@@ -119,8 +119,8 @@ pub fn last_record(rt: &HostRuntime, folder: &str) -> Result<Option<JournalFile>
     Ok(Some(JournalFile { number, path, len }))
 }
 
-// The record with the greatest number, after one more name.
-fn greater_of(
+// The journal with the greatest number: `greatest`, or the one called `name`, if that has a greater one.
+fn greater_journal(
     alloc: Global,
     folder: &str,
     greatest: Option<Greatest>,
@@ -140,7 +140,7 @@ fn greater_of(
     Ok(Some(Greatest { number, path }))
 }
 
-// Whether a number is above the greatest one so far.
+// Whether a number is greater than the greatest one so far.
 fn is_above(greatest: &Option<Greatest>, number: u64) -> bool
     ensures { result ≡ spec.is_above greatest.now number }
 {
@@ -150,17 +150,17 @@ fn is_above(greatest: &Option<Greatest>, number: u64) -> bool
     }
 }
 
-// The number in the name of a record, if this is one: `NNNNNNNNNN-SECOND.record`.
+// The number in the name of a journal, `NNNNNNNNNN-SECOND.record`. `None` for any other name.
 fn record_number(name: &str) -> Option<u64>
     ensures { IsNumberIn name.now result }
 {
     match stem_of(name) {
-        Some(stem) => number_before(stem),
+        Some(stem) => number_in_stem(stem),
         None => None,
     }
 }
 
-// What stands before the end of a record's name.
+// The name of a journal without its extension. `None` for any other name.
 fn stem_of(name: &str) -> Option<&str>
     ensures { MatchOption result ((stem : List ℕ) → name.now ≢ stem ++ spec.ending)
         (λ stem. name.now ≡ stem.now ++ spec.ending) }
@@ -168,17 +168,17 @@ fn stem_of(name: &str) -> Option<&str>
     name.strip_suffix(ENDING)
 }
 
-// The number of a record, by what stands before the end of its name.
-fn number_before(stem: &str) -> Option<u64>
-    ensures { result ≡ spec.number_before stem.now }
+// The number of a journal, by its name without the extension.
+fn number_in_stem(stem: &str) -> Option<u64>
+    ensures { result ≡ spec.number_in_stem stem.now }
 {
     let (number, second) = stem.split_once('-')?;
-    number_by(number, second)
+    checked_number(number, second)
 }
 
-// The number of a record, by what stands for it, and for its second.
-fn number_by(number: &str, second: &str) -> Option<u64>
-    ensures { result ≡ spec.number_by number.now second.now }
+// The number of a journal, if `number` has ten digits or more, and `second` is made of digits.
+fn checked_number(number: &str, second: &str) -> Option<u64>
+    ensures { result ≡ spec.checked_number number.now second.now }
 {
     if number.len() < DIGITS {
         return None;
@@ -192,7 +192,7 @@ fn number_by(number: &str, second: &str) -> Option<u64>
     number_of(number)
 }
 
-// The number that digits write, if 64 bits hold it.
+// The number that decimal digits write, if it fits 64 bits.
 #[tactic(auto, using(crate::proofs::JournalLemmas::number_read, crate::proofs::JournalLemmas::number_unread))]
 fn number_of(digits: &str) -> Option<u64>
     ensures { spec.are_digits digits.now ≡ true → result ≡ spec.number_of digits.now }
@@ -203,7 +203,7 @@ fn number_of(digits: &str) -> Option<u64>
     }
 }
 
-// Whether a text is digits alone, and has one.
+// Whether a text is made of decimal digits, and not empty.
 #[tactic(auto, unfolding(crate::specs::Journals::are_digits))]
 fn are_digits(text: &str) -> bool
     ensures { result ≡ spec.are_digits text.now }
@@ -214,14 +214,14 @@ fn are_digits(text: &str) -> bool
     all_digits(text.as_bytes())
 }
 
-// Whether all bytes are digits.
+// Whether all bytes are decimal digits.
 fn all_digits(bytes: &[u8]) -> bool
     ensures { result ≡ list_all is_ascii_digit bytes.now }
 {
     bytes.iter().all(|byte| byte.is_ascii_digit())
 }
 
-// The path of what has this name in a folder.
+// The path of the file `name` in a folder.
 #[tactic(auto, unfolding(crate::specs::Journals::path_in))]
 fn path_in(alloc: Global, folder: &str, name: &str) -> Result<String, AllocError>
     ensures { IfOk result (λ path. string_bytes path ≡ spec.path_in folder.now name.now) }
@@ -229,18 +229,18 @@ fn path_in(alloc: Global, folder: &str, name: &str) -> Result<String, AllocError
     format!(in alloc; "{folder}/{name}")
 }
 
-/// What a record says as it ends, and what stands behind its last whole entry.
+/// What the end of a journal says, and what follows its last whole entry.
 ///
 /// # Errors
 ///
-/// As `JournalError` says.
+/// The journal can't be read or is none, or memory runs out.
 pub fn tail_of(rt: &HostRuntime, record: &JournalFile) -> Result<(Tail, TailEnd), JournalError>
     ensures { IfErr result IsTailUnread }
 {
     tail_in(rt.alloc(), File::open(rt, &record.path)?)
 }
 
-// The same of a record that is open.
+// What `tail_of` returns, of a journal that is open.
 fn tail_in<R: Read + Drop>(alloc: Global, file: R) -> Result<(Tail, TailEnd), JournalError>
     ensures ok { IfOk result (λ read. IsTail (R.remaining file) read.1 (tail_shown read.0)) }
     ensures cause { IfErr result (IsTailFault (R.remaining file)) }
@@ -249,12 +249,13 @@ fn tail_in<R: Read + Drop>(alloc: Global, file: R) -> Result<(Tail, TailEnd), Jo
     Ok(read_tail(alloc, &mut input)?)
 }
 
-/// Moves what stands behind the last whole entry of a record to a file beside it, `NAME.rest`: the record has
-/// so many bytes then.
+/// Cuts a journal off at `size` bytes, the end of its last whole entry. What followed is moved to a file
+/// `NAME.rest` beside it.
 ///
 /// # Errors
 ///
-/// As `JournalError` says. The record is cut only once the file beside it is on the disk.
+/// A file can't be read or written, or memory runs out. The journal is cut off only once the other file is on
+/// the disk.
 pub fn move_rest(rt: &HostRuntime, record: &JournalFile, size: u64) -> Result<(), JournalError>
     ensures { IfErr result IsUnkept }
 {
@@ -272,7 +273,7 @@ pub fn move_rest(rt: &HostRuntime, record: &JournalFile, size: u64) -> Result<()
     Ok(())
 }
 
-// Writes the file beside a record.
+// Writes `rest` to the file beside the journal at `path`, and syncs it.
 #[tactic(auto, using(crate::proofs::FaultLemmas::memory_unkept))]
 fn write_rest(rt: &HostRuntime, path: &str, rest: &[u8]) -> Result<(), JournalError>
     ensures { IfErr result IsUnkept }
@@ -289,17 +290,17 @@ fn write_rest(rt: &HostRuntime, path: &str, rest: &[u8]) -> Result<(), JournalEr
     Ok(())
 }
 
-/// Makes the file of a new record of this number, which is its owner's alone and has no record's name yet.
+/// Makes the file of a new journal under a temporary name. Only its owner can read and write it.
 ///
 /// # Errors
 ///
-/// As `JournalError` says.
+/// The file can't be made, or memory runs out.
 #[tactic(auto, using(crate::proofs::FaultLemmas::memory_unkept))]
 pub fn make_part(rt: &HostRuntime, folder: &str, number: u64) -> Result<File, JournalError>
     ensures { IfErr result IsUnkept }
 {
     let part = part_of(rt.alloc(), folder, number)?;
-    // what a line left that was cut off
+    // left by a command that was interrupted
     let _ = fs::remove_file(rt, &part);
     let file = OpenOptions::new()
         .write(true)
@@ -309,12 +310,12 @@ pub fn make_part(rt: &HostRuntime, folder: &str, number: u64) -> Result<File, Jo
     Ok(file)
 }
 
-/// Gives the file of a new record its name, with the moment at which it begins (a Unix second), and syncs the
-/// folder.
+/// Renames the file of a new journal to its final name, which has the Unix second at which it begins, and
+/// syncs the folder.
 ///
 /// # Errors
 ///
-/// As `JournalError` says.
+/// That failed, or memory runs out.
 #[tactic(auto, using(crate::proofs::FaultLemmas::memory_unkept))]
 pub fn name_part(
     rt: &HostRuntime,
@@ -330,7 +331,7 @@ pub fn name_part(
     Ok(sync_folder(rt, &name)?)
 }
 
-// The path of a record of this number that begins at this second.
+// The final path of a journal, by its number and the Unix second at which it begins.
 #[tactic(auto, unfolding(crate::specs::Journals::name_of))]
 fn name_of(alloc: Global, folder: &str, number: u64, second: u64) -> Result<String, AllocError>
     ensures { IfOk result (λ path. string_bytes path ≡ spec.name_of folder.now number second) }
@@ -338,7 +339,7 @@ fn name_of(alloc: Global, folder: &str, number: u64, second: u64) -> Result<Stri
     format!(in alloc; "{folder}/{number:010}-{second}{ENDING}")
 }
 
-// The path that a new record has before it gets its name.
+// The temporary path of a new journal.
 #[tactic(auto, unfolding(crate::specs::Journals::part_of))]
 fn part_of(alloc: Global, folder: &str, number: u64) -> Result<String, AllocError>
     ensures { IfOk result (λ path. string_bytes path ≡ spec.part_of folder.now number) }

@@ -1,5 +1,5 @@
-//! What the program does with the files of the machine: room for a new file, scratch copies, the journal's
-//! folder, the file of enrolments, the WAL of a file. No store over tables is needed for it.
+//! What commands do with files beside the tables: scratch copies, checks of the WAL, room for a new file, the
+//! journal folder, the file of enrolments. It depends on no tables.
 #![tactic(auto)]
 
 pub mod damage;

@@ -1,5 +1,4 @@
-//! Where the WAL of a file is, and whether it has to be judged. The operating system is asked before the file
-//! is opened.
+//! Finds the WAL of a database file and decides whether it has to be checked, before the file is opened.
 
 ghost use Rattle.std.specs.Prelude.{◌≡◌, IfErr, IfOk, IfSome};
 ghost use Rattle.desk_cli.specs.declared.failure.ErrorCode.TheVariants.{Memory};
@@ -15,19 +14,19 @@ use host_files::state::Denial;
 use std::alloc::{AllocError, Global};
 use std::io::ErrorKind;
 
-/// What a look for the log of a file found.
+/// Which WAL was found for a file.
 #[derive(Drop)]
 pub enum FoundLog<R> {
-    /// A log that may have a commit, and nothing at the path of its file.
+    /// A WAL that may have a commit, while the database file doesn't exist.
     Alone,
-    /// No log that has to be judged: none, a short one, or one that can't be reached or that another program
-    /// has, which to open the file reports.
+    /// No WAL that has to be checked: there is none, it is short or can't be reached, or another program has
+    /// the file open. Opening the file reports the latter two.
     Nothing,
-    /// A log that may be damaged.
+    /// A WAL that may be damaged.
     Log(R),
 }
 
-/// Looks for the log of the file at a path.
+/// Finds the WAL of the file at a path.
 ///
 /// # Errors
 ///
@@ -50,7 +49,7 @@ pub fn find_log<F: HostFiles>(
     }
 }
 
-/// Whether a log with a commit may be beside a file, by how many bytes it has.
+/// Whether a file may have a WAL with a commit, by the size of the WAL.
 ///
 /// # Errors
 ///
@@ -62,7 +61,7 @@ pub fn has_commit<F: HostFiles>(alloc: Global, files: &F, path: &str) -> Result<
     Ok(may_have_commit(size_at(files, &name)))
 }
 
-// The log of the file at a path that may be damaged, if both are files and no other program has them open.
+// Opens the WAL of the file at a path, if it has to be checked.
 fn log_beside<F: HostFiles>(
     alloc: Global,
     files: &mut F,
@@ -76,17 +75,17 @@ fn log_beside<F: HostFiles>(
         return Ok(None);
     };
     let name = name_with(alloc, &real, "-wal")?;
-    if !is_judged(files, path, &real, &name) {
+    if !needs_check(files, path, &real, &name) {
         return Ok(None);
     }
     if_there(files.open(&name))
 }
 
-// Whether the log of a file has to be judged: by the path that is asked about, where its file lies, and where
-// the log does.
-fn is_judged<F: HostFiles>(files: &mut F, path: &str, real: &str, log: &str) -> bool
+// Whether the WAL `log` of a file has to be checked: it is long enough to be damaged, the file isn't empty,
+// and no other program has it open. `real` is `path` with all links resolved.
+fn needs_check<F: HostFiles>(files: &mut F, path: &str, real: &str, log: &str) -> bool
     ensures answer { IfSome (F.answers files.old) (λ it.
-        result ≡ spec.is_judged it path.now real.now log.now) }
+        result ≡ spec.needs_check it path.now real.now log.now) }
     ensures same { F.answers files.new ≡ F.answers files.old }
     ensures opens { OpensAtMost F.HostFiles path.now files.old files.new }
 {
@@ -99,14 +98,14 @@ fn is_judged<F: HostFiles>(files: &mut F, path: &str, real: &str, log: &str) -> 
     !is_held(files.opening_denial(path))
 }
 
-// How many bytes the file at a path has; 0 if there is none.
+// The size in bytes of the regular file at a path; 0 if there is none.
 fn size_at<F: HostFiles>(files: &F, path: &str) -> u64
     ensures { IfSome (F.answers files.now) (λ it. result ≡ spec.size_at it path.now) }
 {
     size_of(files.find(path))
 }
 
-// Whether another program has a file open, by why it can't be had.
+// Whether another program has a file open, by why it can't be opened.
 fn is_held(denial: Option<Denial>) -> bool
     ensures { result ≡ spec.is_held denial }
 {
@@ -116,7 +115,7 @@ fn is_held(denial: Option<Denial>) -> bool
     }
 }
 
-// Whether nothing is at a path, by the answer to that question.
+// Whether it is certain that nothing exists at a path.
 fn is_gone(found: Result<Found, ErrorKind>) -> bool
     ensures { result ≡ spec.is_gone found }
 {
@@ -126,7 +125,7 @@ fn is_gone(found: Result<Found, ErrorKind>) -> bool
     }
 }
 
-// How many bytes count of what stands at a path: none but those of a regular file.
+// The size in bytes of a regular file; 0 for anything else.
 fn size_of(found: Result<Found, ErrorKind>) -> u64
     ensures { result ≡ spec.size_of found }
 {
@@ -136,7 +135,7 @@ fn size_of(found: Result<Found, ErrorKind>) -> u64
     }
 }
 
-// What was found; nothing if it isn't there or can't be reached, which to open it reports.
+// What was found; `None` if it can't be reached, which opening the file reports. `Memory` if memory ran out.
 fn if_there<T: Drop>(found: Result<T, ErrorKind>) -> Result<Option<T>, ErrorCode>
     ensures { result ≡ spec.if_there found }
 {

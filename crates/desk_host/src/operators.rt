@@ -30,13 +30,14 @@ use std::time::SystemTime;
 /// The most bytes of the file: 1 MiB.
 const MAX_BYTES: u64 = 1_048_576;
 
-// What is said of a file that is longer.
+// The cause for a longer file.
 const TOO_LONG: &str = "longer than 1,048,576 bytes";
 
-/// How many lines are said of each time that the file is read.
-const TOLD_LINES: u32 = 20;
+/// How many malformed lines are reported one by one each time the file is read.
+const MAX_REPORTED_LINES: u32 = 20;
 
-/// When a file was changed last, and how long it is.
+/// When a file was last changed, and its length in bytes. While both stay the same, the file isn't read
+/// again.
 #[derive(Clone, Copy, PartialEq, Eq)]
 pub struct Stamp {
     modified: Option<SystemTime>,
@@ -48,7 +49,7 @@ pub struct Stamp {
 pub enum FileReadError {
     /// Memory ran out.
     Memory,
-    /// Another cause, as it is reported.
+    /// Another cause, in the words of a report.
     Cause(&'static str),
 }
 
@@ -87,25 +88,24 @@ fn unread_by(kind: ErrorKind) -> FileReadError
     }
 }
 
-/// The files of texts that an administrator changes while a desk serves.
+/// Text files that an administrator changes while a desk serves.
 pub trait TextFiles {
-    /// What was asked of them, in its order, if it is known.
+    /// What was read of them, in order, if known.
     ghost asked: { Self → Option (List Asking) } = { λ _. None };
 
-    /// When the file at a path was changed last, and its length.
+    /// The stamp of the file at a path.
     ///
     /// # Errors
     ///
-    /// As `FileReadError` says.
+    /// There is no such file, it can't be read, or memory ran out.
     fn stamp(&mut self, path: &str) -> Result<Stamp, FileReadError>
         ensures { Grows (asked self.old) (asked self.new) (Stamped path.now (ok_of result) ∷ []) };
 
-    /// The text of the file at a path. Bytes that are no text stand for themselves in no line that can be
-    /// read.
+    /// The text of the file at a path. Invalid UTF-8 is replaced, so that its line is malformed.
     ///
     /// # Errors
     ///
-    /// As `FileReadError` says.
+    /// The file can't be read, is longer than `MAX_BYTES`, or memory ran out.
     fn text(&mut self, alloc: Global, path: &str) -> Result<String, FileReadError>
         ensures { Grows (asked self.old) (asked self.new)
             (Read path.now (option_map string_bytes (ok_of result)) ∷ []) };
@@ -121,26 +121,26 @@ impl TextFiles for LocalHost<'_> {
     }
 }
 
-/// A file of enrolments, or none. What can't be read of it is reported on the standard error.
+/// The file of enrolments, if there is one. Malformed lines are reported on the standard error.
 #[derive(Drop)]
 pub struct EnrolmentFile<'r, F: Drop> {
     rt: &'r HostRuntime,
     files: F,
     path: Option<&'r str>,
-    // The file whose operators were answered.
+    // The stamp of the file whose operators were last returned.
     seen: Option<Stamp>,
-    // The file of whose lines it was said which can't be read.
+    // The stamp of the file whose malformed lines were last reported.
     checked: Option<Stamp>,
-    // Why the file could not be read, as it was reported last.
+    // Why the file couldn't be read, as it was last reported.
     reported: Option<&'static str>,
 }
 
-/// The file of enrolments at a path, if there is one, read once, so that the administrator is shown which
-/// lines can't be read.
+/// The file of enrolments at a path, if there is one. It is read once, so that its malformed lines are
+/// reported before the desk serves.
 ///
 /// # Errors
 ///
-/// `Read` if the file can't be read, after a line that reports why; `Memory`.
+/// `Read` if the file can't be read, which is reported; `Memory`.
 pub fn operators_of<'r, F: TextFiles + Drop>(
     rt: &'r HostRuntime,
     files: F,
@@ -171,7 +171,7 @@ pub fn operators_of<'r, F: TextFiles + Drop>(
 }
 
 impl<F: TextFiles + Drop> EnrolmentFile<'_, F> {
-    // The operators of the file. Lines that can't be read are reported once.
+    // The operators in the file. Malformed lines are reported once for each version of the file.
     fn read_file(&mut self, alloc: Global, path: &str) -> Result<Vec<Enrolment>, FileReadError>
         ensures small { IfOk result (λ enrolments. AreEnrolments enrolments.items) }
         ensures read { IfOk result (λ enrolments. AreEnrolmentsRead path.now
@@ -191,7 +191,7 @@ impl<F: TextFiles + Drop> EnrolmentFile<'_, F> {
         Ok(enrolments_on(alloc, &lines)?)
     }
 
-    // Reports why the file can't be read, if that wasn't reported.
+    // Reports why the file can't be read, unless that cause was the last one reported.
     fn report_once(&mut self, path: &str, cause: &'static str)
         ensures asked { F.asked self.new.files ≡ F.asked self.old.files }
         ensures seen { self.new.seen ≡ self.old.seen }
@@ -235,14 +235,14 @@ impl<F: TextFiles + Drop> EnrolmentSource for EnrolmentFile<'_, F> {
     }
 }
 
-// When the file at a path was changed last, and its length.
+// The stamp of the file at a path.
 fn stamp_of(rt: &HostRuntime, path: &str) -> Result<Stamp, FileReadError>
     ensures { IfErr result IsUnstamped }
 {
     stamp_by(fs::metadata(rt, path))
 }
 
-// The same, by what the operating system says of the file.
+// The stamp of a file, by its metadata.
 fn stamp_by(found: io::Result<Metadata>) -> Result<Stamp, FileReadError>
     ensures stamp { MatchResult found (λ said. IsStampOf said result)
         (λ error. IfErr result (λ fault. unread_text fault ≡ cause.unread_by (error_kind error))) }
@@ -258,7 +258,7 @@ fn stamp_by(found: io::Result<Metadata>) -> Result<Stamp, FileReadError>
     })
 }
 
-// The text of the file at a path. Bytes that are no text stand for themselves in no line that can be read.
+// The text of the file at a path. Invalid UTF-8 is replaced, so that its line is malformed.
 fn read_text<F: HostFiles>(files: &F, alloc: Global, path: &str) -> Result<String, FileReadError>
     ensures unread { IfSome (F.answers files.now) (λ it. IsUnreadIf (it.unread path.now) result) }
     ensures cause { IfErr result IsTextFault }
@@ -269,7 +269,7 @@ fn read_text<F: HostFiles>(files: &F, alloc: Global, path: &str) -> Result<Strin
     }
 }
 
-// The same of a file that is open.
+// The text of a file that is open.
 fn text_in<R: Read + Drop>(alloc: Global, file: R) -> Result<String, FileReadError>
     ensures { IfErr result IsTextFault }
 {
@@ -279,7 +279,7 @@ fn text_in<R: Read + Drop>(alloc: Global, file: R) -> Result<String, FileReadErr
     text_of(alloc, &bytes)
 }
 
-// The text of the first bytes of a file, if they are all.
+// The text of the bytes that were read, unless they are more than `MAX_BYTES`.
 #[tactic(auto, using(crate::proofs::FaultLemmas::memory_unread))]
 fn text_of(alloc: Global, bytes: &[u8]) -> Result<String, FileReadError>
     ensures text { IsTextOf bytes.now (by_ok string_bytes result) }
@@ -291,30 +291,30 @@ fn text_of(alloc: Global, bytes: &[u8]) -> Result<String, FileReadError>
     Ok(String::from_utf8_lossy(alloc, bytes)?)
 }
 
-// How many lines of a file were looked at, and how many of them can't be read.
+// How many lines of a file were read, and how many of them are malformed.
 #[derive(Clone, Copy)]
 struct LineCounts {
     lines: u32,
-    unread: u32,
+    malformed: u32,
 }
 
 impl LineCounts {
-    // So many, with one line more.
+    // The counts with one line more.
     fn with(self, line: &str) -> LineCounts
         ensures { result ≡ reported.counted_with line.now self }
     {
         LineCounts {
             lines: self.lines.saturating_add(1),
-            unread: if is_unread(line) {
-                self.unread.saturating_add(1)
+            malformed: if is_malformed(line) {
+                self.malformed.saturating_add(1)
             } else {
-                self.unread
+                self.malformed
             },
         }
     }
 }
 
-// Reports which lines of a file can't be read, the first of them one by one.
+// Reports the malformed lines of a file: the first ones one by one, and how many more there are.
 #[tactic(auto, using(host_files::proofs::lemmas::Reporting::reports_both))]
 fn report_lines<E: Write>(
     alloc: Global,
@@ -325,22 +325,22 @@ fn report_lines<E: Write>(
     ensures reported { IfOk result (λ _. AreReported
         (reported.lines_reported path.now (map (λ line. line.now) lines.now))
         (E.contents errors.old) (E.contents errors.new)) }
-    ensures some { Reports (bytes_written E.Write errors.old errors.new) }
+    ensures appended { Reports (bytes_written E.Write errors.old errors.new) }
 {
     let mut counted = LineCounts {
         lines: 0,
-        unread: 0,
+        malformed: 0,
     };
     for line in lines {
         counted = counted.with(line);
-        report_next(alloc, path, line, counted, errors)?;
+        report_if_malformed(alloc, path, line, counted, errors)?;
     }
-    report_rest(alloc, path, counted.unread, errors)
+    report_rest(alloc, path, counted.malformed, errors)
 }
 
-// Reports that the last of so many lines can't be read, if that is so, and it is one of the first of these.
+// Reports the last line counted, if it is malformed and one of the first `MAX_REPORTED_LINES` that are.
 #[tactic(auto, using(host_files::proofs::lemmas::Reporting::reports_nothing, crate::proofs::ReportedLemmas::reported_one))]
-fn report_next<E: Write>(
+fn report_if_malformed<E: Write>(
     alloc: Global,
     path: &str,
     line: &str,
@@ -349,37 +349,37 @@ fn report_next<E: Write>(
 ) -> Result<(), AllocError>
     ensures reported { IfOk result (λ _. AreReported (reported.line_reported path.now line.now counted)
         (E.contents errors.old) (E.contents errors.new)) }
-    ensures some { Reports (bytes_written E.Write errors.old errors.new) }
+    ensures appended { Reports (bytes_written E.Write errors.old errors.new) }
 {
-    if is_unread(line) {
-        if counted.unread <= TOLD_LINES {
+    if is_malformed(line) {
+        if counted.malformed <= MAX_REPORTED_LINES {
             report_line(alloc, path, counted.lines, errors)?;
         }
     }
     Ok(())
 }
 
-// Reports how many lines more can't be read than those that were reported one by one, if some can't.
+// Reports how many malformed lines there are beyond the first `MAX_REPORTED_LINES`, if any.
 #[tactic(auto, using(host_files::proofs::lemmas::Reporting::reports_nothing, crate::proofs::ReportedLemmas::reported_one))]
 fn report_rest<E: Write>(
     alloc: Global,
     path: &str,
-    unread: u32,
+    malformed: u32,
     errors: &mut E,
 ) -> Result<(), AllocError>
-    ensures reported { IfOk result (λ _. AreReported (reported.rest_reported path.now unread)
+    ensures reported { IfOk result (λ _. AreReported (reported.rest_reported path.now malformed)
         (E.contents errors.old) (E.contents errors.new)) }
-    ensures some { Reports (bytes_written E.Write errors.old errors.new) }
+    ensures appended { Reports (bytes_written E.Write errors.old errors.new) }
 {
-    if unread > TOLD_LINES {
-        report_more(alloc, path, unread - TOLD_LINES, errors)?;
+    if malformed > MAX_REPORTED_LINES {
+        report_more(alloc, path, malformed - MAX_REPORTED_LINES, errors)?;
     }
     Ok(())
 }
 
-// Whether a line is neither empty nor an enrolment.
-fn is_unread(line: &str) -> bool
-    ensures { result ≡ spec.is_unread line.now }
+// Whether a line is malformed: it is neither empty nor an enrolment.
+fn is_malformed(line: &str) -> bool
+    ensures { result ≡ spec.is_malformed line.now }
 {
     if line.is_empty() {
         return false;
@@ -387,7 +387,7 @@ fn is_unread(line: &str) -> bool
     enrolment_on(line).is_none()
 }
 
-// Reports that a line can't be read.
+// Reports that the line with this number is malformed.
 #[tactic(auto, using(host_files::proofs::lemmas::Reporting::reports_nothing))]
 fn report_line<E: Write>(
     alloc: Global,
@@ -395,24 +395,25 @@ fn report_line<E: Write>(
     number: u32,
     errors: &mut E,
 ) -> Result<(), AllocError>
-    ensures reported { IfOk result (λ _. IsWrittenIfRoom (line_of path.now (spec.unread_line number))
+    ensures reported { IfOk result (λ _. IsWrittenIfRoom (line_of path.now (spec.malformed_line number))
         (bytes_written E.Write errors.old errors.new)) }
     ensures unreported { IfErr result (λ _. E.contents errors.new ≡ E.contents errors.old) }
-    ensures some { Reports (bytes_written E.Write errors.old errors.new) }
+    ensures appended { Reports (bytes_written E.Write errors.old errors.new) }
 {
-    let text = line_text(alloc, number)?;
+    let text = malformed_text(alloc, number)?;
     report_of(alloc, path, &text, errors);
     Ok(())
 }
 
-#[tactic(auto, unfolding(crate::specs::Operators::unread_line))]
-fn line_text(alloc: Global, number: u32) -> Result<String, AllocError>
-    ensures { IfOk result (λ text. string_bytes text ≡ spec.unread_line number) }
+// What is reported of the malformed line with this number.
+#[tactic(auto, unfolding(crate::specs::Operators::malformed_line))]
+fn malformed_text(alloc: Global, number: u32) -> Result<String, AllocError>
+    ensures { IfOk result (λ text. string_bytes text ≡ spec.malformed_line number) }
 {
     format!(in alloc; "line {number} is not NAME CEILING, and passed over")
 }
 
-// Reports that there are more lines that can't be read.
+// Reports that `count` more lines are malformed.
 #[tactic(auto, using(host_files::proofs::lemmas::Reporting::reports_nothing))]
 fn report_more<E: Write>(
     alloc: Global,
@@ -423,15 +424,16 @@ fn report_more<E: Write>(
     ensures reported { IfOk result (λ _. IsWrittenIfRoom (line_of path.now (spec.more_lines count))
         (bytes_written E.Write errors.old errors.new)) }
     ensures unreported { IfErr result (λ _. E.contents errors.new ≡ E.contents errors.old) }
-    ensures some { Reports (bytes_written E.Write errors.old errors.new) }
+    ensures appended { Reports (bytes_written E.Write errors.old errors.new) }
 {
-    let text = more_text(alloc, count)?;
+    let text = more_malformed_text(alloc, count)?;
     report_of(alloc, path, &text, errors);
     Ok(())
 }
 
+// What is reported of `count` more malformed lines.
 #[tactic(auto, unfolding(crate::specs::Operators::more_lines))]
-fn more_text(alloc: Global, count: u32) -> Result<String, AllocError>
+fn more_malformed_text(alloc: Global, count: u32) -> Result<String, AllocError>
     ensures { IfOk result (λ text. string_bytes text ≡ spec.more_lines count) }
 {
     format!(in alloc; "{count} more such lines")

@@ -1,4 +1,4 @@
-//! Room for a new file: nothing stands at its names, and it can be made.
+//! Checks that a new file can be made: nothing exists at its names, and its folder can be written.
 
 ghost use Rattle.std.specs.Prelude.{OnErr, OnOk, List, is_ok, ℕ};
 ghost use Rattle.host_files.specs.Naming.{AreNames, Cleared, Follows, Free, IsNotFree, Takes, Tried, free_steps};
@@ -7,21 +7,21 @@ ghost use Rattle.host_files.specs.FolderSteps.{steps_of};
 use host_files::access::new_cause;
 use host_files::naming::{Folder, NewFile};
 
-/// What stands in the way of a new file.
+/// What prevents a new file.
 #[derive(Clone, Copy, Debug, PartialEq, Eq)]
 pub struct Taken<'n> {
-    /// The path at which it stands.
+    /// The path at which it can't be made.
     pub path: &'n str,
-    /// Why there is no room.
+    /// Why it can't be made there.
     pub cause: &'static str,
 }
 
-/// Makes room for a new file: there is nothing at its names then, and it can be made. What a copy that was
-/// cut off left there is removed, but nothing of what is copied (`source`).
+/// Checks that a new file can be made, and that nothing exists at its final and temporary names. What an
+/// interrupted copy left at the latter is removed first, but never the file to be copied (`source`).
 ///
 /// # Errors
 ///
-/// What stands in the way.
+/// What prevents the new file.
 pub fn make_room<'n, P: Folder>(
     folder: &mut P,
     source: &str,
@@ -32,16 +32,16 @@ pub fn make_room<'n, P: Folder>(
     ensures taken { (to : List ℕ) → AreNames to names.now
         → OnErr result (IsNotFree to (steps_of P.Folder folder.old folder.new)) }
 {
-    find_free(folder, &names.to)?;
-    find_free(folder, &names.to_log)?;
+    check_free(folder, &names.to)?;
+    check_free(folder, &names.to_log)?;
     clear_part(folder, source, &names.part, &names.part_log)?;
-    find_free(folder, &names.part)?;
-    find_free(folder, &names.part_log)?;
-    try_part(folder, &names.part)
+    check_free(folder, &names.part)?;
+    check_free(folder, &names.part_log)?;
+    check_writable(folder, &names.part)
 }
 
-// Finds that there can be a new file at a path; or what stands there.
-fn find_free<'n, P: Folder>(folder: &mut P, path: &'n str) -> Result<(), Taken<'n>>
+// Checks that nothing exists at a path.
+fn check_free<'n, P: Folder>(folder: &mut P, path: &'n str) -> Result<(), Taken<'n>>
     ensures { Takes (steps_of P.Folder folder.old folder.new) (is_ok result) (Free path.now) }
 {
     match new_cause(folder, path) {
@@ -50,7 +50,7 @@ fn find_free<'n, P: Folder>(folder: &mut P, path: &'n str) -> Result<(), Taken<'
     }
 }
 
-// Removes what a copy left at two paths; or what stays there.
+// Removes the file and the WAL that an interrupted copy may have left under temporary names.
 fn clear_part<'n, P: Folder>(
     folder: &mut P,
     source: &str,
@@ -66,8 +66,8 @@ fn clear_part<'n, P: Folder>(
     }
 }
 
-// Tries to make a file at a path, which is gone again; or why it can't be made.
-fn try_part<'n, P: Folder>(folder: &mut P, path: &'n str) -> Result<(), Taken<'n>>
+// Checks that a file can be made at a path. It is removed again.
+fn check_writable<'n, P: Folder>(folder: &mut P, path: &'n str) -> Result<(), Taken<'n>>
     ensures { Takes (steps_of P.Folder folder.old folder.new) (is_ok result) (Tried path.now) }
 {
     match folder.try_file(path) {

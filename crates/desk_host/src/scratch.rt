@@ -1,4 +1,4 @@
-//! Scratch copies: copies of files that are read in their place and are removed afterwards.
+//! Scratch copies: a command reads such a copy in place of the file itself, and removes it afterwards.
 
 ghost use Rattle.std.specs.Prelude.{◌≡◌, IfErr, IfOk, List, OnOk, ℕ};
 ghost use Rattle.desk_cli.specs.Exits.{IsLineBreakdown};
@@ -15,17 +15,17 @@ use host_files::reporting::report_of;
 use std::alloc::{AllocError, Global};
 use std::io::Write;
 
-/// The names of a scratch copy and of its log.
+/// The paths of a scratch copy and of its WAL.
 #[derive(Drop)]
 pub struct ScratchCopy {
-    /// That of the scratch copy.
+    /// The path of the scratch copy.
     pub path: String,
-    /// That of its log.
+    /// The path of its WAL.
     pub log: String,
 }
 
 impl ScratchCopy {
-    // The names beside a path.
+    // The paths of the scratch copy beside a path.
     fn beside(alloc: Global, path: &str) -> Result<ScratchCopy, AllocError>
         ensures { IfOk result (AreTwins path.now) }
     {
@@ -37,7 +37,8 @@ impl ScratchCopy {
     }
 }
 
-/// Makes the scratch copy of a file beside a path, where an earlier one may be left, or reports why not.
+/// Makes the scratch copy of `source` beside the path `beside`, and reports why if that fails. It is repaired
+/// if `is_mended`, and replaces one that an interrupted command left.
 ///
 /// # Errors
 ///
@@ -72,7 +73,7 @@ pub fn make_scratch<P: Folder, E: Write>(
     }
 }
 
-// Reports why a file has no scratch copy, and answers the failure.
+// Reports why a scratch copy can't be made, and returns the error code.
 fn report_fault<E: Write>(
     alloc: Global,
     source: &str,
@@ -91,7 +92,7 @@ fn report_fault<E: Write>(
     ErrorCode::Store
 }
 
-/// Removes a scratch copy and its log, as far as they are there.
+/// Removes a scratch copy and its WAL. Errors are ignored, since either may be missing.
 pub fn remove_scratch<P: Folder>(folder: &mut P, scratch: &ScratchCopy)
     ensures { (path : List ℕ) → AreTwins path scratch.now
         → AreRemoved (scratch_of path) (steps_of P.Folder folder.old folder.new) }

@@ -1,5 +1,5 @@
-//! The way in which the file of a look or of a copy is read: itself, or by a scratch copy, if another program
-//! spoilt it or put its tables in another order. It is decided before the file is opened as a desk's.
+//! How `check` and `copy` read a file: itself, or a scratch copy, if another program left wrong checksums or
+//! a non-canonical table order, or the WAL is damaged. It is decided before the file is opened.
 
 ghost use Rattle.std.specs.Prelude.{◌≡◌, false, IfSome};
 ghost use Rattle.host_files.specs.Access as access;
@@ -11,22 +11,22 @@ use host_files::files::{HostFiles, LocalHost};
 use host_files::naming::is_no_path;
 use std::alloc::Global;
 
-/// The way in which a file is read.
+/// How a database file is read.
 #[derive(Clone, Copy, Debug, PartialEq, Eq)]
 pub enum ReadMode {
-    /// As it is.
+    /// The file itself.
     Itself,
-    /// By a scratch copy of it and of its log, which is damaged.
+    /// A scratch copy of the file and of its WAL, which is damaged.
     Damaged,
-    /// By a scratch copy whose pages have their sums: so many of its own have others.
+    /// A repaired scratch copy, since so many pages of the file have wrong checksums.
     BadChecksums(u64),
-    /// By a scratch copy that lists its tables in a desk's own order: it lists them in another.
+    /// A repaired scratch copy, since the file lists its tables in a non-canonical order.
     OtherOrder,
 }
 
 impl ReadMode {
-    /// Whether the scratch copy is mended: its tables are put in a desk's own order, if they are a desk's in
-    /// another, and its pages get their sums, if they have sums.
+    /// Whether the scratch copy is repaired: its tables are put in canonical order, and its checksums, if it
+    /// has any, are computed anew.
     pub fn is_mended(self) -> bool
         ensures { result ≡ spec.is_mended self }
     {
@@ -36,7 +36,7 @@ impl ReadMode {
         }
     }
 
-    /// How many pages are said of after a copy that ended with this status: their sums were not tested.
+    /// How many pages with wrong checksums were copied untested, if the copy succeeded (`status` is 0).
     pub fn untested(self, status: u8) -> Option<u64>
         ensures { result ≡ spec.untested self status }
     {
@@ -47,16 +47,16 @@ impl ReadMode {
     }
 }
 
-/// The way in which the file at a path is read, whose log may be damaged. One whose log may have a commit is
-/// read as it is: its pages may stand in the log anew.
+/// How the file at a path is read, by whether its WAL is damaged. If the WAL may have a commit, the file
+/// itself is read: the WAL may have newer versions of its pages.
 pub fn read_mode(rt: &HostRuntime, path: &str, is_damaged: bool) -> ReadMode
     ensures { MayBeRead is_damaged (access.is_no_path path.now) result }
 {
-    way_at(rt.alloc(), &LocalHost::new(rt), path, is_damaged)
+    mode_at(rt.alloc(), &LocalHost::new(rt), path, is_damaged)
 }
 
-// The same, of the files of any machine.
-fn way_at<F: HostFiles>(alloc: Global, files: &F, path: &str, is_damaged: bool) -> ReadMode
+// What `read_mode` returns, over any `HostFiles`.
+fn mode_at<F: HostFiles>(alloc: Global, files: &F, path: &str, is_damaged: bool) -> ReadMode
     ensures way { IfSome (F.answers files.now) (λ it. IsWayAt it path.now is_damaged result) }
     ensures may { MayBeRead is_damaged (access.is_no_path path.now) result }
 {
@@ -72,8 +72,8 @@ fn way_at<F: HostFiles>(alloc: Global, files: &F, path: &str, is_damaged: bool) 
     way_for(false, files.unsummed(path), files.is_disordered(path))
 }
 
-// The way, by whether the log is damaged, how many pages end with another sum than theirs, and whether the
-// tables are a desk's in another order.
+// How a file is read, by whether its WAL is damaged, how many pages have wrong checksums (if known), and
+// whether its tables are in a non-canonical order.
 fn way_for(is_damaged: bool, unsummed: Option<u64>, is_disordered: bool) -> ReadMode
     ensures way { result ≡ spec.way_for is_damaged unsummed is_disordered }
     ensures may { MayBeRead is_damaged false result }
@@ -88,7 +88,7 @@ fn way_for(is_damaged: bool, unsummed: Option<u64>, is_disordered: bool) -> Read
     }
 }
 
-// Whether the log of a file may have a commit that recovery takes, or that can't be known.
+// Whether recovery may apply a commit of a file's WAL; also true if that can't be found out.
 fn has_changes<F: HostFiles>(alloc: Global, files: &F, path: &str) -> bool
     ensures { IfSome (F.answers files.now) (λ it. HasChanges it path.now result) }
 {

@@ -1,4 +1,4 @@
--- CarryingOut: what comes of a line that is carried out at a desk.
+-- CarryingOut: what comes of a command that is run at a desk.
 use Rattle.std.specs.Prelude.{◌≡◌, ℕ, Bool, List, Option, None}
 use Rattle.desk_store.specs.declared.store.PlanStore.{Ghosts}
 use Rattle.desk_store.specs.StoreFaults.{IsHonest}
@@ -29,7 +29,7 @@ IsCarriedOut H (line.Enrol enrol) o w after =
     × IsEnrolled H enrol.enrolment o.end o.bytes.writes w after
 IsCarriedOut H _ o w after = ⊥
 
--- a line is carried out at a desk, and what may be found then; if it ended with `store`, that has its cause
+-- a command is run at a desk, and what may be found then; if it ended with `store`, that has its cause
 pub record CarriesOut {S : Type 0} (g : Ghosts S) (line : Line) (o : Outside) (old new : Parts S) : Type 0
   where
     pub done : IsCarriedOut (IsHonest (g.doubt new.store)) line o (world_of g.content old)
@@ -39,13 +39,13 @@ pub record CarriesOut {S : Type 0} (g : Ghosts S) (line : Line) (o : Outside) (o
     pub cause : HasCause g old new o.end
     pub remembered : Remembers g.doubt g.faults g.is_shielded old.store new.store
 
--- a line that takes no connection, and its numbers are in their ranges
+-- a command that takes no connection, and its numbers are in their ranges
 abbrev pub IsPortless : Line → Type 0
 IsPortless (line.Play play) = IsPlay play
 IsPortless (line.Enrol enrol) = IsEnrol enrol
 IsPortless _ = ⊥
 
--- a line that takes no connection is carried out at a desk, and ends with this status: whether the line of
+-- a command that takes no connection is carried out at a desk, and ends with this status: whether the line of
 -- its failure was broken off isn't reported
 pub record EndsWithStatus {S : Type 0} (g : Ghosts S) (line : Line) (status : ℕ) (bytes : Passage)
     (errors : Course (Option (List ℕ))) (old new : Parts S) : Type 0 where

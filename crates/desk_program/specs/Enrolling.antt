@@ -16,7 +16,8 @@ abbrev pub with_operators : DeskWorld → List Enrolment → DeskWorld
 with_operators w [] = w
 with_operators w (e ∷ es) = with_operators (enrolled w e.operator e.ceiling) es
 
--- if the store is honest, the operators are listed, in the order given; if there are none, nothing is changed
+-- if the storage is intact, the operators are listed, in the order given; if there are none, nothing is
+-- changed
 abbrev pub AreEnrolled : Type 0 → List Enrolment → DeskWorld → DeskWorld → Type 0
 AreEnrolled H [] w after = after ≡ w
 AreEnrolled H (e ∷ es) w after = H → after ≡ with_operators w (e ∷ es)
@@ -32,13 +33,13 @@ abbrev pub HasListed : {A B : Type 0} → Type 0 → Result A B → List Enrolme
 HasListed H (Ok done) es w after = H → after ≡ with_operators w es
 HasListed H (Err fault) es w after = AreListedSoFar H es w after
 
--- and of news, which may have none
+-- and of new enrolments, which may have none
 abbrev pub HasListedNews :
     {A B : Type 0} → Type 0 → Result A B → List Enrolment → DeskWorld → DeskWorld → Type 0
 HasListedNews H (Ok done) es w after = AreEnrolled H es w after
 HasListedNews H (Err fault) es w after = AreListedSoFar H es w after
 
--- if the store is honest, the operator is listed under its ceiling, and nothing else is changed
+-- if the storage is intact, the operator is listed under its ceiling, and nothing else is changed
 abbrev pub ListsOperator : Type 0 → Enrolment → DeskWorld → DeskWorld → Type 0
 ListsOperator H e w after = H → after ≡ enrolled w e.operator e.ceiling
 

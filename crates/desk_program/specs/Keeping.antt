@@ -74,13 +74,14 @@ abbrev pub IsLeftByOne : DeskWorld → Option World → List Exchange → Type 0
 IsLeftByOne w found [] = ⊥
 IsLeftByOne w found (x ∷ xs) = IsLeftUncertain w found x ⊎ IsLeftByOne w found xs
 
--- of the last news an operator could not be listed, and what is found has it listed, or has not
+-- of the last new enrolments an operator could not be listed, and what is found has it listed, or has not
 abbrev pub IsLeftByNews : DeskWorld → Option World → Option (List Enrolment) → Type 0
 IsLeftByNews w found last =
     IsSomeAnd last (λ news. (before : DeskWorld) × AreKeptSoFar ⊤ news before w found)
 
--- what is found after connections is what their requests and the news left; or what one of these would leave
--- of that, which left it as it was, and its answer was a 500 or is not whole; or one more enrolment
+-- what is found after connections is what their requests and the new enrolments left; or what one of these
+-- would leave of that, which left it as it was, and its answer was a 500 or is not whole; or one more
+-- enrolment
 abbrev pub IsFoundServed : List Exchange → Option (List Enrolment) → DeskWorld → Option World → Type 0
 IsFoundServed xs last after found =
     (found ≡ Some after.content) ⊎ IsLeftByOne after found xs ⊎ IsLeftByNews after found last
@@ -106,14 +107,14 @@ IsPortKept H done serve port w after found =
     ⊎ (IsNotBegun H done serve port w after
     × AreKeptSoFar H serve.desk.enrolments.items (on_terms w serve.desk.terms) after found)
 
--- a line of `serve` is carried out, and that is what is found
+-- the command `serve` is carried out, and that is what is found
 pub record IsServeKept (H : Type 0) (serve : ServeArgs) (end : Ending) (port : Course Traffic)
     (w after : DeskWorld) (found : Option World) : Type 0 where
   pub done : Result ⊤ ErrorCode
   pub ends : EndsWith done end
   pub kept : IsPortKept H done serve port w after found
 
--- by the line that is carried out at a desk
+-- by the command that is run at a desk
 abbrev pub IsLineKept : Type 0 → Line → Outside → DeskWorld → DeskWorld → Option World → Type 0
 IsLineKept H (line.Play play) o w after found = IsPlayKept H play o.end o.bytes w after found
 IsLineKept H (line.Enrol enrol) o w after found = FindsEnrolled enrol.enrolment o.end o.bytes.writes w found

@@ -1,4 +1,4 @@
--- MovedLine: the line that reports how many plans were moved, and what is printed of it.
+-- MovedLine: the line that reports how many plans were migrated, and what is printed of it.
 use Rattle.std.specs.Prelude.{◌≡◌, ◌⊎◌, ℕ, List, ◌++◌, codes, decimal, Option}
 use Rattle.std.specs.Io.KnownBytes.{Appends}
 use Rattle.desk_cli.specs.declared.failure.ErrorCode.TheVariants as failure

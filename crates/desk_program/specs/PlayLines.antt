@@ -1,4 +1,4 @@
--- PlayLines: what comes of a line of `play` or of `enrol` at a desk.
+-- PlayLines: what comes of the command `play` or `enrol` at a desk.
 use Rattle.std.specs.Prelude.{◌≡◌, ◌⊎◌, ⊤, ℕ, List, Option, None, Some, Result, Ok, Err}
 use Rattle.std.specs.Io.KnownBytes.{Appends}
 use Rattle.desk_run.specs.DeskWorld.{DeskWorld}
@@ -35,7 +35,7 @@ pub record IsNotPlayed (H : Type 0) (play : PlayArgs) (end : Ending) (p : Passag
   pub unread : p.reads.after ≡ p.reads.before
   pub unwritten : p.writes.after ≡ p.writes.before
 
--- a line of `play` is carried out
+-- the command `play` is carried out
 abbrev pub IsPlayDone : Type 0 → PlayArgs → Ending → Passage → DeskWorld → DeskWorld → Type 0
 IsPlayDone H play end p w after = IsPlayed H play end p w after ⊎ IsNotPlayed H play end p w after
 

@@ -20,12 +20,13 @@ pub record IsWhole (t : Turn) (r : Sent) : Type 0 where
   pub sent : sent_in t ≡ Some r
   pub answered : t.parting.outcome.is_answered ≡ true
 
--- of the connections that were taken at a port that reports what it closes, if the store is honest. In their
--- turns the clients were sent the answers of a run over their requests, each at its moment, with the
--- operators of the news listed where they came (`first`). So one request, sent at one moment in two runs at
--- worlds that look alike to its operator, was given equal bytes where both answers are whole (`decided`); and
--- an operator that sent none and is in no news owns what it did (`quiet`). The same of a line of `serve`, and
--- of a line of `play` whose requests come from a port, from the world on in which the desk has begun
+-- of the connections that were taken at a port that reports what it closes, if the storage is intact. In
+-- their turns the clients were sent the answers of a run over their requests, each at its moment, with the
+-- operators of the new enrolments listed where they came (`first`). So one request, sent at one moment in two
+-- runs at worlds that look alike to its operator, was given equal bytes where both answers are whole
+-- (`decided`); and an operator that sent none and is in none of the new enrolments owns what it did
+-- (`quiet`). The same of the command `serve`, and of the command `play` whose requests come from a port, from
+-- the world on in which the desk has begun
 pub record PortGiven : Type 0 where
   pub first : (doubt count : ℕ) (done : Result ⊤ ErrorCode) (port : Course Traffic) (w after : DeskWorld)
       → AreTaken (IsHonest doubt) done count port w after → IsHonest doubt → IsSome port.before.closed

@@ -1,4 +1,4 @@
--- PortPlays: a line of `play` whose requests are taken from a port, one after the other.
+-- PortPlays: the command `play` whose requests are taken from a port, one after the other.
 use Rattle.std.specs.Prelude.{◌≡◌, ◌⊎◌, Option, Result}
 use Rattle.std.specs.Result.{IsErrAnd}
 use Rattle.desk_store.specs.World.{World}

@@ -15,8 +15,9 @@ use Rattle.desk_cli.specs.declared.line.Enrolment.{Enrolment}
 use Rattle.desk_program.specs.Enrolling.{with_operators}
 use Rattle.desk_program.specs.Serving.{Arrival, Grows, Parting, Traffic}
 
--- one turn: the operators of the news that were brought before a connection, the connection as it was taken
--- and as it was closed, and its request, if the desk decided it: none if none came whole, or the desk failed
+-- one turn: the operators of the new enrolments that were brought before a connection, the connection as it
+-- was taken and as it was closed, and its request, if the desk decided it: none if none came whole, or the
+-- desk failed
 pub record Turn : Type 0 where
   pub news : List Enrolment
   pub arrival : Arrival
@@ -30,7 +31,8 @@ sent_in t = option_map (λ bytes. (t.arrival.moment, bytes)) t.request
 abbrev pub caller : Turn → Option (List ℕ)
 caller t = option_and_then sender (sent_in t)
 
--- what turns leave: in each the operators of the news are listed, and then its request leaves what it does
+-- what turns leave: in each the operators of the new enrolments are listed, and then its request leaves what
+-- it does
 abbrev pub left_by : DeskWorld → Option Sent → DeskWorld
 left_by w None = w
 left_by w (Some r) = world_after w r.0 (asked r.1)
@@ -59,13 +61,13 @@ IsGiven w t (Some request) = IsTaken t.arrival.bytes t.parting.unread request
 IsGiven w t None =
     (t.parting.sent ≡ Some []) ⊎ ((why : ServerError) × Sends t.parting (server_error_text why))
 
--- of the news after which no connection was taken, if there are any, the first operators are listed
+-- of the new enrolments after which no connection was taken, if there are any, the first operators are listed
 abbrev pub ListsLast : Option (List Enrolment) → DeskWorld → DeskWorld → Type 0
 ListsLast None w after = after ≡ w
 ListsLast (Some news) w after = (n : ℕ) × (after ≡ with_operators w (take n news))
 
--- the connections and the news that a port reports came in these turns: their clients were sent what is given
--- in each, and that is what they left
+-- the connections and the new enrolments that a port reports came in these turns: their clients were sent
+-- what is given in each, and that is what they left
 pub record AreTurns (port : Course Traffic) (w after : DeskWorld) (turns : List Turn)
     (last : Option (List Enrolment)) : Type 0 where
   pub taken : Grows port.before.taken port.after.taken (map (λ t. t.arrival) turns)

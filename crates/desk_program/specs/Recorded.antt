@@ -1,4 +1,5 @@
--- Recorded: what a port has written down of its news and of its connections (docs/journal-format.md).
+-- Recorded: what a port has written down of its new enrolments and of its connections
+-- (docs/journal-format.md).
 use Rattle.std.specs.Prelude.{◌≡◌, ◌<◌, ◌⊎◌, ⊤, ℕ, ℤ, nat_abs, length, map, List, [], ◌∷◌, ◌++◌, Bool, true, Option, Some, None, IsTrue}
 use Rattle.std.specs.List.{AllByRecursion}
 use Rattle.desk_rules.specs.Name.{is_operator_name}
@@ -9,7 +10,7 @@ use Rattle.desk_wire.specs.Streams.{IsRequest}
 use Rattle.desk_cli.specs.Lines.{AreEnrolments}
 use Rattle.desk_cli.specs.declared.line.Enrolment.{Enrolment}
 
--- the text of a record, and the second of the last request in it
+-- the text of a journal, and the second of the last request in it
 pub record Noted : Type 0 where
   pub text : List ℕ
   pub second : ℕ
@@ -38,8 +39,8 @@ answer_entry second bytes = record { kind = kind.Answer; number = second; bytes 
 abbrev pub with_entry : Noted → EntryParts → Noted
 with_entry n e = record n { text = n.text ++ entry e }
 
--- with news; with a request, or nothing where no whole request came; with an answer, or nothing where none
--- was made
+-- with new enrolments; with a request, or nothing where no whole request came; with an answer, or nothing
+-- where none was made
 abbrev pub with_news : Noted → List Enrolment → Noted
 with_news n news = record n { text = n.text ++ entries (map operator_entry news) }
 
@@ -56,7 +57,7 @@ with_answer n (b ∷ bytes) = with_entry n (answer_entry n.second (b ∷ bytes))
 abbrev pub AreNamed : List Enrolment → Type 0
 AreNamed news = AllByRecursion (λ e. IsTrue (is_operator_name e.operator)) news
 
--- enrolments that may be made are recorded; no news are brought once the record has ended
+-- enrolments that may be made are recorded; no new enrolments are brought once the journal has ended
 abbrev pub RecordsNews : Option Recorded → Option Recorded → List Enrolment → Type 0
 RecordsNews None now news = ⊤
 RecordsNews (Some (Ended text)) now news = ⊥
@@ -72,7 +73,7 @@ pub record IsRecorded (n : Noted) (now : Option Recorded) (moment : ℤ) (bytes 
     pub range : IsMoment moment
     pub added : now ≡ Some (Open (with_request n moment request))
 
--- no connection is taken once the record has ended
+-- no connection is taken once the journal has ended
 abbrev pub RecordsRequest : Option Recorded → Option Recorded → ℤ → Option (List ℕ) → Type 0
 RecordsRequest None now moment bytes = ⊤
 RecordsRequest (Some (Ended text)) now moment bytes = ⊥
@@ -86,14 +87,15 @@ pub record IsAnswerRecorded (n : Noted) (now : Option Recorded) (sent : Option (
   pub known : sent ≡ Some answer
   pub added : now ≡ Some (Open (with_answer n answer))
 
--- or it is lost, and the record ends
+-- or it is lost, and the journal ends
 abbrev pub RecordsAnswer : Option Recorded → Option Recorded → Option (List ℕ) → Bool → Type 0
 RecordsAnswer None now sent is_answered = ⊤
 RecordsAnswer (Some (Ended text)) now sent is_answered = now ≡ Some (Ended text)
 RecordsAnswer (Some (Open n)) now sent is_answered =
     IsAnswerRecorded n now sent is_answered ⊎ (now ≡ Some (Ended n.text))
 
--- the record ends where something can't be kept. News and a request that are not carried out may stand there
+-- the journal ends where something can't be kept. It may have enrolments and a request that were not carried
+-- out
 pub record IsCutOff (n : Noted) (now : Option Recorded) : Type 0 where
   pub news : List Enrolment
   pub moment : ℤ

@@ -20,7 +20,7 @@ use Rattle.desk_program.specs.Recorded.{IsOpen, Recorded, RecordsAnswer, Records
 abbrev pub listening_line : ℕ → List ℕ
 listening_line port = codes "listening 127.0.0.1:" ++ (decimal port ++ codes "\n")
 
--- why a port can't be had
+-- why a port can't be opened
 abbrev pub port_line : ℕ → List ℕ → List ℕ
 port_line port cause =
     codes "uss_desk: 127.0.0.1:" ++ (decimal port ++ (codes ": " ++ (cause ++ codes "\n")))
@@ -45,8 +45,8 @@ abbrev pub parted : Option (List ℕ) → Option (List ℕ) → ExchangeEnd → 
 parted unread sent outcome = record { unread = unread; sent = sent; outcome = outcome }
 
 -- what a port reports: the numbers at which it was asked to listen, and whether it does, the connections that
--- were taken, those that were closed, and the enrolments of each news that it was asked for, in their order,
--- and what it has recorded of them, if they are known
+-- were taken, those that were closed, and the new enrolments that it returned each time, in
+-- their order, and what it has recorded of them, if they are known
 pub record Traffic : Type 0 where
   pub listened : Option (List (ℕ × Bool))
   pub taken : Option (List Arrival)
@@ -63,8 +63,8 @@ Grows None new more = ⊤
 Grows (Some old) None more = ⊥
 Grows (Some old) (Some new) more = new ≡ old ++ more
 
--- it is asked to listen at a number, and does, or can't; a connection is taken; one is closed; news are
--- brought
+-- it is asked to listen at a number, and does, or can't; a connection is taken; one is closed; new enrolments
+-- are brought
 abbrev pub Listens : Traffic → Traffic → ℕ → Bool → Type 0
 Listens old new number does = Grows old.listened new.listened ((number, does) ∷ [])
     × (new.taken ≡ old.taken) × (new.closed ≡ old.closed) × (new.news ≡ old.news)
@@ -105,8 +105,8 @@ IsUnsent port out = IfSome port.closed (λ partings. out ≡ Some [])
 abbrev pub IsFresh : Traffic → Option (List ℕ) → Type 0
 IsFresh port out = IsUnsent port out × IfSome port.recorded (λ recorded. out ≡ Some [])
 
--- the news that were brought before a connection was taken, the connection, what its client was sent before,
--- if that is known, what came of its request, and the connection as it is closed then
+-- the new enrolments that were brought before a connection was taken, the connection, what its client was
+-- sent before, if that is known, what came of its request, and the connection as it is closed then
 pub record Exchange : Type 0 where
   pub news : List Enrolment
   pub arrival : Arrival
@@ -132,15 +132,15 @@ is_answered (Err fault) = false
 abbrev pub outcome_of : Result Served ServeFault → ExchangeEnd
 outcome_of served = record { is_whole = is_whole served; is_answered = is_answered served }
 
--- the news, the request and the answer of a connection are recorded
+-- the new enrolments, the request and the answer of a connection are recorded
 pub record IsNoted (x : Exchange) (old listed asked new : Option Recorded) : Type 0 where
   pub news : RecordsNews old listed x.news
   pub unsent : IfSome listed (λ recorded. x.out ≡ Some [])
   pub request : RecordsRequest listed asked x.arrival.moment x.arrival.bytes
   pub answer : RecordsAnswer asked new x.parting.sent x.parting.outcome.is_answered
 
--- connections are recorded, one after the other, up to one that ended the desk, and then the news after which
--- none was taken
+-- connections are recorded, one after the other, up to one that ended the desk, and then the new enrolments
+-- after which none was taken
 abbrev pub AreNoted : Option Recorded → List Exchange → Option (List Enrolment) → Option Recorded → Type 0
 AreNoted old [] None new = RecordsNone old new
 AreNoted old [] (Some news) new =
@@ -154,7 +154,7 @@ AreNoted old (x ∷ xs) last new =
     × AreNoted answered xs last new
 
 -- the requests of connections are served one after the other, each at the moment of its connection, once the
--- operators of its news are listed
+-- operators of its new enrolments are listed
 abbrev pub AreServed : Type 0 → List Exchange → DeskWorld → DeskWorld → Type 0
 AreServed H [] w after = after ≡ w
 AreServed H (x ∷ xs) w after =
@@ -181,8 +181,8 @@ IsDenied f =
     (f ≡ failure.Memory) ⊎ (f ≡ failure.Write) ⊎ (f ≡ failure.Network) ⊎ (f ≡ failure.Clock)
     ⊎ (f ≡ failure.Broken)
 
--- the news after which no connection was taken: an operator could not be listed, and those before it are;
--- or all are listed, and the machine denied something
+-- the new enrolments after which no connection was taken: an operator could not be listed, and those before
+-- it are; or all are listed, and the machine denied something
 abbrev pub EndsAtNews : Type 0 → ErrorCode → List Enrolment → DeskWorld → DeskWorld → Type 0
 EndsAtNews H f news w after =
     (IsLineBreakdown f × AreListedSoFar H news w after) ⊎ (IsDenied f × AreEnrolled H news w after)
@@ -194,12 +194,12 @@ abbrev pub IsLastNews :
 IsLastNews H None done w after = after ≡ w
 IsLastNews H (Some news) done w after = IsErrAnd done (λ failure. EndsAtNews H failure news w after)
 
--- the news of connections, and the last of them
+-- the new enrolments of connections, and the last of them
 abbrev pub news_of : List Exchange → Option (List Enrolment) → List (List Enrolment)
 news_of xs last = map (λ x. x.news) xs ++ option_to_list last
 
 -- the failure is what the last of these connections ended the desk with, or came as that was closed or after
--- it, with the news for which no connection was taken; none before ended the desk
+-- it, with the new enrolments for which no connection was taken; none before ended the desk
 abbrev pub EndsDeskBy : ErrorCode → List Exchange → Option (List Enrolment) → Type 0
 EndsDeskBy f [] None = IsDenied f
 EndsDeskBy f [] (Some news) = ⊤
@@ -214,8 +214,8 @@ EndsAfter (Ok done) count exchanges last =
     (length exchanges ≡ count) × All (λ x. failure_at x.served ≡ None) exchanges
 EndsAfter (Err failure) count exchanges last = EndsDeskBy failure exchanges last
 
--- connections are taken, at most so many, and what is left is what their requests and the news leave. If that
--- ended well, all that was to be recorded is
+-- connections are taken, at most so many, and what is left is what their requests and the new enrolments
+-- leave. If that ended well, all that was to be recorded is
 pub record AreTaken {A : Type 0} (H : Type 0) (done : Result A ErrorCode) (count : ℕ)
     (port : Course Traffic) (w after : DeskWorld) : Type 0 where
   pub exchanges : List Exchange
@@ -256,7 +256,7 @@ abbrev pub IsAtPort :
 IsAtPort H done serve port w after =
     HasBegunServing H done serve port w after ⊎ IsNotBegun H done serve port w after
 
--- a line of `serve` is carried out, prints that it listens, if it does, and ends as that does
+-- the command `serve` is carried out, prints that it listens, if it does, and ends as that does
 pub record IsLineServed (H : Type 0) (serve : ServeArgs) (end : Ending) (port : Course Traffic)
     (writes : Course (Option (List ℕ))) (w after : DeskWorld) : Type 0 where
   pub done : Result ⊤ ErrorCode

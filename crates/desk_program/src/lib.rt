@@ -1,5 +1,5 @@
-//! What the planning desk's program does at a desk, whatever store the desk is over: enrolments, the
-//! requests of an input, and one request a connection at a port; and what it prints of plans that were moved.
+//! The commands of the program that use an open desk, over any store: `enrol`, `play` for the requests of an
+//! input, and `serve` with one request per connection; and the lines that other commands print.
 #![tactic(auto)]
 
 pub mod laws;

@@ -1,4 +1,4 @@
-//! A port of 127.0.0.1, with the moments of the clock.
+//! A TCP port of 127.0.0.1, whose connections get their timestamps from the clock.
 
 ghost use Rattle.std.specs.Prelude.{◌≡◌, ◌≢◌, None, Some, Err, Ok, IfErr, IfOk, IsSome, OnOk, codes, option_map, string_bytes};
 ghost use Rattle.std.specs.IoError.{error_kind};
@@ -19,32 +19,31 @@ use std::net::{Ipv4Addr, Net, OpenListener, OpenStream, TcpListener};
 use std::time::{Clock, SystemTime};
 use volume4d::MAX_SECOND;
 
-/// A port of 127.0.0.1, whose connections have the moments of a clock, and whose news are those of a
-/// register. Each client has `PATIENCE` seconds to send its request, and as many to take the answer. Why the
-/// port can't be had is reported.
+/// A TCP port of 127.0.0.1. Connections get their timestamps from a clock, and new enrolments come from an
+/// enrolment source. Each client has `PATIENCE` seconds to send its request, and as many to take the answer.
 #[derive(Drop)]
 pub struct LocalPort<'s, N: Net, C, G: Drop, E> {
     net: &'s N,
     clock: &'s C,
-    register: G,
+    enrolment_source: G,
     alloc: Global,
     errors: E,
     listener: Option<N::Listener>,
-    // The connection that is there, until it is taken.
+    // A connection that was accepted and not yet taken.
     waiting: Option<N::Stream>,
 }
 
 impl<'s, N: Net, C: Clock, G: EnrolmentSource + Drop, E: Write> LocalPort<'s, N, C, G, E> {
-    /// A port that is not listened at yet. Why it can't be had goes to `errors`; a fault there is passed
-    /// over.
+    /// A port that doesn't listen yet. If it can't listen later, the cause is reported to `errors`; a failed
+    /// write there is ignored.
     pub fn new(
         net: &'s N,
         clock: &'s C,
-        register: G,
+        enrolment_source: G,
         alloc: Global,
         errors: E,
     ) -> LocalPort<'s, N, C, G, E>
-        ensures register { result.register ≡ register }
+        ensures enrolment_source { result.enrolment_source ≡ enrolment_source }
         ensures listener { result.listener ≡ None }
         ensures waiting { result.waiting ≡ None }
         ensures errors { result.errors ≡ errors }
@@ -52,7 +51,7 @@ impl<'s, N: Net, C: Clock, G: EnrolmentSource + Drop, E: Write> LocalPort<'s, N,
         LocalPort {
             net,
             clock,
-            register,
+            enrolment_source,
             alloc,
             errors,
             listener: None,
@@ -60,7 +59,7 @@ impl<'s, N: Net, C: Clock, G: EnrolmentSource + Drop, E: Write> LocalPort<'s, N,
         }
     }
 
-    // The stream of the next connection: the one that is there, or the next that comes.
+    // The stream of the next connection: the one that is waiting, or else the next one accepted.
     fn next_stream(&mut self) -> Result<N::Stream, ErrorCode>
         ensures { IfErr result IsDenied }
     {
@@ -103,7 +102,7 @@ impl<'s, N: Net, C: Clock, G: EnrolmentSource + Drop, E: Write> Port for LocalPo
 
     fn news(&mut self, alloc: Global) -> Result<Vec<Enrolment>, ErrorCode> {
         self.waiting = Some(self.next_stream()?);
-        self.register.look(alloc)
+        self.enrolment_source.look(alloc)
     }
 
     fn take(
@@ -135,7 +134,7 @@ impl<'s, N: Net, C: Clock, G: EnrolmentSource + Drop, E: Write> Port for LocalPo
     }
 }
 
-// Reports why a port can't be had. A fault of the writer is passed over, and so is want of memory.
+// Reports to `errors` why the port can't be opened. A failed write and running out of memory are ignored.
 fn report_port<E: Write>(alloc: Global, number: u16, cause: &str, errors: &mut E)
     ensures { IsWrittenIfRoom (spec.port_line number cause.now) (E.contents errors.old)
         (E.contents errors.new) }
@@ -145,25 +144,25 @@ fn report_port<E: Write>(alloc: Global, number: u16, cause: &str, errors: &mut E
     }
 }
 
-// Prints a line. A fault of the writer is passed over.
+// Prints a line. A failed write is ignored.
 fn report_line<E: Write>(line: &str, errors: &mut E)
     ensures { IsWrittenIfRoom line.now (E.contents errors.old) (E.contents errors.new) }
 {
     let _ = write_whole(errors, line.as_bytes());
 }
 
-// The line that reports why a port can't be had.
+// The line that reports why a port can't be opened.
 fn port_text(alloc: Global, number: u16, cause: &str) -> Result<String, AllocError>
     ensures { IfOk result (λ text. string_bytes text ≡ spec.port_line number cause.now) }
 {
     format!(in alloc; "uss_desk: 127.0.0.1:{number}: {cause}\n")
 }
 
-// Why a port can't be had, by the kind of the error.
+// Why a port can't be opened, in words, by the kind of the error.
 fn port_cause(kind: ErrorKind) -> &'static str
     ensures used { kind ≡ ErrorKind.AddrInUse → result.now ≡ codes "in use by another program" }
     ensures denied { kind ≡ ErrorKind.PermissionDenied → result.now ≡ codes "no right to it" }
-    ensures other { kind ≢ ErrorKind.AddrInUse → kind ≢ ErrorKind.PermissionDenied
+    ensures unknown { kind ≢ ErrorKind.AddrInUse → kind ≢ ErrorKind.PermissionDenied
         → result.now ≡ codes "it can't be had" }
 {
     match kind {
@@ -173,7 +172,7 @@ fn port_cause(kind: ErrorKind) -> &'static str
     }
 }
 
-// The stream of the next connection. Those that are given up before they are taken are passed over.
+// The stream of the next connection. Connections that were aborted before they were accepted are skipped.
 fn accept_from<L: OpenListener>(listener: &L) -> Result<L::Stream, ErrorCode>
     ensures { IfErr result IsDenied }
 {
@@ -185,7 +184,7 @@ fn accept_from<L: OpenListener>(listener: &L) -> Result<L::Stream, ErrorCode>
     Err(ErrorCode::Network)
 }
 
-// The stream of a connection that was accepted. None if it was given up before.
+// The stream of an accepted connection, or `None` if the client aborted it before.
 fn stream_of<T: Drop>(accepted: io::Result<T>) -> Result<Option<T>, ErrorCode>
     ensures ok { IfOk accepted (λ stream. result ≡ Ok (Some stream)) }
     ensures passed { IfErr accepted (λ e. error_kind e ≡ ErrorKind.ConnectionAborted → result ≡ Ok None) }
@@ -199,7 +198,7 @@ fn stream_of<T: Drop>(accepted: io::Result<T>) -> Result<Option<T>, ErrorCode>
     }
 }
 
-// The connection of a stream, taken at a time of the clock.
+// The connection over `stream`, which was accepted at the time `now`. Both directions get deadlines.
 fn connection_of<'s, T, C: Clock>(
     alloc: Global,
     clock: &'s C,
@@ -227,7 +226,7 @@ where
     }
 }
 
-// The moment of a time, if it is in range.
+// The timestamp of a system time; `None` if it isn't from 0 to `MAX_SECOND` seconds after 1970.
 fn moment_in(time: SystemTime) -> Option<Moment>
     ensures { option_map (λ moment. moment.second) result ≡ moment_at (system_time_nanos time) }
 {

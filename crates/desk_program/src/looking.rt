@@ -1,4 +1,4 @@
-//! The lines that show an administrator what a file holds, and what was copied of it.
+//! The lines that `check` and `copy` print: what a database file has, and how much was copied.
 
 ghost use Rattle.std.specs.Prelude.{◌≡◌, ℕ, IfOk, List, codes, if◌then◌else◌, string_bytes};
 ghost use Rattle.desk_cli.specs.Exits.{ending};
@@ -10,36 +10,36 @@ use io_ends::write_whole;
 use std::alloc::{AllocError, Global};
 use std::io::Write;
 
-// How many bytes a tenth of a megabyte is.
+// A tenth of a megabyte, in bytes.
 const TENTH: u64 = 100_000;
 
-/// What a file of a desk holds, as it is reported to an administrator.
+/// What `check` reports of a database file.
 #[derive(Clone, Copy, Debug, PartialEq, Eq)]
 pub struct CheckedFile {
     /// Whether the rows are those of schema 1.
     pub is_old: bool,
-    /// Whether its pages have the sums of SQLite's cksumvfs.
+    /// Whether its pages have the checksums of SQLite's `cksumvfs`.
     pub has_checksums: bool,
-    /// How many operators there are.
+    /// The number of operators.
     pub operators: usize,
-    /// How many plans there are, closed ones too.
+    /// The number of plans, closed ones included.
     pub plans: usize,
-    /// How many of them are not closed.
+    /// The number of plans that are not closed.
     pub live: usize,
-    /// How many rows of spans there are.
+    /// The number of rows of spans.
     pub spans: usize,
-    /// How many of them are those of the operator that has most.
+    /// The greatest number of such rows of one operator.
     pub most_spans: usize,
-    /// How many cells the plans of the operator have that has most of those, closed ones too.
+    /// The greatest number of cells of one operator's plans, closed ones included.
     pub most_cells: usize,
-    /// How many bytes the file has.
+    /// The size of the file in bytes.
     pub size: u64,
-    /// How many bytes its log has.
+    /// The size of its WAL in bytes.
     pub log: u64,
 }
 
-/// Prints what a file holds, and answers how it ended. The word of a failure goes to `errors`; a fault there
-/// is passed over.
+/// Prints what a database file has, and returns the exit report. An error code goes to `errors`; a failed
+/// write there is ignored.
 pub fn print_checked<W: Write, E: Write>(
     alloc: Global,
     file: &CheckedFile,
@@ -53,8 +53,8 @@ pub fn print_checked<W: Write, E: Write>(
     print_line(checked_text(alloc, file), output, errors)
 }
 
-/// Prints how many operators and plans were copied, and answers how it ended. The word of a failure goes to
-/// `errors`; a fault there is passed over.
+/// Prints how many operators and plans were copied, and returns the exit report. An error code goes to
+/// `errors`; a failed write there is ignored.
 pub fn print_copied<W: Write, E: Write>(
     alloc: Global,
     operators: usize,
@@ -69,8 +69,8 @@ pub fn print_copied<W: Write, E: Write>(
     print_line(copied_text(alloc, operators, plans), output, errors)
 }
 
-// Prints the line with which a command ends, if there was memory for it, and answers how it ended. The word
-// of a failure goes to `errors`; a fault there is passed over.
+// Prints the last line of a command, or fails with `Memory` if there was none for `text`. Returns the exit
+// report. An error code goes to `errors`; a failed write there is ignored.
 pub(crate) fn print_line<W: Write, E: Write>(
     text: Result<String, AllocError>,
     output: &mut W,
@@ -89,7 +89,7 @@ pub(crate) fn print_line<W: Write, E: Write>(
     }
 }
 
-// The line that reports what a file holds.
+// The line of `check`, put together from its four parts.
 fn checked_text(alloc: Global, file: &CheckedFile) -> Result<String, AllocError>
     ensures { IfOk result (λ text. string_bytes text ≡ spec.checked_line file.now) }
 {
@@ -100,7 +100,7 @@ fn checked_text(alloc: Global, file: &CheckedFile) -> Result<String, AllocError>
     Ok(text)
 }
 
-// Which tables the file has.
+// The first part: the schema, whether pages have checksums, and the number of operators.
 #[tactic(auto, unfolding(crate::specs::Looking::tables_text))]
 fn tables_text(alloc: Global, file: &CheckedFile) -> Result<String, AllocError>
     ensures { IfOk result (λ text. string_bytes text ≡ spec.tables_text file.now) }
@@ -111,7 +111,7 @@ fn tables_text(alloc: Global, file: &CheckedFile) -> Result<String, AllocError>
     format!(in alloc; "schema {schema}, sums {sums}, {operators} operators, ")
 }
 
-// What the file holds.
+// The second part: the numbers of plans, live plans and rows of spans.
 #[tactic(auto, unfolding(crate::specs::Looking::plans_text))]
 fn plans_text(alloc: Global, file: &CheckedFile) -> Result<String, AllocError>
     ensures { IfOk result (λ text. string_bytes text ≡ spec.plans_text file.now) }
@@ -129,13 +129,14 @@ fn schema_of(is_old: bool) -> u8
     if is_old { 1 } else { 2 }
 }
 
+// How a flag is printed.
 fn yes_or_no(is_so: bool) -> &'static str
     ensures { result.now ≡ (if is_so then codes "yes" else codes "no") }
 {
     if is_so { "yes" } else { "no" }
 }
 
-// How large the file and its log are.
+// The third part: the sizes of the file and its WAL in megabytes, rounded down to one decimal.
 #[tactic(auto, unfolding(crate::specs::Looking::sizes_text))]
 fn sizes_text(alloc: Global, file: &CheckedFile) -> Result<String, AllocError>
     ensures { IfOk result (λ text. string_bytes text ≡ spec.sizes_text file.now) }
@@ -149,7 +150,7 @@ fn sizes_text(alloc: Global, file: &CheckedFile) -> Result<String, AllocError>
     format!(in alloc; ", {whole}.{part} MB, {log_whole}.{log_part} MB in the log")
 }
 
-// How many spans the operator that has most has, and how many cells the one that has most of those.
+// The last part: the most rows of spans of one operator, and the most cells of one.
 #[tactic(auto, unfolding(crate::specs::Looking::most_text))]
 fn most_text(alloc: Global, file: &CheckedFile) -> Result<String, AllocError>
     ensures { IfOk result (λ text. string_bytes text ≡ spec.most_text file.now) }
@@ -161,7 +162,7 @@ fn most_text(alloc: Global, file: &CheckedFile) -> Result<String, AllocError>
     )
 }
 
-// The line that reports what was copied.
+// The line of `copy`.
 #[tactic(auto, unfolding(crate::specs::Looking::copied_line))]
 fn copied_text(alloc: Global, operators: usize, plans: usize) -> Result<String, AllocError>
     ensures { IfOk result (λ text. string_bytes text ≡ spec.copied_line operators plans) }

@@ -1,4 +1,4 @@
-//! The line that reports how many plans were moved to schema 2.
+//! The line of `migrate`, which reports how many plans were migrated to schema 2.
 
 ghost use Rattle.std.specs.Prelude.{◌≡◌, IfOk, string_bytes};
 ghost use Rattle.desk_cli.specs.Exits.{ending};
@@ -10,8 +10,8 @@ use desk_cli::ExitReport;
 use std::alloc::{AllocError, Global};
 use std::io::Write;
 
-/// Prints how many plans were moved, and answers how it ended. The word of a failure goes to `errors`; a
-/// fault there is passed over.
+/// Prints how many plans were migrated, and returns the exit report. An error code goes to `errors`; a failed
+/// write there is ignored.
 pub fn print_migrated<W: Write, E: Write>(
     alloc: Global,
     count: u32,
@@ -24,7 +24,7 @@ pub fn print_migrated<W: Write, E: Write>(
     print_line(migrated_text(alloc, count), output, errors)
 }
 
-// The line that reports how many plans were moved.
+// The line of `migrate`.
 #[tactic(auto, unfolding(crate::specs::MovedLine::migrated_line))]
 fn migrated_text(alloc: Global, count: u32) -> Result<String, AllocError>
     ensures { IfOk result (λ text. string_bytes text ≡ spec.migrated_line count) }

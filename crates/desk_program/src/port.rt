@@ -1,4 +1,4 @@
-//! Where a desk gets its connections from.
+//! The traits through which a desk gets its connections and new enrolments.
 
 ghost use Rattle.std.specs.Prelude.{◌≡◌, IfOk, IfErr, OnOk, OnErr};
 ghost use Rattle.std.specs.Result.{is_ok};
@@ -16,61 +16,60 @@ use std::io::{Read, Write};
 /// A connection that was taken.
 #[derive(Drop)]
 pub struct ClientStream<I, O> {
-    /// The moment at which it was taken.
+    /// The timestamp of its request.
     pub moment: Moment,
-    /// What comes from the client.
+    /// The bytes from the client.
     pub input: I,
-    /// What goes to the client.
+    /// The writer to the client.
     pub output: O,
 }
 
-/// What came of the request of a connection.
+/// How the request of a connection ended.
 #[derive(Clone, Copy)]
 pub struct ExchangeEnd {
-    /// Whether no byte of the request is left unread, as far as is known.
+    /// Whether the request was read to its end, as far as is known.
     pub is_whole: bool,
     /// Whether the answer was written whole, or no request came.
     pub is_answered: bool,
 }
 
-/// What the administrator has enrolled while a desk serves.
+/// A source of enrolments that the administrator adds while a desk serves.
 pub trait EnrolmentSource {
-    /// The operators that are to be enrolled since this was asked last.
+    /// The operators to enrol now: none if the source hasn't changed since the last call.
     ///
     /// # Errors
     ///
-    /// `Memory`.
+    /// `Memory` if memory runs out.
     fn look(&mut self, alloc: Global) -> Result<Vec<Enrolment>, ErrorCode>
         ensures small { IfOk result (λ news. AreEnrolments news.items) }
         ensures fault { IfErr result (λ f. f ≡ ErrorCode.Memory) };
 }
 
-/// A port, from which connections are taken one after the other.
+/// A source of connections, which are taken one after the other.
 pub trait Port {
     type Input: Read + Drop;
 
     type Output: Write + Drop;
 
-    /// The numbers at which it was asked to listen, and whether it does, the connections that were taken,
-    /// those that were closed, the news that it brought, in their order, and what it has recorded of them, if
-    /// they are known.
+    /// What the port did, if known, in order: the numbers at which it was asked to listen and whether it
+    /// does, the connections taken and closed, the new enrolments, and what it wrote to the journal.
     ghost traffic: { Self → Traffic } = { λ _. unreported };
 
-    /// Listens at the port of this number.
+    /// Starts to listen at the port `number`.
     ///
     /// # Errors
     ///
-    /// `Network` if the port can't be had.
+    /// `Network` if the port can't be opened.
     fn listen(&mut self, number: u16) -> Result<(), ErrorCode>
         ensures listens { Listens (traffic self.old) (traffic self.new) number (is_ok result) }
         ensures fault { IfErr result IsDenied };
 
-    /// Waits until there is a connection, which `take` takes then, and reports the operators that the
-    /// administrator has had enrolled since this was asked last.
+    /// Waits for a connection, which `take` then takes, and returns the operators that the administrator
+    /// enrolled since the last call.
     ///
     /// # Errors
     ///
-    /// `Network` if no connection can be had, `Memory`; `Broken` if what comes can't be recorded.
+    /// `Network` if no connection can be accepted, `Memory`; `Broken` if the journal can't be written.
     fn news(&mut self, alloc: Global) -> Result<Vec<Enrolment>, ErrorCode>
         ensures small { IfOk result (λ news. AreEnrolments news.items) }
         ensures brings { IfOk result (λ news. BringsNews (traffic self.old) (traffic self.new) news.items) }
@@ -81,8 +80,8 @@ pub trait Port {
     ///
     /// # Errors
     ///
-    /// `Network` if none can be taken, `Clock` if the clock gives no moment in range, `Memory`; `Broken` if
-    /// the request can't be recorded: the client was answered that the desk failed.
+    /// `Network` if there is none, `Clock` if the clock gives no second in range, `Memory`; `Broken` if the
+    /// journal can't be written: the client was answered that the desk failed.
     fn take(&mut self, alloc: Global) -> Result<ClientStream<Self::Input, Self::Output>, ErrorCode>
         ensures taken { IfOk result (λ c. TakesArrival (traffic self.old) (traffic self.new)
             (arrived c.moment.second (Self.Input.remaining c.input))) }
@@ -90,12 +89,12 @@ pub trait Port {
         ensures same { OnErr result (Denies (traffic self.old) (traffic self.new)) }
         ensures fault { IfErr result IsDenied };
 
-    /// Ends a connection. If its request was read whole, what has come behind it is dropped first; else the
-    /// rest of it is read for a while.
+    /// Ends a connection. What came after a whole request is discarded first; the rest of any other request
+    /// is read for a while, so that the client still gets its answer.
     ///
     /// # Errors
     ///
-    /// `Broken` if the answer can't be recorded: the client was answered that the desk failed. The connection
+    /// `Broken` if the journal can't be written: the client was answered that the desk failed. The connection
     /// has ended all the same.
     fn close(
         &mut self,

@@ -1,4 +1,4 @@
-//! What the program does at a desk: enrolments, and the requests of an input.
+//! The commands `play` and `enrol` at an open desk, and the enrolments of all commands.
 
 ghost use Rattle.std.specs.Prelude.{◌≡◌, ◌≤◌, IfErr, IfOk, string_bytes};
 ghost use Rattle.desk_run.specs.DeskFrames.{FindsOnly};
@@ -26,7 +26,7 @@ use io_ends::{PlayEnd, write_whole};
 use std::alloc::{AllocError, Global};
 use std::io::{Read, Write};
 
-// Why a run over the input did not end with the input, by its end.
+// The error code of a run over an input; `None` if it ended with the input.
 fn failure_after(ended: PlayEnd) -> Option<ErrorCode>
     ensures { result ≡ spec.failure_after ended }
 {
@@ -39,9 +39,8 @@ fn failure_after(ended: PlayEnd) -> Option<ErrorCode>
     }
 }
 
-/// Does what a line of `play` says at a desk: permits the line's priorities, enrols its operators and answers
-/// the requests of the input. Answers how it ended. The word of a failure goes to `errors`; a fault there is
-/// passed over.
+/// Runs the command `play` at a desk: sets its terms, enrols operators, and answers the requests of the
+/// input. Returns the exit report. An error code goes to `errors`; a failed write there is ignored.
 pub fn play<S: PlanStore, R: Read, W: Write, E: Write>(
     alloc: Global,
     line: &PlayArgs,
@@ -64,11 +63,12 @@ pub fn play<S: PlanStore, R: Read, W: Write, E: Write>(
         return report_exit(errors, Err(ErrorCode::from(fault)));
     }
     let played = play_all(alloc, desk, line.moment, input, output);
-    report_exit(errors, done_after(played.ended))
+    report_exit(errors, play_result(played.ended))
 }
 
-/// Enrols an operator at a desk, prints the line that says so, which is made first, and answers how that
-/// ended. The word of a failure goes to `errors`; a fault there is passed over.
+/// Enrols an operator at a desk, and prints a line that says so. The line is made first, so that nothing is
+/// changed if memory runs out. Returns the exit report. An error code goes to `errors`; a failed write there
+/// is ignored.
 pub fn enrol<S: PlanStore, W: Write, E: Write>(
     alloc: Global,
     enrolment: &Enrolment,
@@ -98,7 +98,7 @@ pub fn enrol<S: PlanStore, W: Write, E: Write>(
     }
 }
 
-// The line that says of an enrolment.
+// The line of `enrol`.
 #[tactic(auto, unfolding(crate::specs::Enrolling::enrolled_line))]
 fn enrolled_text(alloc: Global, enrolment: &Enrolment) -> Result<String, AllocError>
     ensures { IfOk result (λ text. string_bytes text ≡ enrolling.enrolled_line enrolment.now) }
@@ -108,8 +108,8 @@ fn enrolled_text(alloc: Global, enrolment: &Enrolment) -> Result<String, AllocEr
     format!(in alloc; "enrolled {operator} {ceiling}\n")
 }
 
-// Whether a run over the input came to the input's end, by its own end.
-fn done_after(ended: PlayEnd) -> Result<(), ErrorCode>
+// The result of a run over an input: an error unless it ended with the input.
+fn play_result(ended: PlayEnd) -> Result<(), ErrorCode>
     ensures { result ≡ done_unless (spec.failure_after ended) }
 {
     match failure_after(ended) {
@@ -118,13 +118,13 @@ fn done_after(ended: PlayEnd) -> Result<(), ErrorCode>
     }
 }
 
-/// Has the desk plan on these terms, and enrols the operators in the order given, so that a name given twice
-/// has its last ceiling.
+/// Sets the terms of a desk, and enrols operators in the order given: a name given twice has its last
+/// ceiling.
 ///
 /// # Errors
 ///
-/// The first fault of an enrolment, `OutOfMemory` or `Store`; the desk plans on these terms, and the
-/// operators before it are enrolled.
+/// The first error of an enrolment, `OutOfMemory` or `Store`. The terms are set by then, and the operators
+/// before it stay enrolled.
 pub fn set_up<S: PlanStore>(
     desk: &mut Desk<S>,
     terms: &Terms,
@@ -144,30 +144,33 @@ pub fn set_up<S: PlanStore>(
     enrol_all(desk, enrolments)
 }
 
-/// Enrols the operators of news, in the order given, and changes nothing if there are none.
+/// Enrols operators in the order given. If there are none, nothing is changed.
 ///
 /// # Errors
 ///
-/// The first fault of an enrolment, `OutOfMemory` or `Store`; the operators before it are enrolled.
-pub fn enrol_news<S: PlanStore>(desk: &mut Desk<S>, news: &[Enrolment]) -> Result<(), DeskFault>
-    requires { AreEnrolments news.now }
-    ensures listed { HasListedNews (IsHonest (S.doubt desk.new.store)) result news.now
+/// The first error of an enrolment, `OutOfMemory` or `Store`. The operators before it stay enrolled.
+pub fn enrol_new<S: PlanStore>(
+    desk: &mut Desk<S>,
+    new_enrolments: &[Enrolment],
+) -> Result<(), DeskFault>
+    requires { AreEnrolments new_enrolments.now }
+    ensures listed { HasListedNews (IsHonest (S.doubt desk.new.store)) result new_enrolments.now
         (world_of S.content desk.old) (world_of S.content desk.new) }
-    ensures found { IsHonest (S.doubt desk.new.store) → FindsNews result news.now
+    ensures found { IsHonest (S.doubt desk.new.store) → FindsNews result new_enrolments.now
         (world_of S.content desk.old) (world_of S.content desk.new) (S.may_leave desk.old.store)
         (S.may_leave desk.new.store) }
     ensures fault { IfErr result IsBreakdown }
     ensures remembered { Remembers S.doubt S.faults S.is_shielded desk.old.store desk.new.store }
     ensures cause { IfErr result (IsStoreCounted S.faults desk.old.store desk.new.store) }
 {
-    if news.is_empty() {
+    if new_enrolments.is_empty() {
         return Ok(());
     }
-    enrol_all(desk, news)
+    enrol_all(desk, new_enrolments)
 }
 
-// Enrols the operators in the order given, so that a name given twice has its last ceiling. At a fault of
-// an enrolment, `OutOfMemory` or `Store`, those before it stand.
+// Enrols operators in the order given: a name given twice has its last ceiling. After the first error,
+// `OutOfMemory` or `Store`, the operators before it stay enrolled.
 fn enrol_all<S: PlanStore>(desk: &mut Desk<S>, enrolments: &[Enrolment]) -> Result<(), DeskFault>
     requires { AreEnrolments enrolments.now }
     ensures listed { HasListed (IsHonest (S.doubt desk.new.store)) result enrolments.now

@@ -1,4 +1,4 @@
-//! A line carried out at a desk, over whatever store it was opened.
+//! A command run at an open desk, over any store.
 
 ghost use Rattle.std.specs.Prelude.{IfErr, IfOk};
 ghost use Rattle.std.specs.Option.{IsSomeAnd};
@@ -16,19 +16,19 @@ use desk_store::PlanStore;
 use std::alloc::Global;
 use std::io::{Read, Write};
 
-/// The streams of a line.
+/// The streams of a command.
 #[derive(Drop)]
 pub struct Streams<R: Drop, W: Drop, E: Drop> {
     /// What it reads.
     pub input: R,
     /// What it prints to.
     pub output: W,
-    /// What the word of its failure goes to.
+    /// Where its error code is printed.
     pub errors: E,
 }
 
-/// Does what a command does at the desk that was opened for it, and answers how it ended and the desk. If
-/// none was opened, the word of that failure goes to the error stream.
+/// Runs a command at the desk that was opened for it, and returns the exit report and the desk. If opening
+/// failed, that error code goes to the error stream, and nothing else is done.
 pub fn run_opened<S: PlanStore + Drop, P: Port, R: Read + Drop, W: Write + Drop, E: Write + Drop>(
     alloc: Global,
     action: DeskCommand<'_>,
@@ -52,7 +52,7 @@ pub fn run_opened<S: PlanStore + Drop, P: Port, R: Read + Drop, W: Write + Drop,
     }
 }
 
-// Does what a command does at a desk, and answers how it ended.
+// Runs a command at a desk, and returns the exit report.
 fn carry_out<S: PlanStore, P: Port, R: Read + Drop, W: Write + Drop, E: Write + Drop>(
     alloc: Global,
     action: DeskCommand<'_>,
@@ -73,8 +73,8 @@ fn carry_out<S: PlanStore, P: Port, R: Read + Drop, W: Write + Drop, E: Write + 
     }
 }
 
-/// Does what a line of `play` or `enrol` says at a desk, and answers the exit status. The word of a failure
-/// goes to `errors`; a fault there is passed over.
+/// Runs `play` or `enrol` at a desk, and returns the exit status. An error code goes to `errors`; a failed
+/// write there is ignored.
 pub fn with_desk<S: PlanStore, R: Read, W: Write, E: Write>(
     alloc: Global,
     line: &Line,
@@ -90,7 +90,7 @@ pub fn with_desk<S: PlanStore, R: Read, W: Write, E: Write>(
     carry_out_portless(alloc, line, desk, input, output, errors).status
 }
 
-// Does what a line of `play` or `enrol` says at a desk, and answers how it ended.
+// Runs `play` or `enrol` at a desk, for which no port is needed, and returns the exit report.
 fn carry_out_portless<S: PlanStore, R: Read, W: Write, E: Write>(
     alloc: Global,
     line: &Line,

@@ -1,4 +1,4 @@
-//! The desk at a port: one request a connection, one connection after the other.
+//! The command `serve`: one request per connection, one connection after the other.
 
 ghost use Rattle.std.specs.Prelude.{◌≡◌, ◌≤◌, IfOk, IfErr, OnOk, string_bytes};
 ghost use Rattle.std.specs.Io.KnownBytes.{Appends};
@@ -19,7 +19,7 @@ ghost use Rattle.desk_program.specs.Serving.{IsAskedToListen, IsAtPort, IsDenied
 ghost use Rattle.desk_program.specs.Serving.{PrintsIfListening, first_failure, listening_line};
 
 use crate::port::{ClientStream, ExchangeEnd, Port};
-use crate::program::{enrol_news, set_up};
+use crate::program::{enrol_new, set_up};
 use desk_cli::{ErrorCode, ExitReport, PlayArgs, ServeArgs, report_exit};
 use desk_run::Desk;
 use desk_store::PlanStore;
@@ -28,14 +28,14 @@ use io_ends::{ServeFault, Served, write_whole};
 use std::alloc::{AllocError, Global};
 use std::io::Write;
 
-/// The most requests that a line of `play` answers.
+/// The most requests that `play` answers.
 const MAX_ANSWERED: u32 = 1_000_000;
 
-/// The status of an answer that says that the desk failed.
+/// The HTTP status of an answer that says that the desk failed.
 const SERVER_ERROR: u16 = 500;
 
-/// Does what a line of `serve` says at a desk, and answers how it ended. The word of a failure goes to
-/// `errors`; a fault there is passed over.
+/// Runs the command `serve` at a desk, and returns the exit report. An error code goes to `errors`; a failed
+/// write there is ignored.
 pub fn serve<S: PlanStore, P: Port, W: Write, E: Write>(
     alloc: Global,
     port: &mut P,
@@ -55,12 +55,12 @@ pub fn serve<S: PlanStore, P: Port, W: Write, E: Write>(
     ensures remembered { Remembers S.doubt S.faults S.is_shielded desk.old.store desk.new.store }
     ensures cause { HasCause S.PlanStore desk.old desk.new (ended E.Write result errors.old errors.new) }
 {
-    report_exit(errors, serve_line(alloc, port, line, desk, output))
+    report_exit(errors, try_serve(alloc, port, line, desk, output))
 }
 
-// Permits the line's priorities, enrols its operators, and serves connections at the port.
-// Long: what is sent, what a crash leaves, what is printed, and why it ends have each a clause.
-fn serve_line<S: PlanStore, P: Port, W: Write>(
+// Sets the terms of a desk, enrols operators, and serves connections at the port.
+// Long: what is sent, the crash states, what is printed, and why it ends have a clause each.
+fn try_serve<S: PlanStore, P: Port, W: Write>(
     alloc: Global,
     port: &mut P,
     line: &ServeArgs,
@@ -85,7 +85,7 @@ fn serve_line<S: PlanStore, P: Port, W: Write>(
     serve_connections(alloc, port, line.connections, desk)
 }
 
-// Listens at the port, and prints the line that says so.
+// Opens the port, and prints a line that says so.
 fn listen<P: Port, W: Write>(
     alloc: Global,
     port: &mut P,
@@ -115,20 +115,19 @@ fn print_text<W: Write>(output: &mut W, text: &str) -> Result<(), ErrorCode>
     Ok(())
 }
 
-// What is printed when the port is listened at.
+// The line that says that the port is open.
 fn listening_text(alloc: Global, port: u16) -> Result<String, AllocError>
     ensures { IfOk result (λ text. string_bytes text ≡ listening_line port) }
 {
     format!(in alloc; "listening 127.0.0.1:{port}\n")
 }
 
-/// Does what a line of `play` says at a desk, with the requests of a port in the place of an input: permits
-/// the line's priorities, enrols its operators, and answers the requests at the moments that the port
-/// reports.
+/// Runs `play` at a desk with the requests of a port instead of an input: sets the terms, enrols operators,
+/// and answers each request at the timestamp of its connection.
 ///
 /// # Errors
 ///
-/// The first fault of an enrolment; or why the port gave no more requests, or the desk ended at one.
+/// The first error of an enrolment; or why the port gave no more requests, or the desk stopped at one.
 pub fn play_port<S: PlanStore, P: Port>(
     alloc: Global,
     port: &mut P,
@@ -149,7 +148,7 @@ pub fn play_port<S: PlanStore, P: Port>(
     serve_connections(alloc, port, MAX_ANSWERED, desk)
 }
 
-// Serves so many connections, one after the other.
+// Serves `count` connections, one after the other.
 fn serve_connections<S: PlanStore, P: Port>(
     alloc: Global,
     port: &mut P,
@@ -167,8 +166,8 @@ fn serve_connections<S: PlanStore, P: Port>(
     Ok(())
 }
 
-// Serves the next connection, once the operators of the news are enrolled. Faults of the connection are
-// passed over.
+// Enrols the operators that are new, and serves the next connection. Errors of that connection alone are
+// ignored.
 fn serve_connection<S: PlanStore, P: Port>(
     alloc: Global,
     port: &mut P,
@@ -179,8 +178,8 @@ fn serve_connection<S: PlanStore, P: Port>(
     ensures remembered { Remembers S.doubt S.faults S.is_shielded desk.old.store desk.new.store }
     ensures cause { IsEndCounted result (S.faults desk.old.store) (S.faults desk.new.store) }
 {
-    let news = port.news(alloc)?;
-    enrol_news(desk, &news)?;
+    let enrolments = port.news(alloc)?;
+    enrol_new(desk, &enrolments)?;
     let mut client = port.take(alloc)?;
     let served = serve_one(
         alloc,
@@ -190,10 +189,10 @@ fn serve_connection<S: PlanStore, P: Port>(
         &mut client.output,
     );
     let closed = port.close(client.input, client.output, outcome_of(&served));
-    done_after(served, closed)
+    exchange_result(served, closed)
 }
 
-// What a port is reported that came of a request.
+// How a request ended, as the port needs to know when its connection is closed.
 fn outcome_of(served: &Result<Served, ServeFault>) -> ExchangeEnd
     ensures { result ≡ spec.outcome_of served.now }
 {
@@ -203,8 +202,8 @@ fn outcome_of(served: &Result<Served, ServeFault>) -> ExchangeEnd
     }
 }
 
-// Whether the desk goes on after what came of a request, and of the close of its connection.
-fn done_after(
+// Why the desk stops after a request, if so; else the result of closing the connection.
+fn exchange_result(
     served: Result<Served, ServeFault>,
     closed: Result<(), ErrorCode>,
 ) -> Result<(), ErrorCode>
@@ -216,8 +215,8 @@ fn done_after(
     }
 }
 
-// Why a desk ends after what came of a request: it failed, or memory ran out. It goes on after a fault
-// of one connection.
+// Why the desk stops after a request: the answer was a 500, or memory ran out. It goes on after errors of one
+// connection.
 fn failure_of(served: Result<Served, ServeFault>) -> Option<ErrorCode>
     ensures { result ≡ failure_at served }
 {

@@ -1,4 +1,4 @@
-//! Reads and writes that end in time, so that a client that stalls does not hold the desk.
+//! Reads and writes with deadlines, so that a client that stalls doesn't block the desk.
 
 ghost use Rattle.std.specs.Prelude.{◌≡◌, ◌+◌, ◌≤◌, None, Some, IfSome, IfOk, IsSomeAnd, option_map};
 ghost use Rattle.std.specs.Duration.{as_nanos};
@@ -14,20 +14,20 @@ use std::time::{Clock, Duration, Instant};
 /// How many seconds a client has to send its request, and how many to take the answer.
 pub const PATIENCE: u64 = 10;
 
-/// How many milliseconds the rest of a request that was refused is waited for at each read.
+/// How many milliseconds one read waits for the rest of a refused request.
 const REST_WAIT: u64 = 500;
 
-/// How many reads the rest of a request that was refused may take.
+/// How many reads at most discard the rest of a refused request.
 const REST_READS: u32 = 100;
 
-/// How many bytes of that rest are read at a time.
+/// How many bytes are discarded at a time.
 const REST_CHUNK: usize = 4_096;
 
-/// How many such chunks that came behind a whole request are dropped: 64 KiB.
+/// How many such chunks at most are discarded after a whole request: 64 KiB.
 const EXTRA_READS: u32 = 16;
 
-/// One direction of a connection. All its reads, or all its writes, together have `PATIENCE` seconds from
-/// the first on; then they fail.
+/// One direction of a connection. All its reads, or all its writes, together have `PATIENCE` seconds from the
+/// first on; later ones fail.
 #[derive(Drop)]
 pub struct DeadlineStream<'c, T, C> {
     stream: T,
@@ -36,7 +36,7 @@ pub struct DeadlineStream<'c, T, C> {
 }
 
 impl<'c, T, C> DeadlineStream<'c, T, C> {
-    /// A direction of a stream, whose time has not begun.
+    /// One direction of `stream`. Its time begins with the first read or write.
     pub(crate) fn new(stream: T, clock: &'c C) -> DeadlineStream<'c, T, C>
         ensures stream { result.stream ≡ stream }
         ensures end { result.end ≡ None }
@@ -83,8 +83,8 @@ impl<T: Write + OpenStream, C: Clock> Write for DeadlineStream<'_, T, C> {
     }
 }
 
-/// Ends the answer to a request that was not read whole, and reads what is left of the request for a
-/// while: a connection that is closed before all was read takes back what was not delivered yet.
+/// Shuts down the answer to a request that wasn't read whole, and discards the rest of the request for a
+/// while: closing a connection with unread bytes may drop an answer that isn't delivered yet.
 pub(crate) fn discard_rest<T: Read + OpenStream, C: Clock>(
     input: &mut DeadlineStream<'_, T, C>,
     output: &DeadlineStream<'_, T, C>,
@@ -101,8 +101,8 @@ pub(crate) fn discard_rest<T: Read + OpenStream, C: Clock>(
     Ok(())
 }
 
-/// Ends the answer to a request that was read whole, and drops what has come behind it, without waiting for
-/// more: a connection that is closed before all was read takes back what was not delivered yet.
+/// Shuts down the answer to a request that was read whole, and discards what came after it without waiting
+/// for more: closing a connection with unread bytes may drop an answer that isn't delivered yet.
 pub(crate) fn discard_extra<T: Read + OpenStream, C: Clock>(
     input: &mut DeadlineStream<'_, T, C>,
     output: &DeadlineStream<'_, T, C>,
@@ -120,7 +120,7 @@ pub(crate) fn discard_extra<T: Read + OpenStream, C: Clock>(
     Ok(())
 }
 
-// Reads, and waits but for a short while.
+// Reads with a wait of at most `REST_WAIT` milliseconds, and not past the deadline.
 fn read_briefly<T: Read + OpenStream, C: Clock>(
     input: &mut DeadlineStream<'_, T, C>,
     room: &mut [u8],
@@ -136,8 +136,8 @@ fn read_briefly<T: Read + OpenStream, C: Clock>(
     input.stream.read(room)
 }
 
-// How long a read or a write may wait now that has to end with the others by `end`. Their time begins with
-// the first of them, and no later one puts its end off.
+// How long a read or write may wait from `now` until the deadline `end`. The first one sets the deadline,
+// `PATIENCE` seconds later, and no other moves it.
 fn time_left(now: Instant, end: &mut Option<Instant>) -> io::Result<Duration>
     ensures kept { IfSome end.old (λ last. end.new ≡ Some last) }
     ensures first { end.old ≡ None → IfOk result (λ left. as_nanos left ≡ patience) }
@@ -154,7 +154,7 @@ fn time_left(now: Instant, end: &mut Option<Instant>) -> io::Result<Duration>
     left_until(last, now)
 }
 
-// The end of the time that begins now.
+// The deadline of the time that begins at `now`.
 fn end_after(now: Instant) -> io::Result<Instant>
     ensures { IfOk result (λ end. instant_nanos end ≡ instant_nanos now + patience) }
 {
@@ -164,7 +164,7 @@ fn end_after(now: Instant) -> io::Result<Instant>
     }
 }
 
-// How long it is until the end.
+// How long it is from `now` until `end`; the error `TimedOut` if that has come.
 fn left_until(end: Instant, now: Instant) -> io::Result<Duration>
     ensures { IfOk result (λ left. instant_nanos now + as_nanos left ≡ instant_nanos end) }
 {

@@ -1,4 +1,4 @@
--- Access: what a look at the path of a file that can't be had finds, and what is said of it.
+-- Access: what a look at the path of a file that can't be opened finds, and what is reported of it.
 use Rattle.std.specs.Prelude.{◌≡◌, ◌≢◌, ◌⊎◌, ⊤, ℕ, ◌==◌, Bool, true, false, if◌then◌else◌}
 use Rattle.std.specs.Prelude.{List, [], ◌∷◌, ◌++◌, codes}
 use Rattle.std.specs.Prelude.{bytes_eq, nat_eq, Option, None, Some, option_map, Result, Ok, Err, is_ok}
@@ -25,14 +25,14 @@ use Rattle.host_files.specs.declared.state.Next.TheVariants as next
 
 -- ---- what the answers of the operating system say
 
--- why nothing is reached at a path, by the kind of the error
+-- why nothing can be reached at a path, by the kind of the error
 abbrev pub missing_by : ErrorKind → Missing
 missing_by kind.NotFound = missing.NoFile
 missing_by kind.NotADirectory = missing.NoFolder
 missing_by kind.PermissionDenied = missing.NoRight
 missing_by _ = missing.Other
 
--- what stands at a path, by what was found there
+-- what is at a path, by what was found there
 abbrev pub place_with : Bool → ℕ → Place
 place_with false len = place.NotRegular
 place_with true len = if len == 0 then place.Empty else place.Filled
@@ -45,8 +45,8 @@ place_of (Err kind) = place.Nothing (missing_by kind)
 abbrev pub is_no_path : List ℕ → Bool
 is_no_path path = if bytes_eq path (codes ":memory:") then true else starts_with nat_eq path (codes "file:")
 
--- what is still to be asked, by what stands there, and whether a file is made there; of a name that SQLite
--- reads otherwise than as a path nothing is, but whether an empty file can be had that is made
+-- what is still to be asked, by what is there, and whether a file is made there; of a name that SQLite reads
+-- otherwise than as a path nothing is, but whether an empty file can be opened that is made
 abbrev pub next_of_path : Place → Bool → Next
 next_of_path (place.Nothing missing.NoFile) true = next.Link
 next_of_path (place.Nothing it) made = next.Nothing (state.Missing it)
@@ -60,12 +60,12 @@ next_at it false made = next_of_path it made
 next_at place.Empty true true = next.Access
 next_at it true made = next.Nothing state.NoPath
 
--- what was found where nothing is reached and a file is made, by whether a link stands there
+-- what was found where nothing can be reached and a file is made, by whether a link is there
 abbrev pub unmade_by : Bool → FileState
 unmade_by true = state.DeadLink
 unmade_by false = state.Free
 
--- why a file can't be had, by why it can't be opened for reading, and for writing
+-- why a file can't be opened, by why it can't be opened for reading, and for writing
 abbrev pub reading_denial : Option ErrorKind → Option Denial
 reading_denial (Some kind.PermissionDenied) = Some denial.NoReading
 reading_denial _ = None
@@ -87,14 +87,14 @@ abbrev pub or_denial : Option Denial → Option Denial → Option Denial
 or_denial (Some it) next = Some it
 or_denial None next = next
 
--- why a file can't be had, by why it can't be opened for reading, and what else the machine answers
-abbrev pub denial_beside : Answers → List ℕ → Option ErrorKind → Option Denial
-denial_beside it path unread =
+-- why a file can't be opened, by why it can't be opened for reading, and what else the machine answers
+abbrev pub denial_after_open : Answers → List ℕ → Option ErrorKind → Option Denial
+denial_after_open it path unread =
     or_denial (reading_denial unread)
     (or_denial (writing_denial (it.unwritten path)) (it.unheld path))
 
 abbrev pub access_denial : Answers → List ℕ → Option Denial
-access_denial it path = denial_beside it path (it.unread path)
+access_denial it path = denial_after_open it path (it.unread path)
 
 -- how a file begins, by its first bytes, or by the kind of the error of reading them
 abbrev pub start_of : Result (List ℕ) ErrorKind → Start
@@ -103,12 +103,12 @@ start_of (Ok bytes) =
 start_of (Err kind.UnexpectedEof) = start.Other
 start_of (Err _) = start.Unread
 
--- a file can be had, and so begins somehow; or it can't be had
+-- a file can be opened, and so begins somehow; or it can't be opened
 abbrev pub IsStartAt : Answers → List ℕ → Result Start Denial → Type 0
 IsStartAt it path (Ok start) = access_denial it path ≡ None
 IsStartAt it path (Err denial) = access_denial it path ≡ Some denial
 
--- what a look at a path finds, by what is still asked once it is known what stands there
+-- what a look at a path finds, by what is still asked once it is known what is there
 abbrev pub IsStateBy : Answers → List ℕ → Next → FileState → Type 0
 IsStateBy it path (next.Nothing found) now = now ≡ found
 IsStateBy it path next.Link now = now ≡ unmade_by (is_ok (it.entry path))
@@ -149,14 +149,14 @@ MayAsk no_path made next.Start = no_path ≡ false
 
 -- ---- what is reported
 
--- of a path at which nothing is reached
+-- of a path at which nothing can be reached
 abbrev pub missing_text : Missing → List ℕ
 missing_text missing.NoFile = codes "no such file"
 missing_text missing.NoFolder = codes "no such folder"
 missing_text missing.NoRight = codes "no right to reach it"
 missing_text missing.Other = codes "it can't be reached"
 
--- of a file that can't be had, whatever it holds
+-- of a file that can't be opened, whatever it holds
 abbrev pub denial_text : Denial → List ℕ
 denial_text denial.NoReading = codes "no right to read it"
 denial_text denial.NoWriting = codes "no right to write it"
@@ -165,15 +165,15 @@ denial_text denial.Busy = codes "in use by another program"
 denial_text denial.HotJournal = codes "a journal of SQLite beside it: open it with sqlite3 first"
 denial_text denial.Unopened = codes "no right to its log or folder, a second name, or a disk that fails"
 
--- why a file can't be had, whatever it holds, if so
+-- why a file can't be opened, whatever it holds, if so
 abbrev pub access_cause : Answers → List ℕ → Option (List ℕ)
 access_cause it path = option_map denial_text (access_denial it path)
 
--- a text is said of a file that can't be had, whatever it holds
+-- a text is reported of a file that can't be opened, whatever it holds
 abbrev pub IsDenialText : List ℕ → Type 0
 IsDenialText text = (denial : Denial) × (text ≡ denial_text denial)
 
--- of a file that can be had, and is refused for what it holds
+-- of a file that can be opened, and is refused for what it holds
 abbrev pub start_text : Start → List ℕ
 start_text start.Database =
     codes "a damaged page, the log of another file, rows that break a key, or a disk that fails"
@@ -203,7 +203,7 @@ abbrev pub is_free : FileState → Bool
 is_free state.Free = true
 is_free _ = false
 
--- its pages may be damaged: their sums are tested
+-- its pages may be damaged: their checksums are tested
 abbrev pub may_be_damaged : FileState → Bool
 may_be_damaged (state.Filled (Ok start.Database)) = true
 may_be_damaged _ = false
@@ -213,10 +213,10 @@ abbrev pub if_any : Option ℕ → Option ℕ
 if_any None = None
 if_any (Some count) = if count == 0 then None else Some count
 
-abbrev pub pages_of : Answers → List ℕ → FileState → Option ℕ
-pages_of it path found = if may_be_damaged found then if_any (it.unsummed path) else None
+abbrev pub bad_checksum_count : Answers → List ℕ → FileState → Option ℕ
+bad_checksum_count it path found = if may_be_damaged found then if_any (it.unsummed path) else None
 
--- why SQLite refuses a file, by whether there is none, and what is said of what was found: where there is
+-- why SQLite refuses a file, by whether there is none, and what is reported of what was found: where there is
 -- none, one is made for a trial, and if it can't be, that is reported; else no folder is asked
 abbrev pub IsCauseBy : Bool → List ℕ → List ℕ → Steps → List ℕ → Type 0
 IsCauseBy true found path steps text =

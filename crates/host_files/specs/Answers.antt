@@ -6,11 +6,11 @@ use Rattle.std.specs.declared.fs.attrs.Metadata.{Metadata}
 use Rattle.host_files.specs.declared.files.Found.{Found}
 use Rattle.host_files.specs.declared.state.Denial.{Denial}
 
--- The answers, by the path that is asked about: what it leads to, and what stands there, be it a link; the
--- path to which its links lead; why its file can't be opened for reading, for writing, and as SQLite does;
--- the bytes of one that is opened, if they are known; how many of its pages end with another checksum, if
--- that can be known; whether it lists its tables in another order than a desk's; and whether recovery takes a
--- commit of its log, or that can't be known.
+-- The answers, by the path that is asked about: what it leads to, and what is there, be it a link; the path
+-- to which its links lead; why its file can't be opened for reading, for writing, and as SQLite does; the
+-- bytes of one that is opened, if they are known; how many of its pages have wrong checksums, if that can be
+-- known; whether it lists its tables in a non-canonical order; and whether recovery takes a commit of its
+-- WAL, or that can't be known.
 pub record Answers : Type 0 where
   pub found : List ℕ → Result Found ErrorKind
   pub entry : List ℕ → Result Found ErrorKind

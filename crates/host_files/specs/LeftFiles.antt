@@ -7,7 +7,7 @@ use Rattle.host_files.specs.Answers.{Answers}
 use Rattle.host_files.specs.declared.files.Found.{Found}
 use Rattle.host_files.specs.declared.files.Identity.{Identity}
 
--- nothing stands at a path
+-- nothing is at a path
 abbrev pub is_unfound : Result Found ErrorKind → Bool
 is_unfound (Err kind.NotFound) = true
 is_unfound _ = false
@@ -28,7 +28,7 @@ is_found (Err error) held = false
 abbrev pub is_at : Answers → List ℕ → Option Identity → Bool
 is_at it path held = is_found (it.found path) held
 
--- a copy of the source may have left what stands at a path: nothing does, or a file that is not the source
+-- a copy of the source may have left what is at a path: nothing does, or a file that is not the source
 abbrev pub is_left_by : Answers → List ℕ → Result Found ErrorKind → Bool
 is_left_by it source (Ok found) =
     if found.is_file then not (is_at it source (Some found.identity)) else false
@@ -38,7 +38,7 @@ is_left_by it source (Err _) = false
 abbrev pub is_left : Answers → List ℕ → List ℕ → Bool
 is_left it source path = is_left_by it source (it.entry path)
 
--- an empty file stands at a path
+-- an empty file is at a path
 abbrev pub is_empty_by : Result Found ErrorKind → Bool
 is_empty_by (Ok found) = if found.is_file then found.len == 0 else false
 is_empty_by (Err error) = false

@@ -5,9 +5,9 @@ use Rattle.desk_program.specs.Serving.{Grows}
 use Rattle.host_files.specs.declared.naming.NewFile.{NewFile}
 
 -- a step: a path is looked at, and there is nothing; what a copy that was cut off left at two paths, a file
--- and its log, is gone; a file is made there for a trial, and is gone again; a file is read, and its scratch
--- copy made at another path, either mended or, with its log, byte for byte; a file is removed; one gets
--- another name; the folder of a path is synced; the first page of a file is put in a desk's own order, in one
+-- and its WAL, is gone; a file is made there for a trial, and is gone again; a file is read, and its scratch
+-- copy made at another path, either repaired or, with its WAL, byte for byte; a file is removed; one gets
+-- another name; the folder of a path is synced; the first page of a file is put in canonical order, in one
 -- commit; or what was asked is not so, or can't be done
 pub data Step : Type 0 where
   Free : List ℕ → Step
@@ -38,14 +38,14 @@ abbrev pub TakesIfNone : {X : Type 0} → Steps → Option X → Step → Type 0
 TakesIfNone steps None step = Follows steps (step ∷ [])
 TakesIfNone steps (Some cause) step = Follows steps (Failed ∷ [])
 
--- the name of the log of a file, and that which a new file has first
+-- the name of the WAL of a file, and that which a new file has first
 abbrev pub log_of : List ℕ → List ℕ
 log_of path = path ++ codes "-wal"
 
 abbrev pub part_of : List ℕ → List ℕ
 part_of path = path ++ codes ".part"
 
--- the names of a new file and of its log, and those that they have first
+-- the names of a new file and of its WAL, and those that they have first
 pub record AreNames (to : List ℕ) (names : NewFile) : Type 0 where
   pub to_is : string_bytes names.to ≡ to
   pub to_log_is : string_bytes names.to_log ≡ log_of to
@@ -63,7 +63,7 @@ free_steps to =
     Free to ∷ Free (log_of to) ∷ clearing to ∷ Free (part_of to) ∷ Free (log_of (part_of to))
     ∷ Tried (part_of to) ∷ []
 
--- its log goes, and it gets its name; then one step more
+-- its WAL goes, and it gets its name; then one step more
 abbrev pub named_steps : List ℕ → Step → List Step
 named_steps to last = Removed (log_of (part_of to)) ∷ Renamed (part_of to) to ∷ last ∷ []
 
@@ -87,7 +87,7 @@ ClearsOwn to (Synced path) = ⊤
 ClearsOwn to Failed = ⊤
 ClearsOwn to _ = ⊥
 
--- a step that changes nothing but the new file, or its log, under the names that they have first
+-- a step that changes nothing but the new file, or its WAL, under the names that they have first
 abbrev pub ChangesOwn : List ℕ → Step → Type 0
 ChangesOwn to (Free path) = ⊤
 ChangesOwn to (Removed path) = (path ≡ part_of to) ⊎ (path ≡ log_of (part_of to))

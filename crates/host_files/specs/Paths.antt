@@ -9,7 +9,7 @@ use Rattle.host_files.specs.declared.files.Found.{Found}
 use Rattle.host_files.specs.declared.files.Identity.{Identity}
 use Rattle.host_files.specs.declared.paths.LocalOpenPaths.{LocalOpenPaths}
 
--- a look at a path: whether that of the database file, or that of its log, leads to the file that is open
+-- a look at a path: whether that of the database file, or that of its WAL, leads to the file that is open
 pub data Look : Type 0 where
   File : Bool → Look
   Log : Bool → Look
@@ -20,7 +20,7 @@ AreAtPaths looks true = Grows looks.before looks.after (File true ∷ Log true �
 AreAtPaths looks false = Grows looks.before looks.after (File false ∷ [])
     ⊎ Grows looks.before looks.after (File true ∷ Log false ∷ [])
 
--- where the log of a file is: beside the file to which a link leads
+-- where the WAL of a file is: beside the file to which a link leads
 abbrev pub log_by : List ℕ → Result (List ℕ) ErrorKind → List ℕ
 log_by path (Ok real) = log_of real
 log_by path (Err error) = log_of path

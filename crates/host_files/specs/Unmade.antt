@@ -1,4 +1,4 @@
--- Unmade: what is said of a file that can't be made, or has no scratch copy.
+-- Unmade: what is reported of a file that can't be made, or has no scratch copy.
 use Rattle.std.specs.Prelude.{◌≡◌, ◌⊎◌, ℕ, Bool, true, false, List, codes, Option, None, Some}
 use Rattle.std.specs.declared.io.ErrorKind.{ErrorKind}
 use Rattle.std.specs.declared.io.ErrorKind.TheVariants as kind

@@ -1,5 +1,5 @@
-//! Why a file can't be had, as it is reported: by what a look at its path found, and nothing of what its
-//! tables hold.
+//! Why a file can't be opened or made, in the words of a report. It is found by looking at the path, not at
+//! the rows.
 
 ghost use Rattle.std.specs.Prelude.{◌≡◌, IfSome, option_map};
 ghost use Rattle.desk_program.specs.Outside.{bytes_written};
@@ -20,10 +20,11 @@ use std::io::Write;
 
 const NO_PATH: &str = "a name that SQLite reads otherwise than as a path";
 
-// What a file of anything else is, and what is no regular file.
+// The cause for a file of another format, and for what is no regular file.
 const NO_DATABASE: &str = "no SQLite database";
 
-/// Why there can be no new file at a path, if that is so: it is no path, or something is there.
+/// Why no new file can be made at `path`: SQLite doesn't read it as a path, or something exists there. `None`
+/// if it is free.
 pub fn new_cause<P: Folder>(folder: &mut P, path: &str) -> Option<&'static str>
     ensures { TakesIfNone (steps_of P.Folder folder.old folder.new) result (Free path.now) }
 {
@@ -33,15 +34,15 @@ pub fn new_cause<P: Folder>(folder: &mut P, path: &str) -> Option<&'static str>
     Some(taken_text(is_no_path(path)))
 }
 
-// Why a path is not free.
+// Why a path isn't free.
 fn taken_text(is_no_path: bool) -> &'static str
     ensures { result.now ≡ spec.taken_text is_no_path }
 {
     if is_no_path { NO_PATH } else { TAKEN }
 }
 
-/// Reports why SQLite refuses the file at a path, by what a look at it found: of one that may be damaged, how
-/// many pages, if their sums report.
+/// Reports why SQLite refuses the file at `path`, under the name `name`, by the `state` that `probe` found.
+/// If the pages may be damaged, the report counts those with wrong checksums.
 #[tactic(auto, using(crate::proofs::lemmas::Reporting::reports_nothing))]
 pub fn report_store<E: Write>(
     rt: &HostRuntime,
@@ -52,7 +53,7 @@ pub fn report_store<E: Write>(
 )
     ensures { Reports (bytes_written E.Write errors.old errors.new) }
 {
-    match pages_of(&LocalHost::new(rt), path, state) {
+    match bad_checksum_count(&LocalHost::new(rt), path, state) {
         Some(count) => report_pages(rt.alloc(), name, count, errors),
         None => {
             let cause = cause_of(&mut LocalHost::new(rt), path, state);
@@ -61,9 +62,10 @@ pub fn report_store<E: Write>(
     }
 }
 
-// How many pages of a file that may be damaged have another sum than theirs, if some have.
-fn pages_of<F: HostFiles>(files: &F, path: &str, state: FileState) -> Option<u64>
-    ensures { IfSome (F.answers files.now) (λ it. result ≡ spec.pages_of it path.now state) }
+// How many pages of a file have wrong checksums. `None` if none have, or the file isn't refused for its
+// pages.
+fn bad_checksum_count<F: HostFiles>(files: &F, path: &str, state: FileState) -> Option<u64>
+    ensures { IfSome (F.answers files.now) (λ it. result ≡ spec.bad_checksum_count it path.now state) }
 {
     if !may_be_damaged(state) {
         return None;
@@ -74,14 +76,14 @@ fn pages_of<F: HostFiles>(files: &F, path: &str, state: FileState) -> Option<u64
     }
 }
 
-// Whether the pages of a file may be damaged: all else that refuses it was looked at.
+// Whether a file may be refused for damaged pages: every other cause was excluded.
 fn may_be_damaged(state: FileState) -> bool
     ensures { result ≡ spec.may_be_damaged state }
 {
     matches!(state, FileState::Filled(Ok(Start::Database)))
 }
 
-// Reports that so many pages have another sum than theirs.
+// Reports that `count` pages have wrong checksums. A failed write and running out of memory are ignored.
 #[tactic(auto, using(crate::proofs::lemmas::Reporting::reports_nothing))]
 fn report_pages<E: Write>(alloc: Global, path: &str, count: u64, errors: &mut E)
     ensures { Reports (bytes_written E.Write errors.old errors.new) }
@@ -94,7 +96,7 @@ fn report_pages<E: Write>(alloc: Global, path: &str, count: u64, errors: &mut E)
     }
 }
 
-// Why SQLite refuses a file. Where there is none, one is made for a trial, which reports why it can't be.
+// Why SQLite refuses a file. If there is none, one is made and removed again, to learn why it can't be made.
 fn cause_of<P: Folder>(folder: &mut P, path: &str, state: FileState) -> &'static str
     ensures { IsCauseBy (spec.is_free state) (spec.refusal_text state) path.now
         (steps_of P.Folder folder.old folder.new) result.now }
@@ -108,21 +110,21 @@ fn cause_of<P: Folder>(folder: &mut P, path: &str, state: FileState) -> &'static
     }
 }
 
-// Whether nothing is there, where a file is made.
+// Whether the path is free, for a command that makes the file.
 fn is_free(state: FileState) -> bool
     ensures { result ≡ spec.is_free state }
 {
     matches!(state, FileState::Free)
 }
 
-/// Why a file can't be had, whatever it holds.
+/// Why the file at a path can't be opened, whatever its content; `None` if it can.
 pub fn access_cause(rt: &HostRuntime, path: &str) -> Option<&'static str>
     ensures { IfSome result (λ cause. IsDenialText cause.now) }
 {
     cause_at(&mut LocalHost::new(rt), path)
 }
 
-/// The same, of the files of any machine.
+/// What `access_cause` returns, over any `HostFiles`.
 pub fn cause_at<F: HostFiles>(files: &mut F, path: &str) -> Option<&'static str>
     ensures answer { IfSome (F.answers files.old) (λ it.
         option_map (λ cause. cause.now) result ≡ spec.access_cause it path.now) }
@@ -135,7 +137,7 @@ pub fn cause_at<F: HostFiles>(files: &mut F, path: &str) -> Option<&'static str>
     }
 }
 
-// Why a file is refused, by what a look at its path found.
+// The cause for a file that SQLite refuses, by what `probe` found at its path.
 fn refusal_text(state: FileState) -> &'static str
     ensures { result.now ≡ spec.refusal_text state }
 {
@@ -152,7 +154,7 @@ fn refusal_text(state: FileState) -> &'static str
     }
 }
 
-// Why nothing is reached at a path.
+// The cause if nothing can be reached at a path.
 fn missing_text(missing: Missing) -> &'static str
     ensures { result.now ≡ spec.missing_text missing }
 {
@@ -164,7 +166,7 @@ fn missing_text(missing: Missing) -> &'static str
     }
 }
 
-// Why a file can't be had, whatever it holds.
+// The cause for a file that can't be opened, whatever its content.
 fn denial_text(denial: Denial) -> &'static str
     ensures { result.now ≡ spec.denial_text denial }
 {
@@ -178,7 +180,7 @@ fn denial_text(denial: Denial) -> &'static str
     }
 }
 
-// Why a file that can be had is refused, by how it begins.
+// The cause for a file that can be opened and is refused, by how it begins.
 fn start_text(start: Start) -> &'static str
     ensures { result.now ≡ spec.start_text start }
 {

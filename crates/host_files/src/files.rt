@@ -1,5 +1,5 @@
-//! What the program asks about the files of a machine before it opens one. No clause reports what the
-//! operating system answers: the clauses above say what follows from its answers.
+//! What the program asks the operating system about files before it opens one. No contract says what the
+//! answers are: contracts that use `HostFiles` say what follows from them.
 
 ghost use Rattle.std.specs.Prelude.{◌≡◌, ◌∷◌, [], ℕ, Err, IfOk, IfSome, List, MatchResult, None, Option};
 ghost use Rattle.std.specs.Prelude.{string_bytes};
@@ -17,62 +17,62 @@ use std::fs::{self, File, Metadata, OpenOptions};
 use std::io::{self, ErrorKind, Read, Stderr, Stdin, Stdout};
 use std::os::unix::fs::MetadataExt;
 
-/// What stands at a path.
+/// What exists at a path.
 #[derive(Clone, Copy)]
 pub struct Found {
     /// Whether it is a regular file.
     pub is_file: bool,
-    /// How many bytes it has.
+    /// Its size in bytes.
     pub len: u64,
     /// Which file it is.
     pub identity: Identity,
 }
 
-/// Which file of a machine something is.
+/// The identity of a file: paths lead to the same file if their identities are equal.
 #[derive(Clone, Copy)]
 pub struct Identity {
-    /// The device on which it lies.
+    /// The device that it is on.
     pub device: u64,
-    /// Its number there.
+    /// Its inode number on that device.
     pub inode: u64,
 }
 
-/// The files of a machine, which are looked at.
+/// Queries about the files of a machine.
 pub trait HostFiles {
     /// A file that is open for reading.
     type File: Read + Drop;
 
-    /// What is answered as long as the files stay as they are, if that is known.
+    /// What the queries return as long as the files don't change, if known.
     ghost answers: { Self → Option Answers } = { λ _. None };
 
-    /// The files that were opened as SQLite does, in their order, if they are known.
+    /// The paths of the files that were opened as SQLite opens them, in order, if known.
     ghost openings: { Self → Option (List (List ℕ)) } = { λ _. None };
 
-    /// What a path leads to.
+    /// What a path leads to, once links are followed.
     ///
     /// # Errors
     ///
-    /// Why nothing is reached.
+    /// Why nothing can be reached.
     fn find(&self, path: &str) -> Result<Found, ErrorKind>
         ensures { IfSome (answers self.now) (λ it. result ≡ it.found path.now) };
 
-    /// What stands at a path, which may be a link.
+    /// What exists at a path itself, which may be a link.
     ///
     /// # Errors
     ///
-    /// Why nothing is reached.
+    /// Why nothing can be reached.
     fn find_entry(&self, path: &str) -> Result<Found, ErrorKind>
         ensures { IfSome (answers self.now) (λ it. result ≡ it.entry path.now) };
 
-    /// The path to which the links of a path lead.
+    /// The path with all links resolved.
     ///
     /// # Errors
     ///
-    /// Why nothing is reached.
+    /// Why nothing can be reached.
     fn real(&self, path: &str) -> Result<String, ErrorKind>
         ensures { IfSome (answers self.now) (λ it. by_ok string_bytes result ≡ it.real path.now) };
 
-    /// The file at a path, open for reading.
+    /// Opens the file at a path for reading.
     ///
     /// # Errors
     ///
@@ -82,44 +82,45 @@ pub trait HostFiles {
         ensures bytes { IfSome (answers self.now) (λ it.
             IfOk result (λ file. Self.File.remaining file ≡ it.bytes path.now)) };
 
-    /// Why a file can't be opened for reading and writing, if so.
+    /// Why the file at a path can't be opened for reading and writing; `None` if it can.
     fn writing_error(&self, path: &str) -> Option<ErrorKind>
         ensures { IfSome (answers self.now) (λ it. result ≡ it.unwritten path.now) };
 
-    /// Why a file can't be had, by an opening as SQLite's, if so. A log is made beside it if it has none.
+    /// Why a file can't be opened as SQLite opens it; `None` if it can. A WAL is made beside it if it has
+    /// none.
     fn opening_denial(&mut self, path: &str) -> Option<Denial>
         ensures answer { IfSome (answers self.old) (λ it. result ≡ it.unheld path.now) }
         ensures same { answers self.new ≡ answers self.old }
         ensures opens { Grows (openings self.old) (openings self.new) (path.now ∷ []) };
 
-    /// How many pages of a database end with another checksum than theirs, if that can be known.
+    /// How many pages of a database have wrong checksums, if that can be found out.
     fn unsummed(&self, path: &str) -> Option<u64>
         ensures { IfSome (answers self.now) (λ it. result ≡ it.unsummed path.now) };
 
-    /// Whether a database lists the tables of a desk in another order than the desk's own.
+    /// Whether a database has the tables of the schema, but lists them in a non-canonical order.
     fn is_disordered(&self, path: &str) -> bool
         ensures { IfSome (answers self.now) (λ it. result ≡ it.disordered path.now) };
 
-    /// Whether recovery takes a commit of the log of a file, or that can't be known. Of a log that was cut
-    /// off in the midst of its first commit it takes none.
+    /// Whether recovery applies a commit of a file's WAL; also true if that can't be found out. It applies
+    /// none if the WAL was cut off within its first commit.
     fn takes_commit(&self, path: &str) -> bool
         ensures { IfSome (answers self.now) (λ it. result ≡ it.recovered path.now) };
 }
 
-/// The machine on which the program runs, of which nothing is known.
+/// The machine on which the program runs. Contracts know nothing of its files.
 #[derive(Clone, Copy)]
 pub struct LocalHost<'s> {
-    /// The runtime, which is handed on to what asks the operating system.
+    /// The runtime, which calls to the operating system need.
     pub rt: &'s HostRuntime,
 }
 
 impl<'s> LocalHost<'s> {
-    /// The machine of this run.
+    /// The machine of this runtime.
     pub fn new(rt: &'s HostRuntime) -> LocalHost<'s> {
         LocalHost { rt }
     }
 
-    /// The allocator of this run.
+    /// The allocator of the runtime.
     pub fn alloc(&self) -> Global {
         self.rt.alloc()
     }
@@ -196,7 +197,8 @@ impl HostFiles for LocalHost<'_> {
     }
 }
 
-// Why a file can't be had, by the error of opening it as SQLite does.
+// Why a file can't be opened, by the error of opening it as SQLite does. `None` if memory ran out, which says
+// nothing about the file.
 fn denial_by(error: OpenError) -> Option<Denial>
     ensures { result ≡ spec.denial_by error }
 {
@@ -208,7 +210,7 @@ fn denial_by(error: OpenError) -> Option<Denial>
     }
 }
 
-// What was found, by what the operating system says of it.
+// What exists at a path, by the metadata of the operating system.
 fn found_of(found: io::Result<Metadata>) -> Result<Found, ErrorKind>
     ensures { MatchResult found (λ said. IfOk result (IsFoundAs said))
         (λ error. result ≡ Err (error_kind error)) }

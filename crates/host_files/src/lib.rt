@@ -1,6 +1,5 @@
-//! The files of the machine: what is asked of the operating system about a path and its file, why a file
-//! can't be had, how a new file gets its name, and the lines that report it. No store over tables is needed
-//! for it.
+//! Files of the operating system: what is at a path, why a file can't be opened, how a new file gets its
+//! name, and the lines that report it to the administrator. It depends on no tables.
 #![tactic(auto)]
 
 pub mod access;

@@ -1,4 +1,4 @@
-//! How a new file gets its name, once it is whole.
+//! How a new file gets its name: it is written under a temporary name, and renamed once it is complete.
 
 ghost use Rattle.std.specs.Prelude.{◌≡◌, ℕ, ◌++◌, [], List, Option, None, false, true, IfOk, IfSome};
 ghost use Rattle.std.specs.Prelude.{string_bytes};
@@ -21,57 +21,58 @@ use std::fs::{self, File, OpenOptions, Permissions};
 use std::io::{self, ErrorKind};
 use std::os::unix::fs::{OpenOptionsExt, PermissionsExt};
 
-/// What is said of a path at which there is something.
+/// The cause for a path at which something exists.
 pub const TAKEN: &str = "it is there already";
 
-/// What is said of a file that another program has locked.
+/// The cause for a file that another program has locked.
 pub const IN_USE: &str = "in use by another program";
 
-/// What is said of a path whose file system takes no writing.
+/// The cause for a path on a read-only file system.
 pub const READ_ONLY: &str = "a read-only file system";
 
-/// The mode of a file that its owner alone reads and writes.
+/// The mode of a file that only its owner can read and write.
 pub const OWNER_ALONE: u32 = 0o600;
 
-/// The folders in which a new file gets its name.
+/// Operations on the folders in which new files get their names.
 pub trait Folder {
-    /// What was asked of them, in its order, if it is known.
+    /// The operations so far, in order, if known.
     ghost steps: { Self → Option (List Step) } = { λ _. None };
 
-    /// Whether there is nothing at a path, and SQLite reads it as one.
+    /// Whether nothing exists at a path, and SQLite reads it as a path.
     fn is_free(&mut self, path: &str) -> bool
         ensures { Takes (course (steps self.old) (steps self.new)) result (Free path.now) };
 
-    /// Removes what a copy that was cut off left at two paths, a file and its log, unless that is `source` or
-    /// its log, or a program holds it; and answers why there is still something, if so.
+    /// Removes the file `part` and its WAL `log`, which an interrupted copy may have left. Nothing is removed
+    /// if one of them is the file `source`, or if a program has it open. Returns why something is still
+    /// there, if so.
     fn clear(&mut self, source: &str, part: &str, log: &str) -> Option<&'static str>
         ensures { TakesIfNone (course (steps self.old) (steps self.new)) result (Cleared part.now log.now) };
 
-    /// Makes a file at a path, removes it, and answers why that could not be done, if so.
+    /// Makes a file at a path and removes it again. Returns why that failed, if it did.
     fn try_file(&mut self, path: &str) -> Option<&'static str>
         ensures { TakesIfNone (course (steps self.old) (steps self.new)) result (Tried path.now) };
 
-    /// Makes the scratch copy of a file at a path where there is nothing, mended (`is_mended`) or, beside
-    /// that of its log, as it is; and answers why that could not be done, if so.
+    /// Makes the scratch copy of `source` at the free path `scratch`: repaired if `is_mended`, else byte for
+    /// byte together with its WAL. Returns why that failed, if it did.
     fn scratch(&mut self, source: &str, scratch: &str, is_mended: bool) -> Option<ScratchFault>
         ensures { TakesIfNone (course (steps self.old) (steps self.new)) result
             (Twinned source.now scratch.now is_mended) };
 
-    /// Removes a file, and answers whether that was done.
+    /// Removes a file, and returns whether that succeeded.
     fn remove(&mut self, path: &str) -> bool
         ensures { Takes (course (steps self.old) (steps self.new)) result (Removed path.now) };
 
-    /// Gives a file another name, and answers whether that was done. It is its owner's alone then, where the
-    /// file system has modes.
+    /// Renames a file, and returns whether that succeeded. If the file system has modes, only the owner can
+    /// then read and write it.
     fn rename(&mut self, from: &str, to: &str) -> bool
         ensures { Takes (course (steps self.old) (steps self.new)) result (Renamed from.now to.now) };
 
-    /// Syncs the folder of a path, and answers whether that was done.
+    /// Syncs the folder of a path, and returns whether that succeeded.
     fn sync(&mut self, path: &str) -> bool
         ensures { Takes (course (steps self.old) (steps self.new)) result (Synced path.now) };
 
-    /// Puts the first page of the file at a path into a desk's own order, in one commit, and answers whether
-    /// that was done.
+    /// Rewrites the first page of the database at a path in one commit, so that it lists the tables in
+    /// canonical order. Returns whether that succeeded.
     fn order(&mut self, path: &str) -> bool
         ensures { Takes (course (steps self.old) (steps self.new)) result (Ordered path.now) };
 }
@@ -126,7 +127,7 @@ impl Folder for LocalHost<'_> {
     }
 }
 
-/// Why a file can't be made where there is none, by what the operating system says.
+/// Why a new file can't be made, in words, by the kind of the error.
 pub fn unmade_text(kind: ErrorKind) -> &'static str
     ensures { result.now ≡ unmade.unmade_text kind }
 {
@@ -140,7 +141,7 @@ pub fn unmade_text(kind: ErrorKind) -> &'static str
     }
 }
 
-/// Whether SQLite reads a name otherwise than as a path.
+/// Whether SQLite reads a name otherwise than as a path: as a database in memory, or as a URI.
 pub fn is_no_path(path: &str) -> bool
     ensures { result ≡ access.is_no_path path.now }
 {
@@ -150,7 +151,7 @@ pub fn is_no_path(path: &str) -> bool
     path.as_bytes().starts_with(b"file:".as_slice())
 }
 
-/// Whether nothing stands at a path.
+/// Whether it is certain that nothing exists at a path.
 pub(crate) fn is_missing<F: HostFiles>(files: &F, path: &str) -> bool
     ensures { IfSome (F.answers files.now) (λ it. result ≡ left.is_missing it path.now) }
 {
@@ -160,7 +161,8 @@ pub(crate) fn is_missing<F: HostFiles>(files: &F, path: &str) -> bool
     }
 }
 
-// Whether a copy may have left what stands at a path, if something does: a file, and not `source`.
+// Whether an interrupted copy may have left what is at `path`: nothing is there, or a file other than
+// `source`.
 fn is_left<F: HostFiles>(files: &F, source: &str, path: &str) -> bool
     ensures { IfSome (F.answers files.now) (λ it. result ≡ left.is_left it source.now path.now) }
 {
@@ -171,7 +173,7 @@ fn is_left<F: HostFiles>(files: &F, source: &str, path: &str) -> bool
     }
 }
 
-// Removes a file and its log, which are held meanwhile; or why not.
+// Removes a file and its WAL, which are locked meanwhile. Returns why that failed, if it did.
 fn clear_left(rt: &HostRuntime, part: &str, log: &str) -> Option<&'static str> {
     match sqlite_std_file::open(rt, part, Unknown) {
         Ok(_held) => match fs::remove_file(rt, log).and_then(|()| fs::remove_file(rt, part)) {
@@ -183,8 +185,8 @@ fn clear_left(rt: &HostRuntime, part: &str, log: &str) -> Option<&'static str> {
     }
 }
 
-/// Makes an empty file at a path that is its owner's alone, if there is nothing. A fault is passed over,
-/// since whoever opens the file meets it too.
+/// Makes an empty file at a free path that only its owner can read and write. Errors are ignored, since
+/// opening the file meets them again.
 pub fn make_private(rt: &HostRuntime, path: &str) {
     if !is_no_path(path) {
         let _ = OpenOptions::new()
@@ -199,27 +201,27 @@ pub fn make_private(rt: &HostRuntime, path: &str) {
 ///
 /// # Errors
 ///
-/// As the operating system says.
+/// The error of the operating system.
 pub fn sync_folder(rt: &HostRuntime, path: &str) -> io::Result<()> {
     let mut folder = fs::canonicalize(rt, path)?;
     folder.pop();
     File::open(rt, folder.as_str())?.sync_all()
 }
 
-/// The names of a new file and of its log: those that they get at last, and those that they have before.
+/// The names of a new file and of its WAL: the final ones, and the temporary ones.
 #[derive(Drop)]
 pub struct NewFile {
-    /// That of the file.
+    /// The final name of the file.
     pub to: String,
-    /// That of its log.
+    /// The final name of its WAL.
     pub to_log: String,
-    /// That which the file has before.
+    /// The temporary name of the file.
     pub part: String,
-    /// That which its log has before.
+    /// The temporary name of its WAL.
     pub part_log: String,
 }
 
-/// The names of a new file.
+/// The names of the new file at the path `to`.
 ///
 /// # Errors
 ///
@@ -236,7 +238,7 @@ pub fn names_of(alloc: Global, to: &str) -> Result<NewFile, AllocError>
     })
 }
 
-/// A name and its end.
+/// `path` followed by `end`.
 ///
 /// # Errors
 ///
@@ -247,8 +249,8 @@ pub fn name_with(alloc: Global, path: &str, end: &str) -> Result<String, AllocEr
     format!(in alloc; "{path}{end}")
 }
 
-/// Gives a file that is whole its name, and syncs its folder. Its log, which is empty, goes. Whether all of
-/// that was done.
+/// Gives a complete new file its final name: removes its WAL, which is empty, renames it, and syncs its
+/// folder. Returns whether all of that succeeded.
 #[tactic(auto, using(crate::proofs::lemmas::Naming::fails_after))]
 pub fn publish<N: Folder>(folder: &mut N, names: &NewFile) -> bool
     ensures named { (to : List ℕ) → AreNames to names.now → result ≡ true

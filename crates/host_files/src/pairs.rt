@@ -16,14 +16,14 @@ use std::fs::{self, File, OpenOptions};
 use std::io::ErrorKind;
 use std::os::unix::fs::OpenOptionsExt;
 
-/// Why a file has no scratch copy.
+/// Why a scratch copy can't be made.
 #[derive(Clone, Copy, Debug, PartialEq, Eq)]
 pub enum ScratchFault {
     /// Memory ran out.
     OutOfMemory,
-    /// The file can't be had, for this cause.
+    /// The file itself can't be read, for this cause.
     Source(&'static str),
-    /// The scratch copy can't be made, for this cause.
+    /// The scratch copy can't be written, for this cause.
     ScratchCopy(&'static str),
 }
 
@@ -38,16 +38,16 @@ impl From<AllocError> for ScratchFault {
     }
 }
 
-// What is said of a file that can't be read.
+// The cause for a file that can't be read.
 const UNREAD: &str = "it can't be read";
 
-/// Makes the scratch copy of a file, which no other program has meanwhile, where there is nothing: mended,
-/// or, with its log, as it is. The scratch copy is its owner's alone. No log is left beside the file where
-/// there was none.
+/// Makes the scratch copy of the file `source` at the free path `scratch`: repaired if `is_mended`, else byte
+/// for byte together with its WAL. Only its owner can read it. `source` is locked meanwhile; a WAL that
+/// locking makes beside it is removed.
 ///
 /// # Errors
 ///
-/// As `ScratchFault` says. What was made by then is left.
+/// Why that failed. What was written by then stays.
 pub fn write_scratch(
     rt: &HostRuntime,
     source: &str,
@@ -62,7 +62,7 @@ pub fn write_scratch(
     let is_alone = is_missing(&host, &log);
     match sqlite_std_file::open(rt, source, Unknown) {
         Ok(_held) => {
-            // a log that was made when the file was held
+            // locking the file made this WAL
             if is_alone && is_empty(&host, &log) {
                 let _ = fs::remove_file(rt, &log);
             }
@@ -77,7 +77,7 @@ pub fn write_scratch(
     }
 }
 
-// Whether an empty file stands at a path.
+// Whether an empty file exists at a path.
 fn is_empty<F: HostFiles>(files: &F, path: &str) -> bool
     ensures { IfSome (F.answers files.now) (λ it. result ≡ left.is_empty it path.now) }
 {
@@ -87,8 +87,8 @@ fn is_empty<F: HostFiles>(files: &F, path: &str) -> bool
     }
 }
 
-// Copies a file, mended. It is opened once, and closed after all else: its closing lets go
-// of it.
+// Writes a repaired copy of a file. The file is opened only once, and closed last: closing it releases its
+// lock.
 fn write_mended(rt: &HostRuntime, source: &str, scratch: &str) -> Result<(), ScratchFault>
     ensures { IfErr result IsCopyFault }
 {
@@ -103,7 +103,7 @@ fn write_mended(rt: &HostRuntime, source: &str, scratch: &str) -> Result<(), Scr
     }
 }
 
-// Copies a file and its log. Both are closed after all else.
+// Copies a file and its WAL. Both are closed last: closing one releases its lock.
 fn write_pair(
     rt: &HostRuntime,
     source: &str,
@@ -119,7 +119,7 @@ fn write_pair(
     copy_bytes(&mut changes, &mut made_log).map_err(|error| copy_fault(error.kind()))
 }
 
-// Makes a file where there is nothing, its owner's alone.
+// Makes a file at a free path that only its owner can read and write.
 fn new_file(rt: &HostRuntime, path: &str) -> Result<File, ScratchFault>
     ensures { IfErr result (IsScratchFaultBy spec.made_text) }
 {
@@ -134,7 +134,7 @@ fn new_file(rt: &HostRuntime, path: &str) -> Result<File, ScratchFault>
     }
 }
 
-// Why a file can't be made.
+// Why the scratch copy can't be made, by the kind of the error.
 fn made_fault(kind: ErrorKind) -> ScratchFault
     ensures { spec.fault_text result ≡ spec.made_text kind }
 {
@@ -144,7 +144,7 @@ fn made_fault(kind: ErrorKind) -> ScratchFault
     }
 }
 
-// Why a file can't be read.
+// Why the file to be copied can't be read, by the kind of the error.
 fn source_fault(kind: ErrorKind) -> ScratchFault
     ensures { spec.fault_text result ≡ spec.source_text kind }
 {
@@ -154,7 +154,7 @@ fn source_fault(kind: ErrorKind) -> ScratchFault
     }
 }
 
-// Why a file can't be copied.
+// Why copying stopped, by the kind of the error.
 fn copy_fault(kind: ErrorKind) -> ScratchFault
     ensures { spec.fault_text result ≡ spec.copy_text kind }
 {

@@ -1,4 +1,4 @@
-//! The paths of a desk's files in the folders of the operating system.
+//! Whether the paths of a desk's open files still lead to these files.
 
 ghost use Rattle.std.specs.Prelude.{◌≡◌, [], ◌∷◌, IfErr, IfOk, IfSome, List, None, Option, string_bytes, true};
 ghost use Rattle.std.specs.Prelude.{unwrap_or};
@@ -16,26 +16,26 @@ use desk_cli::{Database, ErrorCode};
 use std::alloc::Global;
 use std::io::ErrorKind;
 
-/// The paths of a desk's database file and of its log, while the desk has both open.
+/// The paths of a desk's database file and of its WAL, while both are open.
 pub trait OpenPaths {
-    /// What was looked at, in its order, if it is known.
+    /// The checks so far with their results, in order, if known.
     ghost looks: { Self → Option (List Look) } = { λ _. None };
 
-    /// Takes the files to which the paths lead for those that are opened. It is asked before that, and once
-    /// more when both are there, for one that wasn't.
+    /// Notes which files the paths lead to: these are the open ones. It is called before the database is
+    /// opened, and again afterwards, for a file that didn't exist before.
     fn hold(&mut self)
         ensures { looks self.new ≡ looks self.old };
 
-    /// Whether the path of the database file leads to the file that is open.
+    /// Whether the path of the database file still leads to the open file.
     fn has_file(&mut self) -> bool
         ensures { Grows (looks self.old) (looks self.new) (File result ∷ []) };
 
-    /// Whether the path of the log leads to the log that is open.
+    /// Whether the path of the WAL still leads to the open WAL.
     fn has_log(&mut self) -> bool
         ensures { Grows (looks self.old) (looks self.new) (Log result ∷ []) };
 }
 
-/// The paths of a database in memory: it has none, so that nobody can move it.
+/// The paths of a database in memory: it has no files that could be moved.
 #[derive(Clone, Copy)]
 pub struct NoPaths;
 
@@ -51,20 +51,20 @@ impl OpenPaths for NoPaths {
     }
 }
 
-/// The paths of a file and of its log. That one doesn't lead to the file that is open is reported on the
-/// standard error, once.
+/// The paths of a database file and of its WAL. If one no longer leads to the open file, that is reported on
+/// the standard error, once.
 #[derive(Drop)]
 pub struct LocalOpenPaths<'r> {
     rt: &'r HostRuntime,
     file: &'r str,
     log: String,
-    // the files that are open
+    // the open files, once they are noted
     held_file: Option<Identity>,
     held_log: Option<Identity>,
     is_reported: bool,
 }
 
-/// The paths of the file of a database; of no file if it is in memory.
+/// The paths of the files of a database; empty ones if it is in memory.
 ///
 /// # Errors
 ///
@@ -79,7 +79,7 @@ pub fn paths_at<'r>(
     paths_beside(rt, database.path().unwrap_or(""))
 }
 
-// The paths of a file.
+// The paths of the database file `file` and of its WAL.
 fn paths_beside<'r>(rt: &'r HostRuntime, file: &'r str) -> Result<LocalOpenPaths<'r>, ErrorCode>
     ensures unheld { IfOk result (λ paths. IsUnheldAt file.entry.now paths) }
     ensures fault { IfErr result (λ f. f ≡ Memory) }
@@ -94,7 +94,7 @@ fn paths_beside<'r>(rt: &'r HostRuntime, file: &'r str) -> Result<LocalOpenPaths
     })
 }
 
-// The path of the log of a file, which is beside the file to which a link leads.
+// The path of the WAL of a file. If the path is a link, the WAL is beside the file to which it leads.
 fn log_beside<F: HostFiles>(alloc: Global, files: &F, file: &str) -> Result<String, ErrorCode>
     ensures log { IfOk result (λ log. IfSome (F.answers files.now) (λ it.
         string_bytes log ≡ spec.log_at it file.now)) }
@@ -108,7 +108,7 @@ fn log_beside<F: HostFiles>(alloc: Global, files: &F, file: &str) -> Result<Stri
 }
 
 impl LocalOpenPaths<'_> {
-    // Reports that a file isn't at its path any more, if nothing was reported.
+    // Reports `text` about the database file, unless something was reported before.
     fn report_once(&mut self, text: &str)
         ensures reported { self.new.is_reported ≡ true }
         ensures same { (self.new.held_file ≡ self.old.held_file)
@@ -148,7 +148,7 @@ impl OpenPaths for LocalOpenPaths<'_> {
     }
 }
 
-// Whether a path leads to this file.
+// Whether a path leads to the file `held`.
 pub(crate) fn is_at<F: HostFiles>(files: &F, path: &str, held: Option<Identity>) -> bool
     ensures { IfSome (F.answers files.now) (λ it. result ≡ left.is_at it path.now held) }
 {
@@ -158,7 +158,7 @@ pub(crate) fn is_at<F: HostFiles>(files: &F, path: &str, held: Option<Identity>)
     }
 }
 
-// The file to which a path leads, if it leads to one.
+// The identity of the file to which a path leads, if it leads to one.
 fn identity_at<F: HostFiles>(files: &F, path: &str) -> Option<Identity>
     ensures { IfSome (F.answers files.now) (λ it. result ≡ spec.identity_at it path.now) }
 {
@@ -168,7 +168,7 @@ fn identity_at<F: HostFiles>(files: &F, path: &str) -> Option<Identity>
     }
 }
 
-// Whether these are the same file.
+// Whether two identities are those of the same file.
 fn is_same(one: Identity, other: Identity) -> bool
     ensures { result ≡ left.is_same one other }
 {

@@ -1,6 +1,5 @@
-//! What is asked of the operating system about a file that can't be had. Each question is asked once, and
-//! only if the answers before it leave the cause open: an opening as SQLite's makes a WAL beside a file
-//! without one.
+//! Finds out why a file can't be opened. Each query is made once, and only if those before it leave the cause
+//! open, since opening a file as SQLite does makes a WAL beside it.
 
 ghost use Rattle.std.specs.Prelude.{◌≡◌, Err, IfOk, IfSome, MatchResult, Option, List, ℕ};
 ghost use Rattle.std.specs.Io.KnownBytes.{Consumes};
@@ -17,14 +16,15 @@ use crate::state::{
 };
 use std::io::{ErrorKind, Read};
 
-/// Looks at the path of a file that has to be there, or of one that is made where there is none (`is_made`).
+/// Finds out what is at a path, for a command that makes a missing file (`is_made`) or that needs it to
+/// exist.
 pub fn probe(rt: &HostRuntime, path: &str, is_made: bool) -> FileState
     ensures { MayFind (spec.is_no_path path.now) is_made result }
 {
     probe_at(&mut LocalHost::new(rt), path, is_made)
 }
 
-// The same, of the files of any machine.
+// What `probe` returns, over any `HostFiles`.
 fn probe_at<F: HostFiles>(files: &mut F, path: &str, is_made: bool) -> FileState
     ensures answer { IfSome (F.answers files.old) (λ it. IsStateAt it path.now is_made result) }
     ensures may { MayFind (spec.is_no_path path.now) is_made result }
@@ -38,29 +38,29 @@ fn probe_at<F: HostFiles>(files: &mut F, path: &str, is_made: bool) -> FileState
     }
 }
 
-/// Why a file can't be had, whatever it holds, if so.
+/// Why the file at a path can't be opened, whatever its content; `None` if it can.
 pub fn probe_access<F: HostFiles>(files: &mut F, path: &str) -> Option<Denial>
     ensures answer { IfSome (F.answers files.old) (λ it. result ≡ spec.access_denial it path.now) }
     ensures opens { OpensAtMost F.HostFiles path.now files.old files.new }
 {
     let opened = files.open(path);
-    denial_beside(files, path, unread_of(&opened))
+    denial_after_open(files, path, open_error(&opened))
 }
 
-// How a file begins, or why it can't be had.
+// How the file at a path begins, or why it can't be opened.
 fn probe_start<F: HostFiles>(files: &mut F, path: &str) -> Result<Start, Denial>
     ensures answer { IfSome (F.answers files.old) (λ it. IsStartAt it path.now result) }
     ensures opens { OpensAtMost F.HostFiles path.now files.old files.new }
 {
     let opened = files.open(path);
-    match denial_beside(files, path, unread_of(&opened)) {
+    match denial_after_open(files, path, open_error(&opened)) {
         Some(denial) => Err(denial),
         None => Ok(start_of(first_bytes(opened))),
     }
 }
 
-// Why a file was not opened, if so.
-fn unread_of<R>(opened: &Result<R, ErrorKind>) -> Option<ErrorKind>
+// The error of opening a file, if that failed.
+fn open_error<R>(opened: &Result<R, ErrorKind>) -> Option<ErrorKind>
     ensures { result ≡ error_of opened.now }
 {
     match opened {
@@ -69,14 +69,14 @@ fn unread_of<R>(opened: &Result<R, ErrorKind>) -> Option<ErrorKind>
     }
 }
 
-// Why a file can't be had: by how it was opened for reading, then by an opening for writing, then by one as
-// SQLite's.
-fn denial_beside<F: HostFiles>(
+// Why a file can't be opened: by the error of opening it for reading (`unread`), then of opening it for
+// writing, then of opening it as SQLite does.
+fn denial_after_open<F: HostFiles>(
     files: &mut F,
     path: &str,
     unread: Option<ErrorKind>,
 ) -> Option<Denial>
-    ensures answer { IfSome (F.answers files.old) (λ it. result ≡ spec.denial_beside it path.now unread) }
+    ensures answer { IfSome (F.answers files.old) (λ it. result ≡ spec.denial_after_open it path.now unread) }
     ensures opens { OpensAtMost F.HostFiles path.now files.old files.new }
 {
     if let Some(denial) = reading_denial(unread) {
@@ -88,7 +88,7 @@ fn denial_beside<F: HostFiles>(
     files.opening_denial(path)
 }
 
-// The first bytes of a file that was opened.
+// The first 16 bytes of a file, or the error of opening or reading it.
 fn first_bytes<R: Read + Drop>(opened: Result<R, ErrorKind>) -> Result<[u8; 16], ErrorKind>
     ensures { MatchResult opened (λ file. IfOk result (λ bytes. (rest : Option (List ℕ))
         × Consumes (R.remaining file) rest bytes)) (λ kind. result ≡ Err kind) }

@@ -10,10 +10,10 @@ use io_ends::{WriteError, write_whole};
 use std::alloc::{AllocError, Global};
 use std::io::Write;
 
-// What is said of a desk without an operator.
+// What is reported of a database without operators.
 const UNENROLLED: &str = "no operator is enrolled, so each request is answered 403";
 
-/// Prints `uss_desk: PATH: TEXT`. A fault of the writer is passed over, and so is want of memory.
+/// Prints `uss_desk: PATH: TEXT`. A failed write and running out of memory are ignored.
 #[tactic(auto, using(crate::proofs::lemmas::Reporting::reports_noted))]
 pub fn report_of<E: Write>(alloc: Global, path: &str, text: &str, errors: &mut E)
     ensures line { IsWrittenIfRoom (spec.line_of path.now text.now)
@@ -25,7 +25,7 @@ pub fn report_of<E: Write>(alloc: Global, path: &str, text: &str, errors: &mut E
     }
 }
 
-/// The line that reports this text of a file.
+/// The line that reports `text` about the file at `path`.
 ///
 /// # Errors
 ///
@@ -37,7 +37,7 @@ pub fn line_of(alloc: Global, path: &str, text: &str) -> Result<String, AllocErr
     format!(in alloc; "uss_desk: {path}: {text}\n")
 }
 
-/// Prints a line, and answers where it was broken off, if it was.
+/// Prints a line, and returns where the write broke off, if it did.
 #[tactic(auto, using(crate::proofs::lemmas::Reporting::noted))]
 pub fn report_line<E: Write>(line: &str, errors: &mut E) -> Option<WriteError<E>>
     ensures cut { IsWrittenUpTo line.now result (bytes_written E.Write errors.old errors.new) }
@@ -49,7 +49,7 @@ pub fn report_line<E: Write>(line: &str, errors: &mut E) -> Option<WriteError<E>
     }
 }
 
-/// Reports which word of a line is malformed: `uss_desk: WORD: CAUSE`. A fault of the writer is passed over.
+/// Reports which argument is malformed: `uss_desk: ARGUMENT: CAUSE`. A failed write is ignored.
 #[tactic(auto, using(crate::proofs::lemmas::Reporting::reports_nothing))]
 pub fn report_malformed<E: Write>(alloc: Global, words: &[String], errors: &mut E)
     ensures { Reports (bytes_written E.Write errors.old errors.new) }
@@ -59,8 +59,8 @@ pub fn report_malformed<E: Write>(alloc: Global, words: &[String], errors: &mut 
     }
 }
 
-/// Reports that a desk has no operator: that in the file at the path, or one in memory. A fault of the stream
-/// is passed over.
+/// Reports that a database has no operator: the one in the file at `path`, or the one in memory. A failed
+/// write is ignored.
 pub fn report_unenrolled<E: Write>(alloc: Global, path: Option<&str>, errors: &mut E)
     ensures { IsWrittenIfRoom (spec.unenrolled_line (option_map (λ path. path.now) path.entry))
         (bytes_written E.Write errors.old errors.new) }

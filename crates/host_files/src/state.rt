@@ -1,5 +1,5 @@
-//! What a look at a path can find, and what each answer of the operating system says of it. Nothing is asked
-//! here.
+//! What can be at the path of a database file, and how the answers of the operating system decide it. No
+//! query is made here.
 
 ghost use Rattle.std.specs.Prelude.{◌≡◌};
 ghost use Rattle.host_files.specs.Access as spec;
@@ -8,31 +8,31 @@ ghost use Rattle.host_files.specs.Access.{MayAsk};
 use crate::files::Found;
 use std::io::ErrorKind;
 
-// What a database file begins with.
+// The first bytes of a database file.
 const MAGIC: [u8; 16] = *b"SQLite format 3\0";
 
-/// What a look at a path found.
+/// What is at the path of a database file.
 #[derive(Clone, Copy, Debug, PartialEq, Eq)]
 pub enum FileState {
     /// SQLite reads the name otherwise than as a path.
     NoPath,
-    /// Nothing is reached there.
+    /// Nothing can be reached there.
     Missing(Missing),
-    /// A link to nothing, where a file is made.
+    /// A link to nothing, for a command that makes the file.
     DeadLink,
-    /// Nothing, where a file is made.
+    /// Nothing, for a command that makes the file.
     Free,
-    /// What is no regular file.
+    /// Something else than a regular file.
     NotRegular,
-    /// An empty file, where one has to be there.
+    /// An empty file, for a command that needs a database.
     Empty,
-    /// An empty file, where one is made; and why it can't be had, if so.
+    /// An empty file, for a command that makes the database in it; and why it can't be opened, if so.
     Made(Option<Denial>),
-    /// A file that is not empty: how it begins, or why it can't be had.
+    /// A file that isn't empty: how it begins, or why it can't be opened.
     Filled(Result<Start, Denial>),
 }
 
-/// Why nothing is reached at a path.
+/// Why nothing can be reached at a path.
 #[derive(Clone, Copy, Debug, PartialEq, Eq)]
 pub enum Missing {
     /// There is no such file.
@@ -45,61 +45,61 @@ pub enum Missing {
     Other,
 }
 
-/// Why a file can't be had, whatever it holds.
+/// Why a file can't be opened, whatever its content.
 #[derive(Clone, Copy, Debug, PartialEq, Eq)]
 pub enum Denial {
     /// It may not be read.
     NoReading,
     /// It may not be written.
     NoWriting,
-    /// Its file system takes no writing.
+    /// Its file system is read-only.
     ReadOnly,
     /// Another program has it open.
     Busy,
-    /// SQLite left a journal beside it.
+    /// SQLite left a rollback journal beside it.
     HotJournal,
-    /// Another error of an opening as SQLite's.
+    /// Another error of opening it as SQLite does.
     Unopened,
 }
 
 /// How a file begins.
 #[derive(Clone, Copy, Debug, PartialEq, Eq)]
 pub enum Start {
-    /// As a database does.
+    /// With the first bytes of a database.
     Database,
-    /// Otherwise.
+    /// With other bytes, or too few.
     Other,
-    /// That can't be read.
+    /// Its first bytes can't be read.
     Unread,
 }
 
-/// What stands at a path.
+/// What exists at a path.
 #[derive(Clone, Copy, Debug, PartialEq, Eq)]
 pub enum Place {
-    /// Nothing that is reached.
+    /// Nothing that can be reached.
     Nothing(Missing),
-    /// What is no regular file.
+    /// Something else than a regular file.
     NotRegular,
     /// An empty file.
     Empty,
-    /// A file that is not empty.
+    /// A file that isn't empty.
     Filled,
 }
 
-/// What is still to be asked of a path, once it is known what stands there.
+/// Which query comes next, once it is known what exists at a path.
 #[derive(Clone, Copy, Debug, PartialEq, Eq)]
 pub enum Next {
-    /// Nothing: this was found.
+    /// None: this was found.
     Nothing(FileState),
-    /// Whether a link stands there.
+    /// Whether a link is there.
     Link,
-    /// Whether the file can be had.
+    /// Whether the file can be opened.
     Access,
-    /// Whether the file can be had, and how it begins.
+    /// Whether the file can be opened, and how it begins.
     Start,
 }
 
-// Why nothing is reached at a path, by the kind of the error.
+// Why nothing can be reached at a path, by the kind of the error.
 fn missing_by(kind: ErrorKind) -> Missing
     ensures { result ≡ spec.missing_by kind }
 {
@@ -111,7 +111,7 @@ fn missing_by(kind: ErrorKind) -> Missing
     }
 }
 
-/// What stands at a path, by what was found there.
+/// What exists at a path, by the answer of the operating system.
 pub fn place_of(found: Result<Found, ErrorKind>) -> Place
     ensures { result ≡ spec.place_of found }
 {
@@ -126,8 +126,8 @@ pub fn place_of(found: Result<Found, ErrorKind>) -> Place
     }
 }
 
-/// What is still to be asked, by what stands at a path, whether SQLite reads the name otherwise than as a
-/// path, and whether a file is made there.
+/// Which query comes next, by what exists at a path, whether SQLite reads the name otherwise than as a path,
+/// and whether the command makes a missing file (`is_made`).
 pub fn next_at(place: Place, is_no_path: bool, is_made: bool) -> Next
     ensures next { result ≡ spec.next_at place is_no_path is_made }
     ensures may { MayAsk is_no_path is_made result }
@@ -143,7 +143,8 @@ pub fn next_at(place: Place, is_no_path: bool, is_made: bool) -> Next
     }
 }
 
-/// What was found where nothing is reached and a file is made, by whether a link stands there.
+/// What is at a path where nothing can be reached, for a command that makes the file, by whether a link is
+/// there.
 pub fn unmade_by(is_link: bool) -> FileState
     ensures { result ≡ spec.unmade_by is_link }
 {
@@ -154,7 +155,7 @@ pub fn unmade_by(is_link: bool) -> FileState
     }
 }
 
-/// Why a file can't be had, by why it can't be opened for reading, if so.
+/// Why a file can't be opened, by the error of opening it for reading, if there was one.
 pub fn reading_denial(unread: Option<ErrorKind>) -> Option<Denial>
     ensures { result ≡ spec.reading_denial unread }
 {
@@ -164,7 +165,7 @@ pub fn reading_denial(unread: Option<ErrorKind>) -> Option<Denial>
     }
 }
 
-/// Why a file can't be had, by why it can't be opened for writing, if so.
+/// Why a file can't be opened, by the error of opening it for writing, if there was one.
 pub fn writing_denial(unwritten: Option<ErrorKind>) -> Option<Denial>
     ensures { result ≡ spec.writing_denial unwritten }
 {

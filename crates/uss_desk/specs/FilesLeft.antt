@@ -1,4 +1,4 @@
--- FilesLeft: what is left of a desk's files once its line has ended.
+-- FilesLeft: what is left of a desk's files once its command has ended.
 use Rattle.std.specs.Prelude.{◌≡◌, ◌≢◌, ◌⊎◌, ◌&&◌, ℕ, Bool, true, false, if◌then◌else◌, is_ok}
 use Rattle.std.specs.Prelude.{Option, None, Some, Result, Ok, Err, IfOk, IfErr}
 use Rattle.std.specs.Option.{IsSomeAnd}

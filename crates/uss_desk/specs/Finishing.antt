@@ -1,4 +1,4 @@
--- Finishing: what the last record of a journal left undone is done at the desk that was opened.
+-- Finishing: what the last journal left pending is recovered at the desk that was opened.
 use Rattle.std.specs.Prelude.{◌≡◌, ◌⊎◌, ℕ, List, [], Option, None, Some, IsSome, Result, Ok, Err}
 use Rattle.std.specs.Global.{Vec}
 use Rattle.sqlite_trees.specs.declared.store.Store.{Ghosts}
@@ -26,7 +26,7 @@ abbrev pub operators_in : Option (Vec Enrolment) → List Enrolment
 operators_in None = []
 operators_in (Some all) = all.items
 
--- what a record leaves undone at a desk that has the operators of the roll
+-- what a journal leaves pending at a desk that has the operators of the roll
 abbrev pub left_undone : PendingRecovery → NotedOperators → Undone
 left_undone left roll =
     undone left.tail.terms (missing_of (operators_in roll.operators) left.tail.operators.items)
@@ -37,7 +37,7 @@ left_undone left roll =
 abbrev pub IsUnfinished : {A : Type 0} → Option A → ErrorCode → Type 0
 IsUnfinished asked f = IsUnfound f ⊎ (IsSome asked × ((f ≡ failure.Broken) ⊎ (f ≡ failure.Clock)))
 
--- the number of the folder's last record: one more, if a request is asked again
+-- the number of the folder's last journal: one more, if a request is asked again
 abbrev pub IsNumbered : {A : Type 0} → Option A → ℕ → ℕ → Type 0
 IsNumbered None old new = new ≡ old
 IsNumbered (Some asked) old new = next_number old ≡ Ok new
@@ -48,7 +48,7 @@ KeepsAlone g old new =
     IsSound g new → LeavesOnly old.store.world (MayLeave g old.store.held)
     → LeavesOnly new.store.world (MayLeave g new.store.held)
 
--- what is undone is done at a desk; of the steps of its record nothing is known
+-- what is undone is done at a desk; of the steps of its journal nothing is known
 abbrev pub IsDone : {S : Type 0} → Ghosts S → Undone → Parts (Shown S) → Parts (Shown S) → Type 0
 IsDone g u old new =
     Recovers (IsSound g new) u (course (load_world old) (load_world new)) (course None None) (Ok (tt {0}))

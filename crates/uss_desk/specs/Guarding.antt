@@ -33,7 +33,7 @@ abbrev pub past_of :
 past_of start = record { start = start_of start; calls = λ f. f.calls.log.events }
 
 module _ {D : Type 0} {g : disk.Ghosts D} where
-  -- a read of the log or of the database file returned other bytes than those that had been written there, of
+  -- a read of the WAL or of the database file returned other bytes than those that had been written there, of
   -- the same digest of 64 bits under the key that came with the files
   abbrev pub HasCollided : Past D → Parts (Shown (FileStore D g)) → Type 0
   HasCollided past desk =

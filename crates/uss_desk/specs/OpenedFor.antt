@@ -1,4 +1,4 @@
--- OpenedFor: what a line is carried out at, and what a database that can't be opened means.
+-- OpenedFor: what a command is run at, and what a database that can't be opened means.
 use Rattle.std.specs.Prelude.{◌≡◌, ℕ, [], Result, Ok, Err, IfErr, IfOk, MatchResult}
 use Rattle.sqlite_disk.specs.declared.Disk as disk
 use Rattle.sqlite_wal.specs.Recovery.{Image}
@@ -46,12 +46,12 @@ module _ {D : Type 0} (g : disk.Ghosts D) (image : Image) where
     pub guarded : IsGuarded desk.store.held
     pub none : desk.terms ≡ no_terms
 
-  -- the failure is that of files that the connection refused: their database is no desk's, has rows of
-  -- schema 1, or can't be read; or of files that were not opened
+  -- the failure is that of files that the connection refused: their database is invalid, has rows of schema
+  -- 1, or can't be read; or of files that were not opened
   abbrev pub FailsAt : OpenError D g → Type 0
   FailsAt = FailsOver (λ files. AreRefused image files.fault files.connection)
 
-  -- the same of files whose plans of schema 1 are to be moved
+  -- the same of files whose plans of schema 1 are to be migrated
   abbrev pub FailsMovingAt : OpenError D g → Type 0
   FailsMovingAt = FailsOver (λ files. AreNotMoved image files.fault files.connection)
 
@@ -59,7 +59,7 @@ module _ {D : Type 0} (g : disk.Ghosts D) (image : Image) where
 abbrev pub FileDesk : {D : Type 0} → disk.Ghosts D → Type 0
 FileDesk {D} g = Result (Parts (Shown (FileStore D g))) (OpenError D g)
 
--- a desk over files to which so many plans were moved, or why there is none
+-- a desk over files to which so many plans were migrated, or why there is none
 abbrev pub MovedDesk : {D : Type 0} → disk.Ghosts D → Type 0
 MovedDesk {D} g = Result (Parts (Shown (FileStore D g)) × ℕ) (OpenError D g)
 
@@ -69,7 +69,7 @@ module _ {D : Type 0} {g : disk.Ghosts D} (image : Image) where
   IsOpenedIn (Ok desk) = BeginsIn g image desk
   IsOpenedIn (Err it) = FailsAt g image it
 
-  -- a desk over files that held this, to which so many plans were moved, or why there is none
+  -- a desk over files that held this, to which so many plans were migrated, or why there is none
   abbrev pub IsMovedIn : MovedDesk g → Type 0
   IsMovedIn (Ok moved) = OpensMoved image moved.0.store.held moved.0.store.world moved.1
   IsMovedIn (Err it) = FailsMovingAt g image it

@@ -27,7 +27,7 @@ use Rattle.desk_program.specs.CarryingOut.{IsCarriedOut, IsUnopened}
 use Rattle.uss_desk.specs.Guarding.{Past, IsTrueOrCollided}
 use Rattle.uss_desk.specs.OpenedFor.{load_world}
 
--- the store of a desk over tables is honest: its disk has returned what was written
+-- the storage of a desk over tables is intact: its disk has returned what was written
 abbrev pub IsSound : {S : Type 0} → Ghosts S → Parts (Shown S) → Type 0
 IsSound g desk = IsHonest (doubt (state g desk.store.held).is_clean)
 
@@ -39,8 +39,8 @@ IsKeptSince g line o begun desk =
     → (found : Option World) → MayLeave g desk.store.held found
     → IsLineKept (IsSound g desk) line o (load_world begun) (load_world desk) found
 
--- a line is carried out at the desk that was opened: its disk was then in no more doubt than it is now, and
--- if each later read was tested then, each is
+-- a command is run at the desk that was opened: its disk was then in no more doubt than it is now, and if
+-- each later read was tested then, each is
 abbrev pub IsDoneAt :
     {S : Type 0} → Ghosts S → Line → Outside → Option (Parts (Shown S)) → Parts (Shown S) → Type 0
 IsDoneAt g line o left desk = IsSomeAnd left (λ left.
@@ -78,8 +78,8 @@ abbrev pub StaysGuarded :
 StaysGuarded past opened left = IfOk opened (λ desk. IsSomeAnd left (λ left.
     HasCleanDisk (file_state desk.store.held) → IsTrueOrCollided past left))
 
--- the line that reports how many plans were moved is printed, or cut off, and the plans are moved all the
--- same; or the move failed, and nothing is printed
+-- the line that reports how many plans were migrated is printed, or cut off, and the plans are migrated all
+-- the same; or the move failed, and nothing is printed
 abbrev pub IsMoveReported :
     {S : Type 0} → Result (Parts (Shown S) × ℕ) ErrorCode → Ending → Option (Parts (Shown S))
     → Course (Option (List ℕ)) → Type 0

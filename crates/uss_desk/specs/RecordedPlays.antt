@@ -1,4 +1,4 @@
--- RecordedPlays: what comes of a line of `play` that is recorded, at what was opened for it, to the exit
+-- RecordedPlays: what comes of the command `play` that is recorded, at what was opened for it, to the exit
 -- status.
 use Rattle.std.specs.Prelude.{◌≡◌, ◌≤◌, Option, Result, IfErr, IfOk}
 use Rattle.std.specs.Option.{IsSomeAnd}

@@ -1,4 +1,4 @@
--- RecordsPlayed: what comes of a record that is played at what was opened for it, to the exit status.
+-- RecordsPlayed: what comes of a journal that is played at what was opened for it, to the exit status.
 use Rattle.std.specs.Prelude.{◌≡◌, ◌≤◌, ℕ, Option, Result, IfErr, IfOk}
 use Rattle.std.specs.Option.{IsSomeAnd}
 use Rattle.sqlite_trees.specs.declared.store.Store.{Ghosts}
@@ -14,7 +14,7 @@ use Rattle.desk_replay.specs.ReplayReported.{IsReplayed, IsUnplayed}
 use Rattle.uss_desk.specs.OpenedFor.{load_world}
 use Rattle.uss_desk.specs.OpenedLines.{IsSound}
 
--- a record is played at the desk that was opened: its disk was then in no more doubt than it is now, and if
+-- a journal is played at the desk that was opened: its disk was then in no more doubt than it is now, and if
 -- each later read was tested then, each is
 abbrev pub IsReplayedAt :
     {S : Type 0} → Ghosts S → Option ℕ → Passage → Ending → Option (Parts (Shown S)) → Parts (Shown S)
@@ -24,7 +24,7 @@ IsReplayedAt g until p end left desk = IsSomeAnd left (λ left.
     × (doubt (state g desk.store.held).is_clean ≤ doubt (state g left.store.held).is_clean)
     × ((state g desk.store.held).IsShielded → (state g left.store.held).IsShielded))
 
--- a record at the desk that was opened for it, or at none
+-- a journal at the desk that was opened for it, or at none
 pub record IsReplayRun {S : Type 0} (g : Ghosts S) (opened : Result (Parts (Shown S)) ErrorCode)
     (until : Option ℕ) (p : Passage) (end : Ending) (left : Option (Parts (Shown S))) : Type 0 where
   pub done : IfOk opened (IsReplayedAt g until p end left)

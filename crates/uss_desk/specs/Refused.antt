@@ -1,4 +1,4 @@
--- Refused: why nothing goes on from a folder of records, and why a file is refused for its log.
+-- Refused: why nothing goes on from a folder of journals, and why a file is refused for its WAL.
 use Rattle.std.specs.Prelude.{◌≡◌, ◌⊎◌, ⊤, ℕ, Bool, true, false, List, Option, None, Some, Result, Ok, Err}
 use Rattle.std.specs.declared.io.Error.{Error}
 use Rattle.desk_cli.specs.declared.failure.ErrorCode.{ErrorCode}
@@ -17,7 +17,7 @@ use Rattle.uss_desk.specs.declared.recording.PendingRecovery.{PendingRecovery}
 abbrev pub IsKeptOut : ErrorCode → Type 0
 IsKeptOut f = (f ≡ failure.Write) ⊎ (f ≡ failure.Memory)
 
--- so, or the clock gives no second: no record is begun
+-- so, or the clock gives no second: no journal is begun
 abbrev pub IsUnbegun : ErrorCode → Type 0
 IsUnbegun f = (f ≡ failure.Clock) ⊎ IsKeptOut f
 
@@ -25,17 +25,17 @@ IsUnbegun f = (f ≡ failure.Clock) ⊎ IsKeptOut f
 abbrev pub IsUnfound : ErrorCode → Type 0
 IsUnfound f = (f ≡ failure.Store) ⊎ IsKeptOut f
 
--- the end of a record is gone on from, if there is no cause against it
+-- the end of a journal is gone on from, if there is no cause against it
 abbrev pub GoesOnUnless : Option (List ℕ) → Tail × TailEnd → Result (Tail × TailEnd) JournalError → Type 0
 GoesOnUnless None read result = result ≡ Ok read
 GoesOnUnless (Some cause) read (Ok other) = ⊥
 GoesOnUnless (Some cause) read (Err why) = unkept_text why ≡ Some cause
 
--- nothing speaks against going on from a record, by the number in its name
+-- nothing speaks against going on from a journal, by the number in its name
 abbrev pub MayGoOn : ℕ → Tail → TailEnd → Type 0
 MayGoOn number tail ended = cause_of_tail number tail.record ended ≡ None
 
--- what is undone at a file is what this record left, and it may be gone on from
+-- what is undone at a file is what this journal left, and it may be gone on from
 pub record IsUndoneAt (file : List ℕ) (last : JournalFile) (left : PendingRecovery) : Type 0 where
   pub at : left.file.now ≡ file
   pub of : left.record ≡ last
@@ -47,7 +47,7 @@ HandsOn (Ok done) old new result = (result ≡ Ok (tt {0})) × (new ≡ old)
 HandsOn (Err e) old new result =
     (result ≡ Err (record { error = e })) × (new ≡ record old { is_reported = true })
 
--- a file is refused for its log: that is damaged, and the file is not copied; or the log can't be read, or is
+-- a file is refused for its WAL: that is damaged, and the file is not copied; or the WAL can't be read, or is
 -- there without its file; or memory ran out
 abbrev pub IsLogRefused : Bool → ErrorCode → Type 0
 IsLogRefused copied f =

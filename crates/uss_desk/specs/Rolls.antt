@@ -1,4 +1,4 @@
--- Rolls: the operators that a desk over files has as it is opened, with which its record begins.
+-- Rolls: the operators that a desk over files has as it is opened, with which its journal begins.
 use Rattle.std.specs.Prelude.{◌≡◌, ⊤, List, Result, IfOk, IfSome, map}
 use Rattle.sqlite_disk.specs.declared.Disk as disk
 use Rattle.sqlite_store.specs.declared.store.FileStore.{FileStore}

@@ -9,7 +9,7 @@ use Rattle.desk_cli.specs.declared.line.Enrolment.{Enrolment}
 use Rattle.host_files.specs.Paths.{IsUnheldAt}
 use Rattle.host_files.specs.declared.paths.LocalOpenPaths.{LocalOpenPaths}
 use Rattle.uss_desk.specs.declared.recording.PendingRecovery.{PendingRecovery}
-use Rattle.uss_desk.specs.declared.recording.RecordFolder.{RecordFolder}
+use Rattle.uss_desk.specs.declared.recording.JournalFolder.{JournalFolder}
 use Rattle.uss_desk.specs.declared.session.Session.{Session}
 
 -- a session has these words and these enrolments, the file of enrolments that the words name, and no operator
@@ -19,13 +19,13 @@ pub record IsPrepared (words : DeskArgs) (enrolments : List Enrolment) (session 
   where
     pub words_are : session.words.now ≡ words
     pub enrolments_are : session.enrolments.now ≡ enrolments
-    pub register :
-        option_map (λ path. path.now) session.register.path ≡ option_map string_bytes words.operators
+    pub enrolment_file :
+        option_map (λ path. path.now) session.enrolment_file.path ≡ option_map string_bytes words.operators
     pub unnoted : IsSomeAnd session.roll.operators (λ all. all.items ≡ [])
     pub unheld : IsUnheldAt (unwrap_or (file_of words.database) []) paths
 
--- what the last record of a journal left undone; a command without a journal has no record
-abbrev pub undone_of : Option RecordFolder → Option PendingRecovery
+-- what the last journal left pending: nothing if the command keeps no journal
+abbrev pub undone_of : Option JournalFolder → Option PendingRecovery
 undone_of None = None
 undone_of (Some folder) = folder.undone
 

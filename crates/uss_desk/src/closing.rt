@@ -1,4 +1,4 @@
-//! A desk over files, closed after its line: the database file alone holds it then.
+//! Closes a desk over files after its command: the database file alone has the state then.
 
 ghost use Rattle.std.specs.Prelude.{◌≡◌};
 ghost use Rattle.desk_cli.specs.Exits.{ending};
@@ -11,10 +11,10 @@ use host_files::paths::OpenPaths;
 use sqlite_disk::Disk;
 use std::io::Write;
 
-/// Copies the log of a desk over files into the database file, empties it, and gives the files back, with the
-/// exit status: that of the line, or that of `Store` if the line ended well and its desk can't be closed, or
-/// was not at its paths any more. The word of that failure goes to `errors`; a fault there is passed over. In
-/// memory there is nothing to close.
+/// Closes a desk over files after a command that ended with `status`: its WAL is checkpointed into the
+/// database file. Returns the exit report and the closed files. If the desk can't be closed, or its files
+/// were no longer at their paths, a command that had succeeded fails with `Store`, which goes to `errors`.
+/// `None` stands for a desk in memory or none, and there is nothing to close.
 pub fn close_after<D: Disk + Drop, N: OpenPaths + Drop, E: Write>(
     status: u8,
     desk: Option<DeskAt<D, N>>,
@@ -27,12 +27,12 @@ pub fn close_after<D: Disk + Drop, N: OpenPaths + Drop, E: Write>(
         return (ExitReport::silent(status), None);
     };
     let closed = desk.into_store().close();
-    let exit = end_closed(status, &closed, errors);
+    let exit = exit_closed(status, &closed, errors);
     (exit, Some(closed))
 }
 
-// How a line ends whose desk was closed, or can't be.
-fn end_closed<D: Disk, E: Write>(
+// The exit report of a command whose desk was closed, or can't be.
+fn exit_closed<D: Disk, E: Write>(
     status: u8,
     closed: &CloseReport<D>,
     errors: &mut E,
@@ -42,13 +42,14 @@ fn end_closed<D: Disk, E: Write>(
 {
     match &closed.files {
         Ok(_) if closed.are_at_paths => ExitReport::silent(status),
-        Ok(_) => end_unclosed(status, errors),
-        Err(_) => end_unclosed(status, errors),
+        Ok(_) => exit_unclosed(status, errors),
+        Err(_) => exit_unclosed(status, errors),
     }
 }
 
-// How a line ends whose desk can't be closed, or wasn't at its paths any more.
-fn end_unclosed<E: Write>(status: u8, errors: &mut E) -> ExitReport<E>
+// The exit report of a command whose desk can't be closed, or whose files were no longer at their paths: the
+// error `Store`, unless the command had failed before.
+fn exit_unclosed<E: Write>(status: u8, errors: &mut E) -> ExitReport<E>
     ensures { IsUnclosed status (ending result (E.contents errors.old) (E.contents errors.new)) }
 {
     if status == 0 {
@@ -57,7 +58,7 @@ fn end_unclosed<E: Write>(status: u8, errors: &mut E) -> ExitReport<E>
     ExitReport::silent(status)
 }
 
-/// The exit status of a line whose desk was closed, on whatever disk it was.
+/// The exit status of `close_after`. The files are dropped.
 pub fn status_closed<D: Disk + Drop, E>(ended: (ExitReport<E>, Option<CloseReport<D>>)) -> u8
     ensures { result ≡ ended.0.status }
 {

@@ -1,4 +1,4 @@
-//! The plans of a database of schema 1 moved to schema 2.
+//! The command `migrate`: the plans of a database of schema 1 are migrated to schema 2.
 
 ghost use Rattle.std.specs.Prelude.{◌≡◌, ◌⊎◌, IfErr, false};
 ghost use Rattle.desk_program.specs.Outside.{bytes_written, ended};
@@ -19,13 +19,14 @@ use sqlite::{Start, Unknown};
 use std::alloc::Global;
 use std::io::Write;
 
-/// Moves the plans of a database, prints how many they are, closes its desk, and answers the exit status. A
-/// file whose tables stand in another order is put in order before. Of files nothing is known.
+/// Runs the command `migrate`: puts the tables in canonical order if they are in another, migrates the plans,
+/// prints how many they are, closes the desk, and returns the exit status. The contract assumes nothing about
+/// the content of files.
 ///
 /// # Errors
 ///
-/// Why its log refuses it; `Memory` if memory runs out before the database is opened; why its file can't be
-/// put in order.
+/// Why the WAL or the table order refuses the file; `Memory` if memory runs out before the database is
+/// opened.
 #[tactic(auto, using(crate::proofs::LogLemmas::log_refuses))]
 pub fn migrate_here(host: LocalHost<'_>, database: &Database) -> Result<u8, ErrorCode>
     ensures { IfErr result (λ f. IsLogRefused false f ⊎ IsOpenFailure f) }
@@ -40,8 +41,8 @@ pub fn migrate_here(host: LocalHost<'_>, database: &Database) -> Result<u8, Erro
     Ok(status_closed(close_after(exit.status, desk, &mut errors)))
 }
 
-/// Prints how many plans were moved, or the word of why none were, and answers how that ended and the desk
-/// over the files. A fault of `errors` is passed over.
+/// Prints how many plans were migrated, or the error code, and returns the exit report with the desk, if
+/// there is one. A failed write to `errors` is ignored.
 pub fn report_moved<F: Start, N: OpenPaths + Drop, W: Write, E: Write>(
     alloc: Global,
     moved: MovedDesk<F, N>,

@@ -1,4 +1,4 @@
-//! What a command is carried out at: a desk over the database that it names, or why that can't be opened.
+//! Opens the desk over the database that a command names.
 
 ghost use Rattle.std.specs.Prelude.{◌≡◌, IfErr, IfOk};
 ghost use Rattle.sqlite_wal.specs.Files.{image_at};
@@ -20,13 +20,13 @@ use sqlite::{FileFrom, FileStore, Start};
 use sqlite_disk::Disk;
 use std::alloc::Global;
 
-/// A desk over a database in files of a disk `D`, at these paths (`N`).
+/// A desk over a database in files of a disk `D`, with their paths `N`.
 pub type DeskAt<D, N> = Desk<PathChecked<FileStore<D>, N>>;
 
 /// A desk in memory.
 pub type MemoryDesk = DeskAt<Ram, NoPaths>;
 
-/// A desk over the database in files, where `F` stands for what they held, and `N` for their paths.
+/// A desk over the database in files, where `F` stands for their content before, and `N` for their paths.
 pub type FileDesk<F, N> = DeskAt<FileFrom<F>, N>;
 
 /// What was opened over a database: a desk in memory (`M`), or one over files (`D`).
@@ -38,17 +38,18 @@ pub enum Opened<M: Drop, D: Drop> {
     Files(D),
 }
 
-/// What is opened over a database, where `F` stands for what its files held, and `N` for their paths.
+/// What is opened over a database, where `F` stands for the content of its files before, and `N` for their
+/// paths.
 pub type OpenedDesk<F, N> = Opened<Result<MemoryDesk, ErrorCode>, FoundDesk<F, N>>;
 
-/// A desk over files, or why there is none.
+/// A desk over files, or why it can't be opened.
 pub type FoundDesk<F, N> = Result<FileDesk<F, N>, FileOpenError<F>>;
 
-/// A desk over files and how many plans were moved to it from schema 1, or why there is none.
+/// A desk over files and how many plans were migrated to it from schema 1, or why it can't be opened.
 pub type MovedDesk<F, N> = Result<(FileDesk<F, N>, u32), FileOpenError<F>>;
 
-/// Opens the desk over a database; `start` stands for what its files held, and `paths` are theirs. The
-/// operators that a desk over files has then are noted in `roll`.
+/// Opens the desk over a database. `start` stands for the content of its files, and `paths` are theirs. The
+/// operators of a desk over files are noted in `roll`.
 pub fn open_database<F: Start, N: OpenPaths + Drop>(
     host: LocalHost<'_>,
     database: &Database,
@@ -65,7 +66,7 @@ pub fn open_database<F: Start, N: OpenPaths + Drop>(
     }
 }
 
-/// A desk of no operators and no plans, in memory.
+/// Opens a desk in memory, without operators and plans.
 ///
 /// # Errors
 ///
@@ -80,13 +81,13 @@ pub fn open_in_memory(alloc: Global) -> Result<MemoryDesk, ErrorCode>
     }
 }
 
-/// The desk over the database in the files at a path; `start` stands for what the files held, and `paths` are
-/// theirs. A file that is made is its owner's alone. The operators that the desk has then are noted in
+/// Opens the desk over the database file at `path`. A missing file is made, and only its owner can read and
+/// write it. `start` stands for the content of the files, and `paths` are theirs. The operators are noted in
 /// `roll`.
 ///
 /// # Errors
 ///
-/// The failure is that of `open_failure`.
+/// The error code is that of `open_failure`.
 pub fn open_file<F: Start, N: OpenPaths + Drop>(
     host: LocalHost<'_>,
     path: &str,
@@ -109,8 +110,8 @@ pub fn open_file<F: Start, N: OpenPaths + Drop>(
     }
 }
 
-/// A desk at the same store, as one that was just opened: on no terms, and the operators that it has are
-/// noted in `roll`.
+/// The desk as if it was just opened: over the same store, without terms, and with its operators noted in
+/// `roll`.
 pub fn opened_anew<D: Disk + Drop, N: OpenPaths + Drop>(
     desk: DeskAt<D, N>,
     roll: &mut NotedOperators,
@@ -123,12 +124,12 @@ pub fn opened_anew<D: Disk + Drop, N: OpenPaths + Drop>(
     Desk::new(store)
 }
 
-/// The desk over a database that may be of schema 1, and how many plans were moved; `start` stands for what
-/// its files held, and `paths` are theirs.
+/// Opens the desk over a database that may be of schema 1, and migrates its plans; also returns how many they
+/// are. `start` stands for the content of its files, and `paths` are theirs.
 ///
 /// # Errors
 ///
-/// The failure is that of `open_failure`, and `Store` of a database in memory, which can't have plans of
+/// The error code is that of `open_failure`, and `Store` for a database in memory, which can't have plans of
 /// schema 1.
 pub fn open_old<F: Start, N: OpenPaths + Drop>(
     host: LocalHost<'_>,
@@ -144,7 +145,8 @@ pub fn open_old<F: Start, N: OpenPaths + Drop>(
     }
 }
 
-// The desk over the files at a path, to which the plans of schema 1 in them were moved.
+// Opens the desk over the database file at a path, migrates its plans of schema 1, and returns how many they
+// are.
 fn open_old_file<F: Start, N: OpenPaths + Drop>(
     host: LocalHost<'_>,
     path: &str,

@@ -1,4 +1,4 @@
-//! The requests of an input, each recorded, played at the desk that was opened for a line of `play`.
+//! The command `play` with a journal.
 
 ghost use Rattle.sqlite.specs.Files.{over_files};
 ghost use Rattle.desk_cli.specs.Lines.{IsPlay};
@@ -15,9 +15,9 @@ use sqlite_disk::Disk;
 use std::alloc::Global;
 use std::io::{Read, Write};
 
-/// Plays the requests of an input at the desk that was opened for a line of `play`, and answers how it ended
-/// and the desk, if there was one. Each request is kept before the desk is asked, and its answer before it is
-/// written. The word of a failure goes to `errors`; a fault there is passed over.
+/// Answers the requests of an input at the desk that was opened for `play`, and returns the exit report with
+/// the desk, if there is one. Each request is in the journal before the desk decides it, and each answer
+/// before it is sent. An error code goes to `errors`; a failed write there is ignored.
 pub fn play_line<D, N, R, W, K, E>(
     alloc: Global,
     words: &PlayArgs,

@@ -1,5 +1,5 @@
-//! The folder of a desk's records: what the last one left undone is done at the desk that is open, and then
-//! the next one is begun. No clause reports what the operating system did.
+//! The journal folder of a desk: what the last journal left pending is recovered at the open desk, and then
+//! the next one is begun. No contract says what the operating system did.
 
 ghost use Rattle.std.specs.Prelude.{◌≡◌, ◌⊎◌, ◌++◌, ◌↔◌, false, true, IfErr, IfOk, IfSome, IsSome, IsTrue};
 ghost use Rattle.std.specs.Prelude.{None, Ok, OnErr, OnOk, Some, option_map};
@@ -40,7 +40,7 @@ use std::fs::{self, File};
 use std::io::{self, Write};
 use std::time::SystemTime;
 
-/// The file of a record. That it can't be written is reported on the standard error, once.
+/// The file of a journal. That it can't be written is reported on the standard error, once.
 #[derive(Drop)]
 pub struct LocalJournal<'s> {
     host: LocalHost<'s>,
@@ -49,15 +49,15 @@ pub struct LocalJournal<'s> {
     is_reported: bool,
 }
 
-/// An error of the file of a record, which is reported.
+/// An error of writing a journal, which was reported.
 #[derive(Drop)]
 pub struct FileError {
     error: io::Error,
 }
 
 impl LocalJournal<'_> {
-    // Reports that the record can't be written, if that is so and wasn't reported, and hands the error on.
-    fn hand_on(&mut self, done: io::Result<()>) -> Result<(), FileError>
+    // Returns the result of writing the journal; the first error is reported.
+    fn report_error(&mut self, done: io::Result<()>) -> Result<(), FileError>
         ensures { HandsOn done self.old self.new result }
     {
         let Err(error) = done else {
@@ -82,34 +82,34 @@ impl Journal for LocalJournal<'_> {
 
     fn append(&mut self, bytes: &[u8]) -> Result<(), FileError> {
         let done = self.file.write_all(bytes);
-        self.hand_on(done)
+        self.report_error(done)
     }
 
     fn sync(&mut self) -> Result<(), FileError> {
         let done = self.file.sync_data();
-        self.hand_on(done)
+        self.report_error(done)
     }
 }
 
-/// What keeps the requests and the answers of a line.
+/// The journal of a command, which gets its requests and answers.
 pub type LocalRecord<'s> = WrittenRecord<LocalJournal<'s>>;
 
-/// The folder of a desk's records, as it is found before the desk is opened.
+/// The journal folder of a desk, as it is before the desk is opened.
 #[derive(Drop)]
-pub struct RecordFolder<'s> {
+pub struct JournalFolder<'s> {
     host: LocalHost<'s>,
     path: &'s str,
-    // the number of its last record, or 0, and how many bytes that has
+    // the number of the last journal and its size in bytes; 0 if there is none
     number: u64,
     len: u64,
-    // whether that was tested once the desk was open, so that no other desk of this file writes here
+    // whether both were confirmed once the desk was open, when no other desk of its file writes here
     is_held: bool,
-    // what the last record left undone, until it is done
+    // the recovery that the last journal asks for, until it is done
     undone: Option<PendingRecovery<'s>>,
 }
 
-// What the last record of a folder left undone at a file: what it says as it ends, and what stands behind
-// that.
+// The recovery that the last journal asks for at a database file: what the journal's end says, and what
+// follows its last whole entry.
 #[derive(Drop)]
 struct PendingRecovery<'s> {
     file: &'s str,
@@ -118,17 +118,17 @@ struct PendingRecovery<'s> {
     ended: TailEnd,
 }
 
-/// The folder in which a command records what it does, if it names one. Its desk is not opened yet.
+/// The journal folder of a command, if it names one, before its desk is opened.
 ///
 /// # Errors
 ///
-/// `Store` if the database is in memory, or its file is gone; `Write` if the folder can't be read, or nothing
-/// goes on from its last record; `Memory`. Why is reported.
+/// `Store` if the database is in memory, or its file is missing; `Write` if the folder can't be read, or its
+/// last journal can't be continued; `Memory`. The cause is reported.
 pub fn folder_for<'s>(
     host: LocalHost<'s>,
     words: &'s DeskArgs,
     action: DeskCommand<'_>,
-) -> Result<Option<RecordFolder<'s>>, ErrorCode>
+) -> Result<Option<JournalFolder<'s>>, ErrorCode>
     ensures none { words.now.folder ≡ None → result ≡ Ok None }
     ensures some { IsSome words.now.folder → IfOk result IsSome }
     ensures begun { IfOk result (λ found. IfSome found (λ folder. folder.is_held ≡ false)) }
@@ -137,13 +137,13 @@ pub fn folder_for<'s>(
     let Some(path) = words.folder.as_deref() else {
         return Ok(None);
     };
-    let last = reported(host, path, last_record(host.rt, path))?;
+    let last = or_report(host, path, last_record(host.rt, path))?;
     let (number, len) = extent_of(&last);
     let undone = match words.database.path() {
-        Some(file) => undone_at(host, path, file, last)?,
-        None => alone(host, path, action, last.is_some())?,
+        Some(file) => recovery_at(host, path, file, last)?,
+        None => recovery_in_memory(host, path, action, last.is_some())?,
     };
-    Ok(Some(RecordFolder {
+    Ok(Some(JournalFolder {
         host,
         path,
         number,
@@ -153,7 +153,7 @@ pub fn folder_for<'s>(
     }))
 }
 
-// The number of a folder's last record and how many bytes that has, each 0 if there is none.
+// The number and the size in bytes of a folder's last journal, both 0 if there is none.
 fn extent_of(last: &Option<JournalFile>) -> (u64, u64)
     ensures { result ≡ spec.extent_of last.now }
 {
@@ -163,8 +163,9 @@ fn extent_of(last: &Option<JournalFile>) -> (u64, u64)
     }
 }
 
-// What is undone at a desk in memory, which goes on from no record: nothing.
-fn alone<'s>(
+// The pending recovery of a desk in memory: none, since it continues no journal. Only `play` may write one,
+// in an empty folder.
+fn recovery_in_memory<'s>(
     host: LocalHost<'_>,
     folder: &str,
     action: DeskCommand<'_>,
@@ -174,27 +175,26 @@ fn alone<'s>(
 {
     match action {
         DeskCommand::Play(_) if has_records => {
-            reported(
+            or_report(
                 host,
                 folder,
                 Err(JournalError::Cause("records of another desk")),
             )
         }
         DeskCommand::Play(_) => Ok(None),
-        _ => Err(store_failure(host, folder, "a record needs a database in a file")),
+        _ => Err(report_store_failure(host, folder, "a record needs a database in a file")),
     }
 }
 
-// What the last record of a folder left undone at the desk's file, if there is a record, and it left
-// something.
-fn undone_at<'s>(
+// The recovery that the last journal of a folder asks for at the database file `file`, if any.
+fn recovery_at<'s>(
     host: LocalHost<'_>,
     folder: &str,
     file: &'s str,
     last: Option<JournalFile>,
 ) -> Result<Option<PendingRecovery<'s>>, ErrorCode>
     ensures none { last ≡ None → result ≡ Ok None }
-    ensures is { IfOk result (λ undone. IfSome undone (λ it.
+    ensures pending { IfOk result (λ undone. IfSome undone (λ it.
         IsSomeAnd last (λ found. IsUndoneAt file.now found it))) }
     ensures fault { IfErr result IsUnfound }
 {
@@ -202,10 +202,10 @@ fn undone_at<'s>(
         return Ok(None);
     };
     if !matches!(fs::exists(host.rt, file), Ok(true)) {
-        return Err(store_failure(host, file, "no such file, and there are records of it"));
+        return Err(report_store_failure(host, file, "no such file, and there are records of it"));
     }
-    let (tail, ended) = reported(host, folder, read_last(host, &record))?;
-    Ok(undone_by(PendingRecovery {
+    let (tail, ended) = or_report(host, folder, read_last(host, &record))?;
+    Ok(recovery_if_any(PendingRecovery {
         file,
         record,
         tail,
@@ -213,27 +213,27 @@ fn undone_at<'s>(
     }))
 }
 
-// What a record leaves undone, if that is something.
-fn undone_by(left: PendingRecovery<'_>) -> Option<PendingRecovery<'_>>
+// `left`, if there is anything to recover.
+fn recovery_if_any(left: PendingRecovery<'_>) -> Option<PendingRecovery<'_>>
     ensures none { LeavesNothing left.entry.tail left.entry.ended → result ≡ None }
     ensures some { (result ≡ Some left.entry) ⊎ LeavesNothing left.entry.tail left.entry.ended }
 {
-    if leaves_nothing(&left.tail, left.ended) {
+    if is_complete(&left.tail, left.ended) {
         return None;
     }
     Some(left)
 }
 
-// What the last record of a folder says as it ends.
+// What the end of the last journal says, or why that can't be continued.
 fn read_last(host: LocalHost<'_>, last: &JournalFile) -> Result<(Tail, TailEnd), JournalError>
     ensures { IfOk result (λ read. MayGoOn last.now.number read.0 read.1) }
 {
     let (tail, ended) = tail_of(host.rt, last)?;
-    going_on(last.number, tail, ended)
+    check_tail(last.number, tail, ended)
 }
 
-// The end of a record, or why nothing goes on from it.
-fn going_on(number: u64, tail: Tail, ended: TailEnd) -> Result<(Tail, TailEnd), JournalError>
+// The end of a journal, or why that can't be continued.
+fn check_tail(number: u64, tail: Tail, ended: TailEnd) -> Result<(Tail, TailEnd), JournalError>
     ensures { GoesOnUnless (spec.cause_of_tail number tail.record ended) (tail, ended) result }
 {
     match cause_of_tail(number, tail.record, ended) {
@@ -242,8 +242,8 @@ fn going_on(number: u64, tail: Tail, ended: TailEnd) -> Result<(Tail, TailEnd), 
     }
 }
 
-// Why nothing goes on from a last record, if so: by the number in its name, that of its first entry, if that
-// is whole, and what stands behind its last whole entry.
+// Why a journal can't be continued, if so: by the number in its name, the number in its first entry if that
+// is whole (`begun`), and what follows its last whole entry (`ended`).
 fn cause_of_tail(number: u64, begun: Option<u64>, ended: TailEnd) -> Option<&'static str>
     ensures { option_map (λ cause. cause.now) result ≡ spec.cause_of_tail number begun ended }
 {
@@ -255,21 +255,21 @@ fn cause_of_tail(number: u64, begun: Option<u64>, ended: TailEnd) -> Option<&'st
     }
 }
 
-// Whether a record leaves nothing to do: it is whole, no operator stands behind its last request, and that is
-// answered.
-fn leaves_nothing(tail: &Tail, ended: TailEnd) -> bool
+// Whether a journal leaves nothing to recover: it is whole, its last request is answered, and no enrolment
+// follows that.
+fn is_complete(tail: &Tail, ended: TailEnd) -> bool
     ensures { IsTrue result ↔ LeavesNothing tail.now ended }
 {
     ended == TailEnd::End && tail.asked.is_none() && tail.operators.is_empty()
 }
 
-// The value, or the failure once its cause is reported.
-fn reported<T: Drop>(
+// The value; or the error code, once its cause is reported.
+fn or_report<T: Drop>(
     host: LocalHost<'_>,
     folder: &str,
     done: Result<T, JournalError>,
 ) -> Result<T, ErrorCode>
-    ensures is { result ≡ spec.failure_of done }
+    ensures converted { result ≡ spec.failure_of done }
     ensures fault { IfErr result IsKeptOut }
 {
     match done {
@@ -282,30 +282,29 @@ fn reported<T: Drop>(
     }
 }
 
-// The failure of a database, once its cause is reported.
-fn store_failure(host: LocalHost<'_>, path: &str, cause: &str) -> ErrorCode
+// Reports the cause at a path, and returns the error code `Store`.
+fn report_store_failure(host: LocalHost<'_>, path: &str, cause: &str) -> ErrorCode
     ensures { result ≡ ErrorCode.Store }
 {
     report_of(host.alloc(), path, cause, &mut host.errors());
     ErrorCode::Store
 }
 
-impl<'s> RecordFolder<'s> {
-    /// Whether its last record left something undone.
-    pub fn has_undone(&self) -> bool
+impl<'s> JournalFolder<'s> {
+    /// Whether the last journal left anything to recover.
+    pub fn needs_recovery(&self) -> bool
         ensures { result ≡ is_some self.now.undone }
     {
         self.undone.is_some()
     }
 
-    /// The desk that was opened over files, as one that was just opened, once what the last record left
-    /// undone is done there. If that can't be done it is closed. The operators that it has are noted in
-    /// `roll`.
+    /// Recovers at the open desk what the last journal left pending. Returns the desk as if it was just
+    /// opened, with its operators noted in `roll`. If recovery fails, the desk is closed.
     ///
     /// # Errors
     ///
-    /// `Write` if the folder can't be read or written, or has another last record than it had; `Store` by the
-    /// desk, or if that can't be closed; `Broken` if a request can't be kept; `Memory`; `Clock`. Why is
+    /// `Write` if the folder can't be read or written, or its last journal has changed; `Store` if the desk
+    /// fails or can't be closed; `Broken` if a request can't be recorded; `Memory`; `Clock`. The cause is
     /// reported.
     pub fn finish<D: Disk + Drop, N: OpenPaths + Drop>(
         &mut self,
@@ -323,11 +322,11 @@ impl<'s> RecordFolder<'s> {
         let file = undone.file;
         match self.recover(undone, &mut desk, roll) {
             Ok(()) => Ok(opened_anew(desk, roll)),
-            Err(failure) => Err(failure_closed(self.host, file, desk, failure)),
+            Err(failure) => Err(close_failed(self.host, file, desk, failure)),
         }
     }
 
-    // Does at a desk what the last record left undone.
+    // Recovers at a desk what the last journal left pending.
     fn recover<D: Disk + Drop, N: OpenPaths + Drop>(
         &mut self,
         undone: PendingRecovery<'_>,
@@ -341,7 +340,7 @@ impl<'s> RecordFolder<'s> {
         ensures undone { self.new.undone ≡ self.old.undone }
         ensures number { OnOk result (IsNumbered undone.entry.tail.asked self.old.number self.new.number) }
     {
-        self.hold()?;
+        self.check_unchanged()?;
         let (host, path) = (self.host, self.path);
         let PendingRecovery {
             record,
@@ -350,14 +349,14 @@ impl<'s> RecordFolder<'s> {
             ..
         } = undone;
         if ended == TailEnd::Short {
-            reported(host, path, move_rest(host.rt, &record, tail.size))?;
+            or_report(host, path, move_rest(host.rt, &record, tail.size))?;
         }
         let Some(operators) = roll.take() else {
             return Err(ErrorCode::Memory);
         };
         let missing = missing_of(host.alloc(), &operators, &tail.operators)?;
         let number = next_number(host, path, self.number)?;
-        let mut keeper = AskedRecord {
+        let mut journal = LocalRecoveryJournal {
             host,
             folder: path,
             number,
@@ -367,16 +366,16 @@ impl<'s> RecordFolder<'s> {
         };
         let (terms, asked) = (tail.terms, tail.asked);
         let is_asked = asked.is_some();
-        recover(host.alloc(), desk, &terms, &missing, asked, &mut keeper)?;
+        recover(host.alloc(), desk, &terms, &missing, asked, &mut journal)?;
         if is_asked {
             self.number = number;
         }
         Ok(())
     }
 
-    // Tests that the last record is still the last one and as long as it was, if that wasn't tested yet. The
-    // desk is open, so that no other desk of its file goes on from it.
-    fn hold(&mut self) -> Result<(), ErrorCode>
+    // Checks that the last journal and its size are unchanged, unless that was done before. The desk is open,
+    // so from now on no other desk of its file writes here.
+    fn check_unchanged(&mut self) -> Result<(), ErrorCode>
         ensures held { OnOk result (self.new ≡ record self.old { is_held = true }) }
         ensures same { OnErr result (self.new ≡ self.old) }
         ensures once { IsTrue self.old.is_held → result ≡ Ok (tt {0}) }
@@ -386,7 +385,7 @@ impl<'s> RecordFolder<'s> {
             return Ok(());
         }
         let (host, path) = (self.host, self.path);
-        let (number, len) = extent_of(&reported(host, path, last_record(host.rt, path))?);
+        let (number, len) = extent_of(&or_report(host, path, last_record(host.rt, path))?);
         if number != self.number || len != self.len {
             report_of(host.alloc(), path, IN_USE, &mut host.errors());
             return Err(ErrorCode::Write);
@@ -395,7 +394,7 @@ impl<'s> RecordFolder<'s> {
         Ok(())
     }
 
-    /// The record of a command, if its desk is open.
+    /// Begins the journal of a command, if its desk is open.
     ///
     /// # Errors
     ///
@@ -417,12 +416,12 @@ impl<'s> RecordFolder<'s> {
         Ok(Some(self.begin(terms, enrolments, roll)?))
     }
 
-    /// Begins the record of a command at its open desk, which plans on these terms then and has the operators
-    /// of the roll, before the command enrols its own.
+    /// Begins the journal of a command at its open desk: with the terms, the operators in `roll`, and those
+    /// that the command enrols.
     ///
     /// # Errors
     ///
-    /// `Write` if the folder can't be written, or has another last record than it had; `Memory`; `Clock`. Why
+    /// `Write` if the folder can't be written, or its last journal has changed; `Memory`; `Clock`. The cause
     /// is reported.
     fn begin(
         mut self,
@@ -432,7 +431,7 @@ impl<'s> RecordFolder<'s> {
     ) -> Result<LocalRecord<'s>, ErrorCode>
         ensures { IfErr result IsUnbegun }
     {
-        self.hold()?;
+        self.check_unchanged()?;
         let (host, path) = (self.host, self.path);
         let Some(operators) = roll.take() else {
             return Err(ErrorCode::Memory);
@@ -441,13 +440,14 @@ impl<'s> RecordFolder<'s> {
         let operators = joined(operators, enrolments)?;
         let journal = begin_part(host, path, number, terms, &operators)?;
         let second = second_now(host)?;
-        reported(host, path, name_part(host.rt, path, number, second))?;
+        or_report(host, path, name_part(host.rt, path, number, second))?;
         Ok(WrittenRecord::new(host.alloc(), journal))
     }
 }
 
-// A failure at a desk over the file at a path, once the desk is closed; or that this can't be done.
-fn failure_closed<D: Disk + Drop, N: OpenPaths + Drop>(
+// Closes a desk that failed, and returns its error code; or `Store`, which is reported, if it can't be
+// closed.
+fn close_failed<D: Disk + Drop, N: OpenPaths + Drop>(
     host: LocalHost<'_>,
     file: &str,
     desk: DeskAt<D, N>,
@@ -458,10 +458,10 @@ fn failure_closed<D: Disk + Drop, N: OpenPaths + Drop>(
     if is_closed(close_after(1, Some(desk), &mut host.errors())) {
         return failure;
     }
-    store_failure(host, file, "it can't be closed")
+    report_store_failure(host, file, "it can't be closed")
 }
 
-// Whether a desk was closed, on whatever disk it was.
+// Whether a desk was closed, with its files at their paths.
 fn is_closed<D: Disk + Drop, E>(ended: (ExitReport<E>, Option<CloseReport<D>>)) -> bool
     ensures { result ≡ files.is_closed ended.1 }
 {
@@ -471,17 +471,17 @@ fn is_closed<D: Disk + Drop, E>(ended: (ExitReport<E>, Option<CloseReport<D>>)) 
     }
 }
 
-// The number of the record after this one.
+// The number of the next journal; the error `Write`, which is reported, if 64 bits don't hold it.
 fn next_number(host: LocalHost<'_>, folder: &str, number: u64) -> Result<u64, ErrorCode>
     ensures { result ≡ spec.next_number number }
 {
     match number.checked_add(1) {
         Some(next) => Ok(next),
-        None => reported(host, folder, Err(JournalError::Cause("no number is left"))),
+        None => or_report(host, folder, Err(JournalError::Cause("no number is left"))),
     }
 }
 
-// Operators, and others behind them.
+// `operators` followed by `others`.
 fn joined(mut operators: Vec<Enrolment>, others: &[Enrolment]) -> Result<Vec<Enrolment>, AllocError>
     ensures { IfOk result (λ all. all.items ≡ operators.items ++ others.now) }
 {
@@ -489,7 +489,7 @@ fn joined(mut operators: Vec<Enrolment>, others: &[Enrolment]) -> Result<Vec<Enr
     Ok(operators)
 }
 
-// Makes the file of a new record, with its beginning.
+// Makes the file of a new journal under its temporary name, and writes the first entries.
 fn begin_part<'s>(
     host: LocalHost<'s>,
     folder: &'s str,
@@ -502,7 +502,7 @@ fn begin_part<'s>(
     let mut journal = LocalJournal {
         host,
         folder,
-        file: reported(host, folder, make_part(host.rt, folder, number))?,
+        file: or_report(host, folder, make_part(host.rt, folder, number))?,
         is_reported: false,
     };
     match begin_record(host.alloc(), &mut journal, number, terms, operators) {
@@ -511,7 +511,7 @@ fn begin_part<'s>(
     }
 }
 
-// The Unix second that the clock gives.
+// The Unix second of the clock; the error `Clock` if there is none.
 fn second_now(host: LocalHost<'_>) -> Result<u64, ErrorCode>
     ensures { IfErr result (λ f. f ≡ ErrorCode.Clock) }
 {
@@ -524,13 +524,13 @@ fn second_now(host: LocalHost<'_>) -> Result<u64, ErrorCode>
     }
 }
 
-// That a request that is asked again, or its answer, is not recorded. Why is reported.
+// A repeated request, or its answer, can't be recorded. The cause was reported.
 #[derive(Drop)]
-struct Unrecorded;
+struct RecordError;
 
-// The record of a request that is asked again: it gets its name once the request is in it.
+// The journal of a request that recovery repeats. It gets its final name once the request is in it.
 #[derive(Drop)]
-struct AskedRecord<'s> {
+struct LocalRecoveryJournal<'s> {
     host: LocalHost<'s>,
     folder: &'s str,
     number: u64,
@@ -539,8 +539,8 @@ struct AskedRecord<'s> {
     record: Option<LocalRecord<'s>>,
 }
 
-impl<'s> AskedRecord<'s> {
-    // The record, with the request in it, under its name.
+impl<'s> LocalRecoveryJournal<'s> {
+    // Makes the journal with the request in it, under its final name.
     fn begin(&mut self, moment: Moment, bytes: &[u8]) -> Result<LocalRecord<'s>, ErrorCode>
         ensures same { self.new ≡ self.old }
         ensures fault { IfErr result IsUnbegun }
@@ -557,7 +557,7 @@ impl<'s> AskedRecord<'s> {
             return Err(ErrorCode::Write);
         }
         let second = second_now(self.host)?;
-        reported(
+        or_report(
             self.host,
             self.folder,
             name_part(self.host.rt, self.folder, self.number, second),
@@ -566,29 +566,29 @@ impl<'s> AskedRecord<'s> {
     }
 }
 
-impl Record for AskedRecord<'_> {
-    type Fault = Unrecorded;
+impl Record for LocalRecoveryJournal<'_> {
+    type Fault = RecordError;
 
-    fn keep_news(&mut self, _news: &[Enrolment]) -> Result<(), Unrecorded> {
-        Err(Unrecorded)
+    fn keep_news(&mut self, _news: &[Enrolment]) -> Result<(), RecordError> {
+        Err(RecordError)
     }
 
-    fn keep_request(&mut self, moment: Moment, bytes: &[u8]) -> Result<(), Unrecorded> {
+    fn keep_request(&mut self, moment: Moment, bytes: &[u8]) -> Result<(), RecordError> {
         self.record = self.begin(moment, bytes).ok();
         match self.record {
             Some(_) => Ok(()),
-            None => Err(Unrecorded),
+            None => Err(RecordError),
         }
     }
 
-    fn keep_answer(&mut self, connection: Exchange<'_>) -> Result<(), Unrecorded> {
+    fn keep_answer(&mut self, connection: Exchange<'_>) -> Result<(), RecordError> {
         let Some(record) = &mut self.record else {
-            return Err(Unrecorded);
+            return Err(RecordError);
         };
         if record.keep_answer(connection).is_ok() && record.sync().is_ok() {
             return Ok(());
         }
-        Err(Unrecorded)
+        Err(RecordError)
     }
 
     fn lose_answer(&mut self, _connection: Exchange<'_>) {}

@@ -1,4 +1,4 @@
-//! Why the files of a database were refused, reported before a command ends for it.
+//! Reports why a database can't be opened, before a command ends for it.
 
 ghost use Rattle.std.specs.Prelude.{◌≡◌, OnOk};
 ghost use Rattle.desk_program.specs.Outside.{bytes_written};
@@ -11,8 +11,8 @@ use host_files::files::LocalHost;
 use sqlite::Start;
 use std::io::Write;
 
-/// Reports why the files of a database can't be opened, if they can't: those that are made where there are
-/// none (`is_made`), or that have to be there.
+/// Reports why the files of a database can't be opened, if so: for a command that makes missing files
+/// (`is_made`), or for one that needs them to exist.
 #[tactic(auto, using(host_files::proofs::lemmas::Reporting::reports_nothing))]
 pub fn report_refusal<T, F: Start, E: Write>(
     host: LocalHost<'_>,

@@ -1,4 +1,4 @@
-//! A record played at the desk that was opened over the database that the words name.
+//! The command `replay`: plays a journal at the desk over the database that it names.
 
 ghost use Rattle.std.specs.Prelude.{IfErr, false};
 ghost use Rattle.sqlite.specs.Files.{over_files};
@@ -24,12 +24,12 @@ use sqlite_disk::Disk;
 use std::alloc::Global;
 use std::io::{BufReader, Read, Write};
 
-/// Plays the record of the standard input, closes its desk, and answers the exit status. Of files nothing is
-/// known.
+/// Runs the command `replay`: plays the journal of the standard input, closes the desk, and returns the exit
+/// status. The contract assumes nothing about the content of files.
 ///
 /// # Errors
 ///
-/// Why the log of its file refuses that; `Memory` if memory runs out before the database is opened.
+/// Why the WAL of its file refuses that; `Memory` if memory runs out before the database is opened.
 #[tactic(auto, using(crate::proofs::LogLemmas::log_refuses))]
 pub fn replay_here(host: LocalHost<'_>, words: &ReplayArgs) -> Result<u8, ErrorCode>
     ensures { IfErr result (IsLogRefused false) }
@@ -63,9 +63,9 @@ pub fn replay_here(host: LocalHost<'_>, words: &ReplayArgs) -> Result<u8, ErrorC
     }
 }
 
-/// Plays the record of the input at the desk that was opened, prints how many requests were played, and
-/// answers how it ended and the desk, if there was one. If an entry is not played, then where and why goes to
-/// `errors`, and the word of that failure; if no desk was opened, the word alone.
+/// Plays the journal of the input at the desk that was opened, prints how many requests were played, and
+/// returns the exit report with the desk, if there is one. If an entry can't be played, its place and the
+/// cause go to `errors` before the error code.
 pub fn replay_line<D: Disk + Drop, N: OpenPaths + Drop, R: Read, W: Write, E: Write>(
     alloc: Global,
     until: Option<u64>,

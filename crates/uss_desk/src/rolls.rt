@@ -1,4 +1,4 @@
-//! The operators that a desk has as it is opened, with which its record begins.
+//! The operators that a desk has as it is opened, with which its journal begins.
 
 ghost use Rattle.std.specs.Prelude.{◌≡◌, ◌↔◌, [], IfOk, IsTrue, None, false, is_none, map};
 ghost use Rattle.std.specs.Option.{IsSomeAnd};
@@ -13,7 +13,7 @@ use sqlite::FileStore;
 use sqlite_disk::Disk;
 use std::alloc::{AllocError, Global};
 
-/// The operators that a desk has as its record begins, if they are wanted.
+/// The operators that a desk has as its journal begins, if they are needed (`is_wanted`).
 #[derive(Drop)]
 pub struct NotedOperators {
     is_wanted: bool,
@@ -23,8 +23,7 @@ pub struct NotedOperators {
 }
 
 impl NotedOperators {
-    /// The roll of a desk over this database: none has an operator in memory, and of files nothing is noted
-    /// yet.
+    /// Nothing is noted yet of the desk over `database`; in memory it is known to have no operator.
     pub fn new(alloc: Global, database: &Database, is_wanted: bool) -> NotedOperators
         ensures wanted { result.is_wanted ≡ is_wanted }
         ensures empty { result.is_empty ≡ is_none (file_of database.now) }
@@ -37,7 +36,7 @@ impl NotedOperators {
         }
     }
 
-    /// Notes the operators of a store, if they are wanted and there is memory for them; else none.
+    /// Notes the operators of a store, if they are needed; none if memory runs out.
     pub fn note<D: Disk + Drop>(&mut self, store: &SqliteStore<FileStore<D>>)
         ensures noted { HasNoted store.now self.new }
         ensures wanted { self.new.is_wanted ≡ self.old.is_wanted }
@@ -60,10 +59,10 @@ impl NotedOperators {
         self.is_empty
     }
 
-    /// The operators, ascending by name, if they were noted. They are to be noted anew then.
+    /// The noted operators, ascending by name, if they were noted. Another `take` needs another `note`.
     pub fn take(&mut self) -> Option<Vec<Enrolment>>
-        ensures value { result ≡ self.old.operators }
-        ensures left { self.new ≡ record self.old { operators = None } }
+        ensures taken { result ≡ self.old.operators }
+        ensures rest { self.new ≡ record self.old { operators = None } }
     {
         self.operators.take()
     }
@@ -90,7 +89,7 @@ fn operators_of<D: Disk + Drop>(
     enrolments_of(*listed.allocator(), &listed)
 }
 
-// Operators that are listed, as they are enrolled.
+// Listed operators, as enrolments.
 fn enrolments_of(alloc: Global, listed: &[ListedOperator]) -> Result<Vec<Enrolment>, AllocError>
     ensures { IfOk result (λ all. map as_listed all.items ≡ listed.now) }
 {

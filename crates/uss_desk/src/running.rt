@@ -1,5 +1,4 @@
-//! A command carried out at the desk that was opened for it, whatever the disk of its files, the streams and
-//! the port are.
+//! A command run at the desk that was opened for it, over any disk, streams and port.
 
 ghost use Rattle.sqlite.specs.Files.{over_files};
 ghost use Rattle.desk_cli.specs.Lines.{IsLine, line_of};
@@ -16,8 +15,8 @@ use sqlite_disk::Disk;
 use std::alloc::Global;
 use std::io::{Read, Write};
 
-/// Does what a command does at the desk that was opened for it, and answers how it ended and the desk, if
-/// there was one. The word of a failure goes to `errors`; a fault there is passed over.
+/// Runs a command at the desk that was opened for it, and returns the exit report with the desk, if there is
+/// one. An error code goes to `errors`; a failed write there is ignored.
 pub fn run_line<D, N, P, R, W, E>(
     alloc: Global,
     action: DeskCommand<'_>,

@@ -1,5 +1,5 @@
-//! A command of a desk: what it needs is got ready, its desk is opened, and then it is carried out there. No
-//! clause reports what the operating system did.
+//! A command with a desk: what it needs is prepared, its desk is opened, and it runs there. No contract says
+//! what the operating system did.
 
 ghost use Rattle.std.specs.Prelude.{◌≡◌, ◌↔◌, [], Err, IfErr, IfOk, IsTrue, None};
 ghost use Rattle.std.specs.Option.{is_some};
@@ -17,7 +17,7 @@ use crate::closing::{close_after, status_closed};
 use crate::fail;
 use crate::opening::{DeskAt, Opened, open_database};
 use crate::playing::play_line;
-use crate::recording::{RecordFolder, folder_for};
+use crate::recording::{JournalFolder, folder_for};
 use crate::refusals::report_refusal;
 use crate::rolls::NotedOperators;
 use crate::running::run_line;
@@ -35,7 +35,7 @@ use sqlite::Unknown;
 use sqlite_disk::Disk;
 use std::io::{BufReader, Stderr, Stdin, Stdout, Write};
 
-/// What a command needs beside its desk and the paths of that.
+/// What a command needs beside its desk and the desk's paths.
 #[derive(Drop)]
 struct Session<'s> {
     host: LocalHost<'s>,
@@ -43,14 +43,14 @@ struct Session<'s> {
     // the operators that it enrols first
     enrolments: &'s [Enrolment],
     streams: Streams<BufReader<Stdin>, Stdout, Stderr>,
-    register: EnrolmentFile<'s, LocalHost<'s>>,
+    enrolment_file: EnrolmentFile<'s, LocalHost<'s>>,
     // the folder of its journal, if it keeps one
-    folder: Option<RecordFolder<'s>>,
+    folder: Option<JournalFolder<'s>>,
     roll: NotedOperators,
 }
 
 impl<'s> Session<'s> {
-    // Gets ready what a command needs, with the paths of its desk. Nothing is opened yet.
+    // Prepares what a command needs, and the paths of its database. The desk isn't opened yet.
     fn prepare(
         host: LocalHost<'s>,
         words: &'s DeskArgs,
@@ -63,7 +63,7 @@ impl<'s> Session<'s> {
         let Ok(input) = BufReader::new(host.alloc(), host.input()) else {
             return Err(ErrorCode::Memory);
         };
-        let register = operators_of(host.rt, host, words.operators.as_deref())?;
+        let enrolment_file = operators_of(host.rt, host, words.operators.as_deref())?;
         let paths = paths_at(host.rt, &words.database)?;
         reorder_for(host, &words.database, false)?;
         let folder = folder_for(host, words, action)?;
@@ -77,24 +77,24 @@ impl<'s> Session<'s> {
                 output: host.output(),
                 errors: host.errors(),
             },
-            register,
+            enrolment_file,
             folder,
             roll,
         };
         Ok((session, paths))
     }
 
-    // Whether the last record left something undone, so that the desk's file has to be there.
-    fn has_undone(&self) -> bool
+    // Whether the last journal left anything to recover: then the database file must exist.
+    fn needs_recovery(&self) -> bool
         ensures { result ≡ is_some (spec.undone_of self.now.folder) }
     {
         match &self.folder {
-            Some(folder) => folder.has_undone(),
+            Some(folder) => folder.needs_recovery(),
             None => false,
         }
     }
 
-    // The desk that was opened over files, at which all is done that the last record left undone.
+    // The desk that was opened over files, once what the last journal left pending is recovered there.
     fn recover<D: Disk + Drop, N: OpenPaths + Drop>(
         &mut self,
         opened: Result<DeskAt<D, N>, ErrorCode>,
@@ -114,14 +114,14 @@ impl<'s> Session<'s> {
         }
     }
 
-    // Whether it is known that no operator is enrolled, and the command names none.
+    // Whether the desk is known to have no operator, and the command enrols none.
     fn is_unenrolled(&self) -> bool
         ensures { IsTrue result ↔ IsUnenrolled self.now }
     {
         self.roll.is_empty() && enrols_none(self.words, self.enrolments)
     }
 
-    // Reports that no operator is enrolled, if that is known of the desk, and the command names none.
+    // Reports that no operator is enrolled, if the desk is known to have none and the command enrols none.
     fn report_if_unenrolled<E: Write>(&self, errors: &mut E)
         ensures reported { IsUnenrolled self.now
             → IsWrittenIfRoom (unenrolled_line (file_of self.now.words.now.database))
@@ -134,8 +134,8 @@ impl<'s> Session<'s> {
         }
     }
 
-    // Carries a command out at the desk that was opened for it, each request recorded if it keeps a journal:
-    // those of an input, or those of connections at a port. Answers the exit status and the desk.
+    // Runs a command at the desk that was opened for it, and returns the exit status with the desk. If the
+    // command keeps a journal, each request of its input or port is recorded.
     fn run<D: Disk + Drop, N: OpenPaths + Drop>(
         self,
         action: DeskCommand<'_>,
@@ -148,7 +148,7 @@ impl<'s> Session<'s> {
             words,
             enrolments,
             mut streams,
-            register,
+            enrolment_file,
             folder,
             roll,
         } = self;
@@ -161,7 +161,7 @@ impl<'s> Session<'s> {
             Ok(record) => record,
             Err(failure) => return (fail(host, failure), opened.ok()),
         };
-        let mut port = LocalPort::new(host.rt, host.rt, register, alloc, host.errors());
+        let mut port = LocalPort::new(host.rt, host.rt, enrolment_file, alloc, host.errors());
         let (exit, desk) = match (record, action) {
             (Some(record), DeskCommand::Play(words)) => {
                 let Streams {
@@ -183,21 +183,21 @@ impl<'s> Session<'s> {
     }
 }
 
-// Whether a command names no operator, so that its desk may have none.
+// Whether a command enrols no operator, and names no file of enrolments.
 fn enrols_none(words: &DeskArgs, enrolments: &[Enrolment]) -> bool
     ensures { IsTrue result ↔ (enrolments.now ≡ []) × (words.now.operators ≡ None) }
 {
     enrolments.is_empty() && words.operators.is_none()
 }
 
-/// Does what a command does at its desk, with the standard streams, the network and the clock, closes the
-/// desk, and answers the exit status. A file whose tables stand in another order is put in order before. Of
-/// files nothing is known.
+/// Runs a command at its desk with the standard streams, the network and the clock, closes the desk, and
+/// returns the exit status. Tables in a non-canonical order are reordered first. The contract assumes nothing
+/// about the content of files.
 ///
 /// # Errors
 ///
-/// Why the desk is not opened: its log, its file of enrolments, its tables or the folder of its records,
-/// which is reported; or memory ran out.
+/// Why the desk isn't opened: its WAL, its file of enrolments, its tables or its journal folder, which is
+/// reported; or memory ran out.
 pub fn at_desk(
     host: LocalHost<'_>,
     words: &DeskArgs,
@@ -213,7 +213,7 @@ pub fn at_desk(
             Ok(session.run(action, desk).0)
         }
         Opened::Files(found) => {
-            let is_made = !session.has_undone();
+            let is_made = !session.needs_recovery();
             report_refusal(host, &words.database, is_made, &found, &mut host.errors());
             let desk = session.recover(or_failure(found));
             if desk.is_ok() {

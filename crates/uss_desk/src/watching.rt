@@ -1,4 +1,4 @@
-//! A store over files that takes a change only while its files are at their paths.
+//! A store over files that applies a change only while its files are at their paths.
 
 ghost use Rattle.std.specs.Prelude.{◌≡◌, ◌≤◌, ◌+◌, [], ◌∷◌, Option, IfErr, IfOk, OnErr, OnOk};
 ghost use Rattle.sqlite_wal.specs.Reads.{AreClean};
@@ -26,21 +26,22 @@ use sqlite_trees::store::Alter;
 use std::marker::Model;
 use volume4d::{Held, Slab};
 
-/// What came of the files of a desk that was closed.
+/// The result of closing a desk over files.
 #[derive(Drop)]
 pub struct CloseReport<D: Disk> {
-    /// The files, with the log copied into the database file; or that it can't be.
+    /// The files, with the WAL checkpointed into the database file; or why that failed.
     pub files: Result<Files<D>, CheckpointError<D>>,
     /// Whether they were at their paths until then.
     pub are_at_paths: bool,
 }
 
-/// A store over tables that takes a change only while its files are at their paths.
+/// A store over tables that applies a change only while its files are at their paths, since a change of a
+/// file that was moved or removed would be lost.
 #[derive(Drop)]
 pub struct PathChecked<S: Alter, N: Drop> {
     store: SqliteStore<S>,
     paths: N,
-    // how many changes were refused, up to the type's last value
+    // the number of refused changes, which saturates
     refused: u64,
 }
 
@@ -60,7 +61,7 @@ impl<S: Alter, N: Drop> Model for PathChecked<S, N> {
 }
 
 impl<S: Alter, N: Drop> PathChecked<S, N> {
-    /// A store whose files are at these paths.
+    /// A store whose files are at `paths`.
     pub fn over(store: SqliteStore<S>, paths: N) -> PathChecked<S, N>
         ensures { result ≡ store }
     {
@@ -73,15 +74,15 @@ impl<S: Alter, N: Drop> PathChecked<S, N> {
 }
 
 impl<D: Disk + Drop, N: OpenPaths + Drop> PathChecked<FileStore<D>, N> {
-    /// Notes the operators of the store in a roll, if they are wanted there.
+    /// Notes the operators of the store in `roll`, if they are needed there.
     pub fn note(&self, roll: &mut NotedOperators)
         ensures { HasNoted self.now roll.new }
     {
         roll.note(&self.store);
     }
 
-    /// Copies the log into the database file, wherever that is, and gives the files back; and reports whether
-    /// they were at their paths.
+    /// Checkpoints the WAL into the database file, wherever that is. Returns the files, and whether they were
+    /// at their paths.
     pub fn close(self) -> CloseReport<D>
         ensures copied { IfOk result.files (λ files. AreClean D.Disk files.log files.db →
             IsCopied self.held files) }
@@ -92,7 +93,7 @@ impl<D: Disk + Drop, N: OpenPaths + Drop> PathChecked<FileStore<D>, N> {
     }
 }
 
-// Looks whether the files of a store are at their paths, and closes it.
+// Checks whether the files of a store are at their paths, and closes it.
 fn close_at<D: Disk + Drop, N: OpenPaths>(
     store: SqliteStore<FileStore<D>>,
     paths: &mut N,
@@ -109,7 +110,7 @@ fn close_at<D: Disk + Drop, N: OpenPaths>(
     }
 }
 
-// Whether both files are at their paths. If the database file isn't, the log is not looked for.
+// Whether both files are at their paths. If the database file isn't, the WAL isn't checked.
 fn are_at_paths<N: OpenPaths>(paths: &mut N) -> bool
     ensures { AreAtPaths (course (N.looks paths.old) (N.looks paths.new)) result }
 {
@@ -119,8 +120,9 @@ fn are_at_paths<N: OpenPaths>(paths: &mut N) -> bool
     paths.has_log()
 }
 
-// Makes a change of a store whose files are at their paths; else it is a fault, which is counted.
-// Long: what each store owes, and that its paths are looked at first.
+// Applies a change if the files of the store are at their paths; else fails with `Store`, and counts that in
+// `refused`.
+// Long: what each store owes, and that its paths are checked first.
 fn apply_at<S: PlanStore, N: OpenPaths>(
     store: &mut S,
     paths: &mut N,

@@ -4,8 +4,8 @@ use Rattle.desk_admin.proofs.keeping.look_in.Goals as goal
 
 pub returns-in-Ok-clause-looks : goal.returns-in-Ok-clause-looks
 returns-in-Ok-clause-looks g c =
-    read_as (image_at g.F.Start) c.in-Ok.connection c.reported_of.result c.in-Ok.holdings
-    c.reported_of.ensures.schema c.reported_of.ensures.counted c.in-Ok.ensures.looks
+    read_as (image_at g.F.Start) c.in-Ok.connection c.checked_file.result c.in-Ok.holdings
+    c.checked_file.ensures.schema c.checked_file.ensures.counted c.in-Ok.ensures.looks
 
 pub returns-clause-fault : goal.returns-clause-fault
 returns-clause-fault g c =

@@ -5,6 +5,6 @@ pub returns-clause-reordered : goal.returns-clause-reordered
 returns-clause-reordered g c = record {
   from = g.P.Folder.steps c.make_scratch.new.folder;
   made = c.in-Ok.ensures.made.1;
-  ordered = c.order_by_scratch-done.ensures.ordered (image_at g.F.Start) c.look_in-found.ensures.looks
+  ordered = c.reorder_if_valid-done.ensures.ordered (image_at g.F.Start) c.look_in-found.ensures.looks
       c.look_in-found.ensures.fault c.in-Ok.ensures.made.0;
 }

@@ -2,14 +2,14 @@ use Rattle.host_files.proofs.lemmas.Reporting.{reports_both}
 use Rattle.desk_host.proofs.ReportedLemmas.{reported_next}
 use Rattle.desk_host.proofs.operators.report_lines.Goals as goal
 
-pub returns-in_err-report_next-clause-some : goal.returns-in_err-report_next-clause-some
-returns-in_err-report_next-clause-some g c =
-    reports_both c.loop-line.invariant.some c.in_err-report_next.ensures.some
+pub returns-in_err-report_if_malformed-clause-appended : goal.returns-in_err-report_if_malformed-clause-appended
+returns-in_err-report_if_malformed-clause-appended g c =
+    reports_both c.loop-line.invariant.some c.in_err-report_if_malformed.ensures.appended
 
 pub loop-line-preserved : goal.loop-line-preserved
 loop-line-preserved g c =
     reported_next _ _ c.args.lines.now c.loop-line.line-index _ _ _ _ _ _ c.loop-line-test.true c.with-counted.ensures
-    c.loop-line.invariant c.in_ok-report_next.ensures.reported c.in_ok-report_next.ensures.some
+    c.loop-line.invariant c.in_ok-report_if_malformed.ensures.reported c.in_ok-report_if_malformed.ensures.appended
 
-pub returns-clause-some : goal.returns-clause-some
-returns-clause-some g c = reports_both c.loop-line.invariant.some c.report_rest.ensures.some
+pub returns-clause-appended : goal.returns-clause-appended
+returns-clause-appended g c = reports_both c.loop-line.invariant.some c.report_rest.ensures.appended

@@ -55,7 +55,7 @@ returns-clause-played g c =
       ended = played.ended;
       answered = played.answered;
       ends = subst (λ d. EndsWith d (ending c.report_exit-2.result (g.E.Write.contents c.args.errors.now)
-          (g.E.Write.contents c.report_exit-2.new.errors))) c.done_after.ensures
+          (g.E.Write.contents c.report_exit-2.new.errors))) c.play_result.ensures
           (c.report_exit-2.ensures.status, c.report_exit-2.ensures.reported);
       played = λ h.
           let listed = c.in_default.ensures.listed (was_honest c.play_all-played.ensures.remembered.doubt h)
@@ -76,7 +76,7 @@ returns-clause-kept g c = λ p settled found may.
     played.ended played.answered (passage g.R.Read g.W.Write c.args.input.now c.play_all-played.new.input
     c.args.output.now c.play_all-played.new.output) w (world_of g.S.PlanStore.content c.set_up.new.desk)
     (world_of g.S.PlanStore.content c.play_all-played.new.desk)
-    (subst (λ d. EndsWith d end) c.done_after.ensures
+    (subst (λ d. EndsWith d end) c.play_result.ensures
     (c.report_exit-2.ensures.status, c.report_exit-2.ensures.reported))
     (λ h. c.in_default.ensures.listed (was_honest c.play_all-played.ensures.remembered.doubt h)
     ∙ ap (with_operators (on_terms w c.args.line.now.desk.terms)) c.deref.ensures.value)

@@ -14,69 +14,69 @@ use Rattle.desk_program.proofs.ServedLemmas.{enrolled_then, not_ok, same_noted, 
 use Rattle.desk_program.proofs.server.serve_connection.Goals as goal
 
 -- no news are brought
-pub returns-in_err-news-clause-kept : goal.returns-in_err-news-clause-kept
-returns-in_err-news-clause-kept g c =
+pub returns-in_err-enrolments-clause-kept : goal.returns-in_err-enrolments-clause-kept
+returns-in_err-enrolments-clause-kept g c =
     none_kept g.S.PlanStore c.from_residual.result 1 (g.P.Port.traffic c.args.port.now)
-    (g.P.Port.traffic c.news.new.self) c.args.desk.now c.in_err-news.ensures.same
-    (λ was. not_ok c.from_residual.result c.in_err-news.field-0.0
+    (g.P.Port.traffic c.news.new.self) c.args.desk.now c.in_err-enrolments.ensures.same
+    (λ was. not_ok c.from_residual.result c.in_err-enrolments.field-0.0
     (IsOpen (g.P.Port.traffic c.news.new.self).recorded) c.from_residual.ensures.1)
-    (stops c.from_residual.result c.in_err-news.field-0.0 c.from_residual.ensures.1 1 [] _
-    c.in_err-news.ensures.fault)
+    (stops c.from_residual.result c.in_err-enrolments.field-0.0 c.from_residual.ensures.1 1 [] _
+    c.in_err-enrolments.ensures.fault)
 
-pub returns-in_err-news-clause-cause : goal.returns-in_err-news-clause-cause
-returns-in_err-news-clause-cause g c =
-    denied_counted c.from_residual.result c.in_err-news.field-0.0 _ _ c.from_residual.ensures.1
-    c.in_err-news.ensures.fault
+pub returns-in_err-enrolments-clause-cause : goal.returns-in_err-enrolments-clause-cause
+returns-in_err-enrolments-clause-cause g c =
+    denied_counted c.from_residual.result c.in_err-enrolments.field-0.0 _ _ c.from_residual.ensures.1
+    c.in_err-enrolments.ensures.fault
 
 -- an operator of the news could not be listed
-pub returns-in_err-enrol_news-clause-kept : goal.returns-in_err-enrol_news-clause-kept
-returns-in_err-enrol_news-clause-kept g c =
-    let honest = IsHonest (g.S.PlanStore.doubt c.enrol_news.new.desk.store) in
-    let fault = c.in_err-enrol_news.field-0.0 in
-    let news = c.in_ok-news.news.items in
+pub returns-in_err-enrol_new-clause-kept : goal.returns-in_err-enrol_new-clause-kept
+returns-in_err-enrol_new-clause-kept g c =
+    let honest = IsHonest (g.S.PlanStore.doubt c.enrol_new.new.desk.store) in
+    let fault = c.in_err-enrol_new.field-0.0 in
+    let news = c.in_ok-enrolments.enrolments.items in
     let w = world_of g.S.PlanStore.content c.args.desk.now in
-    let after = world_of g.S.PlanStore.content c.enrol_news.new.desk in
+    let after = world_of g.S.PlanStore.content c.enrol_new.new.desk in
     let before = g.S.PlanStore.may_leave c.args.desk.now.store in
-    let now = g.S.PlanStore.may_leave c.enrol_news.new.desk.store in
-    news_kept g.S.PlanStore c.from_residual-in_err-enrol_news.result (enrolment_failure fault) news
+    let now = g.S.PlanStore.may_leave c.enrol_new.new.desk.store in
+    news_kept g.S.PlanStore c.from_residual-in_err-enrol_new.result (enrolment_failure fault) news
     (g.P.Port.traffic c.args.port.now) (g.P.Port.traffic c.news.new.self)
-    (g.P.Port.traffic c.news.new.self) c.args.desk.now c.enrol_news.new.desk
-    c.from_residual-in_err-enrol_news.ensures.1 c.in_ok-news.ensures.brings
+    (g.P.Port.traffic c.news.new.self) c.args.desk.now c.enrol_new.new.desk
+    c.from_residual-in_err-enrol_new.ensures.1 c.in_ok-enrolments.ensures.brings
     (stays (g.P.Port.traffic c.news.new.self))
     (inl (
-      reported_breakdown fault (enrolment_failure fault) refl c.in_err-enrol_news.ensures.fault,
-      subst (λ es. AreListedSoFar honest es w after) c.deref.ensures.value c.in_err-enrol_news.ensures.listed,
+      reported_breakdown fault (enrolment_failure fault) refl c.in_err-enrol_new.ensures.fault,
+      subst (λ es. AreListedSoFar honest es w after) c.deref.ensures.value c.in_err-enrol_new.ensures.listed,
     ))
-    (λ p found may. unlisted_found c.enrol_news.result news w after before now
-    (subst (λ es. FindsNews c.enrol_news.result es w after before now) c.deref.ensures.value
-    (c.enrol_news.ensures.found p)) found fault c.in_err-enrol_news.was may)
+    (λ p found may. unlisted_found c.enrol_new.result news w after before now
+    (subst (λ es. FindsNews c.enrol_new.result es w after before now) c.deref.ensures.value
+    (c.enrol_new.ensures.found p)) found fault c.in_err-enrol_new.was may)
 
-pub returns-in_err-enrol_news-clause-cause : goal.returns-in_err-enrol_news-clause-cause
-returns-in_err-enrol_news-clause-cause g c =
-    news_counted c.from_residual-in_err-enrol_news.result c.in_err-enrol_news.field-0.0 _ _
-    c.from_residual-in_err-enrol_news.ensures.1 c.in_err-enrol_news.ensures.cause
+pub returns-in_err-enrol_new-clause-cause : goal.returns-in_err-enrol_new-clause-cause
+returns-in_err-enrol_new-clause-cause g c =
+    news_counted c.from_residual-in_err-enrol_new.result c.in_err-enrol_new.field-0.0 _ _
+    c.from_residual-in_err-enrol_new.ensures.1 c.in_err-enrol_new.ensures.cause
 
 -- all are listed, and no connection can be taken
 pub returns-in_err-client-clause-kept : goal.returns-in_err-client-clause-kept
 returns-in_err-client-clause-kept g c =
-    let honest = IsHonest (g.S.PlanStore.doubt c.enrol_news.new.desk.store) in
+    let honest = IsHonest (g.S.PlanStore.doubt c.enrol_new.new.desk.store) in
     let f = c.in_err-client.field-0.0 in
-    let news = c.in_ok-news.news.items in
+    let news = c.in_ok-enrolments.enrolments.items in
     let w = world_of g.S.PlanStore.content c.args.desk.now in
-    let after = world_of g.S.PlanStore.content c.enrol_news.new.desk in
+    let after = world_of g.S.PlanStore.content c.enrol_new.new.desk in
     let before = g.S.PlanStore.may_leave c.args.desk.now.store in
-    let now = g.S.PlanStore.may_leave c.enrol_news.new.desk.store in
+    let now = g.S.PlanStore.may_leave c.enrol_new.new.desk.store in
     news_kept g.S.PlanStore c.from_residual-in_err-client.result f news
     (g.P.Port.traffic c.args.port.now) (g.P.Port.traffic c.news.new.self)
-    (g.P.Port.traffic c.take.new.self) c.args.desk.now c.enrol_news.new.desk
-    c.from_residual-in_err-client.ensures.1 c.in_ok-news.ensures.brings c.in_err-client.ensures.same
+    (g.P.Port.traffic c.take.new.self) c.args.desk.now c.enrol_new.new.desk
+    c.from_residual-in_err-client.ensures.1 c.in_ok-enrolments.ensures.brings c.in_err-client.ensures.same
     (inr (
       c.in_err-client.ensures.fault,
-      subst (λ es. AreEnrolled honest es w after) c.deref.ensures.value c.in_ok-enrol_news.ensures.listed,
+      subst (λ es. AreEnrolled honest es w after) c.deref.ensures.value c.in_ok-enrol_new.ensures.listed,
     ))
-    (λ p found may. untaken_found c.enrol_news.result news w after before now
-    (subst (λ es. FindsNews c.enrol_news.result es w after before now) c.deref.ensures.value
-    (c.enrol_news.ensures.found p)) found c.in_ok-enrol_news.field-0 c.in_ok-enrol_news.was may)
+    (λ p found may. untaken_found c.enrol_new.result news w after before now
+    (subst (λ es. FindsNews c.enrol_new.result es w after before now) c.deref.ensures.value
+    (c.enrol_new.ensures.found p)) found c.in_ok-enrol_new.field-0 c.in_ok-enrol_new.was may)
 
 pub returns-in_err-client-clause-cause : goal.returns-in_err-client-clause-cause
 returns-in_err-client-clause-cause g c =
@@ -89,27 +89,27 @@ returns-clause-kept g c =
     let honest = IsHonest (g.S.PlanStore.doubt c.serve_one-served.new.desk.store) in
     let was = was_honest c.serve_one-served.ensures.remembered.doubt in
     let client = c.in_ok-client.client in
-    let news = c.in_ok-news.news.items in
+    let news = c.in_ok-enrolments.enrolments.items in
     let bytes = g.P.Input.Read.remaining client.input in
     let unread = g.P.Input.Read.remaining c.serve_one-served.new.input in
     let out = g.P.Output.Write.contents client.output in
     let now = g.P.Output.Write.contents c.serve_one-served.new.output in
     let w = world_of g.S.PlanStore.content c.args.desk.now in
-    let listed = world_of g.S.PlanStore.content c.enrol_news.new.desk in
+    let listed = world_of g.S.PlanStore.content c.enrol_new.new.desk in
     let before = g.S.PlanStore.may_leave c.args.desk.now.store in
-    let mid = g.S.PlanStore.may_leave c.enrol_news.new.desk.store in
-    let brings = c.in_ok-news.ensures.brings in
+    let mid = g.S.PlanStore.may_leave c.enrol_new.new.desk.store in
+    let brings = c.in_ok-enrolments.ensures.brings in
     let taken = c.in_ok-client.ensures.taken in
     let asked = (g.P.Port.traffic c.take.new.self).recorded in
     let closed = (g.P.Port.traffic c.close-closed.new.self).recorded in
     let closes = c.close-closed.ensures.closed in
-    one_kept g.S.PlanStore c.done_after.result (record {
+    one_kept g.S.PlanStore c.exchange_result.result (record {
       news = news;
       arrival = arrived client.moment.second bytes;
       out = out;
       served = c.serve_one-served.result;
       parting = parted unread now c.outcome_of.result;
-    }) c.close-closed.result _ _ c.args.desk.now c.enrol_news.new.desk c.serve_one-served.new.desk
+    }) c.close-closed.result _ _ c.args.desk.now c.enrol_new.new.desk c.serve_one-served.new.desk
     (closes.2 ∙ taken.2 ∙ brings.3)
     (subst (λ v. Grows v (g.P.Port.traffic c.close-closed.new.self).taken
     (arrived client.moment.second bytes ∷ [])) brings.1
@@ -134,16 +134,16 @@ returns-clause-kept g c =
       stays_noted closed,
     )
     (enrolled_then _ honest was news w listed
-    (subst (λ es. AreEnrolled (IsHonest (g.S.PlanStore.doubt c.enrol_news.new.desk.store)) es w listed)
-    c.deref.ensures.value c.in_ok-enrol_news.ensures.listed))
+    (subst (λ es. AreEnrolled (IsHonest (g.S.PlanStore.doubt c.enrol_new.new.desk.store)) es w listed)
+    c.deref.ensures.value c.in_ok-enrol_new.ensures.listed))
     c.serve_one-served.ensures.served
-    c.done_after.ensures c.close-closed.ensures.recorded c.close-closed.ensures.fault
-    (λ p found may. listed_found c.enrol_news.result news w listed before mid
-    (subst (λ es. FindsNews c.enrol_news.result es w listed before mid) c.deref.ensures.value
-    (c.enrol_news.ensures.found (was p))) found c.in_ok-enrol_news.field-0 c.in_ok-enrol_news.was may)
+    c.exchange_result.ensures c.close-closed.ensures.recorded c.close-closed.ensures.fault
+    (λ p found may. listed_found c.enrol_new.result news w listed before mid
+    (subst (λ es. FindsNews c.enrol_new.result es w listed before mid) c.deref.ensures.value
+    (c.enrol_new.ensures.found (was p))) found c.in_ok-enrol_new.field-0 c.in_ok-enrol_new.was may)
     c.serve_one-served.ensures.kept.found
 
 pub returns-clause-cause : goal.returns-clause-cause
 returns-clause-cause g c =
-    served_counted c.done_after.result c.serve_one-served.result c.close-closed.result _ _
-    c.close-closed.ensures.fault c.done_after.ensures
+    served_counted c.exchange_result.result c.serve_one-served.result c.close-closed.result _ _
+    c.close-closed.ensures.fault c.exchange_result.ensures

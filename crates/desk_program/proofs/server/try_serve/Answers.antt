@@ -7,7 +7,7 @@ use Rattle.desk_program.proofs.KeepingLemmas.{port_kept, unserved_kept}
 use Rattle.desk_program.proofs.ServedLemmas.{still_heard, unserved}
 use Rattle.desk_program.proofs.BegunLemmas.{announced_none, announced_same, announced_whole}
 use Rattle.desk_program.proofs.CauseLemmas.{counted_later}
-use Rattle.desk_program.proofs.server.serve_line.Goals as goal
+use Rattle.desk_program.proofs.server.try_serve.Goals as goal
 
 pub returns-in_err-set_up-clause-printed : goal.returns-in_err-set_up-clause-printed
 returns-in_err-set_up-clause-printed g c = announced_none _ _ _ _ c.from_residual.ensures.1

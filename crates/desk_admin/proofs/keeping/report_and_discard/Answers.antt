@@ -1,7 +1,7 @@
 use Rattle.std.proofs.Common.{◌≡◌, ◌∙◌, inl, inr, rules, string_bytes}
 use Rattle.host_files.specs.Naming.{ChangesOwn, GivesNoName}
 use Rattle.host_files.proofs.lemmas.Naming.{takes_both, takes_one}
-use Rattle.desk_admin.proofs.keeping.give_up.Goals as goal
+use Rattle.desk_admin.proofs.keeping.report_and_discard.Goals as goal
 
 pub returns-then-is_free-clause-gone : goal.returns-then-is_free-clause-gone
 returns-then-is_free-clause-gone g c to are =

@@ -1,6 +1,6 @@
 use Rattle.std.proofs.Common.{IfOk, refl, subst}
 use Rattle.desk_admin.specs.FilesReported.{IsReadAs}
-use Rattle.desk_admin.proofs.reordering.judge.Goals as goal
+use Rattle.desk_admin.proofs.reordering.admit_scratch.Goals as goal
 
 pub returns-then-is_too_old-clause-admitted : goal.returns-then-is_too_old-clause-admitted
 returns-then-is_too_old-clause-admitted g c = λ image reads fails.

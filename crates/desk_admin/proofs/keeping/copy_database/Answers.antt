@@ -6,7 +6,7 @@ use Rattle.host_files.proofs.lemmas.Naming.{found_own, not_free_failed, not_free
 use Rattle.host_files.specs.FolderSteps.{steps_of}
 use Rattle.host_files.specs.Naming.{AreNames, Follows, free_steps}
 use Rattle.desk_admin.specs.FilesReported.{FailsUntried}
-use Rattle.desk_admin.proofs.keeping.copy_for.Goals as goal
+use Rattle.desk_admin.proofs.keeping.copy_database.Goals as goal
 
 pub returns-in-Err-clause-fault : goal.returns-in-Err-clause-fault
 returns-in-Err-clause-fault g c =
@@ -34,8 +34,8 @@ returns-in-Err-clause-own g c =
 
 pub returns-clause-made : goal.returns-clause-made
 returns-clause-made g c =
-    made_on _ c.copy_closed-copied.result c.keep_copy.result c.copy_closed-copied.ensures.made
-    c.keep_copy.ensures.made
+    made_on _ c.copy_and_close-copied.result c.publish_or_discard.result c.copy_and_close-copied.ensures.made
+    c.publish_or_discard.ensures.made
 
 pub returns-clause-fault : goal.returns-clause-fault
 returns-clause-fault g c =
@@ -44,11 +44,11 @@ returns-clause-fault g c =
     let free : Follows (steps_of g.P.Folder c.args.folder.now c.make_room_or_report.new.folder) (free_steps to) =
     search rules in
     copy_fails _ _ _ to free (image_at g.F.Start) (image_at g.N.Start)
-    c.args.words.now.database c.copy_closed-copied.result c.keep_copy.result
-    c.copy_closed-copied.ensures.fault c.keep_copy.ensures.fault
+    c.args.words.now.database c.copy_and_close-copied.result c.publish_or_discard.result
+    c.copy_and_close-copied.ensures.fault c.publish_or_discard.ensures.fault
 
 pub returns-clause-reported : goal.returns-clause-reported
-returns-clause-reported g c = reports_both c.make_room_or_report.ensures.reported c.keep_copy.ensures.reported
+returns-clause-reported g c = reports_both c.make_room_or_report.ensures.reported c.publish_or_discard.ensures.reported
 
 pub returns-clause-named : goal.returns-clause-named
 returns-clause-named g c =
@@ -56,7 +56,7 @@ returns-clause-named g c =
     let are : AreNames to c.in_ok-names.names = search rules in
     let free : Follows (steps_of g.P.Folder c.args.folder.now c.make_room_or_report.new.folder) (free_steps to) =
     search rules in
-    named_if _ _ _ to free c.keep_copy.result (c.keep_copy.ensures.named to are)
+    named_if _ _ _ to free c.publish_or_discard.result (c.publish_or_discard.ensures.named to are)
 
 pub returns-clause-own : goal.returns-clause-own
 returns-clause-own g c =
@@ -64,4 +64,4 @@ returns-clause-own g c =
     let are : AreNames to c.in_ok-names.names = search rules in
     let free : Follows (steps_of g.P.Folder c.args.folder.now c.make_room_or_report.new.folder) (free_steps to) =
     search rules in
-    found_own _ _ _ to free (c.keep_copy.ensures.own to are)
+    found_own _ _ _ to free (c.publish_or_discard.ensures.own to are)

@@ -2,8 +2,8 @@ use Rattle.std.proofs.Common.{◌≡◌, ◌∙◌, ap, subst, sym}
 use Rattle.std.specs.Prelude.{if◌then◌else◌}
 use Rattle.uss_desk.specs.LineRecord.{next_number}
 use Rattle.uss_desk.proofs.FinishLemmas.{numbered}
-use Rattle.uss_desk.proofs.recording.RecordFolder.recover.Goals as goal
-use Rattle.uss_desk.proofs.recording.RecordFolder.recover.Goals.{then-is_asked, else-is_asked}
+use Rattle.uss_desk.proofs.recording.JournalFolder.recover.Goals as goal
+use Rattle.uss_desk.proofs.recording.JournalFolder.recover.Goals.{then-is_asked, else-is_asked}
 
 pub returns-clause-kept : goal.returns-clause-kept
 returns-clause-kept g c = c.in_ok-recover.ensures.kept
@@ -13,7 +13,7 @@ returns-clause-number g c =
     let old = c.args.self.now.number in
     let number = c.in_ok-number.number in
     let new = c.if-is_asked.self.number in
-    let same = ap (λ s. s.number) c.in_ok-hold.ensures.held in
+    let same = ap (λ s. s.number) c.in_ok-check_unchanged.ensures.held in
     let asks = sym c.is_some-is_asked.ensures in
     numbered c.args.undone.tail.asked old number new (ap next_number (sym same) ∙ sym c.in_ok-number.ensures)
     (elim c.if-is_asked.branch [

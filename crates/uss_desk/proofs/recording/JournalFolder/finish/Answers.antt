@@ -3,7 +3,7 @@ use Rattle.sqlite.specs.Files.{over_files}
 use Rattle.uss_desk.specs.Finishing.{Finishes, left_undone}
 use Rattle.uss_desk.proofs.FinishLemmas.{finished, still_unfinished}
 use Rattle.uss_desk.proofs.RunLemmas.{tested_anew}
-use Rattle.uss_desk.proofs.recording.RecordFolder.finish.Goals as goal
+use Rattle.uss_desk.proofs.recording.JournalFolder.finish.Goals as goal
 
 pub returns-in-Ok-clause-finishes : goal.returns-in-Ok-clause-finishes
 returns-in-Ok-clause-finishes g c =
@@ -19,7 +19,7 @@ returns-in-Ok-clause-tested g c =
 
 pub returns-in-Err-clause-finishes : goal.returns-in-Err-clause-finishes
 returns-in-Err-clause-finishes g c =
-    subst (λ left. Finishes over_files left c.args.roll.now c.args.desk (Err c.failure_closed.result))
+    subst (λ left. Finishes over_files left c.args.roll.now c.args.desk (Err c.close_failed.result))
     c.in-Some.ensures.value
-    (still_unfinished c.in-Some.undone.tail.asked c.recover.new.desk c.in-Err.failure c.failure_closed.result
-    c.failure_closed.ensures c.in-Err.ensures.cause)
+    (still_unfinished c.in-Some.undone.tail.asked c.recover.new.desk c.in-Err.failure c.close_failed.result
+    c.close_failed.ensures c.in-Err.ensures.cause)

@@ -1,4 +1,4 @@
-use Rattle.desk_admin.proofs.scratch_copies.refuse_as.Goals as goal
+use Rattle.desk_admin.proofs.scratch_copies.report_refused_as.Goals as goal
 
 pub returns : goal.returns
 returns g c = record {
