@@ -120,8 +120,8 @@ abbrev pub are_listed : Bool → List ℕ → Bool
 are_listed packed page = are_moved packed page page 0 (count page)
 
 -- a page of so few rows lists them neither in a desk's own order nor in that of a packed file
-abbrev pub is_other : List ℕ → Bool
-is_other page =
+abbrev pub is_in_other_order : List ℕ → Bool
+is_in_other_order page =
     is_leaf_page page && nat_le (count page) 14 && not (are_listed false page)
     && not (count page == 14 && are_listed true page)
 
@@ -143,7 +143,7 @@ placed old to (suc n) page = option_and_then (placed old (to + 1) n) (placed_by_
 -- The page with its rows in a desk's own order, if it lists the tables and indexes of a desk, or the first
 -- few of them, and these in another order. Each row keeps its cell and, but for the rowid, its bytes.
 abbrev pub ordered : List ℕ → Option (List ℕ)
-ordered page = if is_other page
+ordered page = if is_in_other_order page
     then option_and_then (λ new. if are_moved false page new 0 (count page) then Some new else None)
     (placed page 0 (count page) page)
     else None

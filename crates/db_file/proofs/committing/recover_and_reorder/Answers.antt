@@ -8,7 +8,7 @@ use Rattle.sqlite_wal.proofs.OutcomeLemmas.{HasCause-weaker}
 use Rattle.sqlite_pager.specs.Pager.{image, state}
 use Rattle.db_file.specs.Committing.{LeavesOrdered, RefusesFiles}
 use Rattle.db_file.proofs.CommitLemmas.{finds_and_orders, leaves_ordered, order_fails, still_readable}
-use Rattle.db_file.proofs.committing.find_and_order.Goals as goal
+use Rattle.db_file.proofs.committing.recover_and_reorder.Goals as goal
 
 pub returns-in_err-recover-clause-cause : goal.returns-in_err-recover-clause-cause
 returns-in_err-recover-clause-cause g c =

@@ -3,8 +3,8 @@ use Rattle.std.proofs.lemmas.Bool.{false≢true}
 use Rattle.std.proofs.lemmas.List.{take_rest}
 use Rattle.sqlite_wal.specs.Format.{checksum, is_big}
 use Rattle.sqlite_wal.proofs.FormatLemmas.{same_sums, part_front, salts_differ, salts_agree}
-use Rattle.db_file.proofs.frames.is_taken.Goals.{then-ne-via-then-ne, then-ne-via-else-ne+then-number_at-eq0}
-use Rattle.db_file.proofs.frames.is_taken.Goals as goal
+use Rattle.db_file.proofs.frames.is_frame_valid.Goals.{then-ne-via-then-ne, then-ne-via-else-ne+then-number_at-eq0}
+use Rattle.db_file.proofs.frames.is_frame_valid.Goals as goal
 
 pub returns-then-ne : goal.returns-then-ne
 returns-then-ne c = (

@@ -6,7 +6,7 @@ use Rattle.sqlite_wal.specs.Recovery.{IsIgnored}
 use Rattle.sqlite_wal.specs.declared.error.Error.TheVariants.{Corrupt, Io, OutOfMemory}
 use Rattle.db_file.specs.Committing.{IsUnread, NamesSize, faults_of, image_of, leaves}
 use Rattle.db_file.proofs.CommitLemmas.{none_named, over_read, size_named, unread}
-use Rattle.db_file.proofs.committing.pager_over.Goals as goal
+use Rattle.db_file.proofs.committing.open_pager.Goals as goal
 
 pub returns-in-Ok-clause-over : goal.returns-in-Ok-clause-over
 returns-in-Ok-clause-over g c =

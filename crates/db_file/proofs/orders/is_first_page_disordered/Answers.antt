@@ -1,6 +1,6 @@
 use Rattle.sqlite_wal.specs.PageSize.{bytes_of}
 use Rattle.db_file.proofs.OrderLemmas.{page_reported}
-use Rattle.db_file.proofs.orders.reads_page.Goals as goal
+use Rattle.db_file.proofs.orders.is_first_page_disordered.Goals as goal
 
 pub returns : goal.returns
 returns g c =

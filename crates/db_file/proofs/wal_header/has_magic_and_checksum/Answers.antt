@@ -1,7 +1,7 @@
 use Rattle.std.proofs.Common.{sym, ◌∙◌, ap, rules}
 use Rattle.sqlite_wal.specs.Format.{checksum, is_big}
 use Rattle.sqlite_wal.proofs.FormatLemmas.{same_sums, part_front}
-use Rattle.db_file.proofs.wal_header.is_signed.Goals as goal
+use Rattle.db_file.proofs.wal_header.has_magic_and_checksum.Goals as goal
 
 pub returns : goal.returns
 returns c =
