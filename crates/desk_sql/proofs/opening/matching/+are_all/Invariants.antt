@@ -1,5 +1,5 @@
 use Rattle.std.proofs.Common.{length}
-use Rattle.desk_sql.proofs.opening.matching.+are_all.Given as goal
+use Rattle.desk_sql.proofs.opening.matching.+all_match.Given as goal
 
-abbrev pub decreases-are_all : goal.decreases-are_all
-decreases-are_all g l = length l.found.now
+abbrev pub decreases-all_match : goal.decreases-all_match
+decreases-all_match g l = length l.found.now

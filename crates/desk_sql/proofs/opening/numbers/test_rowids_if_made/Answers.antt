@@ -1,7 +1,7 @@
 use Rattle.std.proofs.Common.{sym, ◌∙◌}
 use Rattle.sqlite.specs.Held.{state}
 use Rattle.desk_sql.proofs.SchemaLemmas.{has_made}
-use Rattle.desk_sql.proofs.opening.numbers.test_made.Goals as goal
+use Rattle.desk_sql.proofs.opening.numbers.test_rowids_if_made.Goals as goal
 
 pub test_rowids-requires : goal.test_rowids-requires
 test_rowids-requires g c = record {

@@ -13,7 +13,7 @@ use Rattle.desk_sql.proofs.lemmas.Leaving.{shown_after, kept_by_query, spared_af
 use Rattle.desk_sql.specs.Refusals.{IsRefusal}
 use Rattle.desk_sql.proofs.HandLemmas.{refused_given}
 use Rattle.desk_sql.proofs.AskLemmas.{plain_if, refused_unprepared, sure_here}
-use Rattle.desk_sql.proofs.reading.answer.answer.Goals as goal
+use Rattle.desk_sql.proofs.reading.answer.query_rows.Goals as goal
 
 -- a text that is not prepared
 pub returns-in_err-statement-clause-answers : goal.returns-in_err-statement-clause-answers

@@ -7,7 +7,7 @@ use Rattle.desk_sql.specs.Refusals.{IsRefusal}
 use Rattle.desk_sql.proofs.lemmas.Read.{open_after, open_if, if_either, sure_plain, unprepared}
 use Rattle.desk_sql.proofs.AskLemmas.{refused_unprepared, refused_after}
 use Rattle.desk_sql.proofs.lemmas.Leaving.{shown_after, kept_by_query, spared_after, reads_unprepared, reads_prepared}
-use Rattle.desk_sql.proofs.reading.asking.ask.Goals as goal
+use Rattle.desk_sql.proofs.reading.asking.select_all.Goals as goal
 
 -- a text that is not prepared
 pub returns-in_err-statement-clause-answers : goal.returns-in_err-statement-clause-answers

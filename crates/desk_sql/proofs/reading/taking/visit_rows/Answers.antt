@@ -12,7 +12,7 @@ use Rattle.desk_sql.proofs.HandLemmas.{cut_short, refused_begun}
 use Rattle.desk_sql.proofs.lemmas.Leaving.{begun_after, plain_text, was_prepared, handed_after, kept_after, kept_refused, spared_handed, reads_unprepared, reads_prepared, reads_handed}
 use Rattle.desk_sql.proofs.lemmas.Read.{if_either, unprepared}
 use Rattle.desk_sql.proofs.TakingLemmas.{begun, open_on, live_handed, taken_fresh}
-use Rattle.desk_sql.proofs.reading.taking.hand_rows.Goals as goal
+use Rattle.desk_sql.proofs.reading.taking.visit_rows.Goals as goal
 
 -- the query is refused
 pub returns-in_err-statement-clause-answers : goal.returns-in_err-statement-clause-answers
@@ -59,8 +59,8 @@ returns-in_err-rows-clause-answers g c =
     (begins.err clean) live) in
     search (rules, reads, refused)
 
-pub hand_all-requires : goal.hand_all-requires
-hand_all-requires g c clean =
+pub visit_all-requires : goal.visit_all-requires
+visit_all-requires g c clean =
     let old = c.args.connection.now in
     let sql = c.args.text.now in
     let params = bound c.args.params.now in
@@ -75,27 +75,27 @@ returns-clause-answers g c =
     let old = c.args.connection.now in
     let mid = c.prepare.new.self in
     let first = c.in_ok-rows.rows.conn.now in
-    let new = c.hand_all.new.rows.conn.now in
+    let new = c.visit_all.new.rows.conn.now in
     let sql = c.args.text.now in
     let text = c.in_ok-statement.statement.text in
     let params = bound c.args.params.now in
-    let has = g.T.RowVisitor.has_taken c.hand_all.new.taker in
+    let has = g.T.RowVisitor.has_taken c.visit_all.new.visitor in
     let begins = c.in_ok-rows.ensures in
     let survives = begins.survives in
     let settled = c.committed_and_sound.ensures.settled c.requires.ready.settled in
     let plain = plain_if g.S.Store old sql params c.requires.ready.shown in
     let early : HasCleanDisk (state g.S.Store new) → HasCleanDisk (state g.S.Store first) = λ clean.
-    omega (arith, clean, c.hand_all.ensures.handed.remembered.doubt) in
+    omega (arith, clean, c.visit_all.ensures.handed.remembered.doubt) in
     let start : HasCleanDisk (state g.S.Store new) → HasCleanDisk (state g.S.Store old) = λ clean.
     omega (arith, early clean, survives.clean, c.prepare.ensures.survives.clean) in
-    let value : HasCleanDisk (state g.S.Store new) → OnOk c.hand_all.result ((all : List Row)
+    let value : HasCleanDisk (state g.S.Store new) → OnOk c.visit_all.result ((all : List Row)
     × Shown sql params (state g.S.Store old) (state g.S.Store new) all × has all) = λ clean.
     (handed_after g.S.Store sql text params old mid plain c.in_ok-statement.ensures.ok
     c.prepare.ensures.survives first (early clean) survives (begins.begun (early clean)) new
-    (g.T.RowVisitor.has_taken c.args.taker.now) has c.requires.fresh c.hand_all.result
-    (c.hand_all.ensures.handed.handed clean)) in
+    (g.T.RowVisitor.has_taken c.args.visitor.now) has c.requires.fresh c.visit_all.result
+    (c.visit_all.ensures.handed.handed clean)) in
     let cause : HasCleanDisk (state g.S.Store new) → IsTrue (state g.S.Store new).is_open
-    → IfErr c.hand_all.result (IsTakenInPart g.S.Store old new
+    → IfErr c.visit_all.result (IsTakenInPart g.S.Store old new
     (Shown sql params (state g.S.Store old) (state g.S.Store new)) g.T.RowVisitor.refuses) = λ clean live.
     (let here : HasCleanDisk (state g.S.Store mid) = omega (arith, early clean, survives.clean) in
     let prepared = c.in_ok-statement.ensures.ok here in
@@ -104,33 +104,33 @@ returns-clause-answers g c =
     c.prepare.ensures.survives here) first (begins.begun (early clean)) in
     cut_short g.S.Store sql params old c.requires.ready.shown mid text prepared.0 prepared.1
     c.prepare.ensures.survives (start clean) first new given.0 given.1 survives.counts survives.limit
-    g.T.RowVisitor.refuses live (g.T.RowVisitor.has_taken c.args.taker.now) c.requires.fresh c.hand_all.result
-    (c.hand_all.ensures.handed.cause clean)) in
+    g.T.RowVisitor.refuses live (g.T.RowVisitor.has_taken c.args.visitor.now) c.requires.fresh c.visit_all.result
+    (c.visit_all.ensures.handed.cause clean)) in
     let kept : StaysShown g.S.Store old new = λ clean live.
     (kept_after g.S.Store sql text params old mid plain c.in_ok-statement.ensures.ok
     c.prepare.ensures.survives first (early clean) survives
-    (begins.begun (early clean)) new settled live (c.hand_all.ensures.handed.left clean)) in
+    (begins.begun (early clean)) new settled live (c.visit_all.ensures.handed.left clean)) in
     let spared : Spares g.S.Store old first =
     spared_handed g.S.Store sql text params old mid plain c.in_ok-statement.ensures.ok
     c.prepare.ensures.survives first survives in
     let reads : OnlyReads g.S.Store old new =
     reads_handed g.S.Store old mid first new _ kept
-    (c.hand_all.ensures.handed.mode (begins.mode (c.prepare.ensures.mode c.requires.ready.settled))) spared
-    c.prepare.ensures.survives survives c.hand_all.ensures.handed.remembered in
+    (c.visit_all.ensures.handed.mode (begins.mode (c.prepare.ensures.mode c.requires.ready.settled))) spared
+    c.prepare.ensures.survives survives c.visit_all.ensures.handed.remembered in
     search (rules, value, cause, reads)
 
 pub returns-clause-open : goal.returns-clause-open
 returns-clause-open g c =
     let old = c.args.connection.now in
     let first = c.in_ok-rows.rows.conn.now in
-    let new = c.hand_all.new.rows.conn.now in
+    let new = c.visit_all.new.rows.conn.now in
     let sql = c.args.text.now in
     let params = bound c.args.params.now in
-    let it : HasCleanDisk (state g.S.Store new) → OnOk c.hand_all.result
+    let it : HasCleanDisk (state g.S.Store new) → OnOk c.visit_all.result
     (IsTrue (state g.S.Store old).is_open) = λ clean.
     (let early : HasCleanDisk (state g.S.Store first) =
-    omega (arith, clean, c.hand_all.ensures.handed.remembered.doubt) in
-    open_on c.hand_all.result (state g.S.Store old)
+    omega (arith, clean, c.visit_all.ensures.handed.remembered.doubt) in
+    open_on c.visit_all.result (state g.S.Store old)
     (was_prepared g.S.Store sql c.in_ok-statement.statement.text params old c.prepare.new.self
     (plain_if g.S.Store old sql params c.requires.ready.shown) c.in_ok-statement.ensures.ok
     c.prepare.ensures.survives first early c.in_ok-rows.ensures.survives
@@ -143,25 +143,25 @@ returns-clause-live g c =
     let old = c.args.connection.now in
     let mid = c.prepare.new.self in
     let first = c.in_ok-rows.rows.conn.now in
-    let new = c.hand_all.new.rows.conn.now in
+    let new = c.visit_all.new.rows.conn.now in
     let sql = c.args.text.now in
     let params = bound c.args.params.now in
-    let has = g.T.RowVisitor.has_taken c.hand_all.new.taker in
+    let has = g.T.RowVisitor.has_taken c.visit_all.new.visitor in
     let begins = c.in_ok-rows.ensures in
     let plain = plain_if g.S.Store old sql params c.requires.ready.shown in
-    let it : OnOk c.hand_all.result (HasCleanDisk (state g.S.Store new)
+    let it : OnOk c.visit_all.result (HasCleanDisk (state g.S.Store new)
     → IsTrue (state g.S.Store new).is_open) =
-    live_handed g.S.Store old new sql params has c.hand_all.result (λ clean.
+    live_handed g.S.Store old new sql params has c.visit_all.result (λ clean.
     (let early : HasCleanDisk (state g.S.Store first) =
-    omega (arith, clean, c.hand_all.ensures.handed.remembered.doubt) in
+    omega (arith, clean, c.visit_all.ensures.handed.remembered.doubt) in
     handed_after g.S.Store sql c.in_ok-statement.statement.text params old mid plain
     c.in_ok-statement.ensures.ok c.prepare.ensures.survives first early begins.survives
-    (begins.begun early) new (g.T.RowVisitor.has_taken c.args.taker.now) has c.requires.fresh c.hand_all.result
-    (c.hand_all.ensures.handed.handed clean))) in
+    (begins.begun early) new (g.T.RowVisitor.has_taken c.args.visitor.now) has c.requires.fresh c.visit_all.result
+    (c.visit_all.ensures.handed.handed clean))) in
     search (rules, it)
 
 -- and the taker has taken some rows, whatever the disk did
 pub returns-clause-taken : goal.returns-clause-taken
 returns-clause-taken g c =
-    taken_fresh (g.T.RowVisitor.has_taken c.args.taker.now) (g.T.RowVisitor.has_taken c.hand_all.new.taker)
-    c.requires.fresh c.hand_all.result c.hand_all.ensures.taken
+    taken_fresh (g.T.RowVisitor.has_taken c.args.visitor.now) (g.T.RowVisitor.has_taken c.visit_all.new.visitor)
+    c.requires.fresh c.visit_all.result c.visit_all.ensures.taken

@@ -23,7 +23,7 @@ returns g c =
     let new = c.own_plans-taken.new.connection in
     let answers = c.own_plans-taken.ensures.answers in
     let tables = tables_of (state g.S.Store old).now.trees in
-    let collector = c.own_plans-taken.new.taker in
+    let collector = c.own_plans-taken.new.visitor in
     rw (← c.self.view_is) (record {
       value = λ clean.
           on_whole _ c.own_plans-taken.result c.collected.result c.collected.ensures.whole

@@ -7,7 +7,7 @@ use Rattle.desk_sql.specs.Refusals.{IsRefusal}
 use Rattle.desk_changes.proofs.BatchLemmas.{HasAdded, all_changed, refused_changed, refused_on, way_on}
 use Rattle.desk_changes.proofs.EnrolLemmas.{fits_unlisted, puts_added, puts_set}
 use Rattle.desk_sql.proofs.lemmas.Leaving.{remembers_then}
-use Rattle.desk_changes.proofs.transactions.set_or_add.Goals as goal
+use Rattle.desk_changes.proofs.transactions.set_or_add_operator.Goals as goal
 
 pub returns-then-is_set-clause-changed : goal.returns-then-is_set-clause-changed
 returns-then-is_set-clause-changed g c =
