@@ -2,7 +2,7 @@ use Rattle.std.proofs.Common.{◌++◌, ◌∷◌, [], ap, sym, subst, take, ◌
 use Rattle.std.proofs.lemmas.List.{take_more}
 use Rattle.desk_store.specs.World.{Listed}
 use Rattle.operator_index.specs.Roll.{AreAccountsOf, accounts_of}
-use Rattle.row_codec.proofs.known.roll_with.Goals as goal
+use Rattle.row_codec.proofs.known.roll_without_plans.Goals as goal
 
 pub loop-listed-preserved : goal.loop-listed-preserved
 loop-listed-preserved c =

@@ -1,6 +1,6 @@
 use Rattle.std.proofs.Common.{refl, ap, ◌∙◌}
 use Rattle.row_codec.proofs.lemmas.Exact.{volume_row_is}
-use Rattle.row_codec.proofs.exact.is_placed.Goals as goal
+use Rattle.row_codec.proofs.exact.is_volume_row.Goals as goal
 
 pub returns : goal.returns
 returns c =
