@@ -61,7 +61,7 @@ impl CoverCheck {
     {
         let volume = columns_of(self.alloc, &mut self.values, row, &[0, 1, 2, 3, 4, 5, 6, 7])?;
         self.volumes.push(volume)?;
-        self.agree = agree_with(self.alloc, self.agree, row)?;
+        self.agree = agree_with_next(self.alloc, self.agree, row)?;
         Ok(())
     }
 }
@@ -111,17 +111,17 @@ fn value_at(row: &Row, at: usize) -> ValueRef<'_>
 }
 
 // Whether rows that have their covers, or that don't, and a row after them all have them.
-fn agree_with(alloc: Global, agree: bool, row: &Row) -> Result<bool, AllocError>
+fn agree_with_next(alloc: Global, agree: bool, row: &Row) -> Result<bool, AllocError>
     ensures { IfOk result (λ all. IsTrue all ↔ (IsTrue agree × HasItsCover row.now)) }
 {
     if !agree {
         return Ok(false);
     }
-    is_covered(alloc, row)
+    has_own_cover(alloc, row)
 }
 
 // Whether a row with all columns of `volume2` has a volume, and the cover of that.
-fn is_covered(alloc: Global, row: &Row) -> Result<bool, AllocError>
+fn has_own_cover(alloc: Global, row: &Row) -> Result<bool, AllocError>
     ensures { IfOk result (λ is. IsTrue is ↔ HasItsCover row.now) }
 {
     one_shape();
@@ -137,11 +137,11 @@ fn has_cover_of(alloc: Global, row: &Row, volume: &Volume) -> Result<bool, Alloc
     ensures { IfOk result (λ has. IsTrue has ↔ HasCoverOf volume.now row.now) }
 {
     let canon = canon_of(alloc, volume)?;
-    Ok(are_bytes_at(row, 8, &canon))
+    Ok(has_bytes_at(row, 8, &canon))
 }
 
 // Whether a column has these bytes.
-fn are_bytes_at(row: &Row, at: usize, bytes: &[u8]) -> bool
+fn has_bytes_at(row: &Row, at: usize, bytes: &[u8]) -> bool
     ensures { IsTrue result ↔ (column row.now at ≡ Blob bytes.now) }
 {
     match row.get_ref(at) {

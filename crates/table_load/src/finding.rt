@@ -27,7 +27,7 @@ ghost use Rattle.table_load.specs.OpeningSteps.{IsAtRest, ShowsOperators, ShowsP
 
 use crate::covers::{CoverCheck, take_volumes};
 use crate::fault::OpenFault;
-use crate::ordering::ordered_in;
+use crate::ordering::load_and_reorder;
 use crate::spans::{SpanCheck, take_spans};
 use desk_sql::{TablesPresent, WholeTable, all_rows, complete_tables, find_tables, has_old_rows};
 use operator_index::ListedOperator;
@@ -67,15 +67,15 @@ pub fn load_world<S: Alter>(
     ensures bounded { IfOk result (λ found. Knows found.1 found.0.world) }
     ensures crash { MayBecome S.Store connection.old connection.new IsCompletedAs }
 {
-    let (made, old) = tables_found(connection)?;
+    let (made, old) = find_desk_tables(connection)?;
     if old {
         return Err(OpenFault::OldSchema);
     }
-    world_of(alloc, connection, made)
+    load_or_create(alloc, connection, made)
 }
 
 /// How far a desk's tables are made, and whether there are rows of schema 1.
-pub(crate) fn tables_found<S: Alter>(
+pub(crate) fn find_desk_tables<S: Alter>(
     connection: &mut Connection<S>,
 ) -> Result<(TablesPresent, bool), OpenFault>
     requires settled { connection.old.in_transaction ≡ false }
@@ -100,7 +100,7 @@ pub(crate) fn tables_found<S: Alter>(
 }
 
 /// The world that the database stands for, in which there are no rows of schema 1.
-pub(crate) fn world_of<S: Alter>(
+pub(crate) fn load_or_create<S: Alter>(
     alloc: Global,
     connection: &mut Connection<S>,
     made: TablesPresent,
@@ -118,8 +118,8 @@ pub(crate) fn world_of<S: Alter>(
     match made {
         TablesPresent::All => load_tables(alloc, connection, TablesPresent::All),
         TablesPresent::Nothing => Ok((create_tables(connection)?, MemoryIndex::new(alloc), false)),
-        TablesPresent::Packed => ordered_in(alloc, connection),
-        made => completed_in(alloc, connection, made),
+        TablesPresent::Packed => load_and_reorder(alloc, connection),
+        made => load_and_complete(alloc, connection, made),
     }
 }
 
@@ -140,7 +140,7 @@ pub fn create_tables<S: Alter>(connection: &mut Connection<S>) -> Result<GhostSt
 // The world whose rows the tables have, which get what is missing of them.
 // Long: which tables there are is reported by five facts; one record says how it may end.
 #[tactic(auto, using(crate::proofs::lemmas::Opening::some_operators))]
-fn completed_in<S: Alter>(
+fn load_and_complete<S: Alter>(
     alloc: Global,
     connection: &mut Connection<S>,
     made: TablesPresent,
@@ -176,13 +176,13 @@ fn load_tables<S: Alter>(
     ensures bounded { IfOk result (λ found. Knows found.1 found.0.world) }
     ensures live { OnOk result (IsOpenIfClean S.Store connection.new) }
 {
-    let (content, known) = content_found(alloc, connection, made)?;
+    let (content, known) = load_content(alloc, connection, made)?;
     let is_enrolled = !content.operators.is_empty();
     Ok((GhostState::of(&content), known, is_enrolled))
 }
 
 /// The content whose rows the tables have, so far as they are made, and what is known of its plans.
-pub(crate) fn content_found<S: Alter>(
+pub(crate) fn load_content<S: Alter>(
     alloc: Global,
     connection: &mut Connection<S>,
     made: TablesPresent,
@@ -197,15 +197,15 @@ pub(crate) fn content_found<S: Alter>(
     ensures live { OnOk result (IsOpenIfClean S.Store connection.new) }
 {
     one_shape();
-    let (heads, covered) = heads_in(alloc, connection, made)?;
-    let (operators, plans) = parts_of(alloc, &heads, covered)?;
+    let (heads, covered) = read_heads(alloc, connection, made)?;
+    let (operators, plans) = parse_covered_heads(alloc, &heads, covered)?;
     let mut check = SpanCheck::new(alloc, plans);
     take_spans(connection, WholeTable::Spans, made, &mut check)?;
-    content_with(alloc, operators, check)
+    finish_content(alloc, operators, check)
 }
 
 /// The operators and plans of rows that are those of a content, but for those of spans and of covers.
-pub(crate) fn uncovered_parts(
+pub(crate) fn parse_heads(
     alloc: Global,
     heads: &TableRows,
 ) -> Result<(Vec<ListedOperator>, Vec<FiledPlan>), OpenFault>
@@ -226,7 +226,7 @@ pub(crate) fn uncovered_parts(
 
 // The operators and plans of rows that are those of a content, but for those of spans, if the covers are
 // those of the volumes.
-fn parts_of(
+fn parse_covered_heads(
     alloc: Global,
     heads: &TableRows,
     covered: bool,
@@ -238,7 +238,7 @@ fn parts_of(
         → IsContent w → AreRows (record heads.now { spans = spans }) w → ¬ IsTrue covered) }
     ensures fault { IfErr result (λ e. (e ≢ OpenFault.Store) × (e ≢ OpenFault.OldSchema)) }
 {
-    let (operators, plans) = uncovered_parts(alloc, heads)?;
+    let (operators, plans) = parse_heads(alloc, heads)?;
     if !covered {
         return Err(OpenFault::NotADesk);
     }
@@ -260,7 +260,7 @@ fn are_in_order(operators: &[ListedOperator], plans: &[FiledPlan]) -> bool
 
 /// The content of these operators, and of plans against which all rows of spans were held; and what is known
 /// of it.
-pub(crate) fn content_with(
+pub(crate) fn finish_content(
     alloc: Global,
     operators: Vec<ListedOperator>,
     check: SpanCheck,
@@ -297,7 +297,7 @@ pub(crate) fn content_with(
 /// The rows of the tables of schema 2 but for spans, each by the columns of its key; of those that aren't
 /// made none. Rows of `volume2` come without their covers, and with them whether each had that of its volume.
 #[tactic(auto, using(crate::proofs::lemmas::Frame::reads_then, crate::proofs::lemmas::Opening::part_on))]
-pub(crate) fn heads_in<S: Alter>(
+pub(crate) fn read_heads<S: Alter>(
     alloc: Global,
     connection: &mut Connection<S>,
     made: TablesPresent,
@@ -326,7 +326,7 @@ pub(crate) fn heads_in<S: Alter>(
 }
 
 /// Span bounds, with that of the span of a row.
-pub(crate) fn length_with(span_bounds: &SpanBounds, row: &Row) -> SpanBounds
+pub(crate) fn with_span_row(span_bounds: &SpanBounds, row: &Row) -> SpanBounds
     ensures kept { Keeps span_bounds.now result }
     ensures known { IsKnownRow result row.now }
 {

@@ -14,7 +14,7 @@ ghost use Rattle.table_load.specs.HeldContent as spec;
 ghost use Rattle.table_load.specs.HeldContent.{AreHoldingsOf, AreNoContentIn, IsContentIn, ShowsContent, ShowsNone};
 
 use crate::fault::OpenFault;
-use crate::finding::{content_found, tables_found};
+use crate::finding::{find_desk_tables, load_content};
 use crate::moving::load_old_tables;
 use desk_rules::words::Usage;
 use desk_sql::TablesPresent;
@@ -108,17 +108,17 @@ pub fn read_content<S: Alter>(
     ensures cause { IfErr result (BlamesDatabase S.Store connection.old connection.new) }
     ensures reads { OnlyReads S.Store connection.old connection.new }
 {
-    let (made, old) = tables_found(connection)?;
+    let (made, old) = find_desk_tables(connection)?;
     if made == TablesPresent::Nothing {
         return Err(OpenFault::NotADesk);
     }
-    let (content, known) = content_at(alloc, connection, made, old)?;
+    let (content, known) = load_content_in_schema(alloc, connection, made, old)?;
     Ok((content, known, old))
 }
 
 // The content whose rows the tables have, in schema 1 if that has rows, else in schema 2.
 #[tactic(auto, using(crate::proofs::lemmas::Opening::some_operators))]
-fn content_at<S: Alter>(
+fn load_content_in_schema<S: Alter>(
     alloc: Global,
     connection: &mut Connection<S>,
     made: TablesPresent,
@@ -136,7 +136,7 @@ fn content_at<S: Alter>(
     if old {
         load_old_tables(alloc, connection, made)
     } else {
-        content_found(alloc, connection, made)
+        load_content(alloc, connection, made)
     }
 }
 

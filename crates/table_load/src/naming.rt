@@ -18,8 +18,8 @@ ghost use Rattle.table_load.specs.OpeningSteps.{ShowsOperators, ShowsPart};
 
 use crate::connecting::connect_there;
 use crate::fault::OpenFault;
-use crate::finding::{heads_in, tables_found};
-use crate::moving::{are_new_empty, are_old, old_heads_in};
+use crate::finding::{find_desk_tables, read_heads};
+use crate::moving::{are_new_tables_empty, are_within_old_limits, read_old_heads};
 use crate::path::NotOpened;
 use crate::spans::{SpanCheck, take_spans};
 use desk_rules::decide::MAX_PRIORITY;
@@ -94,13 +94,13 @@ pub fn part_at<S: Start>(
     ensures unread { IfErr result (IsUnreached (image_at S.Start)) }
 {
     match connect_there(rt, path, start) {
-        Ok(connection) => Ok(part_in(rt.alloc(), connection)),
+        Ok(connection) => Ok(name_part(rt.alloc(), connection)),
         Err(unreached) => Err(unreached),
     }
 }
 
 // What is named of the files of a connection, on whatever disk they are.
-fn part_in<D: Disk + Drop>(alloc: Global, mut connection: Connection<FileStore<D>>) -> Named<D>
+fn name_part<D: Disk + Drop>(alloc: Global, mut connection: Connection<FileStore<D>>) -> Named<D>
     requires { IsNew connection }
     ensures reads { OnlyReads over_files connection result.connection }
     ensures shows { ShowsPartOf over_files connection result.connection result.part FailsPart }
@@ -117,7 +117,7 @@ pub fn first_fault<S: Alter>(alloc: Global, connection: &mut Connection<S>) -> O
     ensures reads { OnlyReads S.Store connection.old connection.new }
     ensures shows { ShowsPartOf S.Store connection.old connection.new result FailsPart }
 {
-    let (made, old) = match tables_found(connection) {
+    let (made, old) = match find_desk_tables(connection) {
         Ok(found) => found,
         Err(OpenFault::NotADesk) => return Some(InvalidPart::OtherTables),
         Err(_) => return None,
@@ -144,7 +144,7 @@ fn new_fault<S: Alter>(
     ensures shows { ShowsPartOf S.Store connection.old connection.new result (λ db.
         FailsNew (tables_at made db.trees)) }
 {
-    let Ok((heads, covered)) = heads_in(alloc, connection, made) else {
+    let Ok((heads, covered)) = read_heads(alloc, connection, made) else {
         return None;
     };
     let plans = match plans_of(alloc, &heads, InvalidPart::Volume) {
@@ -171,17 +171,17 @@ fn old_fault<S: Alter>(
     ensures shows { ShowsPartOf S.Store connection.old connection.new result (λ db.
         FailsMoving (tables_at made db.trees)) }
 {
-    match are_new_empty(connection, made) {
+    match are_new_tables_empty(connection, made) {
         Ok(true) => {}
         Ok(false) => return Some(InvalidPart::BothSchemas),
         Err(_) => return None,
     }
-    old_part(alloc, connection, made)
+    old_rows_fault(alloc, connection, made)
 }
 
 // The first part of the rows of schema 1.
 #[tactic(auto, using(crate::proofs::lemmas::Frame::reads_then, crate::proofs::lemmas::Opening::part_on))]
-fn old_part<S: Alter>(
+fn old_rows_fault<S: Alter>(
     alloc: Global,
     connection: &mut Connection<S>,
     made: TablesPresent,
@@ -191,7 +191,7 @@ fn old_part<S: Alter>(
     ensures shows { ShowsPartOf S.Store connection.old connection.new result (λ db.
         FailsOld (tables_at made db.trees)) }
 {
-    let Ok(heads) = old_heads_in(alloc, connection, made) else {
+    let Ok(heads) = read_old_heads(alloc, connection, made) else {
         return None;
     };
     let plans = match plans_of(alloc, &heads, InvalidPart::OldVolume) {
@@ -232,7 +232,7 @@ fn fault_of_old_spans(mut check: SpanCheck) -> Option<InvalidPart>
         Ok(false) => return Some(InvalidPart::OldSpan),
         Err(_) => return None,
     }
-    match are_old(&check.plans) {
+    match are_within_old_limits(&check.plans) {
         Ok(false) => Some(InvalidPart::OldPlan),
         _ => None,
     }
@@ -254,7 +254,7 @@ fn plans_of(
     };
     let plans = match plans_in(alloc, &rows.plans, &rows.volumes) {
         Ok(plans) => plans,
-        Err(fault) => return Err(if_no_desk(fault, plan_or(volume, &rows.plans))),
+        Err(fault) => return Err(if_no_desk(fault, plan_or_volume(volume, &rows.plans))),
     };
     if !names_ascend(&operators) {
         return Err(Some(InvalidPart::Operator));
@@ -279,30 +279,30 @@ fn if_no_desk(fault: RowFault, part: InvalidPart) -> Option<InvalidPart>
 }
 
 // The plans, if one of these rows of `plan` is none; else the volumes.
-fn plan_or(volume: InvalidPart, heads: &[Row]) -> InvalidPart
+fn plan_or_volume(volume: InvalidPart, heads: &[Row]) -> InvalidPart
     ensures { (result ≡ volume) ⊎ ((result ≡ InvalidPart.Plan) × (¬ ArePlanHeads heads.now)) }
 {
-    match test_heads(heads) {
+    match check_plan_rows(heads) {
         Err(RowFault::NoDesk) => InvalidPart::Plan,
         _ => volume,
     }
 }
 
 // Whether each of these rows is one of `plan`, whatever its volumes are.
-fn test_heads(heads: &[Row]) -> Result<(), RowFault>
+fn check_plan_rows(heads: &[Row]) -> Result<(), RowFault>
     ensures are { OnOk result (ArePlanHeads heads.now) }
     ensures none { IfErr result (λ e. e ≡ RowFault.NoDesk → ¬ ArePlanHeads heads.now) }
 {
     let mut left = heads;
     'head: while let Some((head, later)) = left.split_first() {
-        test_head(head)?;
+        check_plan_row(head)?;
         left = later;
     }
     Ok(())
 }
 
 // Whether a row is one of `plan`, whatever its volumes are.
-fn test_head(head: &Row) -> Result<(), RowFault>
+fn check_plan_row(head: &Row) -> Result<(), RowFault>
     ensures is { OnOk result (IsPlanHead head.now) }
     ensures none { IfErr result (λ e. e ≡ RowFault.NoDesk → ¬ IsPlanHead head.now) }
 {

@@ -15,7 +15,7 @@ ghost use Rattle.table_load.specs.OpeningSteps.{BeginsOrdered, HadNone, IsSetUp,
 ghost use Rattle.table_load.specs.Writable.{HasSpansToIndex, IsToOrder};
 
 use crate::fault::OpenFault;
-use crate::finding::content_found;
+use crate::finding::load_content;
 use crate::moving::write_plans;
 use desk_sql::laws::committed_and_sound;
 use desk_sql::{TablesPresent, rebuild_tables};
@@ -29,7 +29,7 @@ use volume4d::laws::covers_are_few;
 
 /// The world whose rows a packed file has, in which there are no rows of schema 1. Its tables come into a
 /// desk's own order.
-pub(crate) fn ordered_in<S: Alter>(
+pub(crate) fn load_and_reorder<S: Alter>(
     alloc: Global,
     connection: &mut Connection<S>,
 ) -> Result<(GhostState, MemoryIndex, bool), OpenFault>
@@ -43,15 +43,15 @@ pub(crate) fn ordered_in<S: Alter>(
     ensures bounded { IfOk result (λ found. Knows found.1 found.0.world) }
     ensures crash { MayBecome S.Store connection.old connection.new IsCompletedAs }
 {
-    let (content, known) = content_found(alloc, connection, TablesPresent::Packed)?;
-    put_in_order(alloc, connection, &content.plans)?;
+    let (content, known) = load_content(alloc, connection, TablesPresent::Packed)?;
+    reorder_tables(alloc, connection, &content.plans)?;
     let is_enrolled = !content.operators.is_empty();
     Ok((GhostState::of(&content), known, is_enrolled))
 }
 
 // The tables come into a desk's own order, with the rows of these plans in `volume2` and `span2`, as one
 // transaction.
-fn put_in_order<S: Alter>(
+fn reorder_tables<S: Alter>(
     alloc: Global,
     connection: &mut Connection<S>,
     plans: &[FiledPlan],
@@ -77,7 +77,7 @@ fn put_in_order<S: Alter>(
 
 /// The tables of a packed file come into a desk's own order, without the rows of `volume2` and `span2`, as
 /// one transaction.
-pub(crate) fn unpack<S: Alter>(connection: &mut Connection<S>) -> Result<(), OpenFault>
+pub(crate) fn rebuild_alone<S: Alter>(connection: &mut Connection<S>) -> Result<(), OpenFault>
     requires part { ShowsPart S.Store connection.old TablesPresent.Packed }
     ensures done { HasCleanDisk (state S.Store connection.new)
         → OnOk result (Commits S.Store connection.old connection.new RemakesTables) }

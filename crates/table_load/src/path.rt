@@ -43,7 +43,7 @@ impl<D: Disk> NotOpened<D> {
 }
 
 /// A connection to the database in two files. If there is none, what is left of the files is reported.
-pub(crate) fn over_pair<D: Disk + Drop>(
+pub(crate) fn connect_over<D: Disk + Drop>(
     alloc: Global,
     files: Files<D>,
     options: Options,
@@ -70,13 +70,13 @@ pub(crate) fn over_pair<D: Disk + Drop>(
 /// # Errors
 ///
 /// `Store` if there is no file at the path, or an empty one.
-pub(crate) fn find_file<D: Disk>(rt: &HostRuntime, path: &str) -> Result<(), NotOpened<D>>
+pub(crate) fn require_file<D: Disk>(rt: &HostRuntime, path: &str) -> Result<(), NotOpened<D>>
     ensures fault { IfErr result (λ it. IsUnread it.fault) }
     ensures left { IfErr result (λ it. it.left ≡ None) }
 {
     match metadata(rt, path) {
         Ok(found) if found.len() > 0 => Ok(()),
-        _ => Err(unopened(OpenFault::Store)),
+        _ => Err(not_opened(OpenFault::Store)),
     }
 }
 
@@ -85,13 +85,13 @@ pub(crate) fn find_file<D: Disk>(rt: &HostRuntime, path: &str) -> Result<(), Not
 /// # Errors
 ///
 /// `Store` if there is something at the path.
-pub(crate) fn find_nothing<D: Disk>(rt: &HostRuntime, path: &str) -> Result<(), NotOpened<D>>
+pub(crate) fn require_nothing<D: Disk>(rt: &HostRuntime, path: &str) -> Result<(), NotOpened<D>>
     ensures fault { IfErr result (λ it. IsUnread it.fault) }
     ensures left { IfErr result (λ it. it.left ≡ None) }
 {
     match exists(rt, path) {
         Ok(false) => Ok(()),
-        _ => Err(unopened(OpenFault::Store)),
+        _ => Err(not_opened(OpenFault::Store)),
     }
 }
 
@@ -107,15 +107,15 @@ pub(crate) fn open_pair<S: Start>(
     ensures unread { IfErr result (IsUnreached (image_at S.Start)) }
 {
     if path == ":memory:" || path.starts_with("file:") {
-        return Err(unopened(OpenFault::Store));
+        return Err(not_opened(OpenFault::Store));
     }
     match sqlite_std_file::open(rt, path, start) {
         Ok(files) => Ok(files),
-        Err(OpenError::OutOfMemory) => Err(unopened(OpenFault::OutOfMemory)),
+        Err(OpenError::OutOfMemory) => Err(not_opened(OpenFault::OutOfMemory)),
         Err(OpenError::Io(error)) if error.kind() == ErrorKind::OutOfMemory => {
-            Err(unopened(OpenFault::OutOfMemory))
+            Err(not_opened(OpenFault::OutOfMemory))
         }
-        Err(_) => Err(unopened(OpenFault::Store)),
+        Err(_) => Err(not_opened(OpenFault::Store)),
     }
 }
 
@@ -133,12 +133,12 @@ pub(crate) fn options<D: Disk>(rt: &HostRuntime) -> Result<Options, NotOpened<D>
                 ..Options::new(seed)
             })
         }
-        Err(_) => Err(unopened(OpenFault::Store)),
+        Err(_) => Err(not_opened(OpenFault::Store)),
     }
 }
 
 // Files that were not opened, for this cause, since they were not both there.
-fn unopened<D: Disk>(fault: OpenFault) -> NotOpened<D>
+fn not_opened<D: Disk>(fault: OpenFault) -> NotOpened<D>
     ensures fault { result.fault ≡ fault }
     ensures left { result.left ≡ None }
 {

@@ -26,7 +26,7 @@ ghost use Rattle.table_load.specs.SpansHeld.{AreHeld};
 ghost use Rattle.table_load.specs.OpeningSteps.{ShowsPart};
 
 use crate::fault::OpenFault;
-use crate::finding::length_with;
+use crate::finding::with_span_row;
 use crate::looking::is_live;
 use desk_sql::{RowVisitor, TablesPresent, WholeTable, each_row};
 use row_codec::exact::{FiledPlan, is_slab_row};
@@ -82,7 +82,7 @@ impl Cursor {
     }
 
     // Goes on to a slab of a plan, if one is left.
-    fn find_in(&mut self, plan: &FiledPlan) -> Result<bool, AllocError>
+    fn find_slab_in(&mut self, plan: &FiledPlan) -> Result<bool, AllocError>
         requires live { plan_spec.is_live plan.now.row.usage ≡ true }
         ensures same { OnOk result ((later : List Filed) (rows : List Columns)
             → AreAwaited (plan.now ∷ later) (drop self.old.next self.old.slabs) self.old.shown
@@ -106,7 +106,7 @@ impl Cursor {
     }
 
     // Goes on to the plan after the one under way.
-    fn pass(&mut self)
+    fn skip_plan(&mut self)
         requires { self.old.plan < 2 ^ 64 - 1 }
         ensures { self.new ≡ after_plan self.old }
     {
@@ -117,7 +117,7 @@ impl Cursor {
     }
 
     // Goes on to a slab of the plan under way, or else to the plan after it.
-    fn enter(&mut self, plan: &FiledPlan) -> Result<bool, AllocError>
+    fn find_slab_or_skip(&mut self, plan: &FiledPlan) -> Result<bool, AllocError>
         requires { self.old.plan < 2 ^ 64 - 1 }
         ensures same { OnOk result ((plans : List Filed)
             → drop self.old.plan plans ≡ plan.now ∷ drop (self.old.plan + 1) plans
@@ -125,23 +125,23 @@ impl Cursor {
         ensures found { IfOk result (IsEntered plan.now self.old self.new) }
     {
         if !is_live(plan) {
-            self.pass();
+            self.skip_plan();
             return Ok(false);
         }
-        if self.find_in(plan)? {
+        if self.find_slab_in(plan)? {
             return Ok(true);
         }
-        self.pass();
+        self.skip_plan();
         Ok(false)
     }
 
     // Goes on to the next slab, if one is left.
-    fn find(&mut self, plans: &[FiledPlan]) -> Result<bool, AllocError>
+    fn find_slab(&mut self, plans: &[FiledPlan]) -> Result<bool, AllocError>
         ensures same { OnOk result (AwaitsAlike plans.now self.old self.new) }
         ensures found { IfOk result (IsFound plans.now self.new) }
     {
         while let Some(plan) = plans.get(self.plan) {
-            if self.enter(plan)? {
+            if self.find_slab_or_skip(plan)? {
                 return Ok(true);
             }
         }
@@ -149,10 +149,10 @@ impl Cursor {
     }
 
     // Whether a row is the next, which is passed then.
-    fn take(&mut self, plans: &[FiledPlan], row: &Row) -> Result<bool, AllocError>
+    fn take_if_next(&mut self, plans: &[FiledPlan], row: &Row) -> Result<bool, AllocError>
         ensures { IfOk result (IsNextRow plans.now self.old self.new row.now) }
     {
-        if !self.find(plans)? {
+        if !self.find_slab(plans)? {
             return Ok(false);
         }
         let Some(plan) = plans.get(self.plan) else {
@@ -207,9 +207,9 @@ impl SpanCheck {
             return Err(AllocError);
         }
         self.count += 1;
-        self.span_bounds = length_with(&self.span_bounds, row);
+        self.span_bounds = with_span_row(&self.span_bounds, row);
         if self.agree {
-            self.agree = self.cursor.take(&self.plans, row)?;
+            self.agree = self.cursor.take_if_next(&self.plans, row)?;
         }
         Ok(())
     }
@@ -229,7 +229,7 @@ impl SpanCheck {
         if !self.agree {
             return Ok(false);
         }
-        Ok(!self.cursor.find(&self.plans)?)
+        Ok(!self.cursor.find_slab(&self.plans)?)
     }
 }
 
