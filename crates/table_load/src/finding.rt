@@ -1,4 +1,4 @@
-//! The world that a database stands for when a store is opened over it.
+//! Loads the state of a database in schema 2 when a store is opened over it.
 
 ghost use Rattle.std.specs.Prelude.{◌≡◌, ◌≢◌, ◌↔◌, ◌<◌, ◌^◌, List, [], length, true, false, IfOk, IfErr, OnOk, IsTrue, None, ◌≤◌};
 ghost use Rattle.sqlite_value.specs.Order.{Row as Values};
@@ -45,15 +45,15 @@ use sqlite_value::value::ValueRef;
 use std::alloc::Global;
 use volume4d::laws::one_shape;
 
-/// The world that the database stands for: that of the rows in a desk's tables; what is known of its plans;
-/// and whether it has an operator, of which no clause speaks. A database with no table gets a desk's, and its
-/// world is empty. One with the first of these tables and indexes gets what is missing, if its rows are those
-/// of a content, and a packed file is put into a desk's own order then.
+/// Loads the state of a database; returns it with the indexes in memory, and whether it has an operator (no
+/// contract says this). Missing tables are made: of an empty database all, else those after the ones that are
+/// there, if the rows are those of a valid state. The tables of a packed file are then rebuilt in canonical
+/// order.
 ///
 /// # Errors
 ///
-/// `OutOfMemory` if memory runs out. `Store` if SQLite refuses for another cause. `OldSchema` if there are
-/// rows of schema 1. `NotADesk` if there are other tables, or if the rows are those of no content.
+/// `OutOfMemory` if memory runs out. `Store` if SQLite fails for another cause. `OldSchema` if there are
+/// rows of schema 1. `NotADesk` if there are other tables, or if the rows aren't those of a valid state.
 pub fn load_world<S: Alter>(
     alloc: Global,
     connection: &mut Connection<S>,
@@ -74,7 +74,8 @@ pub fn load_world<S: Alter>(
     load_or_create(alloc, connection, made)
 }
 
-/// How far a desk's tables are made, and whether there are rows of schema 1.
+/// Which of the schema's tables there are, and whether they have rows of schema 1. `NotADesk` if there are
+/// others.
 pub(crate) fn find_desk_tables<S: Alter>(
     connection: &mut Connection<S>,
 ) -> Result<(TablesPresent, bool), OpenFault>
@@ -99,7 +100,7 @@ pub(crate) fn find_desk_tables<S: Alter>(
     Ok((made, old))
 }
 
-/// The world that the database stands for, in which there are no rows of schema 1.
+/// Loads the state of a database without rows of schema 1, as `load_world` does. `made` are its tables.
 pub(crate) fn load_or_create<S: Alter>(
     alloc: Global,
     connection: &mut Connection<S>,
@@ -123,7 +124,7 @@ pub(crate) fn load_or_create<S: Alter>(
     }
 }
 
-/// The empty world, over a database that gets a desk's tables and had none.
+/// Makes all tables in a database that has none; returns the empty state.
 pub fn create_tables<S: Alter>(connection: &mut Connection<S>) -> Result<GhostState, OpenFault>
     requires blank { ShowsPart S.Store connection.old TablesPresent.Nothing }
     requires unlimited { connection.old.step_limit ≡ None }
@@ -137,8 +138,8 @@ pub fn create_tables<S: Alter>(connection: &mut Connection<S>) -> Result<GhostSt
     Ok(GhostState::new())
 }
 
-// The world whose rows the tables have, which get what is missing of them.
-// Long: which tables there are is reported by five facts; one record says how it may end.
+// Loads the state from the tables that are there, and then makes the missing ones.
+// Long: five facts say which tables there are; one record says how it may end.
 #[tactic(auto, using(crate::proofs::lemmas::Opening::some_operators))]
 fn load_and_complete<S: Alter>(
     alloc: Global,
@@ -163,7 +164,7 @@ fn load_and_complete<S: Alter>(
     Ok(found)
 }
 
-// The world whose rows the tables have, so far as they are made.
+// Loads the state from the tables `made`; returns whether it has an operator, too.
 fn load_tables<S: Alter>(
     alloc: Global,
     connection: &mut Connection<S>,
@@ -181,7 +182,7 @@ fn load_tables<S: Alter>(
     Ok((GhostState::of(&content), known, is_enrolled))
 }
 
-/// The content whose rows the tables have, so far as they are made, and what is known of its plans.
+/// Loads the state from the tables `made`; returns it with the indexes in memory.
 pub(crate) fn load_content<S: Alter>(
     alloc: Global,
     connection: &mut Connection<S>,
@@ -204,7 +205,8 @@ pub(crate) fn load_content<S: Alter>(
     finish_content(alloc, operators, check)
 }
 
-/// The operators and plans of rows that are those of a content, but for those of spans and of covers.
+/// The operators and plans whose rows are `heads`; `NotADesk` if these aren't the rows of a valid state.
+/// Spans and covers aren't checked.
 pub(crate) fn parse_heads(
     alloc: Global,
     heads: &TableRows,
@@ -224,8 +226,7 @@ pub(crate) fn parse_heads(
     Ok((operators, plans))
 }
 
-// The operators and plans of rows that are those of a content, but for those of spans, if the covers are
-// those of the volumes.
+// As `parse_heads`, but `NotADesk` also unless `covered`: each volume had its own cover.
 fn parse_covered_heads(
     alloc: Global,
     heads: &TableRows,
@@ -245,7 +246,7 @@ fn parse_covered_heads(
     Ok((operators, plans))
 }
 
-// Whether operators and plans are those of one content.
+// Whether operators and plans are in order, none twice, and each operator has as many plans as it may have.
 fn are_in_order(operators: &[ListedOperator], plans: &[FiledPlan]) -> bool
     ensures { IsTrue result ↔ AreListedInOrder operators.now plans.now }
 {
@@ -258,8 +259,8 @@ fn are_in_order(operators: &[ListedOperator], plans: &[FiledPlan]) -> bool
     are_shared(operators, plans)
 }
 
-/// The content of these operators, and of plans against which all rows of spans were held; and what is known
-/// of it.
+/// The state of `operators` and of the plans in `check`, which was passed all rows of spans, with the indexes
+/// in memory. `NotADesk` if the rows aren't those of the plans.
 pub(crate) fn finish_content(
     alloc: Global,
     operators: Vec<ListedOperator>,
@@ -294,8 +295,8 @@ pub(crate) fn finish_content(
     Ok((content, known))
 }
 
-/// The rows of the tables of schema 2 but for spans, each by the columns of its key; of those that aren't
-/// made none. Rows of `volume2` come without their covers, and with them whether each had that of its volume.
+/// The rows of the tables of schema 2 without those of spans, ordered by key; none of tables that `made`
+/// doesn't have. Rows of `volume2` are without their covers; also returned is whether all of these are right.
 #[tactic(auto, using(crate::proofs::lemmas::Frame::reads_then, crate::proofs::lemmas::Opening::part_on))]
 pub(crate) fn read_heads<S: Alter>(
     alloc: Global,
@@ -325,7 +326,7 @@ pub(crate) fn read_heads<S: Alter>(
     Ok((heads, check.agree))
 }
 
-/// Span bounds, with that of the span of a row.
+/// Bounds that hold for what `span_bounds` do and for the span in `row`, if it has one.
 pub(crate) fn with_span_row(span_bounds: &SpanBounds, row: &Row) -> SpanBounds
     ensures kept { Keeps span_bounds.now result }
     ensures known { IsKnownRow result row.now }

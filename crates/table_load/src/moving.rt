@@ -1,4 +1,4 @@
-//! How a content of schema 1 is moved to schema 2.
+//! The migration of a database from schema 1 to schema 2.
 
 ghost use Rattle.std.specs.Prelude.{◌≡◌, ◌≢◌, ◌↔◌, ◌<◌, ◌-◌, ◌^◌, List, ◌∷◌, true, false, IfOk, IfErr, OnOk, OnErr, IsTrue, length, None};
 ghost use Rattle.std.specs.List.{AllByRecursion};
@@ -55,13 +55,13 @@ const OLD_MAX_VOLUMES: usize = 8;
 // The most cells of the canonical cover of a rectangle in schema 1.
 const OLD_MAX_COVER: usize = 256;
 
-/// The world that the database stands for, in either schema, what is known of its plans, and how many plans
-/// were moved from schema 1 to schema 2. In schema 2 it is as `load_world` has it, and none were moved.
+/// Loads the state of a database, which it migrates if its rows are those of schema 1. It returns the state,
+/// the indexes in memory, and how many plans were migrated. A database of schema 2 is loaded by `load_world`.
 ///
 /// # Errors
 ///
-/// `OutOfMemory` if memory runs out. `Store` if SQLite refuses for another cause. `NotADesk` if there are
-/// other tables, or if the rows are those of no content in either schema. The rows are then what they were.
+/// `OutOfMemory` if memory runs out. `Store` if SQLite fails for another cause. `NotADesk` if there are
+/// other tables, or if the rows aren't those of a valid state in either schema. The rows stay then.
 pub fn moved_world_in<S: Alter>(
     alloc: Global,
     connection: &mut Connection<S>,
@@ -82,7 +82,7 @@ pub fn moved_world_in<S: Alter>(
     Ok((kept, known, 0))
 }
 
-// The world whose rows the tables of schema 1 have, which are moved.
+// Loads the state of schema 1, and migrates its rows.
 #[tactic(auto, using(crate::proofs::lemmas::Opening::some_operators))]
 fn move_tables<S: Alter>(
     alloc: Global,
@@ -107,7 +107,7 @@ fn move_tables<S: Alter>(
     Ok((GhostState::of(&content), known, count))
 }
 
-// Makes what is missing of a desk's tables, in its own order. The rows that there are stay.
+// Makes the missing tables, or rebuilds those of a packed file in canonical order. Rows of schema 1 stay.
 fn complete_or_rebuild<S: Alter>(
     connection: &mut Connection<S>,
     made: TablesPresent,
@@ -132,7 +132,7 @@ fn complete_or_rebuild<S: Alter>(
     Ok(())
 }
 
-// The rows of schema 1 go, and those of schema 2 of these plans come, as one transaction.
+// Replaces the rows of schema 1 by those of `plans` in schema 2, in one transaction.
 fn migrate_rows<S: Alter>(
     alloc: Global,
     connection: &mut Connection<S>,
@@ -157,7 +157,7 @@ fn migrate_rows<S: Alter>(
     Ok(())
 }
 
-// The rows of schema 1 go.
+// Removes the rows of schema 1, within a transaction.
 fn empty_old_tables<S: Alter>(tx: &mut Transaction<'_, S>) -> Result<(), Error>
     requires desk { Holds S.Store tx.old.conn.now IsDesk }
     ensures same_reference { tx.new.conn.ghost_name ≡ tx.old.conn.ghost_name }
@@ -174,7 +174,7 @@ fn empty_old_tables<S: Alter>(tx: &mut Transaction<'_, S>) -> Result<(), Error>
     empty_old_spans(tx)
 }
 
-/// Adds the rows of plans in schema 2.
+/// Adds the rows of volumes and spans of `plans` in schema 2, within a transaction.
 pub fn write_plans<S: Alter>(
     alloc: Global,
     tx: &mut Transaction<'_, S>,
@@ -192,7 +192,7 @@ pub fn write_plans<S: Alter>(
     Ok(())
 }
 
-// Adds the rows of a plan in schema 2.
+// Adds the rows of volumes and spans of `plan` in schema 2, within a transaction.
 fn write_plan<S: Alter>(
     alloc: Global,
     tx: &mut Transaction<'_, S>,
@@ -220,7 +220,7 @@ fn write_plan<S: Alter>(
     Ok(())
 }
 
-/// The content whose rows the tables of schema 1 have, and what is known of its plans.
+/// Loads the state whose rows the tables of schema 1 have; returns it with the indexes in memory.
 pub(crate) fn load_old_tables<S: Alter>(
     alloc: Global,
     connection: &mut Connection<S>,
@@ -241,7 +241,7 @@ pub(crate) fn load_old_tables<S: Alter>(
     finish_content(alloc, operators, check)
 }
 
-// The rows of schema 1's tables but for spans, where the tables that schema 2 has alone have no row.
+// As `read_old_heads`, but `NotADesk` if a table that only schema 2 has has a row.
 // Long: the value, and each fault by when it is reported.
 fn read_old_heads_alone<S: Alter>(
     alloc: Global,
@@ -266,7 +266,7 @@ fn read_old_heads_alone<S: Alter>(
     read_old_heads(alloc, connection, made)
 }
 
-/// Whether the tables that schema 2 has alone have no row.
+/// Whether the tables that only schema 2 has are empty.
 #[tactic(auto, using(crate::proofs::lemmas::Frame::reads_then))]
 pub(crate) fn are_new_tables_empty<S: Alter>(
     connection: &mut Connection<S>,
@@ -284,8 +284,8 @@ pub(crate) fn are_new_tables_empty<S: Alter>(
     Ok(!has_rows)
 }
 
-/// The rows of schema 1's tables but for spans, each by the columns of its key; of those that aren't made
-/// none.
+/// The rows of the tables of schema 1 without those of spans, ordered by key; none of tables that `made`
+/// doesn't have.
 #[tactic(auto, using(crate::proofs::lemmas::Frame::reads_then, crate::proofs::lemmas::Opening::part_on))]
 pub(crate) fn read_old_heads<S: Alter>(
     alloc: Global,
@@ -313,7 +313,7 @@ pub(crate) fn read_old_heads<S: Alter>(
     })
 }
 
-// The operators and plans of rows that are those of a content of schema 1, but for those of spans.
+// The operators and plans whose rows are `heads`, within the limits of schema 1. The spans aren't checked.
 fn parse_old_heads(
     alloc: Global,
     heads: &TableRows,
@@ -332,7 +332,7 @@ fn parse_old_heads(
     Ok((operators, plans))
 }
 
-/// Whether plans are within the limits of schema 1.
+/// Whether all plans are within the limits of schema 1.
 pub(crate) fn are_within_old_limits(plans: &[FiledPlan]) -> Result<bool, AllocError>
     ensures { IfOk result (λ are. IsTrue are ↔ AllByRecursion (λ p. IsOldArea p.row.area) plans.now) }
 {
@@ -363,7 +363,7 @@ fn is_area_within_old_limits(volumes: &[Volume]) -> Result<bool, AllocError>
     Ok(true)
 }
 
-// Whether a volume's footprint is within the limits of schema 1.
+// Whether a volume's cover is within the limit of schema 1. That limits the covers of rectangles alone.
 fn is_volume_within_old_limits(volume: &Volume) -> Result<bool, AllocError>
     ensures { IfOk result (λ is. IsTrue is ↔ IsOldShape volume.now.footprint) }
 {

@@ -1,5 +1,5 @@
-//! Which part of a database is that of no desk: what an administrator is shown of files that were refused.
-//! It is found afterwards, by the tests that refuse a database, in their order. Nothing is changed.
+//! Which part of a database is invalid: an administrator is shown it if files were refused. It is found
+//! afterwards, by the checks that refuse a database, in their order. Nothing is changed.
 
 ghost use Rattle.std.specs.Prelude.{◌≡◌, ◌≢◌, ◌⊎◌, List, true, false, IfErr, IfOk, IfSome, OnOk};
 ghost use Rattle.sqlite_value.specs.Order.{Row as Values};
@@ -35,12 +35,12 @@ use sqlite_trees::store::Alter;
 use std::alloc::Global;
 use volume4d::laws::one_shape;
 
-/// A part of a database that is that of no desk.
+/// The part of a database that is invalid.
 #[derive(Clone, Copy, Debug, PartialEq, Eq)]
 pub enum InvalidPart {
     /// There is no table.
     NoTable,
-    /// There are other tables than a desk's.
+    /// There are other tables than the schema's.
     OtherTables,
     /// There are rows of schema 1 and rows of schema 2.
     BothSchemas,
@@ -48,7 +48,7 @@ pub enum InvalidPart {
     Operator,
     /// A row of `plan`.
     Plan,
-    /// The plans of an operator, which are more than it may have; or plans of no operator.
+    /// An operator has more plans than it may have, or a plan's operator isn't there.
     Plans,
     /// The rows of `volume2`.
     Volume,
@@ -60,11 +60,11 @@ pub enum InvalidPart {
     OldVolume,
     /// The rows of `span`, of schema 1.
     OldSpan,
-    /// A plan of schema 1, which is beyond the limits of that.
+    /// A plan of schema 1 that exceeds the limits of schema 1.
     OldPlan,
 }
 
-/// What was named of files, and the connection that read them. Nothing can be done with that but to drop it.
+/// The invalid part of a database, and the connection that read it, which can only be dropped.
 #[derive(Drop)]
 pub struct Named<D: Disk> {
     part: Option<InvalidPart>,
@@ -72,7 +72,7 @@ pub struct Named<D: Disk> {
 }
 
 impl<D: Disk> Named<D> {
-    /// The first part that is that of no desk. None if there is none, or if the database can't be read.
+    /// The first invalid part. None if there is none, or if the database can't be read.
     pub fn part(&self) -> Option<InvalidPart>
         ensures { result ≡ self.now.part }
     {
@@ -80,11 +80,12 @@ impl<D: Disk> Named<D> {
     }
 }
 
-/// What is named of the files at a path, which are only read; `start` stands for what they held.
+/// Finds the first invalid part of the database in the files at `path`, which are only read. `start` says
+/// what they held.
 ///
 /// # Errors
 ///
-/// That the files were not opened.
+/// `NotOpened` if the files were not opened.
 pub fn part_at<S: Start>(
     rt: &HostRuntime,
     path: &str,
@@ -99,7 +100,7 @@ pub fn part_at<S: Start>(
     }
 }
 
-// What is named of the files of a connection, on whatever disk they are.
+// Finds the first invalid part of the database that `connection` has open, and keeps the connection.
 fn name_part<D: Disk + Drop>(alloc: Global, mut connection: Connection<FileStore<D>>) -> Named<D>
     requires { IsNew connection }
     ensures reads { OnlyReads over_files connection result.connection }
@@ -109,8 +110,7 @@ fn name_part<D: Disk + Drop>(alloc: Global, mut connection: Connection<FileStore
     Named { part, connection }
 }
 
-/// The first part of a database that is that of no desk. None if there is none, or if the database can't be
-/// read.
+/// The first invalid part of a database. None if there is none, or if the database can't be read.
 #[tactic(auto, using(crate::proofs::lemmas::Opening::some_operators, crate::proofs::NamedLemmas::new_named, crate::proofs::NamedLemmas::old_named))]
 pub fn first_fault<S: Alter>(alloc: Global, connection: &mut Connection<S>) -> Option<InvalidPart>
     requires settled { connection.old.in_transaction ≡ false }
@@ -132,7 +132,7 @@ pub fn first_fault<S: Alter>(alloc: Global, connection: &mut Connection<S>) -> O
     }
 }
 
-// The first part of tables without rows of schema 1.
+// The first invalid part of a database without rows of schema 1.
 #[tactic(auto, using(crate::proofs::lemmas::Frame::reads_then, crate::proofs::lemmas::Opening::part_on))]
 fn new_fault<S: Alter>(
     alloc: Global,
@@ -158,7 +158,7 @@ fn new_fault<S: Alter>(
     }
 }
 
-// The first part of tables with rows of schema 1.
+// The first invalid part of a database with rows of schema 1.
 #[tactic(auto, using(crate::proofs::lemmas::Opening::some_operators, crate::proofs::NamedLemmas::moving_named))]
 fn old_fault<S: Alter>(
     alloc: Global,
@@ -179,7 +179,7 @@ fn old_fault<S: Alter>(
     old_rows_fault(alloc, connection, made)
 }
 
-// The first part of the rows of schema 1.
+// The first invalid part among the rows of schema 1.
 #[tactic(auto, using(crate::proofs::lemmas::Frame::reads_then, crate::proofs::lemmas::Opening::part_on))]
 fn old_rows_fault<S: Alter>(
     alloc: Global,
@@ -205,7 +205,8 @@ fn old_rows_fault<S: Alter>(
     }
 }
 
-// The spans, which were held against the plans, or the covers, of which it is known whether they agree.
+// `Span` if the rows of spans aren't those of the plans; else `Cover` unless `covered`. None also if memory
+// runs out.
 fn fault_of_spans(mut check: SpanCheck, covered: bool) -> Option<InvalidPart>
     ensures { (rows : List Values) → AreHeld check rows
         → IfSome result (FailsSpans check.plans.items rows covered) }
@@ -222,7 +223,8 @@ fn fault_of_spans(mut check: SpanCheck, covered: bool) -> Option<InvalidPart>
     }
 }
 
-// The spans of schema 1, which were held against the plans, or the limits of these.
+// `OldSpan` if the rows of spans aren't those of the plans; else `OldPlan` if a plan exceeds the limits of
+// schema 1. None if memory runs out.
 fn fault_of_old_spans(mut check: SpanCheck) -> Option<InvalidPart>
     ensures { (rows : List Values) → AreHeld check rows
         → IfSome result (FailsOldSpans check.plans.items rows) }
@@ -238,7 +240,8 @@ fn fault_of_old_spans(mut check: SpanCheck) -> Option<InvalidPart>
     }
 }
 
-// The plans of rows, or the first part of them but for spans and covers; none if memory runs out.
+// The plans whose rows are `rows`; else the first invalid part, which is `volume` if it is the volumes, or
+// none if memory runs out.
 fn plans_of(
     alloc: Global,
     rows: &TableRows,
@@ -268,7 +271,7 @@ fn plans_of(
     Ok(plans)
 }
 
-// The part whose rows were not read, if they are no desk's.
+// The part whose rows were refused, if they are invalid; none if memory ran out.
 fn if_no_desk(fault: RowFault, part: InvalidPart) -> Option<InvalidPart>
     ensures { result ≡ spec.if_no_desk fault part }
 {
@@ -278,7 +281,7 @@ fn if_no_desk(fault: RowFault, part: InvalidPart) -> Option<InvalidPart>
     }
 }
 
-// The plans, if one of these rows of `plan` is none; else the volumes.
+// Which part is invalid if plans weren't read: `Plan` if one of `heads` isn't a row of `plan`, else `volume`.
 fn plan_or_volume(volume: InvalidPart, heads: &[Row]) -> InvalidPart
     ensures { (result ≡ volume) ⊎ ((result ≡ InvalidPart.Plan) × (¬ ArePlanHeads heads.now)) }
 {
@@ -288,7 +291,7 @@ fn plan_or_volume(volume: InvalidPart, heads: &[Row]) -> InvalidPart
     }
 }
 
-// Whether each of these rows is one of `plan`, whatever its volumes are.
+// Checks that each row is that of a plan in `plan`, whatever its volumes are; else `NoDesk`.
 fn check_plan_rows(heads: &[Row]) -> Result<(), RowFault>
     ensures are { OnOk result (ArePlanHeads heads.now) }
     ensures none { IfErr result (λ e. e ≡ RowFault.NoDesk → ¬ ArePlanHeads heads.now) }
@@ -301,7 +304,7 @@ fn check_plan_rows(heads: &[Row]) -> Result<(), RowFault>
     Ok(())
 }
 
-// Whether a row is one of `plan`, whatever its volumes are.
+// Checks that `head` is the row of a plan in `plan`, whatever its volumes are; else `NoDesk`.
 fn check_plan_row(head: &Row) -> Result<(), RowFault>
     ensures is { OnOk result (IsPlanHead head.now) }
     ensures none { IfErr result (λ e. e ≡ RowFault.NoDesk → ¬ IsPlanHead head.now) }

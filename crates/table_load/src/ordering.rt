@@ -1,4 +1,4 @@
-//! How a packed file, whose tables come before all indexes, is put into a desk's own order.
+//! How the tables of a packed file, which come before all indexes, are rebuilt in canonical order.
 
 ghost use Rattle.std.specs.Prelude.{◌≡◌, ◌≢◌, IfOk, IfErr, OnOk, OnErr, None};
 ghost use Rattle.sqlite.specs.State.{HasCleanDisk};
@@ -27,8 +27,8 @@ use sqlite_trees::store::Alter;
 use std::alloc::Global;
 use volume4d::laws::covers_are_few;
 
-/// The world whose rows a packed file has, in which there are no rows of schema 1. Its tables come into a
-/// desk's own order.
+/// Loads the state of a packed file without rows of schema 1, and rebuilds its tables in canonical order. It
+/// returns the state, the indexes in memory, and whether there is an operator.
 pub(crate) fn load_and_reorder<S: Alter>(
     alloc: Global,
     connection: &mut Connection<S>,
@@ -49,7 +49,7 @@ pub(crate) fn load_and_reorder<S: Alter>(
     Ok((GhostState::of(&content), known, is_enrolled))
 }
 
-// The tables come into a desk's own order, with the rows of these plans in `volume2` and `span2`, as one
+// Rebuilds the tables in canonical order, with the rows of `plans` in `volume2` and `span2`, in one
 // transaction.
 fn reorder_tables<S: Alter>(
     alloc: Global,
@@ -75,8 +75,8 @@ fn reorder_tables<S: Alter>(
     Ok(())
 }
 
-/// The tables of a packed file come into a desk's own order, without the rows of `volume2` and `span2`, as
-/// one transaction.
+/// Rebuilds the tables of a packed file in canonical order, in one transaction. The rows of `volume2` and
+/// `span2` are lost.
 pub(crate) fn rebuild_alone<S: Alter>(connection: &mut Connection<S>) -> Result<(), OpenFault>
     requires part { ShowsPart S.Store connection.old TablesPresent.Packed }
     ensures done { HasCleanDisk (state S.Store connection.new)
