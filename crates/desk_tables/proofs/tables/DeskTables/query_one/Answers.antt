@@ -10,7 +10,7 @@ use Rattle.row_codec.specs.RivalRows.{HasTakenHelds, HaveTaken, is_another_from,
 use Rattle.row_codec.proofs.lemmas.Result.{weaker}
 use Rattle.table_load.proofs.lemmas.Store.{still_stands, on_whole}
 use Rattle.desk_tables.proofs.CauseLemmas.{err_weaker, spans_blamed}
-use Rattle.desk_tables.proofs.tables.DeskTables.asked.Goals as goal
+use Rattle.desk_tables.proofs.tables.DeskTables.query_one.Goals as goal
 
 pub returns-in-Some-clause-read : goal.returns-in-Some-clause-read
 returns-in-Some-clause-read g c =
@@ -24,15 +24,15 @@ returns-in-Some-clause-read g c =
     let first = pos question.first in
     rw (← c.self.view_is) (record {
       value = λ clean.
-          subst (λ own. IfOk c.held_by.result (λ helds. HaveTaken
+          subst (λ own. IfOk c.slabs_if_read.result (λ helds. HaveTaken
           (is_another_from wanted.operator own reach first) spans helds.items)) (sym c.in-Some.is)
-          (on_whole _ c.rival_spans-handed.result c.held_by.result c.held_by.ensures.whole
+          (on_whole _ c.rival_spans-handed.result c.slabs_if_read.result c.slabs_if_read.ensures.whole
           (answers.value clean) (λ handed.
           (let (rows, by_texts, taken) = handed in
           let name = c.as_str-operator.result.now in
           let text = c.encode-text.result.now in
           let reached = subst (λ r. IsPermutation (map held_columns (filter (is_wanted name text r
-          (to_z w64 (of_z w64 first))) spans)) rows) c.reach_from-reach.ensures by_texts in
+          (to_z w64 (of_z w64 first))) spans)) rows) c.reach_from-span_filter.ensures by_texts in
           let begun = subst (λ l. IsPermutation (map held_columns (filter
           (is_wanted name text reach l) spans)) rows)
           (to_z_pos w64 question.first (omega (arith, c.requires.0))) reached in
@@ -40,10 +40,10 @@ returns-in-Some-clause-read g c =
           (filter (is_wanted own text reach first) spans)) rows) c.as_str-operator.ensures.value begun in
           let mine = subst (λ id. IsPermutation (map held_columns (filter
           (is_wanted wanted.operator id reach first) spans)) rows) c.encode-text.ensures.text named in
-          weaker c.held_by.result
+          weaker c.slabs_if_read.result
           (λ helds are. (rows, mine, subst (λ hs. HasTakenHelds hs rows) (sym are) taken))
-          c.held_by.ensures.value)));
-      cause = err_weaker c.held_by.result (BlamesSpans g.S.Store old new) c.held_by.ensures.none
+          c.slabs_if_read.ensures.value)));
+      cause = err_weaker c.slabs_if_read.result (BlamesSpans g.S.Store old new) c.slabs_if_read.ensures.none
           (λ e why clean live is.
           (let standing = c.self.invariant.standing (omega (arith, answers.reads.doubt, clean))
           (answers.reads.kept clean live).was_open in
@@ -71,24 +71,24 @@ returns-in-None-clause-read g c =
     let first = pos question.first in
     rw (← c.self.view_is) (record {
       value = λ clean.
-          subst (λ own. IfOk c.held_by-in-None.result (λ helds. HaveTaken
+          subst (λ own. IfOk c.slabs_if_read-in-None.result (λ helds. HaveTaken
           (is_another_from wanted.operator own reach first) spans helds.items)) (sym c.in-None.is)
-          (on_whole _ c.other_spans-handed.result c.held_by-in-None.result c.held_by-in-None.ensures.whole
+          (on_whole _ c.other_spans-handed.result c.slabs_if_read-in-None.result c.slabs_if_read-in-None.ensures.whole
           (answers.value clean) (λ handed.
           (let (rows, by_texts, taken) = handed in
           let name = c.as_str-operator.result.now in
           let reached = subst (λ r. IsPermutation (map held_columns (filter (is_others_from name r
-          (to_z w64 (of_z w64 first))) spans)) rows) c.reach_from-reach.ensures by_texts in
+          (to_z w64 (of_z w64 first))) spans)) rows) c.reach_from-span_filter.ensures by_texts in
           let begun = subst (λ l. IsPermutation (map held_columns (filter
           (is_others_from name reach l) spans)) rows)
           (to_z_pos w64 question.first (omega (arith, c.requires.0))) reached in
           let mine = subst (λ own. IsPermutation (map held_columns
           (filter (is_others_from own reach first) spans)) rows) c.as_str-operator.ensures.value begun in
-          weaker c.held_by-in-None.result
+          weaker c.slabs_if_read-in-None.result
           (λ helds are. (rows, mine, subst (λ hs. HasTakenHelds hs rows) (sym are) taken))
-          c.held_by-in-None.ensures.value)));
-      cause = err_weaker c.held_by-in-None.result (BlamesSpans g.S.Store old new)
-          c.held_by-in-None.ensures.none
+          c.slabs_if_read-in-None.ensures.value)));
+      cause = err_weaker c.slabs_if_read-in-None.result (BlamesSpans g.S.Store old new)
+          c.slabs_if_read-in-None.ensures.none
           (λ e why clean live is.
           (let standing = c.self.invariant.standing (omega (arith, answers.reads.doubt, clean))
           (answers.reads.kept clean live).was_open in

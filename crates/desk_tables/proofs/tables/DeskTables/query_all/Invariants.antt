@@ -1,7 +1,7 @@
 use Rattle.std.proofs.Common.{take}
 use Rattle.row_codec.specs.RivalRows.{is_asked}
 use Rattle.desk_tables.proofs.AskingLemmas.{IsAsking}
-use Rattle.desk_tables.proofs.tables.DeskTables.asked_all.Given as goal
+use Rattle.desk_tables.proofs.tables.DeskTables.query_all.Given as goal
 
 abbrev pub invariant-loop-question : goal.invariant-loop-question
 invariant-loop-question g l =

@@ -2,7 +2,7 @@ use Rattle.std.proofs.Common.{arith}
 use Rattle.sqlite.specs.Files.{file_state, over_files}
 use Rattle.sqlite.specs.State.{HasCleanDisk}
 use Rattle.desk_tables.proofs.LiftLemmas.{disk_blamed}
-use Rattle.desk_tables.proofs.opening.files.read_files.Goals as goal
+use Rattle.desk_tables.proofs.opening.files.read_connected.Goals as goal
 
 pub returns-in-Err-clause-fault : goal.returns-in-Err-clause-fault
 returns-in-Err-clause-fault g c =

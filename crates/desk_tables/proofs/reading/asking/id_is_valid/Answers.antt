@@ -1,7 +1,7 @@
 use Rattle.std.proofs.Common.{IfSome, subst, sym}
 use Rattle.desk_store.specs.Content.{IsId}
 use Rattle.desk_store.proofs.lemmas.Parse.{parsed_id}
-use Rattle.desk_tables.proofs.reading.asking.named_by_an_id.Goals as goal
+use Rattle.desk_tables.proofs.reading.asking.id_is_valid.Goals as goal
 
 pub returns-in-Some : goal.returns-in-Some
 returns-in-Some c =

@@ -4,7 +4,7 @@ use Rattle.sqlite.specs.Held.{state}
 use Rattle.row_codec.specs.RivalRows.{AreWanted}
 use Rattle.row_codec.specs.SpanBounds.{Bounds}
 use Rattle.desk_tables.proofs.OtherLemmas.{reading_begins, reading_on}
-use Rattle.desk_tables.proofs.tables.DeskTables.held_in.Goals as goal
+use Rattle.desk_tables.proofs.tables.DeskTables.held_in_regions.Goals as goal
 
 pub loop-region-init : goal.loop-region-init
 loop-region-init g c =
@@ -25,5 +25,5 @@ loop-region-preserved g c =
     c.loop-region-test.true c.region-item.is
     (subst (λ wanted. HasCleanDisk (state g.S.Store c.wanted_in_tables.new.self.held)
     → AreWanted c.loop-region.self.world wanted c.region-item.result c.in_ok-more.more.items)
-    c.of_others-wanted.ensures read.value)
+    c.wanted_of_others-wanted.ensures read.value)
     c.deref.ensures.value c.in_ok-push_clipped.ensures

@@ -1,7 +1,7 @@
 use Rattle.desk_tables.specs.Copying.{BlamesNew}
 use Rattle.desk_tables.proofs.FillLemmas.{blames_disk}
 use Rattle.table_load.proofs.lemmas.Opening.{blames_unread, reported_as}
-use Rattle.desk_tables.proofs.opening.copying.find_blank.Goals as goal
+use Rattle.desk_tables.proofs.opening.copying.require_blank.Goals as goal
 
 pub returns-in_err-made-clause-cause : goal.returns-in_err-made-clause-cause
 returns-in_err-made-clause-cause g c =
