@@ -59,7 +59,7 @@ abbrev pub too_big_as_out_of_memory : Error → Error
 too_big_as_out_of_memory (SqliteFailure code.TooBig) = SqliteFailure code.OutOfMemory
 too_big_as_out_of_memory e = e
 
--- a desk's tables, so far as they are made, but in one of them a rowid is no whole number, or comes twice
+-- the schema's tables, so far as they are made, but in one of them a rowid is no whole number, or comes twice
 pub record IsMisnumbered (db : Database) : Type 0 where
   pub made : TablesPresent
   pub schema : db.schema ≡ schema_of made
