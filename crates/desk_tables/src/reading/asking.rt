@@ -22,8 +22,8 @@ use sqlite_trees::store::Alter;
 use volume4d::{Held, Slab};
 
 impl<S: Alter> DeskTables<S> {
-    /// Reads from the tables the slabs of live plans that `wanted` selects and that may share a point with
-    /// `extent`. The span bounds say at which leaves the spans of these begin: no other rows are read.
+    /// Reads slabs that have, at each point of `extent`, the greatest priority of the live plans there that
+    /// `wanted` selects. The span bounds say at which leaves their spans may begin: no other row is read.
     ///
     /// # Errors
     ///
@@ -45,7 +45,7 @@ impl<S: Alter> DeskTables<S> {
         self.query_all(wanted, extent, &questions)
     }
 
-    // Runs all queries, and returns the slabs of one after those of the other.
+    // Runs all `questions`, and returns the slabs of one after those of the other.
     #[tactic(auto, using(table_load::proofs::lemmas::Frame::reads_then))]
     fn query_all(
         &mut self,

@@ -20,9 +20,9 @@ use sqlite_trees::store::Alter;
 use volume4d::{Held, Slab};
 
 impl<S: Alter> DeskTables<S> {
-    /// The slabs of live plans of other operators that share a point with one of `extents`. If few of their
-    /// plans are near, only these plans' rows are read; else each row near their volumes that overlap an
-    /// extent, none twice.
+    /// Reads slabs that have, at each point of `extents`, the greatest priority of live plans of other
+    /// operators there. If volumes of few plans overlap `extents`, only these plans' rows are read; else the
+    /// rows near such volumes, none twice.
     ///
     /// # Errors
     ///
@@ -55,7 +55,7 @@ impl<S: Alter> DeskTables<S> {
         self.held_in_regions(operator, &regions, &known.span_bounds)
     }
 
-    // The slabs of other operators' live plans, clipped to `regions`.
+    // Reads the slabs of other operators' live plans, clipped to `regions`.
     #[tactic(auto, using(table_load::proofs::lemmas::Frame::reads_then))]
     fn held_in_regions(
         &mut self,

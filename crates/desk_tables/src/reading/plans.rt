@@ -37,8 +37,8 @@ const MAX_SHORT: u64 = 1 << 46;
 const MAX_ROWS_BESIDE_SHORT: usize = 1 << 12;
 
 impl<S: Alter> DeskTables<S> {
-    /// The slabs of those plans of `keys` that are live, where they may overlap one of `extents`. Only these
-    /// plans' rows are read.
+    /// Reads slabs that have, at each point of `extents`, the greatest priority of those plans of `keys` that
+    /// are live. Only these plans' rows are read.
     ///
     /// # Errors
     ///
@@ -60,8 +60,8 @@ impl<S: Alter> DeskTables<S> {
         self.held_by_plans(keys, 0, &whole_of(first, others))
     }
 
-    /// The slabs of those plans of `keys` that are live and have at least the priority `least`, where they
-    /// may overlap `extent`. Only these plans' rows are read.
+    /// Reads slabs that have, at each point of `extent`, the greatest priority of those plans of `keys` that
+    /// are live, if it is at least `least`. Only these plans' rows are read.
     ///
     /// # Errors
     ///
@@ -85,7 +85,7 @@ impl<S: Alter> DeskTables<S> {
         Ok(helds)
     }
 
-    // The slabs of the plan `key` that may overlap `extent`, if its priority is at least `least`.
+    // Reads the slabs of the plan `key` that may overlap `extent`, if its priority is at least `least`.
     fn held_by_plan(
         &mut self,
         key: &PlanKey,

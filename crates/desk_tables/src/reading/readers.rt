@@ -100,9 +100,9 @@ impl<S: Alter> DeskTables<S> {
         plans_if_read(taken, collector, self.reported)
     }
 
-    /// The slabs of live plans that `wanted` selects and that share a point with one of `extents`. The index
-    /// in memory says whose volumes may: if no plan's do, no row is read; if few plans' do, only these plans'
-    /// rows.
+    /// Reads slabs that have, at each point of `extents`, the greatest priority of the live plans there that
+    /// `wanted` selects. The index in memory says whose volumes overlap `extents`: if these are few plans,
+    /// only their rows are read.
     ///
     /// # Errors
     ///
