@@ -246,7 +246,8 @@ fn parse_covered_heads(
     Ok((operators, plans))
 }
 
-// Whether operators and plans are in order, none twice, and each operator has as many plans as it may have.
+// Whether operators and plans are in order, none twice, each plan's operator is there, and none has more than
+// `MAX_PLANS` plans.
 fn are_in_order(operators: &[ListedOperator], plans: &[FiledPlan]) -> bool
     ensures { IsTrue result ↔ AreListedInOrder operators.now plans.now }
 {

@@ -242,7 +242,7 @@ pub(crate) fn load_old_tables<S: Alter>(
 }
 
 // As `read_old_heads`, but `NotADesk` if a table that only schema 2 has has a row.
-// Long: the value, and each fault by when it is reported.
+// Long: the value, and when each fault is reported, have a clause each.
 fn read_old_heads_alone<S: Alter>(
     alloc: Global,
     connection: &mut Connection<S>,
