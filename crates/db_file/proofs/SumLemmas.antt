@@ -68,10 +68,10 @@ copies_to_end size count k known left out now is =
 -- ---- pages that are counted
 
 -- k of so many pages are counted
-pub record IsCounting (size count k unsummed : ℕ) (bytes : List ℕ) (left : Option (List ℕ)) : Type 0 where
+pub record IsCounting (size count k bad_count : ℕ) (bytes : List ℕ) (left : Option (List ℕ)) : Type 0 where
   pub rest : List ℕ
   pub left_is : left ≡ Some rest
-  pub whole : unsummed + unsummed_pages size (count - k) rest ≡ unsummed_pages size count bytes
+  pub whole : bad_count + unsummed_pages size (count - k) rest ≡ unsummed_pages size count bytes
 
 counts_page : (size count k : ℕ) → k < count → (rest : List ℕ)
     → unsummed_pages size (count - k) rest
@@ -81,12 +81,12 @@ counts_page size count k less rest =
     let e : count - k ≡ suc (count - (k + 1)) = omega (arith, less) in
     ap (λ n. unsummed_pages size n rest) e
 
-counts_next : (size count k unsummed one : ℕ) (bytes : List ℕ) (left left_now : Option (List ℕ)) → k < count
+counts_next : (size count k bad_count one : ℕ) (bytes : List ℕ) (left left_now : Option (List ℕ)) → k < count
     → IfSome left (λ it. left_now ≡ Some (drop size it))
     → IfSome left (λ it. one ≡ unsummed_page (take size it))
-    → IsCounting size count k unsummed bytes left
-    → IsCounting size count (k + 1) (unsummed + one) bytes left_now
-counts_next size count k unsummed one bytes left left_now less goes page it =
+    → IsCounting size count k bad_count bytes left
+    → IsCounting size count (k + 1) (bad_count + one) bytes left_now
+counts_next size count k bad_count one bytes left left_now less goes page it =
     let more = unsummed_pages size (count - (k + 1)) (drop size it.rest) in
     let is : one ≡ unsummed_page (take size it.rest) =
     subst (λ l. IfSome l (λ it. one ≡ unsummed_page (take size it))) it.left_is page in
@@ -98,29 +98,29 @@ counts_next size count k unsummed one bytes left left_now less goes page it =
       whole = omega (arith, turn, it.whole);
     }
 
-counts_all : (size count unsummed : ℕ) (bytes : List ℕ) (left : Option (List ℕ))
-    → IsCounting size count count unsummed bytes left → unsummed ≡ unsummed_pages size count bytes
+counts_all : (size count bad_count : ℕ) (bytes : List ℕ) (left : Option (List ℕ))
+    → IsCounting size count count bad_count bytes left → bad_count ≡ unsummed_pages size count bytes
 unfolding unsummed_pages
-counts_all size count unsummed bytes left it =
+counts_all size count bad_count bytes left it =
     let e : count - count ≡ 0 = omega arith in
-    let last : unsummed + unsummed_pages size 0 it.rest ≡ unsummed_pages size count bytes =
-    ap (λ n. unsummed + unsummed_pages size n it.rest) (sym e) ∙ it.whole in
+    let last : bad_count + unsummed_pages size 0 it.rest ≡ unsummed_pages size count bytes =
+    ap (λ n. bad_count + unsummed_pages size n it.rest) (sym e) ∙ it.whole in
     omega (arith, last)
 
-pub counts_more : (size count k unsummed one : ℕ) (known left left_now : Option (List ℕ)) → k < count
+pub counts_more : (size count k bad_count one : ℕ) (known left left_now : Option (List ℕ)) → k < count
     → IfSome left (λ it. left_now ≡ Some (drop size it))
     → IfSome left (λ it. one ≡ unsummed_page (take size it))
-    → IfSome known (λ bytes. IsCounting size count k unsummed bytes left)
-    → IfSome known (λ bytes. IsCounting size count (k + 1) (unsummed + one) bytes left_now)
-counts_more size count k unsummed one known left left_now less goes page =
-    goes_on known (λ bytes. counts_next size count k unsummed one bytes left left_now less goes page)
+    → IfSome known (λ bytes. IsCounting size count k bad_count bytes left)
+    → IfSome known (λ bytes. IsCounting size count (k + 1) (bad_count + one) bytes left_now)
+counts_more size count k bad_count one known left left_now less goes page =
+    goes_on known (λ bytes. counts_next size count k bad_count one bytes left left_now less goes page)
 
-pub counts_to_end : (size count k unsummed : ℕ) (known left : Option (List ℕ)) → k ≡ count
-    → IfSome known (λ bytes. IsCounting size count k unsummed bytes left)
-    → IfSome known (λ bytes. unsummed ≡ unsummed_pages size count bytes)
-counts_to_end size count k unsummed known left is =
-    goes_on known (λ bytes it. counts_all size count unsummed bytes left
-    (subst (λ n. IsCounting size count n unsummed bytes left) is it))
+pub counts_to_end : (size count k bad_count : ℕ) (known left : Option (List ℕ)) → k ≡ count
+    → IfSome known (λ bytes. IsCounting size count k bad_count bytes left)
+    → IfSome known (λ bytes. bad_count ≡ unsummed_pages size count bytes)
+counts_to_end size count k bad_count known left is =
+    goes_on known (λ bytes it. counts_all size count bad_count bytes left
+    (subst (λ n. IsCounting size count n bad_count bytes left) is it))
 
 -- ---- bytes that are copied
 

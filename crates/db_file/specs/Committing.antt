@@ -1,4 +1,4 @@
--- Committing: the first page of a database is put into a desk's own order, in one commit.
+-- Committing: the first page of a database is reordered canonically, in one commit.
 use Rattle.std.specs.Prelude.{◌≡◌, ◌≢◌, ◌⊎◌, ℕ, ◌+◌, if◌then◌else◌, List, Some, IsTrue}
 use Rattle.sqlite_disk.specs.declared.Disk.{Ghosts}
 use Rattle.sqlite_disk.specs.declared.Files.{Files}
@@ -19,7 +19,7 @@ use Rattle.db_file.specs.Sums.{summed}
 use Rattle.db_file.specs.declared.committing.Left.{Left}
 use Rattle.db_file.specs.declared.committing.Left.TheVariants as kind
 
--- a file's first page in a desk's own order, with its sum, if it keeps sums
+-- a file's first page in canonical order, with its checksum, if pages have checksums
 abbrev pub in_order : List ℕ → List ℕ
 in_order page = if keeps_checksums page then summed (ordered_page page) else ordered_page page
 

@@ -7,7 +7,7 @@ use Rattle.sqlite_wal.specs.PageSize.{size_in_file}
 use Rattle.db_file.specs.Header.{byte}
 use Rattle.db_file.specs.Sums.{summed_file}
 
--- the names of a desk's tables and indexes, in its own order
+-- the names of the schema's tables and indexes, in its own order
 abbrev pub own_names : List (List ℕ)
 own_names =
     codes "operator" ∷ codes "sqlite_autoindex_operator_1" ∷ codes "plan" ∷ codes "sqlite_autoindex_plan_1"
@@ -31,7 +31,7 @@ order_text = codes "its tables stand in another order than a desk's: copy makes 
 
 -- ---- the rows of a page
 
--- a file's first page: it has room for a desk's tables and indexes, and no page is longer
+-- a file's first page: it has room for the schema's tables and indexes, and no page is longer
 pub record IsFirstPage (page : List ℕ) : Type 0 where
   pub room : 136 ≤ length page
   pub fits : length page ≤ 65536
@@ -70,7 +70,7 @@ is_plain page slot =
 abbrev pub row : List ℕ → ℕ → List ℕ
 row page slot = take (size page slot) (drop (rowid_at page slot + 1) page)
 
--- how many bytes a text has, by the number that stands for its length
+-- how many bytes a text has, by its serial type
 abbrev pub text_len : ℕ → ℕ
 text_len code = (code - 13) / 2
 
@@ -119,9 +119,9 @@ are_moved packed old page to (suc n) =
 abbrev pub are_listed : Bool → List ℕ → Bool
 are_listed packed page = are_moved packed page page 0 (count page)
 
--- a page of so few rows lists them neither in a desk's own order nor in that of a packed file
-abbrev pub is_other : List ℕ → Bool
-is_other page =
+-- a page of so few rows lists them neither in canonical order nor in that of a packed file
+abbrev pub is_in_other_order : List ℕ → Bool
+is_in_other_order page =
     is_leaf_page page && nat_le (count page) 14 && not (are_listed false page)
     && not (count page == 14 && are_listed true page)
 
@@ -131,7 +131,7 @@ moved old from to page =
     let front = slice_set page (108 + to * 2) (byte old (108 + from * 2)) in
     slice_set (slice_set front (109 + to * 2) (byte old (109 + from * 2))) (rowid_at old from) (to + 1)
 
--- so with the row of the name at the slot's place in a desk's own order, if there is one
+-- so with the row of the name at the slot's place in canonical order, if there is one
 abbrev pub placed_by_name : List ℕ → ℕ → List ℕ → Option (List ℕ)
 placed_by_name old to page = option_map (λ from. moved old from to page) (slot_of old (name_at false to))
 
@@ -140,10 +140,10 @@ unfoldable pub placed : List ℕ → ℕ → ℕ → List ℕ → Option (List �
 placed old to zero page = Some page
 placed old to (suc n) page = option_and_then (placed old (to + 1) n) (placed_by_name old to page)
 
--- The page with its rows in a desk's own order, if it lists the tables and indexes of a desk, or the first
+-- The page with its rows in canonical order, if it lists the schema's tables and indexes, or the first
 -- few of them, and these in another order. Each row keeps its cell and, but for the rowid, its bytes.
 abbrev pub ordered : List ℕ → Option (List ℕ)
-ordered page = if is_other page
+ordered page = if is_in_other_order page
     then option_and_then (λ new. if are_moved false page new 0 (count page) then Some new else None)
     (placed page 0 (count page) page)
     else None

@@ -16,7 +16,7 @@ IsLastRead (Ok count) Failed = ⊥
 IsLastRead (Err error) Passed = error_kind error ≡ Interrupted
 IsLastRead (Err error) Failed = error_kind error ≢ Interrupted
 
--- how many reads a frame may take: this desk's own limit
+-- the most reads for one frame: a limit of the desk
 abbrev pub most_reads : ℕ
 most_reads = 2 ^ 32 - 1
 

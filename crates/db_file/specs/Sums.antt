@@ -1,44 +1,44 @@
--- Sums: the sums on the pages of a database, as SQLite's cksumvfs has them.
+-- Sums: the checksums of a database's pages, as SQLite's cksumvfs has them.
 use Rattle.std.specs.Prelude.{ℕ, zero, suc, ◌+◌, ◌-◌, ◌/◌, Bool, false, if◌then◌else◌, List, [], ◌++◌, take, drop, length}
 use Rattle.std.specs.Int.{to_le_bytes, w32}
 use Rattle.std.specs.Str.{bytes_eq}
 use Rattle.sqlite_wal.specs.Format.{checksum}
 
--- the sum of these bytes, as it stands in a file: two numbers, the lowest byte of each first
+-- the checksum of these bytes, as a file has it: two numbers, the lowest byte of each first
 unfoldable pub sum_of : List ℕ → List ℕ
 sum_of bytes = let sum = checksum false (0, 0) bytes in to_le_bytes w32 sum.0 ++ to_le_bytes w32 sum.1
 
--- the bytes of a page before its sum, and those of its sum
+-- the bytes of a page before its checksum, and those of the checksum
 abbrev pub before_sum : List ℕ → List ℕ
 before_sum page = take (length page - 8) page
 
 abbrev pub sum_in : List ℕ → List ℕ
 sum_in page = drop (length page - 8) page
 
--- a page ends with the sum of the bytes before
+-- a page ends with the checksum of the bytes before
 abbrev pub has_sum : List ℕ → Bool
 has_sum page = bytes_eq (sum_in page) (sum_of (before_sum page))
 
--- 1 if a page ends with another sum, else 0
+-- 1 if a page ends with a wrong checksum, else 0
 abbrev pub unsummed_page : List ℕ → ℕ
 unsummed_page page = if has_sum page then 0 else 1
 
--- the page with its sum at its end
+-- the page with its checksum
 abbrev pub summed : List ℕ → List ℕ
 summed page = before_sum page ++ sum_of (before_sum page)
 
--- the first so many pages of a file, each with its sum at its end
+-- the first so many pages of a file, each with its checksum
 unfoldable pub summed_pages : ℕ → ℕ → List ℕ → List ℕ
 summed_pages size zero bytes = []
 summed_pages size (suc n) bytes = summed (take size bytes) ++ summed_pages size n (drop size bytes)
 
--- how many of the first so many pages of a file end with another sum than theirs
+-- how many of the first so many pages of a file end with a wrong checksum
 unfoldable pub unsummed_pages : ℕ → ℕ → List ℕ → ℕ
 unsummed_pages size zero bytes = 0
 unsummed_pages size (suc n) bytes =
     unsummed_page (take size bytes) + unsummed_pages size n (drop size bytes)
 
--- so for all pages of a file: how many end with another sum than theirs, and the file with each page's sum
+-- so for all pages of a file: how many end with a wrong checksum, and the file with each page's checksum
 abbrev pub unsummed_in : ℕ → List ℕ → ℕ
 unsummed_in size bytes = unsummed_pages size (length bytes / size) bytes
 

@@ -1,4 +1,4 @@
-//! Whether recovery takes a commit of a log.
+//! Whether a WAL has a commit.
 
 ghost use Rattle.std.specs.Prelude.{◌↔◌, IfSome, IsTrue};
 ghost use Rattle.sqlite_wal.specs.Reads.{AreClean, OnlyReadsBoth};
@@ -8,10 +8,10 @@ use sqlite_disk::{Disk, Files};
 use sqlite_wal::{probe_frames, probe_page_size};
 use std::alloc::Global;
 
-/// Whether recovery takes a commit of the log of a database in files. Nothing is written.
+/// Whether recovery finds a commit in the WAL of the database in `files`. Nothing is written.
 ///
-/// None if that can't be known: the files name no size of a page that SQLite allows, one of them can't be
-/// read, or memory ran out.
+/// None if that can't be known: the files name no valid page size, one of them can't be read, or memory ran
+/// out.
 pub fn takes_commit<D: Disk>(alloc: Global, files: &mut Files<D>) -> Option<bool>
     requires log { IsTrue (D.Disk.is_usable files.old.log) }
     requires db { IsTrue (D.Disk.is_usable files.old.db) }

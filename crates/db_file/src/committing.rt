@@ -1,4 +1,4 @@
-//! The first page of a database put into a desk's own order, in one commit: a crash leaves all of it or none.
+//! The first page of a database is rewritten so that it lists the tables in canonical order, in one commit.
 
 ghost use Rattle.std.specs.Prelude.{◌≡◌, IfErr, IfOk, IfSome, IsSome, IsTrue, OnOk, is_ok};
 ghost use Rattle.sqlite_pager.specs.Pager.{AreUsable, image, state, visible};
@@ -23,34 +23,34 @@ use sqlite_wal::{PageSize, probe_page_size};
 use std::alloc::Global;
 use std::hash::{BuildHasher, RandomState};
 
-/// Files whose first page is in a desk's own order. Nothing can be done with them but to drop them.
+/// Files whose first page lists the tables in canonical order. They can only be dropped, which closes them.
 #[derive(Drop)]
 pub struct Ordered<D: Disk> {
     pager: Pager<D>,
 }
 
-/// Files whose first page was not put in order, if they were opened. Nothing can be done with them but to
-/// drop them.
+/// Files whose first page was not reordered, if they were opened. They can only be dropped, which closes
+/// them.
 #[derive(Drop)]
 pub struct Unordered<D: Disk> {
     left: Option<Left<D>>,
 }
 
-// What is left of files whose first page was not put in order, and why.
+// The files whose first page was not reordered, with the error.
 #[derive(Drop)]
 enum Left<D: Disk> {
-    // They were only read.
+    // Nothing was written: there is no pager over them.
     Unread(Error, Files<D>),
-    // Their pages were not found, or the commit failed.
+    // The recovery or the commit failed.
     Uncommitted(Error, Pager<D>),
 }
 
-/// Puts the first page of the file at a path into a desk's own order, in one commit to its log; `start`
-/// stands for what the files held. Answered are the files.
+/// Reorders the first page of the database at `path`, so that it lists the tables in canonical order, in one
+/// commit to its WAL. `start` says what the files held. It returns the files.
 ///
 /// # Errors
 ///
-/// `Unordered` if the files can't be opened, are no database, or the commit failed.
+/// `Unordered` if the files can't be opened, aren't a database, or if the commit failed.
 pub fn put_in_order<S: Start>(
     rt: &HostRuntime,
     path: &str,
@@ -72,14 +72,14 @@ pub fn put_in_order<S: Start>(
     }
 }
 
-/// Whether the first page of files was put in order. They are closed.
+/// Whether the first page was reordered. The files are closed.
 pub fn is_in_order<D: Disk + Drop>(done: Result<Ordered<D>, Unordered<D>>) -> bool
     ensures { result ≡ is_ok done }
 {
     done.is_ok()
 }
 
-// Puts the first page of a database in files into a desk's own order, in one commit.
+// Reorders the first page of the database in `files`, in one commit. `seed` is for the salts of the WAL.
 fn commit_in_order<D: Disk + Drop>(
     alloc: Global,
     seed: u64,
@@ -95,11 +95,11 @@ fn commit_in_order<D: Disk + Drop>(
     ensures left { (was : Image) → AreAsOpened D.Disk files was
         → IfErr result (λ it. IfSome it.left (IsLeft was (λ image. image ≡ was) 0)) }
 {
-    let (mut pager, size) = match pager_over(alloc, seed, files) {
+    let (mut pager, size) = match open_pager(alloc, seed, files) {
         Ok(found) => found,
         Err(left) => return Err(Unordered { left: Some(left) }),
     };
-    match find_and_order(&mut pager, size) {
+    match recover_and_reorder(&mut pager, size) {
         Ok(()) => Ok(Ordered { pager }),
         Err(error) => Err(Unordered {
             left: Some(Left::Uncommitted(error, pager)),
@@ -107,8 +107,8 @@ fn commit_in_order<D: Disk + Drop>(
     }
 }
 
-// The pages of files, which are only read.
-fn pager_over<D: Disk + Drop>(
+// Opens a pager over `files`; returns it with their page size. The files are only read.
+fn open_pager<D: Disk + Drop>(
     alloc: Global,
     seed: u64,
     mut files: Files<D>,
@@ -130,9 +130,9 @@ fn pager_over<D: Disk + Drop>(
     }
 }
 
-// Finds the pages that files stand for, and puts the first into a desk's own order, in one commit.
-// Long: how it may end, what a crash leaves, and files that no pages stand for have each a clause.
-fn find_and_order<D: Disk>(pager: &mut Pager<D>, size: PageSize) -> Result<(), Error>
+// Recovers the pages from the files, and reorders the first one, in one commit.
+// Long: the result, the state after a crash, and files that can't be recovered have each a clause.
+fn recover_and_reorder<D: Disk>(pager: &mut Pager<D>, size: PageSize) -> Result<(), Error>
     requires usable { AreUsable pager.old }
     requires size { (state pager.old).page_size ≡ bytes_of size }
     ensures size { (state pager.new).page_size ≡ bytes_of size }
@@ -150,11 +150,11 @@ fn find_and_order<D: Disk>(pager: &mut Pager<D>, size: PageSize) -> Result<(), E
     reorder_first_page(pager, size)
 }
 
-/// Puts the first page of a database into a desk's own order, with its sum, if it keeps sums, in one commit.
+/// Reorders the first page of a database, and sets its checksum if pages have checksums, in one commit.
 ///
 /// # Errors
 ///
-/// What the reading or the writing failed with.
+/// The error of the read or write that failed.
 pub fn reorder_first_page<D: Disk>(pager: &mut Pager<D>, size: PageSize) -> Result<(), Error>
     requires { (state pager.old).page_size ≡ bytes_of size }
     ensures ordered { OnOk result (IsTrue (state pager.new).is_clean
@@ -174,7 +174,7 @@ pub fn reorder_first_page<D: Disk>(pager: &mut Pager<D>, size: PageSize) -> Resu
     pager.commit()
 }
 
-// Puts the first page of a file into a desk's own order, with its sum, if it keeps sums.
+// Reorders a file's first page, and sets its checksum if pages have checksums.
 fn reorder_checksummed(page: &mut [u8])
     requires { IsFirstPage page.old }
     ensures { page.new ≡ spec.in_order page.old }

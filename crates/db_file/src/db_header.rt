@@ -1,4 +1,4 @@
-//! The header of a database file: how large its pages are, and whether they have sums.
+//! The header of a database file: how large its pages are, and whether they have checksums.
 
 ghost use Rattle.std.specs.Prelude.{◌≡◌};
 ghost use Rattle.sqlite_wal.specs.PageSize.{Names, size_in_file};
@@ -6,22 +6,22 @@ ghost use Rattle.db_file.specs.Header as spec;
 
 use sqlite_wal::PageSize;
 
-/// How many bytes of a header are read.
+/// How many bytes of the header are read.
 pub const HEADER: usize = 24;
 
 /// How many bytes the largest page has.
 pub const MAX_PAGE: usize = 65_536;
 
-/// How many bytes a sum has.
+/// How many bytes a page's checksum has.
 pub const SUM: usize = 8;
 
-// Where the header says how large a page is, and how many bytes at the end of each page are kept for a sum
-// (the SQLite file format, sections 1.3.2 and 1.3.4).
+// Where the header has the page size, and the number of bytes that are reserved at the end of each page (the
+// SQLite file format, sections 1.3.2 and 1.3.4).
 const SIZE_AT: usize = 16;
 
 const RESERVED_AT: usize = 20;
 
-/// The byte at a place; 0 past the end.
+/// The byte at index `at`, or 0 past the end.
 pub fn byte(bytes: &[u8], at: usize) -> u8
     ensures { result ≡ spec.byte bytes.now at }
 {
@@ -31,14 +31,14 @@ pub fn byte(bytes: &[u8], at: usize) -> u8
     }
 }
 
-/// Whether the pages of a database have sums, by its header.
+/// Whether the header of a database reserves eight bytes of each page, as pages with checksums need.
 pub fn keeps_checksums(header: &[u8]) -> bool
     ensures { result ≡ spec.keeps_checksums header.now }
 {
     usize::from(byte(header, RESERVED_AT)) == SUM
 }
 
-/// The size of a page by the header of a database, if it names one that SQLite allows. 1 stands for 65,536.
+/// The page size that the header of a database names, if SQLite allows it. The number 1 stands for 65,536.
 pub fn page_size_in(header: &[u8; HEADER]) -> Option<PageSize>
     ensures { Names result (size_in_file header.now) }
 {

@@ -1,4 +1,4 @@
-//! The frames of a log.
+//! The frames of a WAL.
 
 ghost use Rattle.std.specs.Prelude.{◌≡◌, ◌↔◌, ◌≤◌, if◌then◌else◌, length, IsTrue};
 ghost use Rattle.sqlite_wal.specs.Format.{IsFrame};
@@ -7,11 +7,12 @@ ghost use Rattle.db_file.specs.Damage as spec;
 use crate::numbers::{Sum, number_at, sum_at};
 use sqlite_wal::checksum_of;
 
-/// How many bytes a frame has before its page.
+/// How many bytes of a frame come before its page.
 pub const FRAME_HEADER: usize = 24;
 
-/// Whether recovery takes a frame, under this header and after this checksum.
-pub fn is_taken(head: &[u8; 32], before: Sum, frame: &[u8]) -> bool
+/// Whether recovery accepts `frame`: it has the salts of the header `head`, names a page, and its checksum
+/// continues `before`, that of the frame before.
+pub fn is_frame_valid(head: &[u8; 32], before: Sum, frame: &[u8]) -> bool
     requires { 24 ≤ length frame.now }
     ensures { IsTrue result ↔ IsFrame head.now before frame.now }
 {
@@ -23,7 +24,7 @@ pub fn is_taken(head: &[u8; 32], before: Sum, frame: &[u8]) -> bool
     checksum_of(big, front, &frame[24..]) == sum_at(frame, 16)
 }
 
-/// Whether a frame has the salts of a header.
+/// Whether `frame` has the salts of the header `head`: else it is left from before the WAL was last reset.
 #[tactic(auto, unfolding(sqlite_wal::specs::Format::part))]
 pub fn has_salts(head: &[u8; 32], frame: &[u8]) -> bool
     requires { 24 ≤ length frame.now }
@@ -32,8 +33,8 @@ pub fn has_salts(head: &[u8; 32], frame: &[u8]) -> bool
     frame[8..16] == head[16..24]
 }
 
-/// 1 if a frame ends a commit, else 0.
-pub fn ends_of(frame: &[u8]) -> u64
+/// How many commits `frame` ends: 1 if it is the last frame of one, else 0.
+pub fn commits_ended(frame: &[u8]) -> u64
     requires { 24 ≤ length frame.now }
     ensures { result ≡ (if spec.ends_commit frame.now then 1 else 0) }
 {

@@ -1,4 +1,4 @@
-//! What is found of a log.
+//! Whether a WAL is damaged.
 
 ghost use Rattle.std.specs.Io.KnownBytes.{Consumes};
 ghost use Rattle.std.specs.Prelude.{◌≡◌, true, ◌<◌, ◌≤◌, ◌+◌, ◌^◌, ℕ, List, length, IfErr, IfOk, IfSome};
@@ -9,7 +9,7 @@ ghost use Rattle.db_file.specs.Damage.{IsVerdict};
 ghost use Rattle.db_file.specs.Reads.{HaveBrokenOff, IsUnjudged};
 ghost use Rattle.db_file.specs.Walks.{HasFrame, HasRead, IsBefore, IsNext, IsVerdictAt, LosesCommits, StopsAt};
 
-use crate::frames::{FRAME_HEADER, ends_of, has_salts, is_taken};
+use crate::frames::{FRAME_HEADER, commits_ended, has_salts, is_frame_valid};
 use crate::numbers::sum_at;
 use crate::reading::read_whole;
 use crate::reads::Reads;
@@ -17,21 +17,21 @@ use crate::wal_header::{HEADER, page_size_in};
 use std::io::Read;
 
 // How many bytes the largest frame has.
-const ROOM: usize = 65_560;
+const MAX_FRAME: usize = 65_560;
 
-/// What is found of a log.
+/// Whether a WAL is damaged.
 #[derive(Clone, Copy, Debug, PartialEq, Eq)]
 pub enum WalState {
     /// It is as it was written, or as a crash may have left it.
     Sound,
-    /// It is damaged at a frame, counted from 0, and so many commits from there on are lost.
+    /// Recovery stops at `frame`, counted from 0, and `commits` commits from there on are lost.
     Damaged { frame: u64, commits: u64 },
 }
 
-/// Why nothing is found of a log.
+/// Why a WAL wasn't checked to its end.
 #[derive(Clone, Copy, Debug, PartialEq, Eq)]
 pub enum WalError {
-    /// Its reading broke off: the last of these reads failed, or there were as many as a frame may take.
+    /// A frame wasn't read: the last of these reads failed, or there were 2^32 - 1 of them.
     Unread(Reads),
     /// It has 2^64 bytes or more.
     Endless,
@@ -48,21 +48,22 @@ impl From<Reads> for WalError {
     }
 }
 
-/// What is found of a log, of which one frame is read at a time.
+/// Checks whether a WAL is damaged: recovery stops at a frame, and two or more commits end from there on. One
+/// frame is read at a time.
 ///
 /// # Errors
 ///
-/// As `WalError` says.
+/// `Unread` if a read failed, and `Endless` if there are 2^64 bytes or more.
 pub fn check_wal<R: Read>(log: &mut R) -> Result<WalState, WalError>
     ensures value { IfOk result (λ verdict. IfSome (R.remaining log.old) (λ bytes. IsVerdict bytes verdict)) }
     ensures fault { IfErr result (IsUnjudged (R.remaining log.old)) }
 {
-    let mut room = [0u8; ROOM];
-    judge_with(log, &mut room)
+    let mut room = [0u8; MAX_FRAME];
+    check_with_buffer(log, &mut room)
 }
 
-// What is found of a log, with room for a frame.
-fn judge_with<R: Read>(log: &mut R, room: &mut [u8]) -> Result<WalState, WalError>
+// Checks a WAL with `room` as the buffer. One with no valid header is sound: recovery takes nothing of it.
+fn check_with_buffer<R: Read>(log: &mut R, room: &mut [u8]) -> Result<WalState, WalError>
     requires { length room.old ≡ 65560 }
     ensures value { IfOk result (λ verdict. IfSome (R.remaining log.old) (λ bytes. IsVerdict bytes verdict)) }
     ensures fault { IfErr result (IsUnjudged (R.remaining log.old)) }
@@ -72,13 +73,13 @@ fn judge_with<R: Read>(log: &mut R, room: &mut [u8]) -> Result<WalState, WalErro
         return Ok(WalState::Sound);
     }
     match page_size_in(&head) {
-        Some(page) => judge_frames(log, &head, &mut room[..FRAME_HEADER + page]),
+        Some(page) => check_frames(log, &head, &mut room[..FRAME_HEADER + page]),
         None => Ok(WalState::Sound),
     }
 }
 
-// What is found of a log with this header, from its first frame on.
-fn judge_frames<R: Read>(
+// Checks the frames of a WAL with the header `head`. `log` is at the first one, and `frame` is the buffer.
+fn check_frames<R: Read>(
     log: &mut R,
     head: &[u8; HEADER],
     frame: &mut [u8],
@@ -89,14 +90,15 @@ fn judge_frames<R: Read>(
         → IfOk result (IsVerdict bytes) }
     ensures fault { IfErr result (IsUnjudged (R.remaining log.old)) }
 {
-    match follow(log, head, frame)? {
-        Some(stop) => judge_rest(log, head, frame, stop),
+    match find_stop(log, head, frame)? {
+        Some(stop) => state_at_stop(log, head, frame, stop),
         None => Ok(WalState::Sound),
     }
 }
 
-// What is found of a log in which recovery stops at this frame.
-fn judge_rest<R: Read>(
+// The state of a WAL in which recovery stops at frame `stop`, which was read last. A crash may tear the last
+// commit, so that it is damaged only if it loses two.
+fn state_at_stop<R: Read>(
     log: &mut R,
     head: &[u8; HEADER],
     frame: &mut [u8],
@@ -118,9 +120,9 @@ fn judge_rest<R: Read>(
     })
 }
 
-// Reads as long as recovery takes the frames, and answers at which whole frame it stops, if it does. That
-// frame was read last then.
-fn follow<R: Read>(
+// Reads frames as long as recovery accepts them; returns the number of the first that it doesn't accept,
+// which is then in `frame`, or `None` if the WAL ends before.
+fn find_stop<R: Read>(
     log: &mut R,
     head: &[u8; HEADER],
     frame: &mut [u8],
@@ -138,7 +140,7 @@ fn follow<R: Read>(
         if !next_frame(log, frame)? {
             return Ok(None);
         }
-        if !is_taken(head, sum, frame) {
+        if !is_frame_valid(head, sum, frame) {
             return Ok(Some(stop));
         }
         sum = sum_at(frame, 16);
@@ -146,8 +148,8 @@ fn follow<R: Read>(
     Err(WalError::Endless)
 }
 
-// How many commits end at the frame that was read last, or behind it as far as frames have the salts of the
-// header.
+// How many commits end at the frame that was read last or after it, up to the first frame without the salts
+// of the header.
 fn count_commits<R: Read>(
     log: &mut R,
     head: &[u8; HEADER],
@@ -164,7 +166,7 @@ fn count_commits<R: Read>(
         if !has_salts(head, frame) {
             return Ok(commits);
         }
-        commits += ends_of(frame);
+        commits += commits_ended(frame);
         if !next_frame(log, frame)? {
             return Ok(commits);
         }
@@ -172,7 +174,7 @@ fn count_commits<R: Read>(
     Err(WalError::Endless)
 }
 
-// Reads the next frame, and answers whether it is whole.
+// Reads the next frame; returns false if the WAL ends before its end.
 fn next_frame<R: Read>(log: &mut R, frame: &mut [u8]) -> Result<bool, Reads>
     ensures value { (page n : ℕ) (bytes : List ℕ) → length frame.old ≡ 24 + page
         → IsBefore page bytes n (R.remaining log.old)

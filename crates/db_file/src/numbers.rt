@@ -1,12 +1,12 @@
-//! The numbers and checksums in a log's bytes.
+//! The numbers and checksums in the bytes of a WAL.
 
 ghost use Rattle.std.specs.Prelude.{◌≡◌, ◌+◌, ◌≤◌, length};
 ghost use Rattle.sqlite_wal.specs.Format.{be32, stored_sum};
 
-/// SQLite's checksum of a log: two sums of 32 bits.
+/// SQLite's checksum of a WAL: two numbers of 32 bits.
 pub type Sum = (u32, u32);
 
-/// Four bytes as a number, the highest first.
+/// The big-endian number in the four bytes from `at` on.
 #[tactic(auto, unfolding(sqlite_wal::specs::Format::be32))]
 pub fn number_at(bytes: &[u8], at: usize) -> u32
     requires { at + 4 ≤ length bytes.now }
@@ -18,7 +18,7 @@ pub fn number_at(bytes: &[u8], at: usize) -> u32
         + bytes[at + 3] as u32
 }
 
-/// The checksum that is stored at a place.
+/// The checksum that is stored in the eight bytes from `at` on.
 pub fn sum_at(bytes: &[u8], at: usize) -> Sum
     requires { at + 8 ≤ length bytes.now }
     ensures { result ≡ stored_sum bytes.now at }

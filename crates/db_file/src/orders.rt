@@ -1,4 +1,5 @@
-//! The order in which a file lists its tables and indexes, by its first page.
+//! The order in which a database file lists its tables and indexes: that of the rows of the schema table,
+//! which are on the first page. The canonical order is that in which the desk makes them.
 
 ghost use Rattle.std.specs.Prelude.{◌≡◌, ◌≤◌, ◌<◌, ◌++◌, length, take, is_some, IfOk, IfSome, IsErr};
 ghost use Rattle.std.specs.Prelude.{None, OnOk, Some, false, true};
@@ -15,21 +16,20 @@ use sqlite_wal::PageSize;
 use std::fs::File;
 use std::io::{self, ErrorKind, Read, Write};
 
-// What the header of a tree's page has for a leaf.
+// The type of a page that is a leaf of a table's tree.
 const LEAF: u8 = 13;
 
-// How many tables and indexes a desk has.
+// How many tables and indexes the schema has.
 const ALL: u16 = 14;
 
-/// What is said of a file that lists the tables and indexes of a desk in another order than the desk
-/// takes.
+/// The message about a file whose tables and indexes are in an order that the desk doesn't read.
 pub fn order_text() -> &'static str
     ensures { result.now ≡ spec.order_text }
 {
     "its tables stand in another order than a desk's: copy makes a desk of it"
 }
 
-// The name at a place of a desk's own order.
+// The name of the table or index at `place` of the canonical order; empty past the last.
 fn own_name(place: u16) -> &'static [u8]
     ensures { result.now ≡ spec.name_at false place }
 {
@@ -53,7 +53,7 @@ fn own_name(place: u16) -> &'static [u8]
     name.as_bytes()
 }
 
-// The place in a desk's own order of what a packed file has at a place.
+// The place in the canonical order of what a packed file has at `place`: all its tables precede the indexes.
 fn packed_place(place: u16) -> u16
     ensures { result ≡ spec.packed_place place }
 {
@@ -66,7 +66,7 @@ fn packed_place(place: u16) -> u16
     if place == 12 { 8 } else { place }
 }
 
-// The name at a place of the one order or the other.
+// The name at `place` of the packed order if `is_packed`, else of the canonical one.
 fn name_at(is_packed: bool, place: u16) -> &'static [u8]
     ensures { result.now ≡ spec.name_at is_packed place }
 {
@@ -77,14 +77,14 @@ fn name_at(is_packed: bool, place: u16) -> &'static [u8]
     })
 }
 
-// How many rows a page has.
+// How many rows a first page has, by its header.
 fn count_of(page: &[u8]) -> u16
     ensures { result ≡ spec.count page.now }
 {
     u16::from(byte(page, 103)) * 256 + u16::from(byte(page, 104))
 }
 
-// Where the cell of a slot begins.
+// Where the cell of the row at `slot` begins.
 fn cell(page: &[u8], slot: u16) -> usize
     ensures value { result ≡ spec.cell page.now slot }
     ensures small { result < 65536 }
@@ -93,14 +93,14 @@ fn cell(page: &[u8], slot: u16) -> usize
     usize::from(byte(page, at)) * 256 + usize::from(byte(page, at + 1))
 }
 
-// Whether the size of a slot's row takes two bytes.
+// Whether the size of the row at `slot` is stored in two bytes.
 fn is_long(page: &[u8], slot: u16) -> bool
     ensures { result ≡ spec.is_long page.now slot }
 {
     128 <= byte(page, cell(page, slot))
 }
 
-// Where the rowid of a slot's row stands.
+// Where the rowid of the row at `slot` is.
 fn rowid_at(page: &[u8], slot: u16) -> usize
     ensures value { result ≡ spec.rowid_at page.now slot }
     ensures small { result < 65538 }
@@ -108,7 +108,7 @@ fn rowid_at(page: &[u8], slot: u16) -> usize
     cell(page, slot) + if is_long(page, slot) { 2 } else { 1 }
 }
 
-// How many bytes the row of a slot has behind its rowid.
+// How many bytes the row at `slot` has after its rowid.
 fn size(page: &[u8], slot: u16) -> usize
     ensures value { result ≡ spec.size page.now slot }
     ensures small { result < 65536 }
@@ -121,7 +121,7 @@ fn size(page: &[u8], slot: u16) -> usize
     }
 }
 
-// Whether the row of a slot lies within the page, and its rowid has one byte.
+// Whether the row at `slot` lies within the page, and its rowid has one byte. Only such rows are reordered.
 fn is_plain(page: &[u8], slot: u16) -> bool
     ensures { result ≡ spec.is_plain page.now slot }
 {
@@ -135,7 +135,7 @@ fn is_plain(page: &[u8], slot: u16) -> bool
     rowid_at(page, slot) + 1 + size(page, slot) <= page.len()
 }
 
-// The bytes of a slot's row.
+// The bytes of the row at `slot` after its rowid.
 fn row(page: &[u8], slot: u16) -> &[u8]
     requires { spec.is_plain page.now slot ≡ true }
     ensures { result.now ≡ spec.row page.now slot }
@@ -145,14 +145,14 @@ fn row(page: &[u8], slot: u16) -> &[u8]
     row
 }
 
-// How many bytes a text has, by the number that stands for its length.
+// How many bytes a text has, by its serial type (the SQLite file format, section 2.1).
 fn text_len(code: u8) -> usize
     ensures { result ≡ spec.text_len code }
 {
     usize::from(code.saturating_sub(13)) / 2
 }
 
-// Whether a row has a name.
+// Whether a row of the schema table has `name` as its second column.
 fn has_name(row: &[u8], name: &[u8]) -> bool
     ensures { result ≡ spec.has_name row.now name.now }
 {
@@ -166,7 +166,7 @@ fn has_name(row: &[u8], name: &[u8]) -> bool
     text == name
 }
 
-// Whether the row of a slot has a name.
+// Whether the row at `slot` is that of the table or index `name`.
 fn is_named(page: &[u8], slot: u16, name: &[u8]) -> bool
     ensures { result ≡ spec.is_slot_named page.now slot name.now }
 {
@@ -176,7 +176,7 @@ fn is_named(page: &[u8], slot: u16, name: &[u8]) -> bool
     has_name(row(page, slot), name)
 }
 
-// The first slot whose row has a name.
+// The first slot whose row is that of the table or index `name`.
 fn slot_of(page: &[u8], name: &[u8]) -> Option<u16>
     ensures value { result ≡ spec.slot_of page.now name.now }
     ensures plain { IfSome result (λ slot. spec.is_plain page.now slot ≡ true) }
@@ -190,7 +190,8 @@ fn slot_of(page: &[u8], name: &[u8]) -> Option<u16>
     None
 }
 
-// Whether a slot stands for the row that another page has in one of its own: as `is_moved` says.
+// Whether the slot `to` of `page` has the row of the slot `from` of `old`, in the same place, with the rowid
+// `to + 1`.
 fn is_moved(old: &[u8], from: u16, page: &[u8], to: u16) -> bool
     requires { spec.is_plain old.now from ≡ true }
     ensures { result ≡ spec.is_moved old.now from page.now to }
@@ -207,7 +208,7 @@ fn is_moved(old: &[u8], from: u16, page: &[u8], to: u16) -> bool
     row(page, to) == row(old, from)
 }
 
-// Whether a slot stands for the row that another page has of the name at its place in an order.
+// Whether the slot `to` of `page` has the row that `old` has of the name at place `to` of an order.
 fn is_moved_by_name(is_packed: bool, old: &[u8], page: &[u8], to: u16) -> bool
     ensures { result ≡ spec.is_moved_by_name is_packed old.now page.now to }
 {
@@ -217,7 +218,7 @@ fn is_moved_by_name(is_packed: bool, old: &[u8], page: &[u8], to: u16) -> bool
     }
 }
 
-// Whether so many slots stand for the rows that another page has, in an order of names.
+// Whether the first `count` slots of `page` have the rows of `old` in packed or canonical order.
 fn are_moved(is_packed: bool, old: &[u8], page: &[u8], count: u16) -> bool
     ensures { result ≡ spec.are_moved is_packed old.now page.now 0 count }
 {
@@ -229,16 +230,16 @@ fn are_moved(is_packed: bool, old: &[u8], page: &[u8], count: u16) -> bool
     true
 }
 
-// Whether a page lists its rows in an order, with the rowids 1, 2 and so on.
+// Whether a page lists its rows in packed or canonical order, with the rowids 1, 2 and so on.
 fn are_listed(is_packed: bool, page: &[u8]) -> bool
     ensures { result ≡ spec.are_listed is_packed page.now }
 {
     are_moved(is_packed, page, page, count_of(page))
 }
 
-// Whether a page of so few rows lists them neither in a desk's own order nor in that of a packed file.
-fn is_other(page: &[u8]) -> bool
-    ensures { result ≡ spec.is_other page.now }
+// Whether a leaf page with at most `ALL` rows lists them in neither the canonical nor the packed order.
+fn is_in_other_order(page: &[u8]) -> bool
+    ensures { result ≡ spec.is_in_other_order page.now }
 {
     if byte(page, 100) != LEAF {
         return false;
@@ -252,7 +253,7 @@ fn is_other(page: &[u8]) -> bool
     !(count_of(page) == ALL && are_listed(true, page))
 }
 
-// Gives a slot the cell that another page has in one of its slots, and the row its rowid.
+// Points the slot `to` of `page` to the cell of the slot `from` of `old`, whose row gets the rowid `to + 1`.
 fn move_row(old: &[u8], from: u16, to: u16, page: &mut [u8])
     requires plain { spec.is_plain old.now from ≡ true }
     requires room { 136 ≤ length page.old }
@@ -266,7 +267,8 @@ fn move_row(old: &[u8], from: u16, to: u16, page: &mut [u8])
     page[rowid_at(old, from)] = to as u8 + 1;
 }
 
-// Gives a slot the row that another page has of the name at its place in a desk's own order, if it has one.
+// Gives the slot `to` of `page` the row that `old` has of the name at that place of the canonical order;
+// returns false if there is none.
 fn place_row(old: &[u8], to: u16, page: &mut [u8]) -> bool
     requires room { 136 ≤ length page.old }
     requires same { length page.old ≡ length old.now }
@@ -284,7 +286,8 @@ fn place_row(old: &[u8], to: u16, page: &mut [u8]) -> bool
     }
 }
 
-// Gives so many slots the rows of a page, in a desk's own order, if there are rows of these names.
+// Gives the first `count` slots of `page` the rows of `old` in canonical order; returns false if one is
+// missing.
 fn place_rows(old: &[u8], count: u16, page: &mut [u8]) -> bool
     requires room { 136 ≤ length page.old }
     requires same { length page.old ≡ length old.now }
@@ -300,15 +303,15 @@ fn place_rows(old: &[u8], count: u16, page: &mut [u8]) -> bool
     true
 }
 
-// Puts the rows of a page into a desk's own order, if it is a file's first page and lists the tables and
-// indexes of a desk, or the first few of them, in another order than the desk takes. Else it has something.
-fn put_in_order(old: &[u8], page: &mut [u8]) -> bool
+// Reorders `page`, a copy of the first page `old`, canonically. Returns false if `old` doesn't list the
+// schema's tables and indexes, or the first few of them, in another order; `page` is then unspecified.
+fn try_reorder(old: &[u8], page: &mut [u8]) -> bool
     requires room { 136 ≤ length page.old }
     requires same { page.old ≡ old.now }
     ensures ordered { result ≡ true → spec.ordered old.now ≡ Some page.new }
     ensures left { result ≡ false → spec.ordered old.now ≡ None }
 {
-    if !is_other(old) {
+    if !is_in_other_order(old) {
         return false;
     }
     let count = count_of(old);
@@ -318,8 +321,8 @@ fn put_in_order(old: &[u8], page: &mut [u8]) -> bool
     are_moved(false, old, page, count)
 }
 
-// Whether a page is a file's first and lists the tables and indexes of a desk, or the first few of them, in
-// another order than the desk takes.
+// Whether a first page lists the schema's tables and indexes, or the first few of them, in an order that is
+// neither canonical nor packed.
 fn is_disordered(page: &[u8]) -> bool
     requires { IsFirstPage page.now }
     ensures { result ≡ is_some (spec.ordered page.now) }
@@ -327,10 +330,10 @@ fn is_disordered(page: &[u8]) -> bool
     let mut room = [0u8; MAX_PAGE];
     let other = &mut room[..page.len()];
     other.copy_from_slice(page);
-    put_in_order(page, other)
+    try_reorder(page, other)
 }
 
-/// Puts the rows of a file's first page into a desk's own order, if they are those of a desk in another.
+/// Reorders the rows of a first page canonically, if they are the schema's in another order than the packed.
 pub fn order_page(page: &mut [u8])
     requires { IsFirstPage page.old }
     ensures { page.new ≡ spec.ordered_page page.old }
@@ -338,13 +341,12 @@ pub fn order_page(page: &mut [u8])
     let mut room = [0u8; MAX_PAGE];
     let old = &mut room[..page.len()];
     old.copy_from_slice(page);
-    if !put_in_order(old, page) {
+    if !try_reorder(old, page) {
         page.copy_from_slice(old);
     }
 }
 
-// Reads the first page of a file, with its rows in a desk's own order, if they are those of a desk in
-// another.
+// Reads the first page of a file, and reorders its rows as `order_page` does.
 fn read_in_order<R: Read>(file: &mut R, page: &mut [u8]) -> io::Result<()>
     requires { IsFirstPage page.old }
     ensures length { length page.new ≡ length page.old }
@@ -359,15 +361,14 @@ fn read_in_order<R: Read>(file: &mut R, page: &mut [u8]) -> io::Result<()>
     Ok(())
 }
 
-/// Whether the file at a path lists the tables and indexes of a desk, or the first few of them, in another
-/// order than the desk takes; not if it can't be read. One with a log is not reported by it: its first page
-/// may stand in the log anew.
+/// Whether the file at `path` lists the schema's tables and indexes, or the first few of them, in an order
+/// that is neither canonical nor packed; false if it can't be read. A newer first page in a WAL isn't seen.
 pub fn has_other_order(rt: &HostRuntime, path: &str) -> bool {
-    is_other_file(open_regular(rt, path))
+    is_disordered_if_opened(open_regular(rt, path))
 }
 
-// The same of a file that was opened; not if it wasn't, or can't be read.
-fn is_other_file<R: Read + Drop>(opened: io::Result<R>) -> bool
+// Whether the file `opened` lists its tables in another order; false if it wasn't opened, or can't be read.
+fn is_disordered_if_opened<R: Read + Drop>(opened: io::Result<R>) -> bool
     ensures unread { IsErr opened → result ≡ false }
     ensures said { IfOk opened (λ file. IfSome (R.remaining file) (λ bytes.
         IsPageSize (size_in_file bytes) → result ≡ true → spec.has_other_order bytes ≡ true)) }
@@ -375,14 +376,14 @@ fn is_other_file<R: Read + Drop>(opened: io::Result<R>) -> bool
         ¬ IsPageSize (size_in_file bytes) → result ≡ false)) }
 {
     match opened {
-        Ok(mut file) => matches!(reads_disordered(&mut file), Ok(true)),
+        Ok(mut file) => matches!(is_file_disordered(&mut file), Ok(true)),
         Err(_) => false,
     }
 }
 
-// Whether a file lists, on its first page, the tables and indexes of a desk, or the first few of them, in
-// another order than the desk takes. One that says no size of its pages does not.
-fn reads_disordered<R: Read>(file: &mut R) -> io::Result<bool>
+// Whether a file lists the schema's tables and indexes, or the first few of them, in another order; false if
+// its header names no valid page size.
+fn is_file_disordered<R: Read>(file: &mut R) -> io::Result<bool>
     ensures said { IfOk result (λ is. IfSome (R.remaining file.old) (λ bytes.
         IsPageSize (size_in_file bytes) → is ≡ spec.has_other_order bytes)) }
     ensures none { IfOk result (λ is. IfSome (R.remaining file.old) (λ bytes.
@@ -391,13 +392,17 @@ fn reads_disordered<R: Read>(file: &mut R) -> io::Result<bool>
     let mut header = [0u8; HEADER];
     file.read_exact(&mut header)?;
     match page_size_in(&header) {
-        Some(size) => reads_page(file, &header, size),
+        Some(size) => is_first_page_disordered(file, &header, size),
         None => Ok(false),
     }
 }
 
-// The same of a file whose header was read, by its first page, which has this size.
-fn reads_page<R: Read>(file: &mut R, header: &[u8; HEADER], size: PageSize) -> io::Result<bool>
+// Whether the first page, of `size` bytes, lists them in another order; `header` was read from `file` before.
+fn is_first_page_disordered<R: Read>(
+    file: &mut R,
+    header: &[u8; HEADER],
+    size: PageSize,
+) -> io::Result<bool>
     ensures { IfOk result (λ is. IfSome (R.remaining file.old) (λ rest.
         is ≡ is_some (spec.ordered (take (bytes_of size) (header.now ++ rest))))) }
 {
@@ -407,7 +412,7 @@ fn reads_page<R: Read>(file: &mut R, header: &[u8; HEADER], size: PageSize) -> i
     Ok(is_disordered(page))
 }
 
-// Reads the first page of a file whose header was read; it has this size.
+// Reads the first page, of `size` bytes, into `page`; `header` was read from `file` before.
 fn read_page<R: Read>(
     file: &mut R,
     header: &[u8; HEADER],
@@ -423,23 +428,23 @@ fn read_page<R: Read>(
     whole.read_exact(page)
 }
 
-/// Copies the file of a database, mended: the rows of its first page in a desk's own order, if they are those
-/// of a desk in another; and each page with its sum, if its pages have sums. Nothing else is opened, so that
-/// whoever holds the file goes on holding it.
+/// Copies a database file, repaired: its first page is reordered as by `order_page`, and the checksum of each
+/// page is set, if pages have checksums. Nothing else is opened, so that the caller keeps its locks on the
+/// file.
 ///
 /// # Errors
 ///
-/// What the reading or the writing failed with; `Unsupported` if its header names no size of pages.
-pub fn copy_mended<W: Write>(file: &mut File, twin: &mut W) -> io::Result<()> {
+/// The error of the read or write that failed; `Unsupported` if the header names no valid page size.
+pub fn copy_mended<W: Write>(file: &mut File, output: &mut W) -> io::Result<()> {
     let len = file.metadata()?.len();
-    copy_by_header(file, twin, len)
+    copy_by_header(file, output, len)
 }
 
-// Copies a file of so many bytes, mended: how long its pages are, and whether they have sums, its header
-// says.
-fn copy_by_header<R: Read, W: Write>(file: &mut R, twin: &mut W, len: u64) -> io::Result<()>
+// Copies a file of `len` bytes, repaired. Its header says how long its pages are, and whether they have
+// checksums.
+fn copy_by_header<R: Read, W: Write>(file: &mut R, output: &mut W, len: u64) -> io::Result<()>
     ensures mended { OnOk result (IfSome (R.remaining file.old) (λ bytes. length bytes ≡ len →
-        Appends (W.contents twin.old) (W.contents twin.new)
+        Appends (W.contents output.old) (W.contents output.new)
         (spec.mended (has_checksums bytes) (size_in_file bytes) bytes))) }
     ensures sized { OnOk result (IfSome (R.remaining file.old) (λ bytes.
         IsPageSize (size_in_file bytes))) }
@@ -449,51 +454,51 @@ fn copy_by_header<R: Read, W: Write>(file: &mut R, twin: &mut W, len: u64) -> io
     match page_size_in(&header) {
         Some(size) => {
             let mut whole = (&header[..]).chain(file);
-            copy_in_order(&mut whole, twin, size, len, keeps_checksums(&header))
+            copy_in_order(&mut whole, output, size, len, keeps_checksums(&header))
         }
         None => Err(io::Error::from(ErrorKind::Unsupported)),
     }
 }
 
-/// Copies a file of so many bytes, the rows of its first page in a desk's own order, if they are those of a
-/// desk in another; and each page with its sum, if the file has sums.
+/// Copies a file of `len` bytes, repaired: its first page is reordered as by `order_page`, and if
+/// `has_checksums`, the checksum of each page is set.
 ///
 /// # Errors
 ///
-/// What the reading or the writing failed with.
+/// The error of the read or write that failed.
 pub fn copy_in_order<R: Read, W: Write>(
     file: &mut R,
-    twin: &mut W,
+    output: &mut W,
     size: PageSize,
     len: u64,
     has_checksums: bool,
 ) -> io::Result<()>
     ensures { OnOk result (IfSome (R.remaining file.old) (λ bytes. length bytes ≡ len →
-        Appends (W.contents twin.old) (W.contents twin.new)
+        Appends (W.contents output.old) (W.contents output.new)
         (spec.mended has_checksums (bytes_of size) bytes))) }
 {
     let mut room = [0u8; MAX_PAGE];
     let page = &mut room[..size.bytes()];
     read_in_order(file, page)?;
     let mut whole = (&*page).chain(file);
-    copy_with(&mut whole, twin, size, len, has_checksums)
+    copy_with(&mut whole, output, size, len, has_checksums)
 }
 
-// Copies a file of so many bytes, each page with its sum, if the file has sums.
+// Copies a file of `len` bytes; if `has_checksums`, the checksum of each page is set.
 fn copy_with<R: Read, W: Write>(
     file: &mut R,
-    twin: &mut W,
+    output: &mut W,
     size: PageSize,
     len: u64,
     has_checksums: bool,
 ) -> io::Result<()>
     ensures { OnOk result (IfSome (R.remaining file.old) (λ bytes. length bytes ≡ len →
-        Appends (W.contents twin.old) (W.contents twin.new)
+        Appends (W.contents output.old) (W.contents output.new)
         (spec.with_sums has_checksums (bytes_of size) bytes))) }
 {
     if has_checksums {
-        copy_checksummed(file, twin, size, len)
+        copy_checksummed(file, output, size, len)
     } else {
-        copy_bytes(file, twin)
+        copy_bytes(file, output)
     }
 }

@@ -1,4 +1,4 @@
-//! A disk in memory: a file that no crash can reach, so that a sync has nothing to do.
+//! A file in memory. Nothing is left of it after a crash, so that a sync has nothing to do.
 
 ghost use Rattle.std.specs.Prelude.{◌≡◌, length, true, false, is_ok, OnOk};
 ghost use Rattle.sqlite_disk.specs.Disk.{Holds, Torn, Cut, CountsFault};
@@ -8,11 +8,11 @@ use sqlite_disk::{Disk, Tally, digest_of};
 use std::alloc::{AllocError, Global};
 use std::io;
 
-/// A file in memory, gone when the program ends. Only a growth that is refused makes a call fail.
+/// A file in memory, gone when the program ends. A write fails only if memory runs out.
 #[derive(Drop)]
 pub struct Ram {
     bytes: Vec<u8>,
-    // how many calls have failed, and how many reads missed their digest, each up to the type's last value
+    // how many allocations failed or reads had the wrong digest, and how many the latter; both saturate
     faults: u64,
     caught: u64,
 }
@@ -33,7 +33,7 @@ impl Ram {
 }
 
 impl Ram {
-    /// A file with these bytes.
+    /// A file with the content `bytes`.
     pub fn of(bytes: Vec<u8>) -> Ram
         ensures bytes { result.bytes.items ≡ bytes.items }
     {
@@ -72,7 +72,7 @@ impl Disk for Ram {
         false
     }
 
-    // Memory reports no lie, so it needs no secret.
+    // Memory returns what was written, so that digests need no secret key.
     fn key(&self) -> u64 {
         0
     }
@@ -111,11 +111,11 @@ impl Disk for Ram {
     }
 
     fn write_at(&mut self, at: usize, bytes: &[u8]) -> io::Result<()> {
-        count(overwrite(&mut self.bytes, at, bytes), &mut self.faults)
+        count_refusal(overwrite(&mut self.bytes, at, bytes), &mut self.faults)
     }
 
     fn set_len(&mut self, len: usize) -> io::Result<()> {
-        count(resize(&mut self.bytes, len), &mut self.faults)
+        count_refusal(resize(&mut self.bytes, len), &mut self.faults)
     }
 
     fn sync(&mut self) -> io::Result<()> {
@@ -123,8 +123,8 @@ impl Disk for Ram {
     }
 }
 
-// What came of a growth, with one that was refused counted.
-fn count(outcome: Result<(), AllocError>, faults: &mut u64) -> io::Result<()>
+// The outcome of an allocation as an I/O result; a failure is counted in `faults`.
+fn count_refusal(outcome: Result<(), AllocError>, faults: &mut u64) -> io::Result<()>
     ensures variant { is_ok result ≡ is_ok outcome }
     ensures kind { finds_no_room result ≡ false }
     ensures faults { CountsFault result faults.old faults.new }
@@ -136,6 +136,7 @@ fn count(outcome: Result<(), AllocError>, faults: &mut u64) -> io::Result<()>
     Ok(())
 }
 
+// Cuts `file` to `len` bytes, or extends it with zeros.
 fn resize(file: &mut Vec<u8>, len: usize) -> Result<(), AllocError>
     ensures len { OnOk result (length file.new.items ≡ len) }
     ensures others { Cut len file.old.items file.new.items }
@@ -143,7 +144,7 @@ fn resize(file: &mut Vec<u8>, len: usize) -> Result<(), AllocError>
     file.resize(len, 0)
 }
 
-// Writes bytes from a place on; the file grows where it ends before.
+// Writes `bytes` from index `at` on, and extends the file if it ends before.
 fn overwrite(file: &mut Vec<u8>, at: usize, bytes: &[u8]) -> Result<(), AllocError>
     ensures written { OnOk result (Holds file.new.items at bytes.now) }
     ensures others { Torn at (length bytes.now) file.old.items file.new.items }

@@ -1,4 +1,4 @@
-//! Bytes read from a log.
+//! Bytes read from a WAL.
 
 ghost use Rattle.std.specs.Prelude.{◌≡◌, ◌<◌, ◌≤◌, false, true, length, take, IfErr, IfOk, IfSome};
 ghost use Rattle.std.specs.Io.KnownBytes.{Consumes, IsAtEnd};
@@ -7,14 +7,14 @@ ghost use Rattle.db_file.specs.Reads.{HaveBrokenOff};
 use crate::reads::{Reads, read_counted};
 use std::io::Read;
 
-// How many reads a frame may take.
+// The most reads that one call makes.
 const MAX_READS: u32 = u32::MAX;
 
-/// Fills all of the room, and answers whether there were as many bytes. Interrupted reads are tried again.
+/// Fills `room` from `input`; returns false if the input ends before. Interrupted reads are retried.
 ///
 /// # Errors
 ///
-/// The reads that there were, if the last of them failed, or as many as there may be were not enough.
+/// How many reads there were, if the last one failed, or if 2^32 - 1 of them weren't enough.
 pub fn read_whole<R: Read>(input: &mut R, room: &mut [u8]) -> Result<bool, Reads>
     ensures whole { IfOk result (λ is_whole. is_whole ≡ true →
         Consumes (R.remaining input.old) (R.remaining input.new) room.new) }
@@ -26,7 +26,7 @@ pub fn read_whole<R: Read>(input: &mut R, room: &mut [u8]) -> Result<bool, Reads
     Ok(count == room.len())
 }
 
-// Fills the room as far as there are bytes, and answers how far that is.
+// Reads into `room` until it is full or the input ends; returns how many bytes were read.
 fn fill<R: Read>(input: &mut R, room: &mut [u8]) -> Result<usize, Reads>
     ensures within { IfOk result (λ count. count ≤ length room.new) }
     ensures taken { IfOk result (λ count.

@@ -1,4 +1,4 @@
-//! Reads that are counted, one call of a reader each.
+//! Reads, each one call of a reader, that are counted.
 
 ghost use Rattle.std.specs.Prelude.{◌≡◌, ◌↔◌, ◌+◌, ◌<◌, ◌^◌, ◌-◌, IsTrue};
 ghost use Rattle.std.specs.Io.{ReadsAtMost};
@@ -7,16 +7,16 @@ ghost use Rattle.db_file.specs.Reads.{IsLastRead};
 
 use std::io::{self, ErrorKind, Read};
 
-/// How the last of some reads came out.
+/// The result of the last read.
 #[derive(Clone, Copy, Debug, PartialEq, Eq)]
 pub enum LastRead {
-    /// It answered how many bytes there were, or was interrupted, or there was none: another may follow.
+    /// It returned a number of bytes, or was interrupted, or there was no read yet: another may follow.
     Passed,
-    /// It failed, and was not just interrupted.
+    /// It failed with another error than an interruption.
     Failed,
 }
 
-/// How many reads there were, and how the last of them came out. Only `read_counted` counts one more.
+/// How many reads there were, and the result of the last one. Only `read_counted` adds one.
 #[derive(Clone, Copy, Debug, PartialEq, Eq)]
 pub struct Reads {
     count: u32,
@@ -35,7 +35,7 @@ impl Reads {
         }
     }
 
-    // Whether another may follow.
+    // Whether another read may follow: the last one didn't fail.
     pub(crate) fn may_go_on(self) -> bool
         ensures { IsTrue result ↔ (self.last ≡ LastRead.Passed) }
     {
@@ -43,7 +43,7 @@ impl Reads {
     }
 }
 
-// Reads once, after reads that all passed, and counts it, whatever comes of it.
+// Reads once into `room`, and adds the read to `reads` even if it fails.
 pub(crate) fn read_counted<R: Read>(
     input: &mut R,
     room: &mut [u8],
@@ -62,7 +62,7 @@ pub(crate) fn read_counted<R: Read>(
     read
 }
 
-// How a read came out.
+// Whether a read passed. One that was interrupted did, since it can be retried.
 fn last_of(read: &io::Result<usize>) -> LastRead
     ensures { IsLastRead read.now result }
 {

@@ -1,5 +1,5 @@
-//! The sums on the pages of a database, as SQLite's cksumvfs has them: the last eight bytes of each page. The
-//! desk keeps them, and sqlite3 doesn't.
+//! The checksums of a database's pages, as SQLite's cksumvfs has them: the last eight bytes of each page. The
+//! desk updates them when it writes a page, and sqlite3 doesn't.
 
 ghost use Rattle.std.specs.Prelude.{◌≡◌, ◌≤◌, drop, length, None, Some, take, true, IfNone, IfOk};
 ghost use Rattle.std.specs.Prelude.{IfSome, IsErr, IsErrAnd, IsOk, OnOk};
@@ -16,25 +16,29 @@ use sqlite_wal::{PageSize, checksum_of};
 use std::fs::{self, File, Metadata};
 use std::io::{self, ErrorKind, Read, Write};
 
-/// Whether the pages of the database at a path have sums; they haven't if it can't be looked at.
+/// Whether the pages of the database at `path` have checksums; false if it can't be read.
 pub fn has_checksums(rt: &HostRuntime, path: &str) -> bool {
     checksummed_size(open_regular(rt, path)).is_some()
 }
 
-/// How many pages of the database at a path have another sum than theirs. None if its pages have no sums, or
+/// How many pages of the database at `path` have a wrong checksum. None if its pages have no checksums, or
 /// can't be read.
 pub fn count_bad_checksums(rt: &HostRuntime, path: &str) -> Option<u64> {
     let size = checksummed_size(open_regular(rt, path))?;
     let len = fs::metadata(rt, path).ok()?.len();
-    unsummed(File::open(rt, path), size, len)
+    count_bad_if_opened(File::open(rt, path), size, len)
 }
 
-// How many pages of a file that was opened, of so many bytes, have another sum than theirs; none if it wasn't
-// opened, or can't be read.
-fn unsummed<R: Read + Drop>(opened: io::Result<R>, size: PageSize, len: u64) -> Option<u64>
+// How many pages have a wrong checksum in the file `opened`, of `len` bytes. None if it wasn't opened, or
+// can't be read.
+fn count_bad_if_opened<R: Read + Drop>(
+    opened: io::Result<R>,
+    size: PageSize,
+    len: u64,
+) -> Option<u64>
     ensures unread { IsErr opened → result ≡ None }
-    ensures counted { IfSome result (λ unsummed. IfOk opened (λ file. IfSome (R.remaining file) (λ bytes.
-        length bytes ≡ len → unsummed ≡ spec.unsummed_in (bytes_of size) bytes))) }
+    ensures counted { IfSome result (λ bad_count. IfOk opened (λ file. IfSome (R.remaining file) (λ bytes.
+        length bytes ≡ len → bad_count ≡ spec.unsummed_in (bytes_of size) bytes))) }
 {
     match opened {
         Ok(mut file) => count_bad_pages(&mut file, size, len).ok(),
@@ -42,7 +46,7 @@ fn unsummed<R: Read + Drop>(opened: io::Result<R>, size: PageSize, len: u64) -> 
     }
 }
 
-// The size of a page of a file that was opened, if its pages have sums; none if it wasn't opened, or can't be
+// The page size of the file `opened`, if its pages have checksums. None also if it wasn't opened, or can't be
 // read.
 fn checksummed_size<R: Read + Drop>(opened: io::Result<R>) -> Option<PageSize>
     ensures unread { IsErr opened → result ≡ None }
@@ -50,13 +54,13 @@ fn checksummed_size<R: Read + Drop>(opened: io::Result<R>) -> Option<PageSize>
         (keeps_checksums bytes ≡ true) × (bytes_of size ≡ size_in_file bytes)))) }
 {
     match opened {
-        Ok(mut file) => reads_checksummed(&mut file).ok()?,
+        Ok(mut file) => read_checksummed_size(&mut file).ok()?,
         Err(_) => None,
     }
 }
 
-// The size of a page by the first bytes of a file, if its pages have sums.
-fn reads_checksummed<R: Read>(file: &mut R) -> io::Result<Option<PageSize>>
+// Reads the header of a database; returns its page size, if its pages have checksums.
+fn read_checksummed_size<R: Read>(file: &mut R) -> io::Result<Option<PageSize>>
     ensures some { IfOk result (λ found. IfSome found (λ size. IfSome (R.remaining file.old) (λ bytes.
         (keeps_checksums bytes ≡ true) × (bytes_of size ≡ size_in_file bytes)))) }
     ensures none { IfOk result (λ found. IfNone found (IfSome (R.remaining file.old) (λ bytes.
@@ -67,7 +71,7 @@ fn reads_checksummed<R: Read>(file: &mut R) -> io::Result<Option<PageSize>>
     Ok(checksummed_size_in(&header))
 }
 
-// The size of a page by the header of a database, if its pages have sums.
+// The page size that the header of a database names, if its pages have checksums.
 fn checksummed_size_in(header: &[u8; HEADER]) -> Option<PageSize>
     ensures some { IfSome result (λ size.
         (keeps_checksums header.now ≡ true) × (bytes_of size ≡ size_in_file header.now)) }
@@ -80,17 +84,17 @@ fn checksummed_size_in(header: &[u8; HEADER]) -> Option<PageSize>
     page_size_in(header)
 }
 
-/// Opens a file to be read. What is no regular file is not opened: a pipe would wait for a writer.
+/// Opens the file at `path` for reading, if it is a regular file: to open a pipe would wait for a writer.
 ///
 /// # Errors
 ///
-/// What the opening failed with; `Unsupported` if it is no regular file.
+/// The system's error; `Unsupported` if it isn't a regular file.
 pub fn open_regular(rt: &HostRuntime, path: &str) -> io::Result<File> {
     refuse_irregular(&fs::metadata(rt, path)?)?;
     File::open(rt, path)
 }
 
-// Refuses what is no regular file.
+// Fails with `Unsupported` if the metadata `found` isn't of a regular file.
 fn refuse_irregular(found: &Metadata) -> io::Result<()>
     ensures file { IsFile (file_type found.now) → IsOk result }
     ensures other { ¬ IsFile (file_type found.now) → IsErrAnd result (λ e. error_kind e ≡ Unsupported) }
@@ -102,99 +106,99 @@ fn refuse_irregular(found: &Metadata) -> io::Result<()>
     }
 }
 
-/// Copies a file of so many bytes page by page, each with its sum in the place of its last bytes.
+/// Copies the whole pages of a file of `len` bytes to `output`, each with its checksum set.
 ///
 /// # Errors
 ///
-/// What the reading or the writing failed with.
+/// The error of the read or write that failed.
 pub fn copy_checksummed<R: Read, W: Write>(
     file: &mut R,
-    twin: &mut W,
+    output: &mut W,
     size: PageSize,
     len: u64,
 ) -> io::Result<()>
     ensures { OnOk result (IfSome (R.remaining file.old) (λ bytes. length bytes ≡ len →
-        Appends (W.contents twin.old) (W.contents twin.new)
+        Appends (W.contents output.old) (W.contents output.new)
         (spec.summed_file (bytes_of size) bytes))) }
 {
-    copy_pages(file, twin, size, len / size.bytes() as u64)
+    copy_pages(file, output, size, len / size.bytes() as u64)
 }
 
-// Copies so many pages of a file, each with its sum in the place of its last bytes.
+// Copies the next `count` pages to `output`, each with its checksum set.
 fn copy_pages<R: Read, W: Write>(
     file: &mut R,
-    twin: &mut W,
+    output: &mut W,
     size: PageSize,
     count: u64,
 ) -> io::Result<()>
     ensures { OnOk result (IfSome (R.remaining file.old) (λ bytes.
-        Appends (W.contents twin.old) (W.contents twin.new)
+        Appends (W.contents output.old) (W.contents output.new)
         (spec.summed_pages (bytes_of size) count bytes))) }
 {
     let mut room = [0u8; MAX_PAGE];
     let page = &mut room[..size.bytes()];
     for _ in 0..count {
-        copy_page(file, twin, page)?;
+        copy_page(file, output, page)?;
     }
     Ok(())
 }
 
-// Copies a page with its sum in the place of its last bytes.
-fn copy_page<R: Read, W: Write>(file: &mut R, twin: &mut W, page: &mut [u8]) -> io::Result<()>
+// Copies the next page to `output` with its checksum set. `page` is the buffer.
+fn copy_page<R: Read, W: Write>(file: &mut R, output: &mut W, page: &mut [u8]) -> io::Result<()>
     requires { 8 ≤ length page.old }
     ensures length { length page.new ≡ length page.old }
     ensures left { OnOk result (IfSome (R.remaining file.old) (λ bytes.
         R.remaining file.new ≡ Some (drop (length page.old) bytes))) }
     ensures copied { OnOk result (IfSome (R.remaining file.old) (λ bytes.
-        Appends (W.contents twin.old) (W.contents twin.new)
+        Appends (W.contents output.old) (W.contents output.new)
         (spec.summed (take (length page.old) bytes)))) }
 {
     file.read_exact(page)?;
     set_checksum(page);
-    twin.write_all(page)
+    output.write_all(page)
 }
 
-/// How many pages of a file of so many bytes end with another sum than theirs.
+/// How many of the whole pages of a file of `len` bytes have a wrong checksum.
 ///
 /// # Errors
 ///
-/// What the reading failed with.
+/// The error of the read that failed.
 pub fn count_bad_pages<R: Read>(file: &mut R, size: PageSize, len: u64) -> io::Result<u64>
-    ensures { IfOk result (λ unsummed. IfSome (R.remaining file.old) (λ bytes. length bytes ≡ len →
-        unsummed ≡ spec.unsummed_in (bytes_of size) bytes)) }
+    ensures { IfOk result (λ bad_count. IfSome (R.remaining file.old) (λ bytes. length bytes ≡ len →
+        bad_count ≡ spec.unsummed_in (bytes_of size) bytes)) }
 {
-    count_pages(file, size, len / size.bytes() as u64)
+    count_bad_in(file, size, len / size.bytes() as u64)
 }
 
-// How many of the first pages, so many, end with another sum than theirs.
-fn count_pages<R: Read>(file: &mut R, size: PageSize, count: u64) -> io::Result<u64>
-    ensures { IfOk result (λ unsummed. IfSome (R.remaining file.old) (λ bytes.
-        unsummed ≡ spec.unsummed_pages (bytes_of size) count bytes)) }
+// How many of the next `count` pages have a wrong checksum.
+fn count_bad_in<R: Read>(file: &mut R, size: PageSize, count: u64) -> io::Result<u64>
+    ensures { IfOk result (λ bad_count. IfSome (R.remaining file.old) (λ bytes.
+        bad_count ≡ spec.unsummed_pages (bytes_of size) count bytes)) }
 {
     let mut room = [0u8; MAX_PAGE];
     let page = &mut room[..size.bytes()];
-    let mut unsummed = 0;
+    let mut bad_count = 0;
     for _ in 0..count {
-        unsummed += count_page(file, page)?;
+        bad_count += count_bad_page(file, page)?;
     }
-    Ok(unsummed)
+    Ok(bad_count)
 }
 
-// 1 if the next page ends with another sum than its own, else 0.
-fn count_page<R: Read>(file: &mut R, page: &mut [u8]) -> io::Result<u64>
+// Reads the next page; returns 1 if it has a wrong checksum, else 0. `page` is the buffer.
+fn count_bad_page<R: Read>(file: &mut R, page: &mut [u8]) -> io::Result<u64>
     requires { 8 ≤ length page.old }
     ensures length { length page.new ≡ length page.old }
-    ensures most { IfOk result (λ unsummed. unsummed ≤ 1) }
+    ensures most { IfOk result (λ bad_count. bad_count ≤ 1) }
     ensures left { OnOk result (IfSome (R.remaining file.old) (λ bytes.
         R.remaining file.new ≡ Some (drop (length page.old) bytes))) }
-    ensures counted { IfOk result (λ unsummed. IfSome (R.remaining file.old) (λ bytes.
-        unsummed ≡ spec.unsummed_page (take (length page.old) bytes))) }
+    ensures counted { IfOk result (λ bad_count. IfSome (R.remaining file.old) (λ bytes.
+        bad_count ≡ spec.unsummed_page (take (length page.old) bytes))) }
 {
     file.read_exact(page)?;
     Ok(if has_own_checksum(page) { 0 } else { 1 })
 }
 
-// Whether a page ends with the sum of what stands before.
+// Whether a page ends with the checksum of the bytes before.
 fn has_own_checksum(page: &[u8]) -> bool
     requires { 8 ≤ length page.now }
     ensures { result ≡ spec.has_sum page.now }
@@ -203,7 +207,7 @@ fn has_own_checksum(page: &[u8]) -> bool
     sum == &sum_of(bytes)[..]
 }
 
-/// Writes the sum of a page in the place of its last bytes.
+/// Sets the checksum of a page: its last eight bytes.
 pub fn set_checksum(page: &mut [u8])
     requires { 8 ≤ length page.old }
     ensures { page.new ≡ spec.summed page.old }
@@ -212,7 +216,7 @@ pub fn set_checksum(page: &mut [u8])
     sum.copy_from_slice(&sum_of(bytes));
 }
 
-// The sum of bytes, as it stands in a file.
+// The checksum of `bytes` as a page has it: two little-endian numbers of 32 bits.
 #[tactic(auto, unfolding(crate::specs::Sums::sum_of))]
 fn sum_of(bytes: &[u8]) -> [u8; SUM]
     ensures { result ≡ spec.sum_of bytes.now }
@@ -224,14 +228,14 @@ fn sum_of(bytes: &[u8]) -> [u8; SUM]
     sum
 }
 
-/// Copies the bytes of a file.
+/// Copies all bytes of `file` to `output`.
 ///
 /// # Errors
 ///
-/// What the reading or the writing failed with.
-pub fn copy_bytes<R: Read, W: Write>(file: &mut R, twin: &mut W) -> io::Result<()>
+/// The error of the read or write that failed; `FileTooLarge` after 2^64 - 1 reads.
+pub fn copy_bytes<R: Read, W: Write>(file: &mut R, output: &mut W) -> io::Result<()>
     ensures { OnOk result (IfSome (R.remaining file.old)
-        (Appends (W.contents twin.old) (W.contents twin.new))) }
+        (Appends (W.contents output.old) (W.contents output.new))) }
 {
     let mut room = [0u8; MAX_PAGE];
     for _ in 0..u64::MAX {
@@ -239,7 +243,7 @@ pub fn copy_bytes<R: Read, W: Write>(file: &mut R, twin: &mut W) -> io::Result<(
         if count == 0 {
             return Ok(());
         }
-        twin.write_all(&room[..count])?;
+        output.write_all(&room[..count])?;
     }
     Err(io::Error::from(ErrorKind::FileTooLarge))
 }

@@ -1,4 +1,4 @@
-//! The header of a log.
+//! The header of a WAL.
 
 ghost use Rattle.std.specs.Prelude.{◌≡◌, ◌↔◌, None, IfSome, IsTrue};
 ghost use Rattle.sqlite_wal.specs.Format.{IsHeader, IsSigned, be32};
@@ -13,24 +13,24 @@ pub const HEADER: usize = 32;
 // The version of the format that SQLite reads.
 const VERSION: u32 = 3_007_000;
 
-// What the header's last byte of the magic number is where the checksum reads the highest byte first.
+// The last byte of the magic number if checksums are computed over big-endian words.
 const BIG: u8 = 0x83;
 
-/// The size of the pages of a log, if this is the header of one.
+/// The page size that the header of a WAL names, or `None` if `head` isn't a valid header.
 pub fn page_size_in(head: &[u8; 32]) -> Option<usize>
     ensures some { IfSome result (λ page. IsHeader page head.now) }
     ensures size { IfSome result IsPageSize }
     ensures none { result ≡ None → IsHeader (be32 head.now 8) head.now → ¬ IsPageSize (be32 head.now 8) }
 {
-    if number_at(head, 4) != VERSION || !is_signed(head) {
+    if number_at(head, 4) != VERSION || !has_magic_and_checksum(head) {
         return None;
     }
     let size = PageSize::new(number_at(head, 8) as usize)?;
     Some(size.bytes())
 }
 
-// Whether a header begins with a magic number and ends with its checksum.
-fn is_signed(head: &[u8; 32]) -> bool
+// Whether `head` begins with a magic number of WALs and ends with the checksum of its first 24 bytes.
+fn has_magic_and_checksum(head: &[u8; 32]) -> bool
     ensures { IsTrue result ↔ IsSigned head.now }
 {
     if head[0] != 0x37 || head[1] != 0x7f || head[2] != 0x06 {

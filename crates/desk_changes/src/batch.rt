@@ -1,4 +1,4 @@
-//! Rows of volumes and of spans added, and plans removed, one after the other.
+//! Several rows added, or several plans removed, one after the other.
 
 ghost use Rattle.std.specs.Prelude.{◌≡◌, ⊤, OnOk, IsTrue, length, map};
 ghost use Rattle.std.specs.String.{string_bytes};
@@ -18,7 +18,7 @@ use crate::execute::execute;
 use crate::writing::{SpanRecord, VolumeRecord};
 use sqlite::{Alter, Error, Transaction};
 
-/// Adds these rows to `volume2`.
+/// Adds `rows` to `volume2`, within a transaction.
 pub fn insert_volumes<S: Alter>(
     tx: &mut Transaction<'_, S>,
     rows: &[VolumeRecord<'_>],
@@ -36,7 +36,7 @@ pub fn insert_volumes<S: Alter>(
     Ok(())
 }
 
-/// Adds these rows to `span2`.
+/// Adds `rows` to `span2`, within a transaction.
 pub fn insert_spans<S: Alter>(
     tx: &mut Transaction<'_, S>,
     rows: &[SpanRecord<'_>],
@@ -53,7 +53,7 @@ pub fn insert_spans<S: Alter>(
     Ok(())
 }
 
-/// Removes the plans of these ids, and their volumes and spans with them.
+/// Removes the operator's plans `ids` with their volumes and spans, within a transaction.
 pub fn remove_plans<S: Alter>(
     tx: &mut Transaction<'_, S>,
     operator: &str,
@@ -70,16 +70,16 @@ pub fn remove_plans<S: Alter>(
     ensures cause { HasRefusal S.Store tx.old.conn.now tx.new.conn.now result }
     ensures remembered { Remembers S.Store tx.old.conn.now tx.new.conn.now }
 {
-    // Refused on a connection that is shut, also if there are no ids.
+    // It fails on a connection that an error has shut, even if there are no ids.
     tx.prepare(RowChange::RemovePlan { operator, id: "" }.text())?;
     'ids: for id in ids {
-        remove_one(tx, operator, id)?;
+        remove_plan_by_id(tx, operator, id)?;
     }
     Ok(())
 }
 
-// Removes the plan of an id, which is a text of its own.
-fn remove_one<S: Alter>(
+// Removes the operator's plan `id` with its volumes and spans.
+fn remove_plan_by_id<S: Alter>(
     tx: &mut Transaction<'_, S>,
     operator: &str,
     id: &String,

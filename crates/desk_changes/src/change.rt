@@ -12,7 +12,7 @@ use crate::writing::{PlanRecord, SpanRecord, VolumeRecord};
 use desk_sql::Parameters;
 use sqlite::params;
 
-/// A change of rows, with what it is given.
+/// A change of rows, with the values that its statement takes.
 #[derive(Clone, Copy)]
 pub(crate) enum RowChange<'a> {
     /// Adds a row to `operator`.
@@ -26,20 +26,19 @@ pub(crate) enum RowChange<'a> {
     AddVolume(VolumeRecord<'a>),
     /// Adds a row to `span2`.
     AddSpan(SpanRecord<'a>),
-    /// Sets the ceiling of the operator with this name, if there is one.
+    /// Sets the ceiling of the operator `name`, if there is one.
     SetCeiling {
         name: &'a str,
         ceiling: u32,
     },
-    /// Sets the row of a plan, if there is one, to the usage Closed with this priority and this state of
-    /// the aircraft.
+    /// Gives a plan, if there is one, the usage Closed, this priority and this state of the aircraft.
     SetClosed {
         operator: &'a str,
         id: &'a str,
         priority: u32,
         aircraft: u32,
     },
-    /// Removes a plan, and its volumes and spans with it. Without the plan it changes nothing.
+    /// Removes a plan with its volumes and spans, if there is one.
     RemovePlan {
         operator: &'a str,
         id: &'a str,
@@ -56,7 +55,7 @@ pub(crate) enum RowChange<'a> {
 }
 
 impl<'a> RowChange<'a> {
-    /// The text, whose parameters are what the change is given.
+    /// The statement as SQL.
     pub(crate) fn text(self) -> &'static str
         ensures { IsTextOf self.entry result.now }
     {
@@ -74,7 +73,7 @@ impl<'a> RowChange<'a> {
         }
     }
 
-    /// What the change is given, as the parameters of its text.
+    /// The values of the statement's parameters.
     pub(crate) fn params(self) -> Parameters<'a>
         ensures { result ≡ given_to self.entry }
     {
@@ -104,21 +103,21 @@ impl<'a> RowChange<'a> {
     }
 }
 
-// Adds a row to `operator`.
+// The statement that adds a row to `operator`.
 fn add_operator_text() -> &'static str
     ensures { (name : List ℕ) (ceiling : ℕ) → DoesAddOperator name ceiling result.now }
 {
     "INSERT INTO operator (name, ceiling) VALUES (?1, ?2)"
 }
 
-// Adds a row to `plan`.
+// The statement that adds a row to `plan`.
 fn add_plan_text() -> &'static str
     ensures { (row : PlanRow) → IsTextOf (RowChange.AddPlan row) result.now }
 {
     "INSERT INTO plan (operator, id, priority, usage, aircraft) VALUES (?1, ?2, ?3, ?4, ?5)"
 }
 
-// Adds a row to `volume2`.
+// The statement that adds a row to `volume2`.
 fn add_volume_text() -> &'static str
     ensures { (row : VolumeRow) → IsTextOf (RowChange.AddVolume row) result.now }
 {
@@ -126,7 +125,7 @@ fn add_volume_text() -> &'static str
      VALUES (?1, ?2, ?3, ?4, ?5, ?6, ?7, ?8, ?9)"
 }
 
-// Adds a row to `span2`.
+// The statement that adds a row to `span2`.
 fn add_span_text() -> &'static str
     ensures { (row : SpanRow) → IsTextOf (RowChange.AddSpan row) result.now }
 {
@@ -134,14 +133,14 @@ fn add_span_text() -> &'static str
      VALUES (?1, ?2, ?3, ?4, ?5, ?6, ?7, ?8, ?9, ?10)"
 }
 
-// Sets the ceiling of the operator with a name.
+// The statement that sets the ceiling of an operator.
 fn set_ceiling_text() -> &'static str
     ensures { (name : List ℕ) (ceiling : ℕ) → DoesSetCeiling name ceiling result.now }
 {
     "UPDATE operator SET ceiling = ?2 WHERE name = ?1"
 }
 
-// Sets the row of a plan to the usage Closed, with a priority and a state of the aircraft.
+// The statement that gives a plan the usage Closed (2), a priority and a state of the aircraft.
 fn set_closed_text() -> &'static str
     ensures { (operator id : List ℕ) (priority aircraft : ℕ) →
         DoesSetClosed operator id priority aircraft result.now }
@@ -149,21 +148,21 @@ fn set_closed_text() -> &'static str
     "UPDATE plan SET priority = ?3, usage = 2, aircraft = ?4 WHERE operator = ?1 AND id = ?2"
 }
 
-// Removes a plan, and its volumes and spans with it.
+// The statement that removes a plan. Its volumes and spans go with it, by the foreign keys.
 fn remove_plan_text() -> &'static str
     ensures { (operator id : List ℕ) → DoesRemovePlan operator id result.now }
 {
     "DELETE FROM plan WHERE operator = ?1 AND id = ?2"
 }
 
-// Removes the spans of a plan.
+// The statement that removes the spans of a plan.
 fn remove_spans_text() -> &'static str
     ensures { (operator id : List ℕ) → DoesRemoveSpans operator id result.now }
 {
     "DELETE FROM span2 WHERE operator = ?1 AND id = ?2"
 }
 
-// Removes all rows of `volume`.
+// The statement that removes all rows of `volume`.
 #[tactic(auto, using(crate::proofs::ChangeTexts::empty_old_volumes_does))]
 fn empty_old_volumes_text() -> &'static str
     ensures { IsTextOf RowChange.EmptyOldVolumes result.now }
@@ -171,7 +170,7 @@ fn empty_old_volumes_text() -> &'static str
     "DELETE FROM volume"
 }
 
-// Removes all rows of `span`.
+// The statement that removes all rows of `span`.
 #[tactic(auto, using(crate::proofs::ChangeTexts::empty_old_spans_does))]
 fn empty_old_spans_text() -> &'static str
     ensures { IsTextOf RowChange.EmptyOldSpans result.now }

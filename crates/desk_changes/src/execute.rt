@@ -12,7 +12,7 @@ use crate::change::RowChange;
 use desk_sql::run;
 use sqlite::{Alter, Error, Transaction};
 
-/// Makes a change, and counts the rows that it changed.
+/// Runs the statement of `change`, and returns how many rows it changed.
 pub(crate) fn execute_counted<S: Alter>(
     tx: &mut Transaction<'_, S>,
     change: RowChange<'_>,
@@ -28,7 +28,7 @@ pub(crate) fn execute_counted<S: Alter>(
     Ok(count)
 }
 
-/// Makes a change.
+/// Runs the statement of `change`.
 pub(crate) fn execute<S: Alter>(
     tx: &mut Transaction<'_, S>,
     change: RowChange<'_>,

@@ -1,5 +1,5 @@
-//! Changes of the desk's tables: each statement that changes rows as a function whose contract speaks of
-//! rows, and the transactions that these stand in.
+//! Changes of the desk's tables: each statement that changes rows as a function whose contract says which
+//! rows it changes, and the transactions that run these.
 #![tactic(auto)]
 
 mod batch;

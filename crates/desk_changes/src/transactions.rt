@@ -18,7 +18,7 @@ use crate::writing::{PlanRecord, SpanRecord, VolumeRecord, insert_operator, inse
 use desk_sql::laws::committed_and_sound;
 use sqlite::{Alter, Connection, Error, Transaction};
 
-/// Removes the plans of these ids, and their volumes and spans with them, as one transaction.
+/// Removes the operator's plans `ids` with their volumes and spans, in one transaction.
 pub fn clear_plans<S: Alter>(
     connection: &mut Connection<S>,
     operator: &str,
@@ -34,7 +34,7 @@ pub fn clear_plans<S: Alter>(
     tx.commit()
 }
 
-/// Puts a plan with its volumes and spans, in place of what there was of it, as one transaction.
+/// Stores a plan with its volumes and spans, and removes its former version, in one transaction.
 pub fn put_plan<S: Alter>(
     connection: &mut Connection<S>,
     plan: PlanRecord<'_>,
@@ -63,8 +63,12 @@ pub fn put_plan<S: Alter>(
     tx.commit()
 }
 
-// Sets the ceiling of the operator with this name, or adds the operator.
-fn set_or_add<S: Alter>(tx: &mut Transaction<'_, S>, name: &str, ceiling: u32) -> Result<(), Error>
+// Sets the ceiling of the operator `name`, or adds the operator if there is none.
+fn set_or_add_operator<S: Alter>(
+    tx: &mut Transaction<'_, S>,
+    name: &str,
+    ceiling: u32,
+) -> Result<(), Error>
     requires desk { Holds S.Store tx.old.conn.now IsDesk }
     ensures same_reference { tx.new.conn.ghost_name ≡ tx.old.conn.ghost_name }
     ensures changed { IsChanged S.Store tx.old.conn.now tx.new.conn.now result
@@ -79,7 +83,7 @@ fn set_or_add<S: Alter>(tx: &mut Transaction<'_, S>, name: &str, ceiling: u32) -
     Ok(())
 }
 
-/// Sets the ceiling of the operator with this name, or adds the operator, as one transaction.
+/// Sets the ceiling of the operator `name`, or adds the operator if there is none, in one transaction.
 pub fn put_operator<S: Alter>(
     connection: &mut Connection<S>,
     name: &str,
@@ -91,12 +95,12 @@ pub fn put_operator<S: Alter>(
 {
     committed_and_sound(connection);
     let mut tx = connection.transaction();
-    set_or_add(&mut tx, name, ceiling)?;
+    set_or_add_operator(&mut tx, name, ceiling)?;
     tx.commit()
 }
 
-/// Closes a plan, if it is there: its row gets the usage Closed with this priority and this state
-/// of the aircraft, and its spans go. One transaction.
+/// Closes the operator's plan `id`, if it is stored, in one transaction: its row gets the usage Closed, this
+/// priority and this state of the aircraft, and its spans are removed.
 pub fn close_plan<S: Alter>(
     connection: &mut Connection<S>,
     operator: &str,

@@ -21,7 +21,7 @@ pub struct PlanRecord<'a> {
     pub aircraft: u32,
 }
 
-/// A row of `volume2`: altitudes in decimetres above the WGS84 ellipsoid, moments in seconds since 1970.
+/// A row of `volume2`: altitudes in decimetres above the WGS84 ellipsoid, times in Unix seconds.
 #[derive(Clone, Copy, Debug)]
 pub struct VolumeRecord<'a> {
     pub operator: &'a str,
@@ -36,8 +36,8 @@ pub struct VolumeRecord<'a> {
     pub canon: &'a [u8],
 }
 
-/// A row of `span2`: leaf positions, altitudes in decimetres above the WGS84 ellipsoid, moments in
-/// seconds since 1970.
+/// A row of `span2`: leaf positions, altitudes in decimetres above the WGS84 ellipsoid, times in Unix
+/// seconds.
 #[derive(Clone, Copy, Debug)]
 pub struct SpanRecord<'a> {
     pub operator: &'a str,
@@ -52,7 +52,7 @@ pub struct SpanRecord<'a> {
     pub priority: u32,
 }
 
-/// Adds a row to `operator`.
+/// Adds a row to `operator`, within a transaction.
 pub fn insert_operator<S: Alter>(
     tx: &mut Transaction<'_, S>,
     name: &str,
@@ -67,7 +67,7 @@ pub fn insert_operator<S: Alter>(
     execute(tx, RowChange::AddOperator { name, ceiling })
 }
 
-/// Adds a row to `plan`.
+/// Adds a row to `plan`, within a transaction.
 pub fn insert_plan<S: Alter>(
     tx: &mut Transaction<'_, S>,
     operator: &str,

@@ -26,7 +26,7 @@ use Rattle.desk_sql.specs.Effects.{Spares}
 use Rattle.desk_sql.specs.Frames.{Remembers}
 use Rattle.desk_sql.proofs.lemmas.Leaving.{remembers_then}
 use Rattle.desk_sql.specs.Statements.{MayWrite, Extends, enforced}
-use Rattle.desk_sql.proofs.lemmas.Texts.{operator_text, plan_text, old_volume_text, old_span_text, old_first_text, volume_text, span_text, first_text}
+use Rattle.desk_sql.proofs.lemmas.Texts.{operator_text, plan_text, old_volume_text, old_span_text, old_leaf_index_text, volume_text, span_text, leaf_index_text}
 use Rattle.desk_sql.proofs.TextLemmas.{operator_is, plan_is, old_volume_is, old_span_is, old_first_is, volume_is, span_is, first_is}
 use Rattle.desk_sql.proofs.lemmas.Write.{went, same_value, does_command, is_writing, ran, ran_sound}
 
@@ -319,7 +319,7 @@ indexes schema text at table index known limit old new has h =
       subst (λ (d : Database). KeepsRows schema.tables old.trees d.trees) (sym now) rows,
     )
 
-pub old_first_makes : MakesIndex old_table_schema old_first_text 3 old_span_made old_span_first
+pub old_first_makes : MakesIndex old_table_schema old_leaf_index_text 3 old_span_made old_span_first
 unfolding understood everything
 old_first_makes = record {
   is = refl;
@@ -351,18 +351,18 @@ old_first_grown old new was schema kept = (
   rw (kept.0, kept.1.0, kept.1.1.0, kept.1.1.1.0),
 )
 
-pub old_first_extends : Extends old_first_text OldSpans OldIndex
+pub old_first_extends : Extends old_leaf_index_text OldSpans OldIndex
 old_first_extends = record {
   plain = old_first_makes.plain;
-  writes = is_writing (understood old_table_schema old_first_text) (CreateIndex 3) old_first_makes.is tt
+  writes = is_writing (understood old_table_schema old_leaf_index_text) (CreateIndex 3) old_first_makes.is tt
       old_first_makes.plain;
   tables = λ limit old new was h.
-      let did = indexes old_table_schema old_first_text 3 old_span_made old_span_first old_first_makes limit
+      let did = indexes old_table_schema old_leaf_index_text 3 old_span_made old_span_first old_first_makes limit
       old new was.schema h in
       old_first_grown old new was did.0 did.1;
 }
 
-pub first_makes : MakesIndex table_schema first_text 5 span_made span_first
+pub first_makes : MakesIndex table_schema leaf_index_text 5 span_made span_first
 unfolding understood everything
 first_makes = record {
   is = refl;
@@ -394,13 +394,13 @@ first_grown old new was schema kept = (
   rw (kept.0, kept.1.0, kept.1.1.0, kept.1.1.1.0, kept.1.1.1.1.0, kept.1.1.1.1.1.0),
 )
 
-pub first_extends : Extends first_text Spans All
+pub first_extends : Extends leaf_index_text Spans All
 first_extends = record {
   plain = first_makes.plain;
-  writes = is_writing (understood table_schema first_text) (CreateIndex 5) first_makes.is tt
+  writes = is_writing (understood table_schema leaf_index_text) (CreateIndex 5) first_makes.is tt
       first_makes.plain;
   tables = λ limit old new was h.
-      let did = indexes table_schema first_text 5 span_made span_first first_makes limit old
+      let did = indexes table_schema leaf_index_text 5 span_made span_first first_makes limit old
       new was.schema h in
       first_grown old new was did.0 did.1;
 }

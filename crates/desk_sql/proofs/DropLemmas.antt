@@ -31,8 +31,8 @@ use Rattle.desk_sql.specs.Effects.{Makes}
 use Rattle.desk_sql.specs.Unpacking.{packed_old_first_index, Drops, Unpacks, RemakesTables, loose_schema, spanless_schema}
 use Rattle.desk_sql.proofs.lemmas.Write.{went, same_value, does_command, ran, ran_sound}
 
-abbrev pub drop_old_first_text : List ℕ
-drop_old_first_text = codes "DROP INDEX span_first"
+abbrev pub drop_old_leaf_index_text : List ℕ
+drop_old_leaf_index_text = codes "DROP INDEX span_first"
 
 abbrev pub drop_spans_text : List ℕ
 drop_spans_text = codes "DROP TABLE span2"
@@ -136,7 +136,7 @@ table_dropped schema text at table known limit old new has h =
 
 -- ---- the three texts
 
-pub drops_old_first : DropsIndex packed_schema drop_old_first_text 6 packed_old_first_index
+pub drops_old_first : DropsIndex packed_schema drop_old_leaf_index_text 6 packed_old_first_index
 unfolding understood everything packed_old_first_index
 drops_old_first = record {
   is = refl;

@@ -32,7 +32,7 @@ use Rattle.desk_sql.proofs.lemmas.Stop.{caused_inside, whole_in}
 use Rattle.desk_sql.proofs.lemmas.Rowid.{refusal_on}
 use Rattle.desk_sql.proofs.lemmas.Key.{obeyed_refers}
 use Rattle.desk_sql.proofs.StepStops.{stop_at}
-use Rattle.desk_sql.proofs.DropLemmas.{DropsIndex, DropsTable, drop_old_first_text, drop_spans_text, drop_volumes_text, drops_old_first, drops_spans, drops_volumes, index_dropped, kept_counts, kept_rows, table_dropped}
+use Rattle.desk_sql.proofs.DropLemmas.{DropsIndex, DropsTable, drop_old_leaf_index_text, drop_spans_text, drop_volumes_text, drops_old_first, drops_spans, drops_volumes, index_dropped, kept_counts, kept_rows, table_dropped}
 
 -- ---- the index
 
@@ -120,16 +120,16 @@ module _ (schema : Schema) (text : List ℕ) (at : ℕ) (table : Table) (known :
 
 -- ---- the three texts
 
-pub old_first_drops : Drops drop_old_first_text packed_schema loose_schema
+pub old_first_drops : Drops drop_old_leaf_index_text packed_schema loose_schema
 unfolding understood everything packed_old_first_index
 old_first_drops = record {
   plain = drops_old_first.plain;
-  writes = is_writing (understood packed_schema drop_old_first_text) (DropIndex 6) drops_old_first.is tt
+  writes = is_writing (understood packed_schema drop_old_leaf_index_text) (DropIndex 6) drops_old_first.is tt
       drops_old_first.plain;
-  rows = index_dropped packed_schema drop_old_first_text 6 packed_old_first_index drops_old_first;
-  means = whole_in drop_old_first_text 0 (understood packed_schema drop_old_first_text) (DropIndex 6)
+  rows = index_dropped packed_schema drop_old_leaf_index_text 6 packed_old_first_index drops_old_first;
+  means = whole_in drop_old_leaf_index_text 0 (understood packed_schema drop_old_leaf_index_text) (DropIndex 6)
       drops_old_first.is drops_old_first.plain tt refl (omega arith);
-  never = index_never packed_schema drop_old_first_text 6 packed_old_first_index drops_old_first;
+  never = index_never packed_schema drop_old_leaf_index_text 6 packed_old_first_index drops_old_first;
 }
 
 pub spans_drop : Drops drop_spans_text loose_schema spanless_schema

@@ -50,7 +50,7 @@ use Rattle.desk_sql.specs.Statements.{Extends, enforced}
 use Rattle.desk_sql.specs.Changing.{IsWholeIn, MayStop}
 use Rattle.desk_sql.specs.Refusals.{IsRefusal}
 use Rattle.desk_sql.specs.Making.{IsSmall, AreSmall, HasSmallSpans, IsStep}
-use Rattle.desk_sql.proofs.lemmas.Texts.{operator_text, plan_text, old_volume_text, old_span_text, old_first_text, volume_text, span_text, first_text}
+use Rattle.desk_sql.proofs.lemmas.Texts.{operator_text, plan_text, old_volume_text, old_span_text, old_leaf_index_text, volume_text, span_text, leaf_index_text}
 use Rattle.desk_sql.proofs.lemmas.Write.{same_value}
 use Rattle.desk_sql.proofs.lemmas.Stop.{caused_inside, names_in, tail_of, whole_in}
 use Rattle.desk_sql.proofs.lemmas.Rowid.{refusal_on}
@@ -515,11 +515,11 @@ all_entries rows small numbered row there =
     leaf_entry row (of_shown (λ r. AllByRecursion IsSmall r) (columns 10) rows small row there)
     (of_rows (λ r. is_int (rowid r) ≡ true) rows numbered row there)
 
-old_first_free : IsFreeIndex old_table_schema old_first_text 3 old_span_made old_span_first
+old_first_free : IsFreeIndex old_table_schema old_leaf_index_text 3 old_span_made old_span_first
 unfolding understood everything fits_kind is_free_name begins same_name value_cmp Ieee.is_nan Ieee.lt
 old_first_free = record {
   makes = old_first_makes;
-  read = read_ascii old_first_text refl;
+  read = read_ascii old_leaf_index_text refl;
   named = read_ascii old_span_first.name refl;
   on = read_ascii old_span_made.name refl;
   free = refl;
@@ -534,23 +534,23 @@ old_first_free = record {
   all = omega arith;
 }
 
-pub old_first_step : IsStep old_first_text OldSpans OldIndex
+pub old_first_step : IsStep old_leaf_index_text OldSpans OldIndex
 old_first_step = record {
   extends = old_first_extends;
-  means = whole_in old_first_text 0 (understood old_table_schema old_first_text) (CreateIndex 3)
+  means = whole_in old_leaf_index_text 0 (understood old_table_schema old_leaf_index_text) (CreateIndex 3)
       old_first_makes.is old_first_makes.plain tt
       old_first_free.given old_first_free.all;
   never = λ limit db stop was sound small.
-      index_never old_table_schema old_first_text 3 old_span_made old_span_first old_first_free db was.schema
+      index_never old_table_schema old_leaf_index_text 3 old_span_made old_span_first old_first_free db was.schema
       (subst (λ s. Keeps Unique s db.trees) was.schema (sound.obeys.rules Unique))
       (all_entries (db.trees old_span_made.tree) small.0 (was.rows desk.OldSpan refl).whole) limit stop;
 }
 
-first_free : IsFreeIndex table_schema first_text 5 span_made span_first
+first_free : IsFreeIndex table_schema leaf_index_text 5 span_made span_first
 unfolding understood everything fits_kind is_free_name begins same_name value_cmp Ieee.is_nan Ieee.lt
 first_free = record {
   makes = first_makes;
-  read = read_ascii first_text refl;
+  read = read_ascii leaf_index_text refl;
   named = read_ascii span_first.name refl;
   on = read_ascii span_made.name refl;
   free = refl;
@@ -565,14 +565,14 @@ first_free = record {
   all = omega arith;
 }
 
-pub first_step : IsStep first_text Spans All
+pub first_step : IsStep leaf_index_text Spans All
 first_step = record {
   extends = first_extends;
-  means = whole_in first_text 0 (understood table_schema first_text) (CreateIndex 5) first_makes.is
+  means = whole_in leaf_index_text 0 (understood table_schema leaf_index_text) (CreateIndex 5) first_makes.is
       first_makes.plain tt
       first_free.given first_free.all;
   never = λ limit db stop was sound small.
-      index_never table_schema first_text 5 span_made span_first first_free db was.schema
+      index_never table_schema leaf_index_text 5 span_made span_first first_free db was.schema
       (subst (λ s. Keeps Unique s db.trees) was.schema (sound.obeys.rules Unique))
       (all_entries (db.trees span_made.tree) small.1 (was.rows desk.Span refl).whole) limit stop;
 }

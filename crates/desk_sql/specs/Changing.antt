@@ -1,4 +1,4 @@
--- Why a change of a desk's tables is refused.
+-- Why a change of the schema's tables is refused.
 use Rattle.std.specs.Prelude.{◌≡◌, ◌≤◌, ◌<◌, ◌^◌, ◌+ℤ◌, ℕ, pos, Bool, true, false, List, [], length, Option, Some, None, Result, Ok, Err, IsSome}
 use Rattle.std.specs.List.{AllByRecursion, list_all, list_any, range_with_len}
 use Rattle.sqlite.specs.Order.{Row, column}

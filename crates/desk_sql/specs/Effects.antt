@@ -18,7 +18,7 @@ pub record IsReady {S : Type 0} (g : Ghosts S) (h : Held S) (Is : Database → T
 abbrev pub IsOpenIfClean : {S : Type 0} → Ghosts S → Held S → Type 0
 IsOpenIfClean g h = HasCleanDisk (state g h) → IsTrue (state g h).is_open
 
--- a transaction goes on over a desk's tables
+-- a transaction goes on over the schema's tables
 abbrev pub IsUnderWay : {S : Type 0} → Ghosts S → Held S → Type 0
 IsUnderWay g h = HasCleanDisk (state g h) → IsTrue (state g h).is_open × IsTrue h.in_transaction
     × IsDesk (state g h).now × IsDatabase (state g h).now

@@ -22,7 +22,7 @@ table_read whole.OldVolumes = desk.OldVolume
 table_read whole.OldSpans = desk.OldSpan
 table_read whole.Spans = desk.Span
 
--- that table, which in a packed file may stand in another tree
+-- that table, which in a packed file may have another tree
 abbrev pub table_in : WholeTable → Bool → DeskTable
 table_in whole.Operators packed = desk.Operator
 table_in whole.Plans packed = desk.Plan

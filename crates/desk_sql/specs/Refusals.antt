@@ -55,11 +55,11 @@ abbrev pub IsSure : Schema → List ℕ → Type 0
 IsSure schema text = IsSureGiven schema text []
 
 -- so many rows that they are not counted are as memory that ran out
-abbrev pub but_memory : Error → Error
-but_memory (SqliteFailure code.TooBig) = SqliteFailure code.OutOfMemory
-but_memory e = e
+abbrev pub too_big_as_out_of_memory : Error → Error
+too_big_as_out_of_memory (SqliteFailure code.TooBig) = SqliteFailure code.OutOfMemory
+too_big_as_out_of_memory e = e
 
--- a desk's tables, so far as they are made, but in one of them a rowid is no whole number, or comes twice
+-- the schema's tables, so far as they are made, but in one of them a rowid is no whole number, or comes twice
 pub record IsMisnumbered (db : Database) : Type 0 where
   pub made : TablesPresent
   pub schema : db.schema ≡ schema_of made

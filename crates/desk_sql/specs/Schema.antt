@@ -1,4 +1,4 @@
--- The schema of a desk's database, version 2. Version 1 is what there is of it up to the index `span_first`,
+-- The schema of the database, version 2. Version 1 is what there is of it up to the index `span_first`,
 -- with its rows in `volume` and `span`, which are empty in version 2: they stay, so that a file of version 1
 -- grows to this schema.
 use Rattle.std.specs.Prelude.{true, false, [], ◌∷◌, List, ℕ, Bool, None, codes, ◌≡◌}

@@ -71,7 +71,7 @@ MayCount text (Ok c) params limit old new count =
     × (count ≡ unwrap_or tally.rows 0)
 MayCount text (Err e) params limit old new count = ⊥
 
--- a text that shows nothing, and with these parameters changes a desk's tables so
+-- a text that shows nothing, and with these parameters changes the schema's tables so
 pub record Changes (text : List ℕ) (params : Row) (Change : Tables → Tables → Type 0) : Type 0 where
   pub plain : IsPlain (understood desk_schema text)
   pub writes : IsWriting (understood desk_schema text)

@@ -1,4 +1,4 @@
--- What a taker of rows keeps of what it was given at the start.
+-- What a visitor of rows keeps of what it had at the start.
 
 -- what was kept since a first moment is kept
 abbrev pub KeepsOn : {A : Type 0} → (A → A → Type 0) → A → A → Type 0

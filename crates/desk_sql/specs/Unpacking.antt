@@ -1,4 +1,4 @@
--- How the tables of a packed file come into a desk's own order: what stands in another place is dropped, and
+-- How the tables of a packed file are rebuilt in canonical order: what has another tree is dropped, and
 -- made anew.
 use Rattle.std.specs.Prelude.{◌≡◌, IsTrue, ℕ, List, [], Option}
 use Rattle.sqlite.specs.declared.error.Error.{Error}
@@ -41,7 +41,7 @@ pub record Drops (text : List ℕ) (old next : Schema) : Type 0 where
       → ¬ MayStop text (understood old text) [] limit db stop
 
 module _ {S : Type 0} (g : Ghosts S) (old new : Held S) where
-  -- within a transaction, which goes on, what stands in another place than in a desk's own order was dropped
+  -- within a transaction, which goes on, what has another tree than in canonical order was dropped
   pub record Unpacks : Type 0 where
     pub was_open : IsTrue (state g old).is_open
     pub is_open : IsTrue (state g new).is_open

@@ -1,5 +1,5 @@
-//! What holds of each connection. The kit says it at calls that read one, so that a function here makes
-//! these calls, and does nothing else.
+//! What holds for each connection. It follows from the contracts of calls that read a connection, so that a
+//! function here makes these calls and does nothing else.
 
 ghost use Rattle.std.specs.Prelude.{◌≡◌, false, IsTrue};
 ghost use Rattle.sqlite.specs.State.{IsLive};
@@ -7,7 +7,8 @@ ghost use Rattle.sqlite.specs.Held.{state};
 
 use sqlite::{Alter, Connection};
 
-/// Outside a transaction a connection shows what was committed, and what it shows is a sound database.
+/// States that a connection outside a transaction shows what was committed, and that what it shows is a sound
+/// database. It changes nothing.
 pub fn committed_and_sound<S: Alter>(connection: &Connection<S>)
     ensures settled { connection.now.in_transaction ≡ false → IsTrue (state S.Store connection.now).is_open
         → (state S.Store connection.now).now ≡ (state S.Store connection.now).committed }

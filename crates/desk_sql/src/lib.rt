@@ -1,5 +1,5 @@
 //! The desk's tables: their schema, which of them a database has, and each query as a function whose contract
-//! speaks of rows.
+//! says which rows it returns.
 #![tactic(auto)]
 
 pub mod laws;

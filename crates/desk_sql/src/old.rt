@@ -1,3 +1,3 @@
-//! What version 1 of the schema needs: its rows are looked for.
+//! Which versions of the schema a database has rows of.
 
 pub(crate) mod rows;

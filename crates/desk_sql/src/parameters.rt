@@ -1,4 +1,4 @@
-//! What the texts of SQL are given.
+//! The parameters of an SQL statement.
 
 ghost use Rattle.std.specs.Prelude.{◌≡◌, ◌≤◌, length};
 ghost use Rattle.sqlite.specs.Values.{bound};
@@ -6,14 +6,14 @@ ghost use Rattle.sqlite.specs.Values.{bound};
 use sqlite_value::value::ValueRef;
 use std::marker::Model;
 
-// The most parameters of a text.
-const MOST: usize = 10;
+// The most parameters of a statement.
+const MAX_PARAMETERS: usize = 10;
 
-/// The parameters of a text, in turn.
+/// The parameters of a statement, in their order. They need no allocation.
 #[derive(Drop)]
 pub struct Parameters<'a> {
     // the parameters, and nulls after them
-    values: [ValueRef<'a>; MOST],
+    values: [ValueRef<'a>; MAX_PARAMETERS],
     count: usize,
 }
 
@@ -34,12 +34,12 @@ impl<'a> Model for Parameters<'a> {
 }
 
 impl<'a> Parameters<'a> {
-    /// These.
+    /// The parameters `given`.
     pub fn of(given: &[ValueRef<'a>]) -> Parameters<'a>
         requires { length given.now ≤ 10 }
         ensures { result ≡ bound given.now }
     {
-        let mut values = [ValueRef::Null; MOST];
+        let mut values = [ValueRef::Null; MAX_PARAMETERS];
         values[..given.len()].copy_from_slice(given);
         Parameters {
             values,
@@ -47,7 +47,7 @@ impl<'a> Parameters<'a> {
         }
     }
 
-    /// As a statement takes them.
+    /// The parameters as SQLite's calls take them.
     pub fn as_slice(&self) -> &[ValueRef<'a>]
         ensures { bound result.now ≡ self.now }
     {

@@ -1,4 +1,4 @@
-//! Queries, and the rows that they list.
+//! Queries, and the rows that they return.
 
 pub(crate) mod answer;
 pub(crate) mod asking;

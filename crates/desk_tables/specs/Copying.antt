@@ -30,7 +30,7 @@ use Rattle.table_load.specs.declared.fault.OpenFault.{OpenFault}
 use Rattle.table_load.specs.declared.fault.OpenFault.TheVariants.{NotADesk, OldSchema, Store}
 use Rattle.table_load.specs.HeldContent.{ShowsContent, ShowsNone}
 
--- a table of a desk's, or another
+-- a table of the schema, or another
 abbrev pub HasTables : Database → Type 0
 HasTables db = HasOthers db ⊎ ((made : TablesPresent) × (made ≢ Nothing) × IsMadeTo made db)
 

@@ -1,4 +1,4 @@
-//! A store over files, closed: the database file alone is the desk then.
+//! Closing a store over files. The database file alone has its state then.
 
 ghost use Rattle.std.specs.Prelude.{IfErr, IfOk};
 ghost use Rattle.sqlite_wal.specs.Reads.{AreClean};
@@ -9,8 +9,8 @@ use crate::store::SqliteStore;
 use sqlite::{Error, FileStore, Files};
 use sqlite_disk::Disk;
 
-/// Files whose checkpoint failed. Only `close` makes one, after it tried a checkpoint. All that can be done
-/// with them is to drop them, which closes them as they are.
+/// Files whose checkpoint failed. Only `close` makes one, after it tried a checkpoint. They can only be
+/// dropped, which closes them as they are.
 #[derive(Drop)]
 pub struct CheckpointError<D: Disk> {
     error: Error,
@@ -18,14 +18,13 @@ pub struct CheckpointError<D: Disk> {
 }
 
 impl<D: Disk + Drop> SqliteStore<FileStore<D>> {
-    /// Copies the log into the database file and empties it, and gives the files back. If the disk returned
-    /// what was written, the database file alone has the content then, also after a crash.
+    /// Checkpoints the WAL into the database file and empties it; returns the files. If the disk returned
+    /// what was written, the database file alone has the state then, also after a crash.
     ///
     /// # Errors
     ///
-    /// `CheckpointError` if the log can't be copied: memory ran out, the disk failed meanwhile, or the
-    /// connection was shut before. The content is what it was: the files are closed as they are, and are
-    /// read together at the next opening.
+    /// `CheckpointError` if the checkpoint fails: memory ran out, the disk failed, or an error had shut the
+    /// connection before. The state stays: it is read from both files when they are opened again.
     pub fn close(self) -> Result<Files<D>, CheckpointError<D>>
         ensures copied { IfOk result (λ files. AreClean D.Disk files.log files.db →
             IsCopied self.held files) }

@@ -1,4 +1,4 @@
-//! Laws of the definitions. Each is the contract of a function that does nothing.
+//! What follows from the definitions. Each function states it as its contract and does nothing.
 
 ghost use Rattle.std.specs.Prelude.{◌≡◌, ◌⊎◌, ℕ, List, [], ◌∷◌, map, Bool, Some, IsTrue};
 ghost use Rattle.uuid.specs.Text.{parsed};
@@ -55,12 +55,12 @@ pub fn id_texts_are_ordered_as_ids()
         → text_cmp (id_text one) (id_text other) ≡ text_cmp one other }
 {}
 
-/// What a text is read as is an id.
+/// If a text is read as an id, this id is valid.
 pub fn what_is_read_is_an_id()
     ensures { (text id : List ℕ) → Some id ≡ parsed text → IsId id }
 {}
 
-/// Tables stand for one content at most.
+/// The rows of tables stand for at most one database state.
 pub fn one_content()
     ensures { (tables : Tables) (one other : World) → IsContent one → IsContent other
         → AreTables tables one → AreTables tables other → one ≡ other }
@@ -68,28 +68,28 @@ pub fn one_content()
     one_shape();
 }
 
-/// Tables of a content whose rows are changed as a change asks are those of the content after it.
+/// If the tables of a state are changed as a change says, they are those of the state after it.
 pub fn changed_rows_are_the_changed_content()
     ensures { (change : Change) (w : World) (old new : Tables) → IsContent w → IsWithinLimits change
         → AreTables old w → ChangesRows change old new → AreTables new (changed_by change w) }
 {}
 
-/// A content after a change that fits it, and whose values are within their limits, is a content.
+/// A valid state stays valid after a change that fits it and whose values are within their limits.
 pub fn a_changed_content_is_a_content()
     ensures { (change : Change) (w : World) → IsContent w → IsFitting change w → IsWithinLimits change
         → IsContent (changed_by change w) }
 {}
 
-/// Tables of a content in which a plan's rows are put, in place of those of its key, are changed as
-/// a put asks.
+/// If a plan's rows replace those of the same key in the tables of a state, the tables are changed as a put
+/// says.
 pub fn a_plan_put_changes_rows()
     ensures { (p : Filed) (w : World) (old new : Tables) (spans : List Row) → IsContent w
         → IsPlan p.row → AreTables old w → ArePlanSpanRows p spans
         → PutsPlan (filed_put p spans) old new → PutsRows p old new }
 {}
 
-/// Tables of a content in which the row of a stored plan is set to closed, and its spans are removed,
-/// are changed as a close of its id asks.
+/// If the row of a stored plan is set to closed and its spans are removed, the tables of a state are changed
+/// as a close of its id says.
 pub fn a_plan_closed_changes_rows()
     ensures { (operator id : List ℕ) (p : Filed) (w : World) (old new : Tables) → IsContent w
         → IsId id → AreTables old w → own_of operator id w ≡ p ∷ []
@@ -97,30 +97,30 @@ pub fn a_plan_closed_changes_rows()
         → ClosesRows operator id old new }
 {}
 
-/// Tables of a content from which the plans of ids are removed are changed as a clear of the ids
-/// asks.
+/// If the plans of some ids are removed from the tables of a state, these are changed as a clear of the ids
+/// says.
 pub fn plans_removed_change_rows()
     ensures { (operator : List ℕ) (ids : List (List ℕ)) (w : World) (old new : Tables)
         → AreTables old w → RemovesPlans operator (map id_text ids) old new
         → ClearsRows operator ids old new }
 {}
 
-/// Tables of a content in which an operator's row is set, or added, are changed as enrolling asks.
+/// If an operator's row is set or added in the tables of a state, these are changed as an enrolment says.
 pub fn an_operator_put_changes_rows()
     ensures { (name : List ℕ) (ceiling : ℕ) (w : World) (old new : Tables) → IsContent w
         → AreTables old w → PutsOperator name ceiling old new → EnrolsRows name ceiling old new }
 {}
 
-/// A start over files that hold what a crash may have left of a connection: the content whose rows it
-/// finds in a desk's tables is one that the connection said may be found.
+/// The state that a start finds in files after a crash is one of the crash states of the connection that
+/// wrote them.
 pub fn a_start_finds_what_may_be_left<D: Disk, E: Disk>()
     ensures { (last : Held (FileStore D D.Disk)) (found : Held (FileStore E E.Disk)) (w : World)
         → IsFoundAfter last found → IsStanding over_files found w
         → ∥ MayLeave over_files last (Some w) ∥₁ }
 {}
 
-/// Where a crash leaves one content alone, as it does once a change is answered, a store over what is left
-/// begins with that content. Files that are opened are refused only for memory or a fault of the disk.
+/// If a connection has one crash state alone, as it does once a change is answered, a store that is opened
+/// after a crash begins with that state. The files are refused only if memory runs out or the disk fails.
 pub fn a_store_begins_with_what_was_left<D: Disk, E: Disk>()
     ensures begins { (last : Held (FileStore D D.Disk)) (new : Held (FileStore E E.Disk))
         (w other : World) → LeavesOnly w (MayLeave over_files last) → BeginsAfter last new other
@@ -130,9 +130,8 @@ pub fn a_store_begins_with_what_was_left<D: Disk, E: Disk>()
         → LeavesOnly w (MayLeave over_files last) → ¬ IsRefusedAtRest last e left }
 {}
 
-/// Wherever a start over what a connection left is cut short, and however it ends: where one content alone
-/// was left, that content alone is left again. So however many starts are cut short, the one that comes after
-/// them begins with it.
+/// If a connection has one crash state alone, this also is the only crash state of a start over its files,
+/// wherever that is cut short and however it ends. So the first start that isn't cut short begins with it.
 pub fn a_start_cut_short_leaves_the_content<D: Disk, E: Disk>()
     ensures opened { (last : Held (FileStore D D.Disk)) (image : Image) (new : Held (FileStore E E.Disk))
         (w : World) → LeavesOnly w (MayLeave over_files last) → IsImageLeft last image
@@ -146,8 +145,8 @@ pub fn a_start_cut_short_leaves_the_content<D: Disk, E: Disk>()
     one_content();
 }
 
-/// After a start that was cut short, wherever that was, the next one finds the content that the files had, in
-/// one schema or in the other. A store that begins over it, also by a move, begins with that content.
+/// After a start that was cut short anywhere, the next one finds the state that the files had, in either
+/// schema. A store that is opened over it, by a migration too, begins with that state.
 pub fn a_start_after_one_cut_short_finds_the_content<D: Disk, E: Disk>()
     ensures found { (image : Image) (w : World) (cut : Held (FileStore D D.Disk))
         (found : Held (FileStore E E.Disk)) → ShowContent D.Disk image w → IsCutShort IsMovedOn image cut
@@ -161,9 +160,8 @@ pub fn a_start_after_one_cut_short_finds_the_content<D: Disk, E: Disk>()
     one_shape();
 }
 
-/// Wherever an opening of files fails or is cut short before it has a connection, and however often: what is
-/// left of them holds the database that they held. Where they held none, there is none, or one of what was
-/// found.
+/// If opening files fails or is cut short before there is a connection, they have the same database as
+/// before. If they had none, they have none, or one of what was found.
 pub fn a_failed_opening_leaves_the_database<D: Disk>()
     ensures held { (image next : Image) (it : Leftover D D.Disk) (db : Trees) → HoldsDatabase image db
         → RemainsOf image it next → ∥ HoldsDatabase next db ∥₁ }
@@ -172,8 +170,8 @@ pub fn a_failed_opening_leaves_the_database<D: Disk>()
         → IsNothing next ⊎ ∥ ((db : Trees) × HoldsDatabase next db × AreFoundIn image db) ∥₁ }
 {}
 
-/// After an opening of files that failed or was cut short before it had a connection, the next one finds what
-/// it would have found without it. So all that is said of a start over what a connection left is said of it.
+/// If opening files failed or was cut short before there was a connection, the next start finds what it would
+/// have found without that. So what holds for a start after a crash also holds for it.
 pub fn a_start_after_a_failed_opening_finds_the_database<D: Disk, E: Disk, F: Disk>()
     ensures found { (image next : Image) (it : Leftover E E.Disk) (found : Held (FileStore F F.Disk))
         (db : Trees) → HoldsDatabase image db → RemainsOf image it next → FindsFirst next found
@@ -183,7 +181,7 @@ pub fn a_start_after_a_failed_opening_finds_the_database<D: Disk, E: Disk, F: Di
         → FindsFirst next found → ∥ IsFoundAfter last found ∥₁ }
 {}
 
-/// Files that are looked into, or copied, are left as they were, wherever that is cut short.
+/// Files whose statistics are read, or that are copied, stay as they were, wherever that is cut short.
 pub fn a_look_leaves_the_database<D: Disk>()
     ensures read { (image : Image) (left : Held (FileStore D D.Disk)) (old : Bool) (w : World)
         → LooksIn image left old w → IsCutShort (λ _ _. ⊥) image left }
@@ -191,9 +189,8 @@ pub fn a_look_leaves_the_database<D: Disk>()
         → IsUnreadIn image e left → IsCutShort (λ _ _. ⊥) image left }
 {}
 
-/// Wherever a close is cut short, and however it ends: where a crash would have left one content alone, a log
-/// that could not be copied leaves that content alone, and in files that were given back a start finds no
-/// other.
+/// If a connection has one crash state alone, it still is the only one after a checkpoint that failed, and a
+/// start over the files that a close returned finds no other.
 pub fn a_close_leaves_the_content<D: Disk, E: Disk>()
     ensures unclosed { (last : Held (FileStore D D.Disk)) (it : CheckpointError D D.Disk) (w : World)
         → LeavesOnly w (MayLeave over_files last) → IsLeftUnclosed last it
@@ -205,9 +202,9 @@ pub fn a_close_leaves_the_content<D: Disk, E: Disk>()
         → IsStanding over_files found other → other ≡ w }
 {}
 
-/// What is said of files in which a connection left one content is never that they hold no desk, or rows
-/// of schema 1: `refused` is what an opening of them reported, with its connection open and its disk clean,
-/// if it had one.
+/// Files of a connection with one crash state alone are never refused as an invalid database or as one of
+/// schema 1. `refused` is what opening them reported; its connection, if it has one, is open and its disk
+/// intact.
 pub fn a_desk_is_not_reported_as_none<D: Disk, E: Disk>(refused: &FilesFault<E>)
     ensures { (last : Held (FileStore D D.Disk)) (image : Image) (w : World)
         → LeavesOnly w (MayLeave over_files last) → IsImageLeft last image
@@ -215,8 +212,8 @@ pub fn a_desk_is_not_reported_as_none<D: Disk, E: Disk>(refused: &FilesFault<E>)
         → IfOk refused.now.connection IsLegible → IsUnread refused.now.fault }
 {}
 
-/// While the disk of a store that was opened over files, or made in them, has returned what was written, each
-/// later read is tested; and new files were opened by a connection that puts sums on pages.
+/// As long as the disk of a store over files returned what was written, each later read is compared with a
+/// digest. In new files, pages have checksums.
 pub fn a_store_over_files_is_guarded<D: Disk>()
     ensures opened { (image : Image) (h : Held (FileStore D D.Disk)) (w : World) → OpensIn image h w
         → IsGuarded h × IsSummed image h }
@@ -226,8 +223,8 @@ pub fn a_store_over_files_is_guarded<D: Disk>()
         → IsGuarded h × IsSummed image h }
 {}
 
-/// After a crash in the midst of a change, a store begins with the content before the change or with the one
-/// after it, and files that are opened are refused only for memory or a fault of the disk.
+/// After a crash during a change, a store begins with the state before the change or with the one after it.
+/// The files are refused only if memory runs out or the disk fails.
 pub fn a_store_begins_with_the_old_or_the_new<D: Disk, E: Disk>()
     ensures begins { (old last : Held (FileStore D D.Disk)) (new : Held (FileStore E E.Disk))
         (before after other : World) → LeavesOnly before (MayLeave over_files old)
@@ -240,14 +237,13 @@ pub fn a_store_begins_with_the_old_or_the_new<D: Disk, E: Disk>()
         → ¬ IsRefusedAtRest last e left }
 {}
 
-/// A store in memory is always honest.
+/// The disk of a store in memory always returns what was written.
 pub fn a_store_in_memory_is_honest(store: &SqliteStore<FileStore<Ram>>)
     ensures { HasCleanDisk (state over_files store.now.held) }
 {}
 
-/// A store over files whose calls are recorded, each of whose reads is tested, is honest, whatever the files
-/// returned since the tests began; or a read has passed a test against a digest of 64 bits with other bytes
-/// than had been written there.
+/// If each read of a store over files is compared with a digest, the disk returned what was written since
+/// that began; or a read returned other bytes with the same digest of 64 bits.
 pub fn a_shielded_store_is_honest<C: Calls, S: Start>(
     store: &SqliteStore<FileStore<Modelled<C, S>>>,
 )

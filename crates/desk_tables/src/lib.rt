@@ -1,4 +1,4 @@
-//! The store of a desk over tables in SQLite: how it is opened, read, changed, copied and closed.
+//! The store of plans over tables in SQLite: how it is opened, read, changed, copied and closed.
 #![tactic(auto)]
 
 mod changing;

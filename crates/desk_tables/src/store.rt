@@ -29,17 +29,17 @@ use volume4d::{Held, Slab};
 
 /// A store of plans over tables in SQLite, with a connection of its own.
 ///
-/// While the disk has returned what was written and no fault has shut the connection, the rows of
-/// the four tables are, up to order, those of the store's content.
+/// As long as the disk returned what was written, and no error has shut the connection, the rows of the four
+/// tables are those of the store's state, in any order.
 #[derive(Drop)]
 pub struct SqliteStore<S: Alter> {
     tables: DeskTables<S>,
-    // the roll of operators, with how many spans and cells each plan takes; and of live plans bounds round
-    // each volume, and how long spans are, which is forgotten at an opening alone
+    // the operators with the sizes of their plans, the volumes of live plans, and the span bounds, which only
+    // grow until the next start
     known: MemoryIndex,
-    // how many faults of its own it has met, up to the type's last value
+    // how many faults of its own it had; it saturates
     faults: u64,
-    // whether an operator was listed when it was opened
+    // whether it had an operator when it was opened
     is_enrolled: bool,
 }
 
@@ -65,9 +65,9 @@ impl<S: Alter> Model for SqliteStore<S> {
 }
 
 impl<S: Alter> SqliteStore<S> {
-    /// A store over a connection, with the world that its rows are, and what is known of its plans. An error
-    /// of input and output is reported as `reported`; whether it begins with an operator, of which no clause
-    /// speaks, as `is_enrolled`.
+    /// A store over `connection`, whose rows are those of the state `kept`, with the indexes in memory
+    /// `known`. It reports I/O errors as `reported`. `is_enrolled` says whether there is an operator; no
+    /// contract says this.
     pub(crate) fn with(
         alloc: Global,
         connection: Connection<S>,
@@ -97,13 +97,14 @@ impl<S: Alter> SqliteStore<S> {
         }
     }
 
-    /// Whether the store began with an operator, or with plans that were moved. No clause speaks of it.
+    /// Whether the store had an operator when it was opened, or was copied or migrated. No contract says
+    /// this.
     pub fn has_begun_enrolled(&self) -> bool {
         self.is_enrolled
     }
 
-    /// The operators that are listed, ascending by name, each once, with their ceilings; reported from what
-    /// the store remembers, with no look into its tables.
+    /// The enrolled operators with their ceilings, ascending by name, each once. They are read from memory,
+    /// not from the tables.
     ///
     /// # Errors
     ///
@@ -115,7 +116,7 @@ impl<S: Alter> SqliteStore<S> {
         self.known.roll.listed(self.tables.allocator())
     }
 
-    /// The connection, in which the rows of the four tables are those of the store's content.
+    /// Ends the store and returns its connection. The rows of the four tables are those of the store's state.
     pub fn release(self) -> Connection<S>
         ensures value { result ≡ self.held }
         ensures rows { Stands S.Store result self.world }
@@ -145,7 +146,7 @@ impl<S: Alter> PlanStore for SqliteStore<S> {
 
     fn plan(&mut self, operator: &Operator, id: &PlanId) -> Result<Option<PlanRow>, StoreFault> {
         let answer = self.tables.plan(operator, id);
-        counted(&mut self.faults, answer)
+        count_fault(&mut self.faults, answer)
     }
 
     fn states(&mut self, operator: &Operator, id: &PlanId) -> Result<Option<States>, StoreFault> {
@@ -164,7 +165,7 @@ impl<S: Alter> PlanStore for SqliteStore<S> {
 
     fn own_plans(&mut self, operator: &Operator) -> Result<Vec<PlanRow>, StoreFault> {
         let answer = self.tables.own_plans(operator);
-        counted(&mut self.faults, answer)
+        count_fault(&mut self.faults, answer)
     }
 
     fn rivals(
@@ -190,7 +191,7 @@ impl<S: Alter> PlanStore for SqliteStore<S> {
             least,
         };
         let answer = self.tables.rivals_near(&wanted, extents, &self.known);
-        counted(&mut self.faults, answer)
+        count_fault(&mut self.faults, answer)
     }
 
     fn held_by_others(
@@ -199,7 +200,7 @@ impl<S: Alter> PlanStore for SqliteStore<S> {
         extents: &[Slab],
     ) -> Result<Vec<Held>, StoreFault> {
         let answer = self.tables.held_by_others(operator, extents, &self.known);
-        counted(&mut self.faults, answer)
+        count_fault(&mut self.faults, answer)
     }
 
     fn apply(&mut self, change: &Change) -> Result<(), StoreFault> {
@@ -211,13 +212,13 @@ impl<S: Alter> PlanStore for SqliteStore<S> {
                 self.known.follow(change, span_bounds, &fresh);
                 Ok(())
             }
-            Err(e) => counted(&mut self.faults, Err(e)),
+            Err(e) => count_fault(&mut self.faults, Err(e)),
         }
     }
 }
 
-// The answer, with a fault of the store's own counted.
-fn counted<T>(faults: &mut u64, answer: Result<T, StoreFault>) -> Result<T, StoreFault>
+// Returns `answer`, and counts it in `faults` if it is a fault of the store; the count saturates.
+fn count_fault<T>(faults: &mut u64, answer: Result<T, StoreFault>) -> Result<T, StoreFault>
     ensures same { result ≡ answer }
     ensures counted { faults.old ≤ faults.new }
     ensures cause { IfErr result (λ e. e ≡ StoreFault.Store → HasRisen faults.old faults.new) }

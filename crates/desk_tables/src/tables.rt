@@ -1,4 +1,4 @@
-//! The tables of a store, over a connection, with the world that they stand for.
+//! The tables of a store, with the state that their rows stand for.
 
 ghost use Rattle.std.specs.Prelude.{◌≡◌};
 ghost use Rattle.table_load.specs.Standing.{Stands};
@@ -13,15 +13,14 @@ use sqlite_trees::store::Alter;
 use std::alloc::Global;
 use std::marker::Model;
 
-/// The tables of a store: a connection with no transaction begun and no limit on steps, and the world that
-/// the rows which it shows are those of, while the disk has returned what was written and no fault has shut
-/// the connection.
+/// The tables of a store: a connection outside a transaction and without a step limit, and the state that its
+/// rows stand for, as long as the disk returned what was written and no error has shut the connection.
 #[derive(Drop)]
 pub(crate) struct DeskTables<S: Alter> {
     pub connection: Connection<S>,
     pub kept: GhostState,
     pub alloc: Global,
-    /// What an error of input and output is reported as: a disk in memory has one only if it gets no memory.
+    /// What an I/O error is reported as: `OutOfMemory` for a disk in memory, which has no other.
     pub reported: StoreFault,
 }
 
@@ -42,15 +41,14 @@ impl<S: Alter> Model for DeskTables<S> {
 }
 
 impl<S: Alter> DeskTables<S> {
-    /// The allocator of what is read. A call that opens no field learns by it that the tables stand for the
-    /// world.
+    /// The allocator for what is read. The contract also says that the rows are those of the state.
     pub(crate) fn allocator(&self) -> Global
         ensures { Stands S.Store self.now.held self.now.world }
     {
         self.alloc
     }
 
-    /// That a crash leaves this world alone.
+    /// States that after a crash the database has this state and no other. It changes nothing.
     pub(crate) fn settled(&self)
         ensures stands { Stands S.Store self.now.held self.now.world }
         ensures left { IsSettledAt S.Store self.now.held self.now.world }
@@ -59,7 +57,7 @@ impl<S: Alter> DeskTables<S> {
         one_content();
     }
 
-    /// The connection, in which the tables stand for the world.
+    /// Returns the connection, whose rows are those of the state.
     pub(crate) fn release(self) -> Connection<S>
         ensures value { result ≡ self.held }
         ensures stands { Stands S.Store result self.world }

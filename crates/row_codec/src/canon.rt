@@ -11,8 +11,7 @@ use s2_cover::laws::{canonical_list_is, one_canonical_list};
 use std::alloc::{AllocError, Global};
 use volume4d::Volume;
 
-/// The ids of the canonical cover of a volume's leaves, ascending, each as eight bytes, the most significant
-/// first.
+/// The canonical cover of `volume` as bytes: the ids of its cells, ascending, each as eight big-endian bytes.
 ///
 /// # Errors
 ///
@@ -26,7 +25,7 @@ pub fn canon_of(alloc: Global, volume: &Volume) -> Result<Vec<u8>, AllocError>
     ids_of(alloc, cover.cells())
 }
 
-/// The bytes of the canonical covers of volumes.
+/// The canonical covers of `volumes` as bytes, as `canon_of` has them.
 ///
 /// # Errors
 ///
@@ -41,7 +40,7 @@ pub fn canons_of(alloc: Global, volumes: &[Volume]) -> Result<Vec<Vec<u8>>, Allo
     Ok(canon)
 }
 
-// The ids of cells, each as eight bytes, the most significant first.
+// The ids of `cells`, each as eight big-endian bytes.
 fn ids_of(alloc: Global, cells: &[CellId]) -> Result<Vec<u8>, AllocError>
     ensures { IfOk result (λ bytes. bytes.items ≡ flat_map (λ id. to_be_bytes w64 id) cells.now) }
 {

@@ -1,4 +1,4 @@
-//! The content of a desk, from all rows of its tables.
+//! The state of a database, from all rows of its tables.
 
 ghost use Rattle.std.specs.Prelude.{◌≡◌, ◌↔◌, ◌≤◌, List, IsTrue, IfOk, IfErr, length};
 ghost use Rattle.std.specs.List.{prefix_len};
@@ -21,7 +21,7 @@ use sqlite_value::value::ValueRef;
 use std::alloc::{AllocError, AllocFailed, Global};
 use std::marker::Model;
 
-/// The rows of the tables, each by the columns of its key; those of `volume2` without their covers.
+/// The rows of the tables, each ordered by its key; those of `volume2` without their covers.
 #[derive(Drop)]
 pub struct TableRows {
     pub operators: Vec<Row>,
@@ -47,12 +47,12 @@ impl Model for TableRows {
     } };
 }
 
-/// The operators by name, and the plans by operator and id.
+/// A database state: the operators ordered by name, and the plans ordered by operator and id.
 #[derive(Drop)]
 pub struct Content {
     pub operators: Vec<ListedOperator>,
     pub plans: Vec<FiledPlan>,
-    // how many rows of spans they have
+    // how many rows of `span2` the plans have
     pub spans: usize,
 }
 
@@ -89,11 +89,11 @@ impl<T: Drop> From<AllocFailed<T>> for RowFault {
     }
 }
 
-/// The operators whose rows these are.
+/// The operators whose rows of `operator` are `rows`.
 ///
 /// # Errors
 ///
-/// `OutOfMemory` if memory runs out. `NoDesk` if they are the rows of no operators.
+/// `OutOfMemory` if memory runs out. `NoDesk` if one isn't the row of an operator within the limits.
 pub fn operators_in(alloc: Global, rows: &[Row]) -> Result<Vec<ListedOperator>, RowFault>
     ensures ok { IfOk result (λ operators. AreOperatorRows operators.items rows.now) }
     ensures none { IfErr result (λ e. e ≡ RowFault.NoDesk →
@@ -108,11 +108,11 @@ pub fn operators_in(alloc: Global, rows: &[Row]) -> Result<Vec<ListedOperator>, 
     Ok(operators)
 }
 
-/// The plans whose rows these are, and those of their volumes.
+/// The plans whose rows of `plan` are `head_rows`, and whose rows of volumes are `volumes`, ordered by key.
 ///
 /// # Errors
 ///
-/// `OutOfMemory` if memory runs out. `NoDesk` if they are the rows of no plans.
+/// `OutOfMemory` if memory runs out. `NoDesk` if they aren't the rows of plans within the limits.
 pub fn plans_in(
     alloc: Global,
     head_rows: &[Row],
@@ -126,7 +126,7 @@ pub fn plans_in(
     let mut left = head_rows;
     let mut rest = volumes;
     while let Some((head, later)) = left.split_first() {
-        let (mine, more) = rest.split_at(own_volumes(head, rest));
+        let (mine, more) = rest.split_at(count_own_volumes(head, rest));
         plans.push(filed_in(alloc, head, mine)?)?;
         left = later;
         rest = more;
@@ -138,8 +138,8 @@ pub fn plans_in(
     }
 }
 
-// How many of the first rows have the key of a row of `plan`.
-fn own_volumes(head: &Row, rows: &[Row]) -> usize
+// How many of the first `rows` are of volumes of the plan whose row of `plan` is `head`.
+fn count_own_volumes(head: &Row, rows: &[Row]) -> usize
     ensures of { (p : Filed) → head.now ≡ row_of_plan p →
         result ≡ prefix_len (spec.is_row_of p.operator (id_text p.row.id)) rows.now }
     ensures within { result ≤ length rows.now }
@@ -151,7 +151,7 @@ fn own_volumes(head: &Row, rows: &[Row]) -> usize
     count_of(rows, operator, id)
 }
 
-// How many of the first rows are of the operator's plan of the id.
+// How many of the first `rows` are of the operator's plan `id`.
 #[tactic(auto, using(crate::proofs::JoinLemmas::within))]
 fn count_of(rows: &[Row], operator: &[u8], id: &[u8]) -> usize
     ensures value { result ≡ prefix_len (spec.is_row_of operator.now id.now) rows.now }
@@ -162,7 +162,7 @@ fn count_of(rows: &[Row], operator: &[u8], id: &[u8]) -> usize
         .count()
 }
 
-// Whether a row is of the operator's plan of the id.
+// Whether `row` is of the operator's plan `id`, by its first two columns.
 fn is_of(row: &Row, operator: &[u8], id: &[u8]) -> bool
     ensures { result ≡ spec.is_row_of operator.now id.now row.now }
 {
@@ -172,7 +172,7 @@ fn is_of(row: &Row, operator: &[u8], id: &[u8]) -> bool
     is_text(row, 1, id)
 }
 
-// Whether a column is a text.
+// Whether the column `at` is the text `text`.
 fn is_text(row: &Row, at: usize, text: &[u8]) -> bool
     ensures { result ≡ spec.has_text (column row.now at) text.now }
 {
@@ -182,7 +182,7 @@ fn is_text(row: &Row, at: usize, text: &[u8]) -> bool
     }
 }
 
-/// Whether the names of operators ascend.
+/// Whether the operators are in ascending order of their names, none twice.
 pub fn names_ascend(operators: &[ListedOperator]) -> bool
     ensures { IsTrue result ↔ IsStrictlySortedBy listed_cmp operators.now }
 {
@@ -196,7 +196,7 @@ pub fn names_ascend(operators: &[ListedOperator]) -> bool
     true
 }
 
-// Whether an operator's name is below that of the first of others.
+// Whether the name of `one` is less than that of the first of `others`, if there is one.
 fn name_is_below(one: &ListedOperator, others: &[ListedOperator]) -> bool
     ensures { result ≡ is_below_first listed_cmp one.now others.now }
 {
@@ -206,7 +206,7 @@ fn name_is_below(one: &ListedOperator, others: &[ListedOperator]) -> bool
     }
 }
 
-/// Whether plans ascend by operator and id.
+/// Whether the plans are in ascending order of operator and id, none twice.
 pub fn keys_ascend(plans: &[FiledPlan]) -> bool
     ensures { IsTrue result ↔ IsStrictlySortedBy filed_cmp plans.now }
 {
@@ -220,7 +220,7 @@ pub fn keys_ascend(plans: &[FiledPlan]) -> bool
     true
 }
 
-// Whether a plan's operator and id are below those of the first of others.
+// Whether `one` comes before the first of `others`, if there is one, by operator and id.
 fn key_is_below(one: &FiledPlan, others: &[FiledPlan]) -> bool
     ensures { result ≡ is_below_first filed_cmp one.now others.now }
 {
@@ -233,7 +233,7 @@ fn key_is_below(one: &FiledPlan, others: &[FiledPlan]) -> bool
     }
 }
 
-/// Whether each plan's operator is among these, and none has more than `MAX_PLANS` plans.
+/// Whether each plan's operator is among `operators`, and none of these has more than `MAX_PLANS` plans.
 pub fn are_shared(operators: &[ListedOperator], plans: &[FiledPlan]) -> bool
     requires names { IsStrictlySortedBy listed_cmp operators.now }
     requires keys { IsStrictlySortedBy filed_cmp plans.now }
@@ -243,7 +243,7 @@ pub fn are_shared(operators: &[ListedOperator], plans: &[FiledPlan]) -> bool
     let mut left = plans;
     while let Some((listed, later)) = others.split_first() {
         let count = count_own(&listed.operator, left);
-        if !are_few(count) {
+        if !is_within_limit(count) {
             return false;
         }
         let (_mine, more) = left.split_at(count);
@@ -253,14 +253,14 @@ pub fn are_shared(operators: &[ListedOperator], plans: &[FiledPlan]) -> bool
     left.is_empty()
 }
 
-// Whether an operator may have so many plans.
-fn are_few(count: usize) -> bool
+// Whether an operator may have `count` plans.
+fn is_within_limit(count: usize) -> bool
     ensures { IsTrue result ↔ count ≤ max_plans }
 {
     count <= MAX_PLANS as usize
 }
 
-/// How many of the first plans are the operator's.
+/// How many of the first `plans` are the operator's.
 #[tactic(auto, using(crate::proofs::JoinLemmas::within))]
 pub(crate) fn count_own(operator: &Operator, plans: &[FiledPlan]) -> usize
     ensures value { result ≡ prefix_len (world.is_by operator.now) plans.now }
@@ -272,6 +272,7 @@ pub(crate) fn count_own(operator: &Operator, plans: &[FiledPlan]) -> usize
         .count()
 }
 
+// Whether `plan` is the operator's.
 fn is_by(operator: &Operator, plan: &FiledPlan) -> bool
     ensures { result ≡ world.is_by operator.now plan.now }
 {

@@ -1,4 +1,4 @@
-//! How many spans the operator that has most has, and how many cells the one that has most of those.
+//! The most spans, and the most cells, that the plans of one operator have.
 
 ghost use Rattle.std.specs.Prelude.{◌≡◌, ◌*◌, ◌≤◌, ◌⊎◌, ℕ, List, length};
 ghost use Rattle.std.specs.List.{sum_by};
@@ -11,16 +11,17 @@ ghost use Rattle.row_codec.specs.Counting.{IsMostOf, count_of};
 use crate::content::count_own;
 use crate::exact::FiledPlan;
 
-/// What is counted of plans.
+/// What is counted of an operator's plans.
 #[derive(Clone, Copy, Debug, PartialEq, Eq)]
 pub enum Counted {
-    /// The spans of those that are live.
+    /// The spans of the live ones.
     Spans,
-    /// The cells of all.
+    /// The cells of all of them.
     Cells,
 }
 
-/// What is counted of the operator that has most of it; none of no plans.
+/// The greatest number of spans, or of cells, that one operator has; 0 without plans. Since the plans are
+/// ordered, those of one operator follow each other.
 pub fn most_of(counted: Counted, plans: &[FiledPlan]) -> usize
     requires keys { IsStrictlySortedBy filed_cmp plans.now }
     requires few { (operator : List ℕ) → length (rows_by operator plans.now) ≤ max_plans }
@@ -30,20 +31,21 @@ pub fn most_of(counted: Counted, plans: &[FiledPlan]) -> usize
     let mut left = plans;
     while let Some((first, others)) = left.split_first() {
         let (mine, later) = left.split_at(1 + count_own(&first.operator, others));
-        most = greater_of(most, sum_of(counted, mine));
+        most = max_of(most, sum_of(counted, mine));
         left = later;
     }
     most
 }
 
-fn greater_of(one: usize, other: usize) -> usize
+// The greater of two numbers.
+fn max_of(one: usize, other: usize) -> usize
     ensures no_less { (one ≤ result) × (other ≤ result) }
     ensures which { (result ≡ one) ⊎ (result ≡ other) }
 {
     if one < other { other } else { one }
 }
 
-// What is counted of plans, of which there are as many as an operator may have.
+// How many spans, or cells, `plans` have. They are the plans of one operator.
 fn sum_of(counted: Counted, plans: &[FiledPlan]) -> usize
     requires { length plans.now ≤ max_plans }
     ensures { result ≡ sum_by (λ p. count_of counted p.row) plans.now }
@@ -55,7 +57,7 @@ fn sum_of(counted: Counted, plans: &[FiledPlan]) -> usize
     sum
 }
 
-// What is counted of a plan.
+// How many spans, or cells, a plan has.
 fn count_in(counted: Counted, plan: &FiledPlan) -> usize
     ensures value { result ≡ count_of counted plan.now.row }
     ensures few { result ≤ max_volumes * max_cover }

@@ -1,5 +1,4 @@
-//! Rows read exactly: what an operator's row and the rows of a plan stand for, or that they are no
-//! desk's.
+//! Operators and plans read from rows that have to be exactly those that the desk writes.
 
 ghost use Rattle.std.specs.Prelude.{◌≡◌, ◌≢◌, ◌≤◌, ◌↔◌, ℕ, List, pos, IsTrue, IfOk, IfErr};
 ghost use Rattle.std.specs.Prelude.{MatchOption};
@@ -39,9 +38,9 @@ const SPAN_WIDTH: usize = 10;
 /// Why rows are not read.
 #[derive(Clone, Copy, Debug, PartialEq, Eq)]
 pub enum RowFault {
-    /// A growth was refused.
+    /// Memory ran out.
     OutOfMemory,
-    /// They are no desk's.
+    /// They aren't the rows of a valid database.
     NoDesk,
 }
 
@@ -74,11 +73,11 @@ impl Model for FiledPlan {
     ghost view = { λ p. record { operator = p.operator; row = p.row } };
 }
 
-/// The operator whose row in `operator` this is.
+/// The operator whose row of `operator` is `row`.
 ///
 /// # Errors
 ///
-/// `OutOfMemory` if memory runs out. `NoDesk` if it is the row of no operator within the limits.
+/// `OutOfMemory` if memory runs out. `NoDesk` if it isn't the row of an operator within the limits.
 pub(crate) fn listed_in(row: &Row) -> Result<ListedOperator, RowFault>
     ensures ok { IfOk result (λ l. IsOperator l × (row.now ≡ row_of_operator l)) }
     ensures none { IfErr result (λ e. e ≡ RowFault.NoDesk →
@@ -97,12 +96,12 @@ pub(crate) fn listed_in(row: &Row) -> Result<ListedOperator, RowFault>
     Ok(ListedOperator { operator, ceiling })
 }
 
-/// The plan whose row in `plan` the first is, and whose rows in `volume2`, or in `volume` of schema 1, by
-/// place, the others are. A closed one keeps no ranges: no row of spans is compared with them.
+/// The plan whose row of `plan` is `head`, and whose rows of `volume2`, or of `volume` in schema 1, are
+/// `volumes`, ordered by place. The ranges of a closed plan are dropped, since it has no spans.
 ///
 /// # Errors
 ///
-/// `OutOfMemory` if memory runs out. `NoDesk` if they are the rows of no plan within the limits.
+/// `OutOfMemory` if memory runs out. `NoDesk` if they aren't the rows of a plan within the limits.
 pub(crate) fn filed_in(alloc: Global, head: &Row, volumes: &[Row]) -> Result<FiledPlan, RowFault>
     ensures ok { IfOk result (λ p. IsFiled p × AreRowsOf p head.now volumes.now) }
     ensures none { IfErr result (λ e. e ≡ RowFault.NoDesk →
@@ -117,7 +116,7 @@ pub(crate) fn filed_in(alloc: Global, head: &Row, volumes: &[Row]) -> Result<Fil
         return Err(RowFault::NoDesk);
     }
     let mut plan = FiledPlan { operator, row };
-    if !has_rows(&plan, head, volumes) {
+    if !are_rows_of(&plan, head, volumes) {
         return Err(RowFault::NoDesk);
     }
     if !plan.row.usage.is_live() {
@@ -126,7 +125,7 @@ pub(crate) fn filed_in(alloc: Global, head: &Row, volumes: &[Row]) -> Result<Fil
     Ok(plan)
 }
 
-/// The operator whose name stands in the first column, if it is one's.
+/// The operator whose name is in the first column, if it is a valid name.
 pub fn operator_in(row: &Row) -> Option<Operator>
     ensures { MatchOption result
         ((name : List ℕ) → IsTrue (is_operator_name name) → column row.now 0 ≢ Text name)
@@ -138,8 +137,8 @@ pub fn operator_in(row: &Row) -> Option<Operator>
     }
 }
 
-// Whether the rows are just those of a plan whose numbers and volumes stand in them.
-fn has_rows(plan: &FiledPlan, head: &Row, volumes: &[Row]) -> bool
+// Whether `head` and `volumes`, from which `plan` was read, are exactly the rows that it has.
+fn are_rows_of(plan: &FiledPlan, head: &Row, volumes: &[Row]) -> bool
     requires numbers { AreNumbersOf head.now plan.now.row }
     requires area { AllZip (λ row v. IsVolumeAt row 3 v) volumes.now plan.now.row.area }
     ensures { IsTrue result ↔ AreRowsOf plan.now head.now volumes.now }
@@ -149,25 +148,25 @@ fn has_rows(plan: &FiledPlan, head: &Row, volumes: &[Row]) -> bool
     if !is_keyed(head, plan.operator.as_str(), id, PLAN_WIDTH) {
         return false;
     }
-    are_placed(plan, id, volumes)
+    are_volume_rows(plan, id, volumes)
 }
 
-// Whether rows in which a plan's volumes stand are just the plan's, at the places 0, 1 and so on.
-fn are_placed(plan: &FiledPlan, id: &str, rows: &[Row]) -> bool
+// Whether `rows`, from which the volumes of `plan` were read, are exactly its rows, at the places 0, 1, ..
+fn are_volume_rows(plan: &FiledPlan, id: &str, rows: &[Row]) -> bool
     requires id { id.now ≡ id_text plan.now.row.id }
     requires area { AllZip (λ row v. IsVolumeAt row 3 v) rows.now plan.now.row.area }
     ensures { IsTrue result ↔ (rows.now ≡ area_rows plan.now) }
 {
     for (place, row) in rows.iter().enumerate() {
-        if !is_placed(plan, id, place, row) {
+        if !is_volume_row(plan, id, place, row) {
             return false;
         }
     }
     true
 }
 
-// Whether a row in which a volume stands is just a plan's, at a place.
-fn is_placed(plan: &FiledPlan, id: &str, place: usize, row: &Row) -> bool
+// Whether `row`, from which a volume was read, is exactly the row of that volume at `place` of `plan`.
+fn is_volume_row(plan: &FiledPlan, id: &str, place: usize, row: &Row) -> bool
     requires id { id.now ≡ id_text plan.now.row.id }
     ensures { (v : Block) → IsVolumeAt row.now 3 v →
         IsTrue result ↔ (row.now ≡ row_of_volume plan.now place v) }
@@ -178,7 +177,7 @@ fn is_placed(plan: &FiledPlan, id: &str, place: usize, row: &Row) -> bool
     is_count_at(row, 2, place as u64)
 }
 
-/// Whether a row is that of a slab of the volume at a place.
+/// Whether `row` is exactly the row of `slab`, which is of the volume at `place` of `plan`.
 pub fn is_slab_row(plan: &FiledPlan, id: &str, place: usize, slab: &Slab, row: &Row) -> bool
     requires id { id.now ≡ id_text plan.now.row.id }
     ensures { IsTrue result ↔ (row.now ≡ slab_row plan.now place slab.now) }
@@ -198,7 +197,7 @@ pub fn is_slab_row(plan: &FiledPlan, id: &str, place: usize, slab: &Slab, row: &
     is_count_at(row, 9, u64::from(plan.row.priority))
 }
 
-// Whether the columns of a row of spans that say where it begins and ends have the leaves of a slab.
+// Whether the columns `first` and `last` of a row of spans are the leaves of `slab`.
 fn has_leaves_of(row: &Row, slab: &Slab) -> bool
     ensures { IsTrue result ↔ ((column row.now 3 ≡ Int (pos slab.now.first))
         × (column row.now 4 ≡ Int (pos slab.now.last))) }
@@ -209,7 +208,7 @@ fn has_leaves_of(row: &Row, slab: &Slab) -> bool
     is_count_at(row, 4, slab.last)
 }
 
-// Whether a row of so many columns begins with an operator's name and the text of an id.
+// Whether `row` has `width` columns and begins with the name `operator` and the text `id`.
 pub fn is_keyed(row: &Row, operator: &str, id: &str, width: usize) -> bool
     ensures { IsTrue result ↔ IsKeyed operator.now id.now width row.now }
 {
@@ -222,7 +221,7 @@ pub fn is_keyed(row: &Row, operator: &str, id: &str, width: usize) -> bool
     is_text_at(row, 1, id)
 }
 
-// Whether the four columns from a place on are the altitudes and seconds of a slab.
+// Whether the four columns from `at` on are the altitudes and times of `slab`.
 fn is_window_at(row: &Row, at: usize, slab: &Slab) -> bool
     requires { at ≤ 5 }
     ensures { IsTrue result ↔ IsWindowAt row.now at (slab_window slab.now) }
@@ -239,7 +238,7 @@ fn is_window_at(row: &Row, at: usize, slab: &Slab) -> bool
     is_number_at(row, at + 3, slab.end)
 }
 
-// Whether a column is this text.
+// Whether the column `at` is the text `text`.
 fn is_text_at(row: &Row, at: usize, text: &str) -> bool
     ensures { IsTrue result ↔ (column row.now at ≡ Text text.now) }
 {
@@ -249,7 +248,7 @@ fn is_text_at(row: &Row, at: usize, text: &str) -> bool
     }
 }
 
-// Whether a column is this number.
+// Whether the column `at` is the integer `number`.
 fn is_number_at(row: &Row, at: usize, number: i64) -> bool
     ensures { IsTrue result ↔ (column row.now at ≡ Int number) }
 {
@@ -259,7 +258,7 @@ fn is_number_at(row: &Row, at: usize, number: i64) -> bool
     }
 }
 
-// Whether a column is this count.
+// Whether the column `at` is the integer `count`.
 pub(crate) fn is_count_at(row: &Row, at: usize, count: u64) -> bool
     ensures { IsTrue result ↔ (column row.now at ≡ Int (pos count)) }
 {

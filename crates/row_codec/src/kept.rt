@@ -1,4 +1,4 @@
-//! The world that a store keeps, for its contracts alone.
+//! The database state that a store keeps, for contracts alone.
 
 ghost use Rattle.std.specs.Prelude.{◌≡◌, []};
 ghost use Rattle.std.specs.Borrow.{ftrue};
@@ -9,7 +9,7 @@ use crate::content::Content;
 use desk_store::Change;
 use std::marker::Model;
 
-/// The world that a store keeps. It takes no bytes: contracts alone read it.
+/// The database state of a store. It takes no memory: only contracts read it.
 #[derive(Drop)]
 pub struct GhostState {
     pub ghost world: { World },
@@ -20,21 +20,21 @@ impl Model for GhostState {
 }
 
 impl GhostState {
-    /// The world of no operators and no plans.
+    /// The state without operators and plans.
     pub fn new() -> GhostState
         ensures { result.world ≡ record { operators = []; plans = [] } }
     {
         GhostState {}
     }
 
-    /// The world after a change.
+    /// The state after `_change`.
     pub fn after(_before: &GhostState, _change: &Change) -> GhostState
         ensures { result.world ≡ changed_by _change.now _before.now.world }
     {
         GhostState {}
     }
 
-    /// The world of a content that was read.
+    /// The state that was read into `_content`.
     pub fn of(_content: &Content) -> GhostState
         ensures { result.world ≡ _content.now }
     {

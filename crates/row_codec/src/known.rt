@@ -1,4 +1,4 @@
-//! What a store knows of its plans without a look into its tables.
+//! What a store keeps of its plans in memory.
 
 ghost use Rattle.std.specs.Prelude.{◌≡◌, [], length, IfOk, OnOk};
 ghost use Rattle.std.specs.List.Sorted.{IsStrictlySortedBy};
@@ -16,7 +16,8 @@ use live_index::{LiveIndex, LiveIndexBuilder, LiveVolume};
 use operator_index::{ListedOperator, OperatorIndex};
 use std::alloc::{AllocError, Global};
 
-/// How long the spans of live plans are, bounds round each of their volumes, and the roll of operators.
+/// The indexes in memory: bounds of the spans of live plans, the volumes of live plans, and the operators
+/// with their ceilings and the ids, states and sizes of their plans.
 #[derive(Drop)]
 pub struct MemoryIndex {
     pub span_bounds: SpanBounds,
@@ -25,7 +26,7 @@ pub struct MemoryIndex {
 }
 
 impl MemoryIndex {
-    /// Of no plans.
+    /// The index of no operators and no plans.
     pub fn new(alloc: Global) -> MemoryIndex
         ensures { Knows result (record { operators = []; plans = [] }) }
     {
@@ -36,7 +37,8 @@ impl MemoryIndex {
         }
     }
 
-    /// The volumes that a change brings. There is room then for all that it adds.
+    /// Allocates what `follow` needs for `change`, so that it can't fail; returns the live volumes that the
+    /// change adds.
     ///
     /// # Errors
     ///
@@ -51,7 +53,7 @@ impl MemoryIndex {
         self.live.prepare(alloc, change)
     }
 
-    /// Follows a change, for which there is room, with the lengths after it and the volumes that it brings.
+    /// Applies `change`, for which `prepare` made room and returned `fresh`; `span_bounds` hold after it.
     pub fn follow(&mut self, change: &Change, span_bounds: SpanBounds, fresh: &[LiveVolume])
         requires room { HasRoomForVolumes self.old.live (length fresh.now) }
         requires brought { AreBrought change.now fresh.now }
@@ -66,7 +68,7 @@ impl MemoryIndex {
     }
 }
 
-/// The volumes of the live ones among plans.
+/// The index of the volumes of those `plans` that are live.
 ///
 /// # Errors
 ///
@@ -82,7 +84,7 @@ pub fn live_among(alloc: Global, plans: &[FiledPlan]) -> Result<LiveIndex, Alloc
     gathering.finish(alloc)
 }
 
-/// The roll of operators and their plans.
+/// The index of `operators` and their `plans`.
 ///
 /// # Errors
 ///
@@ -94,15 +96,18 @@ pub fn roll_of(
 ) -> Result<OperatorIndex, AllocError>
     ensures { IfOk result (λ roll. AreAccountsOf operators.now plans.now (accounts_of roll)) }
 {
-    let mut roll = roll_with(alloc, operators)?;
+    let mut roll = roll_without_plans(alloc, operators)?;
     for plan in plans {
         roll.file(alloc, &plan.operator, &plan.row)?;
     }
     Ok(roll)
 }
 
-// The roll of operators without plans.
-fn roll_with(alloc: Global, operators: &[ListedOperator]) -> Result<OperatorIndex, AllocError>
+// The index of `operators`, without plans.
+fn roll_without_plans(
+    alloc: Global,
+    operators: &[ListedOperator],
+) -> Result<OperatorIndex, AllocError>
     ensures { IfOk result (λ roll. AreAccountsOf operators.now [] (accounts_of roll)) }
 {
     let mut roll = OperatorIndex::new(alloc);

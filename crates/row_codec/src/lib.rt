@@ -1,4 +1,4 @@
-//! The rows of a desk's tables: plans, operators and contents as rows, and back.
+//! Conversion of plans, operators and whole database states to rows of the tables, and back.
 #![tactic(auto)]
 
 pub mod canon;

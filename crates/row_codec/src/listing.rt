@@ -1,4 +1,4 @@
-//! Plans with their volumes, from the rows of a join that are taken one at a time.
+//! Plans with their volumes, read one row at a time from a join of `plan` and `volume2`.
 
 ghost use Rattle.std.specs.Prelude.{◌≡◌, ◌↔◌, ◌⊎◌, [], ◌∷◌, List, IfErr, IfOk, IsSomeAnd, OnOk, map};
 ghost use Rattle.std.specs.List.{AllByRecursion};
@@ -20,18 +20,19 @@ use std::alloc::Global;
 use std::mem;
 use volume4d::{Area, Volume};
 
-/// The plans of a listing, as far as its rows were taken. The rows themselves are not kept.
+/// A visitor of the rows of plans with their volumes that collects the plans. The rows of a plan follow each
+/// other, one for each volume.
 #[derive(Drop)]
 pub struct PlanCollector {
     alloc: Global,
     plans: Vec<PlanRow>,
-    // the plan of the last row, whose volumes so far follow
+    // the plan of the last row, of which `volumes` are those so far
     head: Option<PlanHead>,
     volumes: Vec<Volume>,
 }
 
 impl PlanCollector {
-    /// Of no row yet.
+    /// A collector before the first row.
     pub fn new(alloc: Global) -> PlanCollector
         ensures { HasCollected result.plans.items result.head result.volumes.items [] }
     {
@@ -43,8 +44,9 @@ impl PlanCollector {
         }
     }
 
-    // Puts the plan under way to those that are whole, if there is one.
-    fn close(&mut self) -> Result<(), StoreFault>
+    // Adds the plan of the last row to `plans`, if there is one, now that its volumes are complete. `Store`
+    // if a plan can't have so many.
+    fn finish_plan(&mut self) -> Result<(), StoreFault>
         ensures plans { OnOk result (self.new.plans.items
             ≡ closed_plans self.old.plans.items self.old.head self.old.volumes.items) }
         ensures volumes { self.new.volumes.items ≡ [] }
@@ -61,8 +63,8 @@ impl PlanCollector {
         }
     }
 
-    // Begins the plan whose first row this is.
-    fn begin(&mut self, row: &Row) -> Result<(), StoreFault>
+    // Finishes the plan before, and begins the one whose first row is `row`.
+    fn begin_plan(&mut self, row: &Row) -> Result<(), StoreFault>
         ensures plans { OnOk result (self.new.plans.items
             ≡ closed_plans self.old.plans.items self.old.head self.old.volumes.items) }
         ensures head { OnOk result (IsSomeAnd self.new.head (λ head.
@@ -71,12 +73,12 @@ impl PlanCollector {
         ensures none { IfErr result (λ e. e ≡ StoreFault.Store →
             HasNoArea self.old.head self.old.volumes.items ⊎ IsNoHead row.now) }
     {
-        self.close()?;
+        self.finish_plan()?;
         self.head = Some(head_in(row)?);
         Ok(())
     }
 
-    // Takes the next row.
+    // Adds the volume in `row` to its plan.
     fn add(&mut self, row: &Row) -> Result<(), StoreFault>
         ensures leads { OnOk result ((ps : List Filed) (left : List Values)
             → AllByRecursion (λ p. IsPlan p.row) ps
@@ -86,7 +88,7 @@ impl PlanCollector {
             IsUngathered self.old.head self.old.volumes.items row.now) }
     {
         if !is_later(row) {
-            self.begin(row)?;
+            self.begin_plan(row)?;
         } else if self.head.is_none() {
             return Err(StoreFault::Store);
         }
@@ -94,11 +96,11 @@ impl PlanCollector {
         Ok(())
     }
 
-    /// All plans, where all rows were taken.
+    /// The plans, after the last row.
     ///
     /// # Errors
     ///
-    /// `OutOfMemory` if memory runs out. `Store` if the rows are no plans'.
+    /// `OutOfMemory` if memory runs out. `Store` if the rows aren't those of plans.
     pub fn finish(mut self) -> Result<Vec<PlanRow>, StoreFault>
         ensures value { IfOk result (λ plans. (ps : List Filed)
             → AllByRecursion (λ p. IsPlan p.row) ps
@@ -107,7 +109,7 @@ impl PlanCollector {
         ensures none { IfErr result (λ e. e ≡ StoreFault.Store →
             HasNoArea self.head self.volumes.items) }
     {
-        self.close()?;
+        self.finish_plan()?;
         Ok(self.plans)
     }
 }
@@ -132,7 +134,7 @@ impl RowVisitor for PlanCollector {
     }
 }
 
-// The error with which a taker of rows gives up.
+// The error that a visitor returns for `fault`.
 pub(crate) fn error_of(fault: StoreFault) -> Error
     ensures { (result ≡ Error.SqliteFailure ErrorCode.OutOfMemory) ↔ (fault ≡ StoreFault.OutOfMemory) }
 {
@@ -142,7 +144,7 @@ pub(crate) fn error_of(fault: StoreFault) -> Error
     }
 }
 
-// Whether a row is of a volume after its plan's first.
+// Whether `row` is of another volume than the first of its plan, by the column `place`.
 fn is_later(row: &Row) -> bool
     ensures { result ≡ spec.is_later row.now }
 {

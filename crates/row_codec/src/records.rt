@@ -1,4 +1,4 @@
-//! The rows of a plan, as they are put into the tables.
+//! The rows of a plan, as they are written to the tables.
 
 ghost use Rattle.std.specs.Prelude.{◌≡◌, ◌≤◌, ◌<◌, ◌+◌, ◌^◌, ℕ, pos, IfOk, map};
 ghost use Rattle.std.specs.List.{AllByRecursion};
@@ -21,7 +21,7 @@ use desk_rules::words::{Aircraft, Usage};
 use std::alloc::{AllocError, Global};
 use volume4d::{Slab, Volume};
 
-/// The number of a usage.
+/// The number that stands for `usage` in a row of `plan`.
 pub fn usage_number(usage: Usage) -> u32
     ensures { result ≡ spec.usage_number usage }
 {
@@ -32,7 +32,7 @@ pub fn usage_number(usage: Usage) -> u32
     }
 }
 
-/// The number of a state of the aircraft.
+/// The number that stands for the state `aircraft` in a row of `plan`.
 pub fn aircraft_number(aircraft: Aircraft) -> u32
     ensures { result ≡ spec.aircraft_number aircraft }
 {
@@ -43,7 +43,7 @@ pub fn aircraft_number(aircraft: Aircraft) -> u32
     }
 }
 
-/// The texts of ids, which are ids.
+/// The ids as texts. The contract also says that they are valid ids.
 ///
 /// # Errors
 ///
@@ -59,7 +59,7 @@ pub fn texts_of(alloc: Global, ids: &[PlanId]) -> Result<Vec<String>, AllocError
     Ok(texts)
 }
 
-// The text of an id, which is an id.
+// The id as text. The contract also says that it is a valid id.
 fn text_of(alloc: Global, id: &PlanId) -> Result<String, AllocError>
     ensures value { IfOk result (λ text. string_bytes text ≡ id_text id.now) }
     ensures valid { IsId id.now }
@@ -68,7 +68,8 @@ fn text_of(alloc: Global, id: &PlanId) -> Result<String, AllocError>
     String::from_str(alloc, id.encode(&mut buffer))
 }
 
-/// The bytes of the footprints of volumes, which are within the limits.
+/// The footprints of `volumes` as bytes, for the column `asked`. The contract also says that the volumes are
+/// within the limits.
 ///
 /// # Errors
 ///
@@ -79,22 +80,23 @@ pub fn asked_of(alloc: Global, volumes: &[Volume]) -> Result<Vec<Vec<u8>>, Alloc
 {
     let mut asked = Vec::new(alloc);
     for volume in volumes {
-        asked.push(asked_in(alloc, volume)?)?;
+        asked.push(asked_bytes(alloc, volume)?)?;
     }
     Ok(asked)
 }
 
-// The bytes of the footprint of a volume, which is within the limits.
-fn asked_in(alloc: Global, volume: &Volume) -> Result<Vec<u8>, AllocError>
+// The footprint of `volume` as bytes. The contract also says that the volume is within the limits.
+fn asked_bytes(alloc: Global, volume: &Volume) -> Result<Vec<u8>, AllocError>
     ensures value { IfOk result (λ bytes. bytes.items ≡ footprint_bytes volume.now.footprint) }
     ensures valid { IfOk result (λ bytes. IsBlock volume.now) }
 {
-    // For its clause alone: the window of a volume is one.
+    // For its contract alone: the window of a volume is valid.
     let _window = volume.window();
     volume.footprint().to_bytes(alloc)
 }
 
-/// The rows of a plan's volumes, at the places 0, 1, .. of their area.
+/// The rows of a plan's volumes, at the places 0, 1, ..; `asked` and `canon` have the bytes of each volume's
+/// footprint and canonical cover.
 ///
 /// # Errors
 ///
@@ -126,7 +128,7 @@ pub fn volume_rows<'a>(
     Ok(rows)
 }
 
-// The row of a volume at a place, with the bytes of its footprint and those of its cover.
+// The row of the volume at `place`; `asked` and `canon` are the bytes of its footprint and canonical cover.
 fn volume_row<'a>(
     operator: &'a str,
     id: &'a str,
@@ -153,7 +155,7 @@ fn volume_row<'a>(
     }
 }
 
-/// The rows of a plan's spans: one for each range of each of its volumes while it is live, and none
+/// The rows of a plan's spans: one for each range of leaves of each of its volumes while it is live, and none
 /// once it is closed.
 ///
 /// # Errors
@@ -176,7 +178,7 @@ pub fn span_rows<'a>(
     }
 }
 
-// A row for each range of each volume of a plan.
+// The rows of a live plan's spans: one for each range of leaves of each volume.
 fn area_spans<'a>(
     alloc: Global,
     operator: &'a str,
@@ -198,7 +200,7 @@ fn area_spans<'a>(
     Ok(rows)
 }
 
-// A row for each slab of the volume at a place.
+// The rows of the slabs of the volume at `place`.
 fn slab_rows<'a>(
     alloc: Global,
     operator: &'a str,
@@ -217,7 +219,7 @@ fn slab_rows<'a>(
     Ok(rows)
 }
 
-// The row of a slab of the volume at a place.
+// The row of `slab`, which is of the volume at `place`.
 fn slab_row<'a>(
     operator: &'a str,
     id: &'a str,
@@ -241,20 +243,20 @@ fn slab_row<'a>(
     }
 }
 
-/// Span bounds, with those of the spans of these rows.
+/// Bounds that hold for what `span_bounds` do and for the spans of the rows `spans`.
 pub fn lengths_with(span_bounds: &SpanBounds, spans: &[SpanRecord<'_>]) -> SpanBounds
     ensures kept { Keeps span_bounds.now result }
     ensures known { AllByRecursion (IsKnownRow result) (map span_row_in spans.now) }
 {
     let mut after = *span_bounds;
     for span in spans {
-        after = length_with(&after, span);
+        after = with_span_row(&after, span);
     }
     after
 }
 
-// Span bounds, with that of the span of a row.
-fn length_with(span_bounds: &SpanBounds, span: &SpanRecord<'_>) -> SpanBounds
+// Bounds that hold for what `span_bounds` do and for the span of the row `span`.
+fn with_span_row(span_bounds: &SpanBounds, span: &SpanRecord<'_>) -> SpanBounds
     ensures kept { Keeps span_bounds.now result }
     ensures known { IsKnownRow result (span_row_in span.now) }
 {

@@ -1,4 +1,4 @@
-//! Held slabs, from rows of `span2` that are taken one at a time.
+//! Held slabs, read from rows of `span2` one at a time.
 
 ghost use Rattle.std.specs.Prelude.{◌≡◌, ◌≢◌, ◌<◌, ◌*◌, ◌^◌, ℕ, pos, [], IfErr, IfOk};
 ghost use Rattle.sqlite_value.specs.declared.value.Value.TheVariants.{Int};
@@ -8,7 +8,7 @@ ghost use Rattle.volume4d.specs.declared.slab.Held.{Held as One};
 ghost use Rattle.row_codec.specs.RivalRows.{FitsColumns, IsHeldIn, IsNoHeld, IsSlabIn, HasTakenHelds};
 
 use crate::listing::error_of;
-use crate::values::{count_at, narrow_at, wide_at};
+use crate::values::{count_at, i32_at, i64_at};
 use desk_sql::{RowVisitor, SpanFilter};
 use desk_store::StoreFault;
 use s2_cover::Span;
@@ -19,14 +19,14 @@ use volume4d::{Held, Slab};
 // How many leaf positions there are along the curve.
 const POSITIONS: i64 = 6 << 60;
 
-/// The slabs of the rows of `span2` that were taken.
+/// A visitor of rows of `span2` that collects their slabs.
 #[derive(Drop)]
 pub struct SpanCollector {
     helds: Vec<Held>,
 }
 
 impl SpanCollector {
-    /// Of no row yet.
+    /// A collector before the first row.
     pub fn new(alloc: Global) -> SpanCollector
         ensures { HasTakenHelds result.helds.items [] }
     {
@@ -35,7 +35,7 @@ impl SpanCollector {
         }
     }
 
-    /// One slab for each row, in their order.
+    /// The slabs, one for each row, in the order of the rows.
     pub fn finish(self) -> Vec<Held>
         ensures { result.items ≡ self.helds.items }
     {
@@ -64,7 +64,7 @@ impl RowVisitor for SpanCollector {
     }
 }
 
-/// The spans that may hold a point of an extent, of a priority at least.
+/// It selects the spans that hold a point of `extent` with at least the priority `least`.
 pub fn reach_of(extent: &Slab, least: u32) -> SpanFilter
     ensures { result ≡ spec.reach_of extent.now least }
 {
@@ -79,7 +79,7 @@ pub fn reach_of(extent: &Slab, least: u32) -> SpanFilter
     }
 }
 
-/// Of these only those that begin at the leaves that a question is for.
+/// As `reach_of`, but only the spans that begin at the last leaf of `question` or before.
 pub fn reach_from(question: &Span, extent: &Slab, least: u32) -> SpanFilter
     requires { question.now.last < 6 * 2 ^ 60 }
     ensures { result ≡ spec.reach_from question.now extent.now least }
@@ -89,7 +89,7 @@ pub fn reach_from(question: &Span, extent: &Slab, least: u32) -> SpanFilter
     reach
 }
 
-// The slab of a row of `span2`, of which the columns from `first` on are shown, with its plan's priority.
+// The slab in the columns of `span2` from `first` on, with its plan's priority.
 fn held_in(row: &Row) -> Result<Held, StoreFault>
     ensures value { IfOk result (λ held. IsHeldIn row.now held) }
     ensures none { IfErr result (λ e. e ≡ StoreFault.Store → IsNoHeld row.now) }
@@ -100,7 +100,7 @@ fn held_in(row: &Row) -> Result<Held, StoreFault>
     })
 }
 
-// The slab of such a row.
+// The slab in the columns `first` to `stop` of `span2`, which are the first six of `row`.
 fn slab_in(row: &Row) -> Result<Slab, StoreFault>
     ensures value { IfOk result (λ slab. IsSlabIn row.now slab) }
     ensures none { IfErr result (λ e. e ≡ StoreFault.Store → (shown : One) → FitsColumns shown
@@ -109,21 +109,21 @@ fn slab_in(row: &Row) -> Result<Slab, StoreFault>
     Ok(Slab {
         first: position_at(row, 0)?,
         last: position_at(row, 1)?,
-        lower: narrow_at(row, 2)?,
-        upper: narrow_at(row, 3)?,
-        start: wide_at(row, 4)?,
-        end: wide_at(row, 5)?,
+        lower: i32_at(row, 2)?,
+        upper: i32_at(row, 3)?,
+        start: i64_at(row, 4)?,
+        end: i64_at(row, 5)?,
     })
 }
 
-// The leaf position in a column.
+// The leaf position in the column `at`; `Store` if it isn't one.
 fn position_at(row: &Row, at: usize) -> Result<u64, StoreFault>
     ensures value { IfOk result (λ position. column row.now at ≡ Int (pos position)) }
     ensures leaf { IfOk result (λ position. position < 6 * 2 ^ 60) }
     ensures none { IfErr result (λ e. e ≡ StoreFault.Store →
         (n : ℕ) → n < 6 * 2 ^ 60 → column row.now at ≢ Int (pos n)) }
 {
-    let position = wide_at(row, at)?;
+    let position = i64_at(row, at)?;
     if (0..POSITIONS).contains(&position) {
         Ok(position as u64)
     } else {

@@ -1,4 +1,5 @@
-//! How long the spans of live plans are, so that a query need not look far before an extent.
+//! How long the spans of live plans are, so that a query of the spans near a region need not begin far before
+//! it.
 
 ghost use Rattle.std.specs.Prelude.{◌≡◌, ◌≤◌, ◌<◌, ◌≤ℤ◌, ◌↔◌, ℕ, pos, IfOk, IfSome, IsPermutation, IsTrue, OnOk, Some, length};
 ghost use Rattle.std.specs.List.{AllByRecursion, list_any};
@@ -10,35 +11,34 @@ use s2_cover::Span;
 use std::alloc::{AllocError, Global};
 use volume4d::Slab;
 
-// How many long spans are kept.
-const MOST: usize = 16;
+// The most long spans that are kept one by one.
+const MAX_LONG_SPANS: usize = 16;
 
-// A span is a long span if its last leaf is more positions after its first than in a cell of level 6.
-const ORDINARY: u64 = (1 << 48) - 1;
+// A span is long if its last leaf is more positions after its first than in a cell of level 6.
+const MAX_ORDINARY_LENGTH: u64 = (1 << 48) - 1;
 
-/// Which spans live plans may have: those whose last leaf is at most `bound` positions after their first,
-/// and a few that are longer.
+/// Which spans live plans may have: those whose last leaf is at most `bound` positions after the first, and
+/// the few longer ones of `long_spans`.
 #[derive(Clone, Copy)]
 pub struct SpanBounds {
     bound: u64,
-    // the longer ones, ascending by their first leaves, of which none comes twice; then None for each more
-    // that may be kept
-    long_spans: [Option<Span>; MOST],
+    // ascending by their first leaves, none of which comes twice; then None for each free place
+    long_spans: [Option<Span>; MAX_LONG_SPANS],
 }
 
 impl SpanBounds {
-    /// Of no spans, or of single leaves.
+    /// Bounds that hold for no spans, or for spans of one leaf.
     pub fn new() -> SpanBounds
         ensures bound { result.bound ≡ 0 }
         ensures long_spans { (span : Range) → ¬ IsAmong result.long_spans span }
     {
         SpanBounds {
             bound: 0,
-            long_spans: [None; MOST],
+            long_spans: [None; MAX_LONG_SPANS],
         }
     }
 
-    /// With one more span, from a first leaf position to a last; numbers that are none change nothing.
+    /// Bounds that also hold for the span `first..=last`; the same bounds if these aren't leaf positions.
     pub fn with(&self, first: i64, last: i64) -> SpanBounds
         ensures kept { Keeps self.now result }
         ensures known { IsKnownBetween result first last }
@@ -53,9 +53,9 @@ impl SpanBounds {
         }
     }
 
-    /// The questions, each for the spans that begin at some leaves, that find all spans that may hold a point
-    /// of an extent: one for each long span that reaches the extent and begins before the others that may
-    /// reach it, and then one for these.
+    /// The queries that together find all spans which may hold a point of `extent`. Each is a range of leaves
+    /// at which the spans begin: one leaf for each long span that overlaps `extent` and begins far before it,
+    /// and then one range for all other spans.
     pub fn questions(&self, alloc: Global, extent: &Slab) -> Result<Vec<Span>, AllocError>
         ensures whole { IfOk result (λ questions.
             AreWhole extent.now (IsKnown self.now) questions.items) }
@@ -66,7 +66,7 @@ impl SpanBounds {
         let low = self.low(extent);
         let mut questions = Vec::new(alloc);
         for long_span in &self.long_spans {
-            ask_for(long_span, low, extent, &mut questions)?;
+            push_query(long_span, low, extent, &mut questions)?;
         }
         questions.push(Span {
             first: low,
@@ -75,7 +75,7 @@ impl SpanBounds {
         Ok(questions)
     }
 
-    // Where a span begins at the earliest that is no long span and may hold a point of an extent.
+    // The least leaf position at which a span that isn't a long one may begin if it overlaps `extent`.
     fn low(&self, extent: &Slab) -> u64
         ensures low { IsLow result extent.now (IsBoundedBy self.now.bound) }
         ensures small { result ≤ extent.now.first }
@@ -83,27 +83,28 @@ impl SpanBounds {
         extent.first.saturating_sub(self.bound)
     }
 
-    // With one more span: a long span is kept, if there is room, and else the bound rises.
+    // Bounds that also hold for `span`: a long one joins the long spans if there is room; else `bound` is
+    // raised.
     fn with_span(&self, span: Span) -> SpanBounds
         requires { span.first ≤ span.last }
         ensures kept { Keeps self.now result }
         ensures known { IsKnown result span }
     {
         let length = span.last - span.first;
-        if length <= self.bound.max(ORDINARY) {
-            return self.raised(length);
+        if length <= self.bound.max(MAX_ORDINARY_LENGTH) {
+            return self.with_bound(length);
         }
         match with_long_span(&self.long_spans, span) {
             Some(long_spans) => SpanBounds {
                 bound: self.bound,
                 long_spans,
             },
-            None => self.raised(length),
+            None => self.with_bound(length),
         }
     }
 
-    // With a bound of so many positions at least.
-    fn raised(&self, length: u64) -> SpanBounds
+    // The same bounds with a `bound` of at least `length` positions.
+    fn with_bound(&self, length: u64) -> SpanBounds
         ensures kept { Keeps self.now result }
         ensures bound { length ≤ result.bound }
     {
@@ -114,7 +115,7 @@ impl SpanBounds {
     }
 }
 
-// A leaf position that is in a column.
+// The value of a column as a leaf position.
 fn position_of(number: i64) -> u64
     requires { pos 0 ≤ℤ number }
     ensures { (a : ℕ) → number ≡ pos a → result ≡ a }
@@ -122,20 +123,23 @@ fn position_of(number: i64) -> u64
     number as u64
 }
 
-// The long spans with one more span, unless there is no room for it.
-fn with_long_span(long_spans: &[Option<Span>; MOST], span: Span) -> Option<[Option<Span>; MOST]>
+// The long spans and `span`, or `None` if there is no room for it.
+fn with_long_span(
+    long_spans: &[Option<Span>; MAX_LONG_SPANS],
+    span: Span,
+) -> Option<[Option<Span>; MAX_LONG_SPANS]>
     ensures kept { IfSome result (λ more.
         (known : Range) → IsAmong long_spans.now known → IsAmong more known) }
     ensures among { IfSome result (λ more. IsAmong more span) }
 {
-    let at = room_for(long_spans, span.first)?;
+    let at = slot_for(long_spans, span.first)?;
     let mut more = *long_spans;
-    more[at] = Some(joined(long_spans[at], span));
-    Some(in_order(more))
+    more[at] = Some(longer_of(long_spans[at], span));
+    Some(sorted_by_first(more))
 }
 
-// Where a long span that begins at this leaf is kept, or else the first place with room.
-fn room_for(long_spans: &[Option<Span>; MOST], first: u64) -> Option<usize>
+// The index of the long span that begins at `first`, or else of the first free place.
+fn slot_for(long_spans: &[Option<Span>; MAX_LONG_SPANS], first: u64) -> Option<usize>
     ensures { IfSome result (λ at. IsRoomFor long_spans.now first at) }
 {
     for (at, long_span) in long_spans.iter().enumerate() {
@@ -147,8 +151,8 @@ fn room_for(long_spans: &[Option<Span>; MOST], first: u64) -> Option<usize>
     None
 }
 
-// The longer of a span and of a long span, if one is kept that begins with the same leaf.
-fn joined(long_span: Option<Span>, span: Span) -> Span
+// The longer of `span` and `long_span`, which begin at the same leaf.
+fn longer_of(long_span: Option<Span>, span: Span) -> Span
     requires { BeginsOrNone span.first long_span }
     ensures kept { (known : Range) → IsTrue (takes_in known long_span)
         → IsTrue (takes_in known (Some result)) }
@@ -160,8 +164,8 @@ fn joined(long_span: Option<Span>, span: Span) -> Span
     }
 }
 
-// One question more for a long span, if one is kept that begins before `low` and reaches the extent.
-fn ask_for(
+// Adds a query for `long_span` if it overlaps `extent` and begins before `low`.
+fn push_query(
     long_span: &Option<Span>,
     low: u64,
     extent: &Slab,
@@ -176,7 +180,7 @@ fn ask_for(
         → AllByRecursion (IsWithinExtent extent.now) questions.new.items) }
 {
     match long_span {
-        Some(long_span) if is_apart(long_span, low, extent) => {
+        Some(long_span) if needs_own_query(long_span, low, extent) => {
             questions.push(Span {
                 first: long_span.first,
                 last: long_span.first,
@@ -187,16 +191,16 @@ fn ask_for(
     }
 }
 
-// Whether a long span begins before `low` and reaches an extent.
-fn is_apart(long_span: &Span, low: u64, extent: &Slab) -> bool
+// Whether `long_span` overlaps `extent` and begins before `low`, where the last query begins.
+fn needs_own_query(long_span: &Span, low: u64, extent: &Slab) -> bool
     ensures { IsTrue result ↔ (long_span.now.first < low) × (long_span.now.first ≤ extent.now.last)
         × (extent.now.first ≤ long_span.now.last) }
 {
     long_span.first < low && long_span.first <= extent.last && extent.first <= long_span.last
 }
 
-// The same long spans, ascending by their first leaves.
-fn in_order(mut long_spans: [Option<Span>; MOST]) -> [Option<Span>; MOST]
+// The long spans in ascending order of their first leaves; free places come last.
+fn sorted_by_first(mut long_spans: [Option<Span>; MAX_LONG_SPANS]) -> [Option<Span>; MAX_LONG_SPANS]
     ensures { IsPermutation long_spans result }
 {
     long_spans.sort_unstable_by_key(|long_span| long_span.map_or(

@@ -1,4 +1,4 @@
-//! From rows to what they stand for.
+//! Values read from the columns of rows.
 
 ghost use Rattle.std.specs.Prelude.{◌≡◌, ◌≢◌, ◌≤◌, ◌<◌, ◌^◌, ℕ, ℤ, List, [], pos};
 ghost use Rattle.std.specs.Prelude.{IsTrue, IsUtf8, FitsSigned, IfOk, IfErr};
@@ -27,14 +27,14 @@ use std::alloc::Global;
 use volume4d::laws::one_shape;
 use volume4d::{Area, Footprint, Volume, VolumeFault, Window};
 
-/// The fault of a store that an error of SQLite is.
+/// The store's fault for an error of SQLite.
 pub(crate) fn fault_of(error: Error) -> StoreFault
     ensures { result ≡ StoreFault.Store → error ≢ Error.SqliteFailure ErrorCode.OutOfMemory }
 {
     fault_reported(error, StoreFault::Store)
 }
 
-/// The fault of a store that an error of SQLite is, if one of input and output is reported as this.
+/// The store's fault for an error of SQLite; an I/O error becomes `reported`.
 pub fn fault_reported(error: Error, reported: StoreFault) -> StoreFault
     ensures store { result ≡ StoreFault.Store → error ≢ Error.SqliteFailure ErrorCode.OutOfMemory }
     ensures shut { error ≡ Error.SqliteFailure ErrorCode.Closed → result ≡ StoreFault.Store }
@@ -46,12 +46,7 @@ pub fn fault_reported(error: Error, reported: StoreFault) -> StoreFault
     }
 }
 
-/// What SQLite answered, or its error as a fault of the store, if one of input and output is reported as
-/// this.
-///
-/// # Errors
-///
-/// That of `fault_reported`.
+/// The same result, with SQLite's error as the store's fault; an I/O error becomes `reported`.
 pub fn or_fault<T>(answer: Result<T, Error>, reported: StoreFault) -> Result<T, StoreFault>
     ensures { IsReportedAs answer result }
 {
@@ -61,8 +56,8 @@ pub fn or_fault<T>(answer: Result<T, Error>, reported: StoreFault) -> Result<T, 
     }
 }
 
-// The number in a column.
-pub(crate) fn narrow_at(row: &Row, at: usize) -> Result<i32, StoreFault>
+// The integer of 32 bits in the column `at`; `Store` if it isn't one.
+pub(crate) fn i32_at(row: &Row, at: usize) -> Result<i32, StoreFault>
     ensures value { IfOk result (λ n. column row.now at ≡ Int n) }
     ensures none { IfErr result (λ e. e ≡ StoreFault.Store →
         (n : ℤ) → FitsSigned w32 n → column row.now at ≢ Int n) }
@@ -73,8 +68,8 @@ pub(crate) fn narrow_at(row: &Row, at: usize) -> Result<i32, StoreFault>
     }
 }
 
-// The number in a column.
-pub(crate) fn wide_at(row: &Row, at: usize) -> Result<i64, StoreFault>
+// The integer in the column `at`; `Store` if it isn't one.
+pub(crate) fn i64_at(row: &Row, at: usize) -> Result<i64, StoreFault>
     ensures value { IfOk result (λ n. column row.now at ≡ Int n) }
     ensures none { IfErr result (λ e. e ≡ StoreFault.Store → (n : ℤ) → column row.now at ≢ Int n) }
 {
@@ -84,7 +79,7 @@ pub(crate) fn wide_at(row: &Row, at: usize) -> Result<i64, StoreFault>
     }
 }
 
-// The bytes in a column.
+// The bytes in the column `at`; `Store` if it isn't a blob.
 fn blob_at(row: &Row, at: usize) -> Result<Vec<u8>, StoreFault>
     ensures value { IfOk result (λ bytes. column row.now at ≡ Blob bytes.items) }
     ensures none { IfErr result (λ e. e ≡ StoreFault.Store →
@@ -96,11 +91,11 @@ fn blob_at(row: &Row, at: usize) -> Result<Vec<u8>, StoreFault>
     }
 }
 
-/// The volume whose columns from `lower` on begin at a place of the row.
+/// The volume in the columns from `at` on: `lower`, `upper`, `start`, `stop`, `asked`.
 ///
 /// # Errors
 ///
-/// `OutOfMemory` if memory runs out. `Store` if they are no volume's.
+/// `OutOfMemory` if memory runs out. `Store` if they aren't those of a volume.
 pub fn volume_in(alloc: Global, row: &Row, at: usize) -> Result<Volume, StoreFault>
     requires { at ≤ 6 }
     ensures value { IfOk result (λ volume. (v : Block) → IsBlock v → IsVolumeAt row.now at v
@@ -110,10 +105,10 @@ pub fn volume_in(alloc: Global, row: &Row, at: usize) -> Result<Volume, StoreFau
         (v : Block) → IsBlock v → ¬ IsVolumeAt row.now at v) }
 {
     one_shape();
-    let lower = narrow_at(row, at)?;
-    let upper = narrow_at(row, at + 1)?;
-    let start = wide_at(row, at + 2)?;
-    let end = wide_at(row, at + 3)?;
+    let lower = i32_at(row, at)?;
+    let upper = i32_at(row, at + 1)?;
+    let start = i64_at(row, at + 2)?;
+    let end = i64_at(row, at + 3)?;
     let asked = blob_at(row, at + 4)?;
     let Ok(window) = Window::try_new(lower, upper, start, end) else {
         return Err(StoreFault::Store);
@@ -123,12 +118,12 @@ pub fn volume_in(alloc: Global, row: &Row, at: usize) -> Result<Volume, StoreFau
     };
     match Volume::try_new(alloc, footprint, window) {
         Ok(volume) => Ok(volume),
-        Err(e) => Err(fault_from(e)),
+        Err(e) => Err(fault_of_volume(e)),
     }
 }
 
-// The fault of a store in whose rows no volume stands.
-fn fault_from(fault: VolumeFault) -> StoreFault
+// The store's fault if a row has no valid volume.
+fn fault_of_volume(fault: VolumeFault) -> StoreFault
     ensures { result ≡ StoreFault.Store → fault ≢ VolumeFault.OutOfMemory }
 {
     match fault {
@@ -137,11 +132,11 @@ fn fault_from(fault: VolumeFault) -> StoreFault
     }
 }
 
-/// The area whose volumes stand in rows, one in each, their columns from `lower` on at a place.
+/// The area of the volumes in `rows`, one in each, in the columns from `at` on.
 ///
 /// # Errors
 ///
-/// `OutOfMemory` if memory runs out. `Store` if they are no area's.
+/// `OutOfMemory` if memory runs out. `Store` if they aren't those of an area.
 pub fn area_in(alloc: Global, rows: &[Row], at: usize) -> Result<Area, StoreFault>
     requires { at ≤ 6 }
     ensures value { IfOk result (λ area. (vs : List Block) → AllByRecursion IsBlock vs
@@ -162,11 +157,11 @@ pub fn area_in(alloc: Global, rows: &[Row], at: usize) -> Result<Area, StoreFaul
     }
 }
 
-/// The number in a column.
+/// The unsigned number of 32 bits in the column `at`.
 ///
 /// # Errors
 ///
-/// `OutOfMemory` if memory runs out. `Store` if the column is no number of 32 bits.
+/// `OutOfMemory` if memory runs out. `Store` if the column isn't such a number.
 pub fn count_at(row: &Row, at: usize) -> Result<u32, StoreFault>
     ensures value { IfOk result (λ n. column row.now at ≡ Int (pos n)) }
     ensures none { IfErr result (λ e. e ≡ StoreFault.Store →
@@ -178,7 +173,7 @@ pub fn count_at(row: &Row, at: usize) -> Result<u32, StoreFault>
     }
 }
 
-// The text in a column.
+// The text in the column `at`; `Store` if it isn't one.
 fn text_at(row: &Row, at: usize) -> Result<String, StoreFault>
     ensures value { IfOk result (λ text. column row.now at ≡ Text (string_bytes text)) }
     ensures none { IfErr result (λ e. e ≡ StoreFault.Store →
@@ -190,11 +185,11 @@ fn text_at(row: &Row, at: usize) -> Result<String, StoreFault>
     }
 }
 
-/// The id in the second column.
+/// The plan id in the second column.
 ///
 /// # Errors
 ///
-/// `OutOfMemory` if memory runs out. `Store` if it is no id.
+/// `OutOfMemory` if memory runs out. `Store` if it isn't an id.
 pub fn id_in(row: &Row) -> Result<PlanId, StoreFault>
     ensures value { IfOk result (λ found. (id : List ℕ) → IsId id
         → column row.now 1 ≡ Text (id_text id) → found ≡ id) }
@@ -209,7 +204,7 @@ pub fn id_in(row: &Row) -> Result<PlanId, StoreFault>
     }
 }
 
-// The usage in the fourth column.
+// The usage in the fourth column of a row of `plan`.
 fn usage_in(row: &Row) -> Result<Usage, StoreFault>
     ensures value { IfOk result (λ usage. column row.now 3 ≡ Int (pos (usage_number usage))) }
     ensures none { IfErr result (λ e. e ≡ StoreFault.Store →
@@ -223,7 +218,7 @@ fn usage_in(row: &Row) -> Result<Usage, StoreFault>
     }
 }
 
-// The state of the aircraft in the fifth column.
+// The state of the aircraft in the fifth column of a row of `plan`.
 fn aircraft_in(row: &Row) -> Result<Aircraft, StoreFault>
     ensures value { IfOk result (λ aircraft. column row.now 4 ≡ Int (pos (aircraft_number aircraft))) }
     ensures none { IfErr result (λ e. e ≡ StoreFault.Store →
@@ -237,7 +232,7 @@ fn aircraft_in(row: &Row) -> Result<Aircraft, StoreFault>
     }
 }
 
-/// A plan but for its area.
+/// A plan without its area.
 #[derive(Clone, Copy)]
 pub struct PlanHead {
     id: PlanId,
@@ -247,7 +242,7 @@ pub struct PlanHead {
 }
 
 impl PlanHead {
-    /// The plan, with its area.
+    /// The plan with this area.
     pub fn with(self, area: Area) -> PlanRow
         ensures { result ≡ plan_with self area }
     {
@@ -261,11 +256,11 @@ impl PlanHead {
     }
 }
 
-/// What a row's columns from `id` to `aircraft` say of a plan.
+/// The plan without its area, in the columns from `id` to `aircraft`.
 ///
 /// # Errors
 ///
-/// `OutOfMemory` if memory runs out. `Store` if they are no plan's.
+/// `OutOfMemory` if memory runs out. `Store` if they aren't those of a plan.
 pub fn head_in(row: &Row) -> Result<PlanHead, StoreFault>
     ensures value { IfOk result (λ head. (p : Plan) → IsId p.id → IsHead row.now p
         → plan_with head p.area ≡ p) }
@@ -281,11 +276,11 @@ pub fn head_in(row: &Row) -> Result<PlanHead, StoreFault>
     })
 }
 
-/// The plan of a row's columns from `id` to `aircraft`, with an area.
+/// The plan in the columns from `id` to `aircraft`, with this area.
 ///
 /// # Errors
 ///
-/// `OutOfMemory` if memory runs out. `Store` if they are no plan's.
+/// Those of `head_in`.
 pub fn plan_in(row: &Row, area: Area) -> Result<PlanRow, StoreFault>
     ensures value { IfOk result (λ plan. (p : Plan) → IsId p.id → IsHead row.now p
         → area ≡ p.area → plan ≡ p) }

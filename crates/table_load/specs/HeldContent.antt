@@ -24,7 +24,7 @@ abbrev pub AreNoContentIn : Bool → Tables → Type 0
 AreNoContentIn true tables = AreNoOldContent tables
 AreNoContentIn false tables = AreNoContent tables
 
--- a desk's tables, so far as they are made, with the rows of this content: in schema 1 if that has rows, else
+-- the tables that are made, with the rows of this content: in schema 1 if that has rows, else
 -- in schema 2
 pub record HoldsContent (old : Bool) (w : World) (db : Database) : Type 0 where
   pub made : TablesPresent
@@ -32,7 +32,7 @@ pub record HoldsContent (old : Bool) (w : World) (db : Database) : Type 0 where
   pub schema : has_old_rows (tables_at made db.trees) ≡ old
   pub rows : IsContentIn old (tables_at made db.trees) w
 
--- no table at all, other tables than a desk's, or rows of no content in either schema
+-- no table at all, other tables than the schema's, or rows of no valid state in either schema
 abbrev pub HoldsNone : Database → Type 0
 HoldsNone db = (db.schema ≡ blank_schema) ⊎ (HasOthers db ⊎ (HasNoContent db ⊎ HasNoOldContent db))
 

@@ -30,7 +30,7 @@ pub record HasWorld (db : Trees) (w : World) : Type 0 where
   pub sound : IsDatabase (record { schema = desk_schema; trees = db })
   pub tables : AreTables (tables_of db) w
 
--- what trees are read as: a content, or None if they are no desk's
+-- what trees are read as: a content, or None if they are invalid
 abbrev pub ReadsAs : Trees → Option World → Type 0
 ReadsAs db None = (w : World) → ¬ HasWorld db w
 ReadsAs db (Some w) = HasWorld db w
@@ -66,7 +66,7 @@ module _ {D : Type 0} {g : disk.Ghosts D} where
     pub connected : IsConnected last
     pub left : MayHold last image
 
--- what a start does not take for a desk's tables as they are
+-- what a start does not take for the schema's tables as they are
 abbrev pub IsNotTakenAsIs : Database → Type 0
 IsNotTakenAsIs db = ((made : TablesPresent) × IsPart made db)
     ⊎ (IsMisnumbered db ⊎ (IsNoDesk db ⊎ HasOldRows db))

@@ -123,7 +123,7 @@ pub record OrdersRows (ps : List Filed) (old new : Tables) : Type 0 where
   pub with_covers : IsPermutation (cover_rows ps ++ []) new.covers
   pub with_spans : (rows : List Row) × AreSpanRows ps rows × IsPermutation (rows ++ []) new.spans
 
--- all of a desk's tables are made, with the rows that there were
+-- all of the schema's tables are made, with the rows that there were
 pub record HasAllTables {S : Type 0} (g : Ghosts S) (made : TablesPresent) (old new : Held S) : Type 0 where
   pub was_open : IsTrue (state g old).is_open
   pub desk : IsDesk (state g new).now
@@ -139,7 +139,7 @@ pub record WasMoved {S : Type 0} (g : Ghosts S) (old new : Held S) (w : World) :
   pub rows : IsOldContentOf (tables_at made (state g old).now.trees) w
   pub standing : IsStanding g new w
 
--- a desk's tables, so far as they are made, with a row of schema 1, and rows of no content of schema 1
+-- the tables that are made, with a row of schema 1, and rows of no valid state of schema 1
 pub record HasNoOldContent (db : Database) : Type 0 where
   pub made : TablesPresent
   pub desk : IsMadeTo made db
@@ -158,13 +158,13 @@ module _ {S : Type 0} (g : Ghosts S) (old new : Held S) where
       HasCleanDisk (state g new) → IsTrue (state g new).is_open →
       ((count ≡ 0) × BeginsWith g old new w) ⊎ ((count ≡ reported_count w.plans) × WasMoved g old new w)
 
-  -- what is shown is no desk's, in either schema
+  -- what is shown is invalid, in either schema
   abbrev pub ShowsNoContent : Type 0
   ShowsNoContent = HasCleanDisk (state g new) → IsTrue (state g new).is_open →
       HasOthers (state g old).now
       ⊎ (HasNoContent (state g old).now ⊎ HasNoOldContent (state g old).now)
 
-  -- a desk's tables are made so far now, with the rows that there were
+  -- the schema's tables are made so far now, with the rows that there were
   pub record HasSameRows : Type 0 where
     pub made : TablesPresent
     pub next : TablesPresent

@@ -36,7 +36,7 @@ use Rattle.row_codec.specs.Tables.{AreSpanRows, row_of_plan}
 
 -- ---- which part is named
 
--- a part, if its rows are no desk's; none if memory ran out
+-- a part, if its rows are invalid; none if memory ran out
 abbrev pub if_no_desk : RowFault → InvalidPart → Option InvalidPart
 if_no_desk row.NoDesk part = Some part
 if_no_desk row.OutOfMemory part = None
@@ -123,7 +123,7 @@ pub record FailsOld (t : Tables) (part : InvalidPart) : Type 0 where
 abbrev pub FailsMoving : Tables → InvalidPart → Type 0
 FailsMoving t part = ((part ≡ BothSchemas) × ¬ HasNoNewRows t) ⊎ (HasNoNewRows t × FailsOld t part)
 
--- so much of a desk's tables is made, and a part of them fails
+-- so much of the schema's tables is made, and a part of them fails
 pub record FailsMade (db : Database) (part : InvalidPart) : Type 0 where
   pub made : TablesPresent
   pub some : made ≢ Nothing

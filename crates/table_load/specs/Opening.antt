@@ -1,4 +1,4 @@
--- What all rows of a desk's tables stand for, and what a store over a connection begins with.
+-- What all rows of the schema's tables stand for, and what a store over a connection begins with.
 use Rattle.std.specs.Prelude.{◌≡◌, ◌≢◌, ℕ, ◌⊎◌, Bool, true, false, List, [], ◌∷◌, codes}
 use Rattle.std.specs.Prelude.{if◌then◌else◌, IsSome, IsTrue}
 use Rattle.std.specs.List.Sorted.{IsStrictlySortedBy}
@@ -117,12 +117,12 @@ pub record BeganBlank (db : Database) (w : World) : Type 0 where
   pub blank : db.schema ≡ blank_schema
   pub empty : w ≡ record { operators = []; plans = [] }
 
--- what the database showed is still shown, and is a desk's tables with the rows of the world
+-- what the database showed is still shown, and is the schema's tables with the rows of the world
 pub record WasFound {S : Type 0} (g : Ghosts S) (old new : Held S) (w : World) : Type 0 where
   pub standing : IsStanding g old w
   pub kept : ShowsAsBefore g old new
 
--- a desk's tables and indexes and nothing else, but not all of them in its own order
+-- the schema's tables and indexes and nothing else, but not all of them in its own order
 pub record IsPart (made : TablesPresent) (db : Database) : Type 0 where
   pub missing : made ≢ All
   pub part : IsMadeTo made db
@@ -135,25 +135,25 @@ pub record WasCompleted {S : Type 0} (g : Ghosts S) (old new : Held S) (w : Worl
   pub whole : IsDesk (state g new).now
   pub same : tables_of (state g new).now.trees ≡ tables_at made (state g old).now.trees
 
--- the tables came before all indexes, with the rows of the world; they are in a desk's own order now, with
+-- the tables came before all indexes, with the rows of the world; they are in canonical order now, with
 -- these rows
 pub record WasOrdered {S : Type 0} (g : Ghosts S) (old new : Held S) (w : World) : Type 0 where
   pub part : IsMadeTo Packed (state g old).now
   pub rows : IsContentOf (tables_at Packed (state g old).now.trees) w
   pub standing : IsStanding g new w
 
--- a desk's tables, so far as they are made, with no row of schema 1, and rows of no content
+-- the schema's tables, so far as they are made, with no row of schema 1, and rows of no valid state
 pub record HasNoContent (db : Database) : Type 0 where
   pub made : TablesPresent
   pub desk : IsMadeTo made db
   pub new : has_old_rows (tables_at made db.trees) ≡ false
   pub none : AreNoContent (tables_at made db.trees)
 
--- the schema is another than a desk's, or the rows are those of no content
+-- the schema is another one, or the rows are those of no content
 abbrev pub IsNoDesk : Database → Type 0
 IsNoDesk db = HasOthers db ⊎ HasNoContent db
 
--- a desk's tables, so far as they are made, with a row in those of schema 1
+-- the schema's tables, so far as they are made, with a row in those of schema 1
 pub record HasOldRows (db : Database) : Type 0 where
   pub made : TablesPresent
   pub desk : IsMadeTo made db
@@ -174,7 +174,7 @@ module _ {S : Type 0} (g : Ghosts S) (old new : Held S) where
       BeganBlank (state g old).now w
       ⊎ (WasFound g old new w ⊎ (WasCompleted g old new w ⊎ WasOrdered g old new w))
 
-  -- what is shown is no desk's
+  -- what is shown is invalid
   abbrev pub ShowsNoDesk : Type 0
   ShowsNoDesk = HasCleanDisk (state g new) → IsTrue (state g new).is_open → IsNoDesk (state g old).now
 

@@ -55,7 +55,7 @@ module _ {S : Type 0} (g : Ghosts S) (old new : Held S) where
   BeginsAllMoved w count =
       HasCleanDisk (state g new) → (count ≡ reported_count w.plans) × WasMoved g old new w
 
-  -- over a clean disk the tables, so far as they were made, had the rows of no content
+  -- over a clean disk the tables, so far as they were made, had the rows of no valid state
   abbrev pub HadNone : TablesPresent → Type 0
   HadNone made = HasCleanDisk (state g new) → AreNoContent (tables_at made (state g old).now.trees)
 
@@ -64,13 +64,13 @@ module _ {S : Type 0} (g : Ghosts S) (old new : Held S) where
   HadNoOld made = HasCleanDisk (state g new) → AreNoOldContent (tables_at made (state g old).now.trees)
 
 module _ {S : Type 0} (g : Ghosts S) (old new : Held S) {V : Type 0} (result : Result V OpenFault) where
-  -- what was missing of a desk's tables is made, over an open connection
+  -- what was missing of the schema's tables is made, over an open connection
   abbrev pub MakesWhole : TablesPresent → Type 0
   MakesWhole made =
       HasCleanDisk (state g new) → IsTrue (state g new).is_open → OnOk result (HasAllTables g made old new)
 
   -- tables that are made so far are read: what an open connection gives of them, which of them it reports to
-  -- be no desk's, and why it fails; nothing is changed
+  -- be invalid, and why it fails; nothing is changed
   pub record IsRead (made : TablesPresent) (Gives : Tables → V → Type 0) (Refuses : Tables → Type 0) : Type 0
     where
       pub value : HasCleanDisk (state g new) → IfOk result (Gives (tables_at made (state g old).now.trees))
@@ -88,7 +88,7 @@ module _ {S : Type 0} (g : Ghosts S) (old new : Held S) {V : Type 0} (result : R
     pub fault : IfErr result (λ e. (e ≢ NotADesk) × (e ≢ OldSchema))
     pub remembered : Remembers g old new
 
-  -- a database without a table has a desk's tables now, with the rows of a world
+  -- a database without a table has the schema's tables now, with the rows of a world
   pub record IsMadeAnew (world : World) : Type 0 where
     pub stands : OnOk result (Stands g new world)
     pub live : OnOk result (IsOpenIfClean g new)
@@ -98,7 +98,7 @@ module _ {S : Type 0} (g : Ghosts S) (old new : Held S) {V : Type 0} (result : R
 
   module _ (world : V → World) (Begins : V → Type 0) where
     -- tables without a row of schema 1, or with those alone, come to have the rows of a world: how it begins,
-    -- what is said of them if they are no desk's, why it fails, and what is kept then
+    -- what is said of them if they are invalid, why it fails, and what is kept then
     pub record IsSetUp (Refuses Keeps : Type 0) : Type 0 where
       pub begins : IfOk result Begins
       pub stands : IfOk result (λ v. Stands g new (world v))

@@ -1,19 +1,19 @@
-//! A connection to the files at a path, with the options of a desk.
+//! Connections to the files at a path.
 
 ghost use Rattle.std.specs.Prelude.{IfErr, IfOk};
 ghost use Rattle.sqlite_wal.specs.Files.{image_at};
 ghost use Rattle.sqlite.specs.Held.{IsNew};
 ghost use Rattle.table_load.specs.Files.{Finds, IsUnreached};
 
-use crate::path::{NotOpened, find_file, find_nothing, open_pair, options, over_pair};
+use crate::path::{NotOpened, connect_over, open_pair, options, require_file, require_nothing};
 use sqlite::{Connection, FileFrom, FileStore, Start};
 
-/// A connection to the database in the files at a path; `start` stands for what the files held. Where there
-/// are no files, they are made.
+/// Connects to the database in the files at `path`, which are made if they aren't there. `start` says what
+/// the files held.
 ///
 /// # Errors
 ///
-/// `OutOfMemory` if memory runs out, and `Store` if the files cannot be opened for another cause.
+/// `OutOfMemory` if memory runs out, and `Store` if the files can't be opened for another cause.
 pub fn connect<S: Start>(
     rt: &HostRuntime,
     path: &str,
@@ -25,10 +25,10 @@ pub fn connect<S: Start>(
 {
     let options = options(rt)?;
     let files = open_pair(rt, path, start)?;
-    over_pair(rt.alloc(), files, options)
+    connect_over(rt.alloc(), files, options)
 }
 
-/// A connection to files that are there already, as `connect` gives it.
+/// As `connect`, but the database file has to exist.
 ///
 /// # Errors
 ///
@@ -42,11 +42,11 @@ pub fn connect_there<S: Start>(
     ensures fresh { IfOk result IsNew }
     ensures unread { IfErr result (IsUnreached (image_at S.Start)) }
 {
-    find_file(rt, path)?;
+    require_file(rt, path)?;
     connect(rt, path, start)
 }
 
-/// A connection to files that are made, as `connect` gives it.
+/// As `connect`, but nothing may be at `path`.
 ///
 /// # Errors
 ///
@@ -60,6 +60,6 @@ pub fn connect_new<S: Start>(
     ensures fresh { IfOk result IsNew }
     ensures unread { IfErr result (IsUnreached (image_at S.Start)) }
 {
-    find_nothing(rt, path)?;
+    require_nothing(rt, path)?;
     connect(rt, path, start)
 }

@@ -1,5 +1,5 @@
-//! The rows of `volume2`, taken one at a time. The cover in each is compared with that of the volume in it,
-//! and is not kept.
+//! The rows of `volume2`, read one at a time. The cover in each is compared with that of its volume, but not
+//! kept.
 
 ghost use Rattle.std.specs.Prelude.{◌≡◌, ◌≢◌, ◌↔◌, ◌++◌, [], ◌∷◌, List, map, IsTrue, IfOk, IfErr, OnOk};
 ghost use Rattle.sqlite_value.specs.declared.value.Value.TheVariants.{Blob};
@@ -29,19 +29,19 @@ use std::alloc::{AllocError, Global};
 use volume4d::Volume;
 use volume4d::laws::one_shape;
 
-/// Rows with all columns of `volume2`, by its key. Each is kept without its cover.
+/// A visitor of all rows of `volume2`, which compares their covers and keeps the rows without these.
 #[derive(Drop)]
 pub struct CoverCheck {
     alloc: Global,
     pub volumes: Vec<Row>,
-    /// Whether each row so far has the cover of its volume.
+    /// Whether each row so far had the cover of its volume.
     pub agree: bool,
-    // the values of a row under way, whose buffers serve for all
+    // the values of the current row; its buffers are used again for the next
     values: row::Row,
 }
 
 impl CoverCheck {
-    /// Of no row yet.
+    /// A check before the first row.
     pub fn new(alloc: Global) -> CoverCheck
         ensures { AreCompared result.volumes.items result.agree [] }
     {
@@ -53,7 +53,7 @@ impl CoverCheck {
         }
     }
 
-    // Takes the next row.
+    // Compares the cover in `row`, and keeps the row without it.
     fn add(&mut self, row: &Row) -> Result<(), AllocError>
         ensures { OnOk result ((rows : List Columns)
             → AreCompared self.old.volumes.items self.old.agree rows
@@ -61,7 +61,7 @@ impl CoverCheck {
     {
         let volume = columns_of(self.alloc, &mut self.values, row, &[0, 1, 2, 3, 4, 5, 6, 7])?;
         self.volumes.push(volume)?;
-        self.agree = agree_with(self.alloc, self.agree, row)?;
+        self.agree = agree_with_next(self.alloc, self.agree, row)?;
         Ok(())
     }
 }
@@ -84,7 +84,7 @@ impl RowVisitor for CoverCheck {
     }
 }
 
-// A row of these columns of a row.
+// A row of the columns `places` of `row`. `values` is a buffer.
 fn columns_of(
     alloc: Global,
     values: &mut row::Row,
@@ -100,7 +100,7 @@ fn columns_of(
     Row::from_row(alloc, values)
 }
 
-// The value in a column, and NULL past the last.
+// The value in the column `at`, or NULL past the last column.
 fn value_at(row: &Row, at: usize) -> ValueRef<'_>
     ensures { owned result ≡ column row.now at }
 {
@@ -110,18 +110,18 @@ fn value_at(row: &Row, at: usize) -> ValueRef<'_>
     }
 }
 
-// Whether rows that have their covers, or that don't, and a row after them all have them.
-fn agree_with(alloc: Global, agree: bool, row: &Row) -> Result<bool, AllocError>
+// Whether `agree` is true and `row`, a row of `volume2`, also has the cover of its volume.
+fn agree_with_next(alloc: Global, agree: bool, row: &Row) -> Result<bool, AllocError>
     ensures { IfOk result (λ all. IsTrue all ↔ (IsTrue agree × HasItsCover row.now)) }
 {
     if !agree {
         return Ok(false);
     }
-    is_covered(alloc, row)
+    has_own_cover(alloc, row)
 }
 
-// Whether a row with all columns of `volume2` has a volume, and the cover of that.
-fn is_covered(alloc: Global, row: &Row) -> Result<bool, AllocError>
+// Whether `row`, a row of `volume2`, has a valid volume with its canonical cover.
+fn has_own_cover(alloc: Global, row: &Row) -> Result<bool, AllocError>
     ensures { IfOk result (λ is. IsTrue is ↔ HasItsCover row.now) }
 {
     one_shape();
@@ -132,16 +132,16 @@ fn is_covered(alloc: Global, row: &Row) -> Result<bool, AllocError>
     }
 }
 
-// Whether such a row has the cover of a volume.
+// Whether the column `canon` of `row` is the canonical cover of `volume`.
 fn has_cover_of(alloc: Global, row: &Row, volume: &Volume) -> Result<bool, AllocError>
     ensures { IfOk result (λ has. IsTrue has ↔ HasCoverOf volume.now row.now) }
 {
     let canon = canon_of(alloc, volume)?;
-    Ok(are_bytes_at(row, 8, &canon))
+    Ok(has_bytes_at(row, 8, &canon))
 }
 
-// Whether a column has these bytes.
-fn are_bytes_at(row: &Row, at: usize, bytes: &[u8]) -> bool
+// Whether the column `at` is a blob of these bytes.
+fn has_bytes_at(row: &Row, at: usize, bytes: &[u8]) -> bool
     ensures { IsTrue result ↔ (column row.now at ≡ Blob bytes.now) }
 {
     match row.get_ref(at) {
@@ -150,11 +150,11 @@ fn are_bytes_at(row: &Row, at: usize, bytes: &[u8]) -> bool
     }
 }
 
-/// Takes all rows of `volume2`, so far as it is made, one at a time by its key.
+/// Passes all rows of `volume2` to `check`, ordered by key; none if `made` doesn't have the table.
 ///
 /// # Errors
 ///
-/// `OutOfMemory` if memory runs out, or if there are 2 ^ 64 - 1 rows. `Store` if SQLite refuses for another
+/// `OutOfMemory` if memory runs out, or if there are 2^64 - 1 rows. `Store` if SQLite fails for another
 /// cause.
 pub(crate) fn take_volumes<S: Alter>(
     connection: &mut Connection<S>,

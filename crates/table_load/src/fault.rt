@@ -1,4 +1,4 @@
-//! The faults of an opening, and which of them an error is.
+//! Why a database can't be opened, and which errors become which fault.
 
 use row_codec::exact::RowFault;
 use sqlite::ErrorCode;
@@ -9,11 +9,11 @@ use std::fmt;
 /// Why a store over tables cannot be opened.
 #[derive(Clone, Copy, Debug, PartialEq, Eq)]
 pub enum OpenFault {
-    /// A growth was refused.
+    /// Memory ran out.
     OutOfMemory,
-    /// SQLite refused the database or a statement for another cause.
+    /// SQLite failed for another cause.
     Store,
-    /// There are other tables than a desk's, or their rows are those of no content.
+    /// There are other tables than the schema's, or their rows aren't those of a valid state.
     NotADesk,
     /// There are rows of schema 1, which have to be migrated.
     OldSchema,

@@ -1,4 +1,4 @@
-//! The world that a database stands for when a store is opened over it.
+//! Loads the state of a database in schema 2 when a store is opened over it.
 
 ghost use Rattle.std.specs.Prelude.{◌≡◌, ◌≢◌, ◌↔◌, ◌<◌, ◌^◌, List, [], length, true, false, IfOk, IfErr, OnOk, IsTrue, None, ◌≤◌};
 ghost use Rattle.sqlite_value.specs.Order.{Row as Values};
@@ -27,7 +27,7 @@ ghost use Rattle.table_load.specs.OpeningSteps.{IsAtRest, ShowsOperators, ShowsP
 
 use crate::covers::{CoverCheck, take_volumes};
 use crate::fault::OpenFault;
-use crate::ordering::ordered_in;
+use crate::ordering::load_and_reorder;
 use crate::spans::{SpanCheck, take_spans};
 use desk_sql::{TablesPresent, WholeTable, all_rows, complete_tables, find_tables, has_old_rows};
 use operator_index::ListedOperator;
@@ -45,15 +45,15 @@ use sqlite_value::value::ValueRef;
 use std::alloc::Global;
 use volume4d::laws::one_shape;
 
-/// The world that the database stands for: that of the rows in a desk's tables; what is known of its plans;
-/// and whether it has an operator, of which no clause speaks. A database with no table gets a desk's, and its
-/// world is empty. One with the first of these tables and indexes gets what is missing, if its rows are those
-/// of a content, and a packed file is put into a desk's own order then.
+/// Loads the state of a database; returns it with the indexes in memory, and whether it has an operator (no
+/// contract says this). Missing tables are made: of an empty database all, else those after the ones that are
+/// there, if the rows are those of a valid state. The tables of a packed file are then rebuilt in canonical
+/// order.
 ///
 /// # Errors
 ///
-/// `OutOfMemory` if memory runs out. `Store` if SQLite refuses for another cause. `OldSchema` if there are
-/// rows of schema 1. `NotADesk` if there are other tables, or if the rows are those of no content.
+/// `OutOfMemory` if memory runs out. `Store` if SQLite fails for another cause. `OldSchema` if there are
+/// rows of schema 1. `NotADesk` if there are other tables, or if the rows aren't those of a valid state.
 pub fn load_world<S: Alter>(
     alloc: Global,
     connection: &mut Connection<S>,
@@ -67,15 +67,16 @@ pub fn load_world<S: Alter>(
     ensures bounded { IfOk result (λ found. Knows found.1 found.0.world) }
     ensures crash { MayBecome S.Store connection.old connection.new IsCompletedAs }
 {
-    let (made, old) = tables_found(connection)?;
+    let (made, old) = find_desk_tables(connection)?;
     if old {
         return Err(OpenFault::OldSchema);
     }
-    world_of(alloc, connection, made)
+    load_or_create(alloc, connection, made)
 }
 
-/// How far a desk's tables are made, and whether there are rows of schema 1.
-pub(crate) fn tables_found<S: Alter>(
+/// Which of the schema's tables there are, and whether they have rows of schema 1. `NotADesk` if there are
+/// others.
+pub(crate) fn find_desk_tables<S: Alter>(
     connection: &mut Connection<S>,
 ) -> Result<(TablesPresent, bool), OpenFault>
     requires settled { connection.old.in_transaction ≡ false }
@@ -99,8 +100,8 @@ pub(crate) fn tables_found<S: Alter>(
     Ok((made, old))
 }
 
-/// The world that the database stands for, in which there are no rows of schema 1.
-pub(crate) fn world_of<S: Alter>(
+/// Loads the state of a database without rows of schema 1, as `load_world` does. `made` are its tables.
+pub(crate) fn load_or_create<S: Alter>(
     alloc: Global,
     connection: &mut Connection<S>,
     made: TablesPresent,
@@ -118,12 +119,12 @@ pub(crate) fn world_of<S: Alter>(
     match made {
         TablesPresent::All => load_tables(alloc, connection, TablesPresent::All),
         TablesPresent::Nothing => Ok((create_tables(connection)?, MemoryIndex::new(alloc), false)),
-        TablesPresent::Packed => ordered_in(alloc, connection),
-        made => completed_in(alloc, connection, made),
+        TablesPresent::Packed => load_and_reorder(alloc, connection),
+        made => load_and_complete(alloc, connection, made),
     }
 }
 
-/// The empty world, over a database that gets a desk's tables and had none.
+/// Makes all tables in a database that has none; returns the empty state.
 pub fn create_tables<S: Alter>(connection: &mut Connection<S>) -> Result<GhostState, OpenFault>
     requires blank { ShowsPart S.Store connection.old TablesPresent.Nothing }
     requires unlimited { connection.old.step_limit ≡ None }
@@ -137,10 +138,10 @@ pub fn create_tables<S: Alter>(connection: &mut Connection<S>) -> Result<GhostSt
     Ok(GhostState::new())
 }
 
-// The world whose rows the tables have, which get what is missing of them.
-// Long: which tables there are is reported by five facts; one record says how it may end.
+// Loads the state from the tables that are there, and then makes the missing ones.
+// Long: five facts say which tables there are; one record says how it may end.
 #[tactic(auto, using(crate::proofs::lemmas::Opening::some_operators))]
-fn completed_in<S: Alter>(
+fn load_and_complete<S: Alter>(
     alloc: Global,
     connection: &mut Connection<S>,
     made: TablesPresent,
@@ -163,7 +164,7 @@ fn completed_in<S: Alter>(
     Ok(found)
 }
 
-// The world whose rows the tables have, so far as they are made.
+// Loads the state from the tables `made`; returns whether it has an operator, too.
 fn load_tables<S: Alter>(
     alloc: Global,
     connection: &mut Connection<S>,
@@ -176,13 +177,13 @@ fn load_tables<S: Alter>(
     ensures bounded { IfOk result (λ found. Knows found.1 found.0.world) }
     ensures live { OnOk result (IsOpenIfClean S.Store connection.new) }
 {
-    let (content, known) = content_found(alloc, connection, made)?;
+    let (content, known) = load_content(alloc, connection, made)?;
     let is_enrolled = !content.operators.is_empty();
     Ok((GhostState::of(&content), known, is_enrolled))
 }
 
-/// The content whose rows the tables have, so far as they are made, and what is known of its plans.
-pub(crate) fn content_found<S: Alter>(
+/// Loads the state from the tables `made`; returns it with the indexes in memory.
+pub(crate) fn load_content<S: Alter>(
     alloc: Global,
     connection: &mut Connection<S>,
     made: TablesPresent,
@@ -197,15 +198,16 @@ pub(crate) fn content_found<S: Alter>(
     ensures live { OnOk result (IsOpenIfClean S.Store connection.new) }
 {
     one_shape();
-    let (heads, covered) = heads_in(alloc, connection, made)?;
-    let (operators, plans) = parts_of(alloc, &heads, covered)?;
+    let (heads, covered) = read_heads(alloc, connection, made)?;
+    let (operators, plans) = parse_covered_heads(alloc, &heads, covered)?;
     let mut check = SpanCheck::new(alloc, plans);
     take_spans(connection, WholeTable::Spans, made, &mut check)?;
-    content_with(alloc, operators, check)
+    finish_content(alloc, operators, check)
 }
 
-/// The operators and plans of rows that are those of a content, but for those of spans and of covers.
-pub(crate) fn uncovered_parts(
+/// The operators and plans whose rows are `heads`; `NotADesk` if these aren't the rows of a valid state.
+/// Spans and covers aren't checked.
+pub(crate) fn parse_heads(
     alloc: Global,
     heads: &TableRows,
 ) -> Result<(Vec<ListedOperator>, Vec<FiledPlan>), OpenFault>
@@ -224,9 +226,8 @@ pub(crate) fn uncovered_parts(
     Ok((operators, plans))
 }
 
-// The operators and plans of rows that are those of a content, but for those of spans, if the covers are
-// those of the volumes.
-fn parts_of(
+// As `parse_heads`, but `NotADesk` also unless `covered`: each volume had its own cover.
+fn parse_covered_heads(
     alloc: Global,
     heads: &TableRows,
     covered: bool,
@@ -238,14 +239,15 @@ fn parts_of(
         → IsContent w → AreRows (record heads.now { spans = spans }) w → ¬ IsTrue covered) }
     ensures fault { IfErr result (λ e. (e ≢ OpenFault.Store) × (e ≢ OpenFault.OldSchema)) }
 {
-    let (operators, plans) = uncovered_parts(alloc, heads)?;
+    let (operators, plans) = parse_heads(alloc, heads)?;
     if !covered {
         return Err(OpenFault::NotADesk);
     }
     Ok((operators, plans))
 }
 
-// Whether operators and plans are those of one content.
+// Whether operators and plans are in order, none twice, each plan's operator is there, and none has more than
+// `MAX_PLANS` plans.
 fn are_in_order(operators: &[ListedOperator], plans: &[FiledPlan]) -> bool
     ensures { IsTrue result ↔ AreListedInOrder operators.now plans.now }
 {
@@ -258,9 +260,9 @@ fn are_in_order(operators: &[ListedOperator], plans: &[FiledPlan]) -> bool
     are_shared(operators, plans)
 }
 
-/// The content of these operators, and of plans against which all rows of spans were held; and what is known
-/// of it.
-pub(crate) fn content_with(
+/// The state of `operators` and of the plans in `check`, which was passed all rows of spans, with the indexes
+/// in memory. `NotADesk` if the rows aren't those of the plans.
+pub(crate) fn finish_content(
     alloc: Global,
     operators: Vec<ListedOperator>,
     check: SpanCheck,
@@ -294,10 +296,10 @@ pub(crate) fn content_with(
     Ok((content, known))
 }
 
-/// The rows of the tables of schema 2 but for spans, each by the columns of its key; of those that aren't
-/// made none. Rows of `volume2` come without their covers, and with them whether each had that of its volume.
+/// The rows of the tables of schema 2 without those of spans, ordered by key; none of tables that `made`
+/// doesn't have. Rows of `volume2` are without their covers; also returned is whether all of these are right.
 #[tactic(auto, using(crate::proofs::lemmas::Frame::reads_then, crate::proofs::lemmas::Opening::part_on))]
-pub(crate) fn heads_in<S: Alter>(
+pub(crate) fn read_heads<S: Alter>(
     alloc: Global,
     connection: &mut Connection<S>,
     made: TablesPresent,
@@ -325,8 +327,8 @@ pub(crate) fn heads_in<S: Alter>(
     Ok((heads, check.agree))
 }
 
-/// Span bounds, with that of the span of a row.
-pub(crate) fn length_with(span_bounds: &SpanBounds, row: &Row) -> SpanBounds
+/// Bounds that hold for what `span_bounds` do and for the span in `row`, if it has one.
+pub(crate) fn with_span_row(span_bounds: &SpanBounds, row: &Row) -> SpanBounds
     ensures kept { Keeps span_bounds.now result }
     ensures known { IsKnownRow result row.now }
 {

@@ -1,4 +1,5 @@
-//! A whole database: what tables it has, the content whose rows they are, and why it is refused.
+//! Loading a whole database: which tables it has, the state that their rows stand for, and why a database is
+//! refused.
 #![tactic(auto)]
 
 pub mod connecting;

@@ -1,4 +1,4 @@
-//! What a database holds, in either schema, read without a change.
+//! Statistics of a database in either schema, which is only read.
 
 ghost use Rattle.std.specs.Prelude.{◌≡◌, ◌≢◌, false, IfOk, IfErr};
 ghost use Rattle.desk_rules.specs.Plan.{is_live};
@@ -14,7 +14,7 @@ ghost use Rattle.table_load.specs.HeldContent as spec;
 ghost use Rattle.table_load.specs.HeldContent.{AreHoldingsOf, AreNoContentIn, IsContentIn, ShowsContent, ShowsNone};
 
 use crate::fault::OpenFault;
-use crate::finding::{content_found, tables_found};
+use crate::finding::{find_desk_tables, load_content};
 use crate::moving::load_old_tables;
 use desk_rules::words::Usage;
 use desk_sql::TablesPresent;
@@ -26,7 +26,7 @@ use sqlite::Connection;
 use sqlite_trees::store::Alter;
 use std::alloc::Global;
 
-/// What a database holds.
+/// Statistics of a database.
 #[derive(Clone, Copy, Debug, PartialEq, Eq)]
 pub struct DbStats {
     /// Whether the rows are those of schema 1.
@@ -39,18 +39,18 @@ pub struct DbStats {
     pub live: usize,
     /// How many rows of spans there are.
     pub spans: usize,
-    /// How many of them are those of the operator that has most.
+    /// How many rows of spans the operator with the most of them has.
     pub most_spans: usize,
-    /// How many cells the plans of the operator have that has most of those, closed ones too.
+    /// How many cells the plans of the operator with the most cells have, closed plans too.
     pub most_cells: usize,
 }
 
-/// How many operators and plans a database holds, in either schema. It makes and changes nothing.
+/// The statistics of a database in either schema. It changes nothing.
 ///
 /// # Errors
 ///
-/// `OutOfMemory` if memory runs out. `Store` if SQLite refuses for another cause. `NotADesk` if there is no
-/// table, if there are other tables than a desk's, or if the rows are those of no content in either schema.
+/// `OutOfMemory` if memory runs out. `Store` if SQLite fails for another cause. `NotADesk` if there is no
+/// table, if there are other tables than the schema's, or if the rows aren't those of a valid state.
 pub fn look_into<S: Alter>(
     alloc: Global,
     connection: &mut Connection<S>,
@@ -68,7 +68,7 @@ pub fn look_into<S: Alter>(
     Ok(holdings_of(&content, old))
 }
 
-/// How many operators, plans, spans and cells a content has, and whether it was read in schema 1.
+/// The statistics of the state `content`. `is_old` says whether it was read in schema 1.
 pub fn holdings_of(content: &Content, is_old: bool) -> DbStats
     requires { IsContent content.now }
     ensures counted { AreHoldingsOf result content.now }
@@ -85,13 +85,13 @@ pub fn holdings_of(content: &Content, is_old: bool) -> DbStats
     }
 }
 
-/// The content whose rows a database has, what is known of its plans, and whether the rows are those of
-/// schema 1.
+/// Loads the state of a database in either schema; returns it with the indexes in memory, and whether the
+/// rows are those of schema 1. It changes nothing.
 ///
 /// # Errors
 ///
 /// Those of `look_into`.
-// Long: the value, what is known of it, and each fault by when it is reported.
+// Long: the value, the indexes, and when each fault is reported, have a clause each.
 pub fn read_content<S: Alter>(
     alloc: Global,
     connection: &mut Connection<S>,
@@ -108,17 +108,17 @@ pub fn read_content<S: Alter>(
     ensures cause { IfErr result (BlamesDatabase S.Store connection.old connection.new) }
     ensures reads { OnlyReads S.Store connection.old connection.new }
 {
-    let (made, old) = tables_found(connection)?;
+    let (made, old) = find_desk_tables(connection)?;
     if made == TablesPresent::Nothing {
         return Err(OpenFault::NotADesk);
     }
-    let (content, known) = content_at(alloc, connection, made, old)?;
+    let (content, known) = load_content_in_schema(alloc, connection, made, old)?;
     Ok((content, known, old))
 }
 
-// The content whose rows the tables have, in schema 1 if that has rows, else in schema 2.
+// Loads the state from the tables of schema 1 if `old`, else from those of schema 2.
 #[tactic(auto, using(crate::proofs::lemmas::Opening::some_operators))]
-fn content_at<S: Alter>(
+fn load_content_in_schema<S: Alter>(
     alloc: Global,
     connection: &mut Connection<S>,
     made: TablesPresent,
@@ -136,7 +136,7 @@ fn content_at<S: Alter>(
     if old {
         load_old_tables(alloc, connection, made)
     } else {
-        content_found(alloc, connection, made)
+        load_content(alloc, connection, made)
     }
 }
 

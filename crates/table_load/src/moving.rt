@@ -1,4 +1,4 @@
-//! How a content of schema 1 is moved to schema 2.
+//! The migration of a database from schema 1 to schema 2.
 
 ghost use Rattle.std.specs.Prelude.{◌≡◌, ◌≢◌, ◌↔◌, ◌<◌, ◌-◌, ◌^◌, List, ◌∷◌, true, false, IfOk, IfErr, OnOk, OnErr, IsTrue, length, None};
 ghost use Rattle.std.specs.List.{AllByRecursion};
@@ -29,8 +29,8 @@ ghost use Rattle.table_load.specs.Moving.{ShowsNoContent};
 ghost use Rattle.table_load.specs.Writable.{AreAwaited, AreWritable, HasSpansToIndex, HaveFewRows};
 
 use crate::fault::OpenFault;
-use crate::finding::{content_with, tables_found, uncovered_parts, world_of};
-use crate::ordering::unpack;
+use crate::finding::{find_desk_tables, finish_content, load_or_create, parse_heads};
+use crate::ordering::rebuild_alone;
 use crate::spans::{SpanCheck, take_spans};
 use desk_changes::{empty_old_spans, empty_old_volumes, insert_spans, insert_volumes};
 use desk_sql::laws::committed_and_sound;
@@ -55,13 +55,13 @@ const OLD_MAX_VOLUMES: usize = 8;
 // The most cells of the canonical cover of a rectangle in schema 1.
 const OLD_MAX_COVER: usize = 256;
 
-/// The world that the database stands for, in either schema, what is known of its plans, and how many plans
-/// were moved from schema 1 to schema 2. In schema 2 it is as `load_world` has it, and none were moved.
+/// Loads the state of a database, which it migrates if its rows are those of schema 1. It returns the state,
+/// the indexes in memory, and how many plans were migrated. A database of schema 2 is loaded by `load_world`.
 ///
 /// # Errors
 ///
-/// `OutOfMemory` if memory runs out. `Store` if SQLite refuses for another cause. `NotADesk` if there are
-/// other tables, or if the rows are those of no content in either schema. The rows are then what they were.
+/// `OutOfMemory` if memory runs out. `Store` if SQLite fails for another cause. `NotADesk` if there are
+/// other tables, or if the rows aren't those of a valid state in either schema. The rows stay then.
 pub fn moved_world_in<S: Alter>(
     alloc: Global,
     connection: &mut Connection<S>,
@@ -74,15 +74,15 @@ pub fn moved_world_in<S: Alter>(
     ensures bounded { IfOk result (λ moved. Knows moved.1 moved.0.world) }
     ensures crash { MayBecome S.Store connection.old connection.new IsMovedOn }
 {
-    let (made, old) = tables_found(connection)?;
+    let (made, old) = find_desk_tables(connection)?;
     if old {
         return move_tables(alloc, connection, made);
     }
-    let (kept, known, _) = world_of(alloc, connection, made)?;
+    let (kept, known, _) = load_or_create(alloc, connection, made)?;
     Ok((kept, known, 0))
 }
 
-// The world whose rows the tables of schema 1 have, which are moved.
+// Loads the state of schema 1, and migrates its rows.
 #[tactic(auto, using(crate::proofs::lemmas::Opening::some_operators))]
 fn move_tables<S: Alter>(
     alloc: Global,
@@ -101,14 +101,14 @@ fn move_tables<S: Alter>(
     ensures crash { MayBecome S.Store connection.old connection.new IsMovedAs }
 {
     let (content, known) = load_old_tables(alloc, connection, made)?;
-    make_whole(connection, made)?;
-    rewrite(alloc, connection, &content.plans)?;
+    complete_or_rebuild(connection, made)?;
+    migrate_rows(alloc, connection, &content.plans)?;
     let count = u32::try_from(content.plans.len()).unwrap_or(u32::MAX);
     Ok((GhostState::of(&content), known, count))
 }
 
-// Makes what is missing of a desk's tables, in its own order. The rows that there are stay.
-fn make_whole<S: Alter>(
+// Makes the missing tables, or rebuilds those of a packed file in canonical order. Rows of schema 1 stay.
+fn complete_or_rebuild<S: Alter>(
     connection: &mut Connection<S>,
     made: TablesPresent,
 ) -> Result<(), OpenFault>
@@ -126,14 +126,14 @@ fn make_whole<S: Alter>(
         return Ok(());
     }
     if made == TablesPresent::Packed {
-        return unpack(connection);
+        return rebuild_alone(connection);
     }
     complete_tables(connection, made)?;
     Ok(())
 }
 
-// The rows of schema 1 go, and those of schema 2 of these plans come, as one transaction.
-fn rewrite<S: Alter>(
+// Replaces the rows of schema 1 by those of `plans` in schema 2, in one transaction.
+fn migrate_rows<S: Alter>(
     alloc: Global,
     connection: &mut Connection<S>,
     plans: &[FiledPlan],
@@ -157,7 +157,7 @@ fn rewrite<S: Alter>(
     Ok(())
 }
 
-// The rows of schema 1 go.
+// Removes the rows of schema 1, within a transaction.
 fn empty_old_tables<S: Alter>(tx: &mut Transaction<'_, S>) -> Result<(), Error>
     requires desk { Holds S.Store tx.old.conn.now IsDesk }
     ensures same_reference { tx.new.conn.ghost_name ≡ tx.old.conn.ghost_name }
@@ -174,7 +174,7 @@ fn empty_old_tables<S: Alter>(tx: &mut Transaction<'_, S>) -> Result<(), Error>
     empty_old_spans(tx)
 }
 
-/// Adds the rows of plans in schema 2.
+/// Adds the rows of volumes and spans of `plans` in schema 2, within a transaction.
 pub fn write_plans<S: Alter>(
     alloc: Global,
     tx: &mut Transaction<'_, S>,
@@ -192,7 +192,7 @@ pub fn write_plans<S: Alter>(
     Ok(())
 }
 
-// Adds the rows of a plan in schema 2.
+// Adds the rows of volumes and spans of `plan` in schema 2, within a transaction.
 fn write_plan<S: Alter>(
     alloc: Global,
     tx: &mut Transaction<'_, S>,
@@ -220,7 +220,7 @@ fn write_plan<S: Alter>(
     Ok(())
 }
 
-/// The content whose rows the tables of schema 1 have, and what is known of its plans.
+/// Loads the state whose rows the tables of schema 1 have; returns it with the indexes in memory.
 pub(crate) fn load_old_tables<S: Alter>(
     alloc: Global,
     connection: &mut Connection<S>,
@@ -234,16 +234,16 @@ pub(crate) fn load_old_tables<S: Alter>(
     ensures bounded { IfOk result (λ found. Knows found.1 found.0) }
 {
     one_shape();
-    let heads = old_heads_alone(alloc, connection, made)?;
-    let (operators, plans) = old_parts_of(alloc, &heads)?;
+    let heads = read_old_heads_alone(alloc, connection, made)?;
+    let (operators, plans) = parse_old_heads(alloc, &heads)?;
     let mut check = SpanCheck::new(alloc, plans);
     take_spans(connection, WholeTable::OldSpans, made, &mut check)?;
-    content_with(alloc, operators, check)
+    finish_content(alloc, operators, check)
 }
 
-// The rows of schema 1's tables but for spans, where the tables that schema 2 has alone have no row.
-// Long: the value, and each fault by when it is reported.
-fn old_heads_alone<S: Alter>(
+// As `read_old_heads`, but `NotADesk` if a table that only schema 2 has has a row.
+// Long: the value, and when each fault is reported, have a clause each.
+fn read_old_heads_alone<S: Alter>(
     alloc: Global,
     connection: &mut Connection<S>,
     made: TablesPresent,
@@ -260,15 +260,15 @@ fn old_heads_alone<S: Alter>(
     ensures cause { IfErr result (BlamesReading S.Store connection.old connection.new) }
     ensures reads { OnlyReads S.Store connection.old connection.new }
 {
-    if !are_new_empty(connection, made)? {
+    if !are_new_tables_empty(connection, made)? {
         return Err(OpenFault::NotADesk);
     }
-    old_heads_in(alloc, connection, made)
+    read_old_heads(alloc, connection, made)
 }
 
-/// Whether the tables that schema 2 has alone have no row.
+/// Whether the tables that only schema 2 has are empty.
 #[tactic(auto, using(crate::proofs::lemmas::Frame::reads_then))]
-pub(crate) fn are_new_empty<S: Alter>(
+pub(crate) fn are_new_tables_empty<S: Alter>(
     connection: &mut Connection<S>,
     made: TablesPresent,
 ) -> Result<bool, OpenFault>
@@ -284,10 +284,10 @@ pub(crate) fn are_new_empty<S: Alter>(
     Ok(!has_rows)
 }
 
-/// The rows of schema 1's tables but for spans, each by the columns of its key; of those that aren't made
-/// none.
+/// The rows of the tables of schema 1 without those of spans, ordered by key; none of tables that `made`
+/// doesn't have.
 #[tactic(auto, using(crate::proofs::lemmas::Frame::reads_then, crate::proofs::lemmas::Opening::part_on))]
-pub(crate) fn old_heads_in<S: Alter>(
+pub(crate) fn read_old_heads<S: Alter>(
     alloc: Global,
     connection: &mut Connection<S>,
     made: TablesPresent,
@@ -313,8 +313,8 @@ pub(crate) fn old_heads_in<S: Alter>(
     })
 }
 
-// The operators and plans of rows that are those of a content of schema 1, but for those of spans.
-fn old_parts_of(
+// The operators and plans whose rows are `heads`, within the limits of schema 1. The spans aren't checked.
+fn parse_old_heads(
     alloc: Global,
     heads: &TableRows,
 ) -> Result<(Vec<ListedOperator>, Vec<FiledPlan>), OpenFault>
@@ -325,20 +325,20 @@ fn old_parts_of(
     ensures fault { IfErr result (λ e. (e ≢ OpenFault.Store) × (e ≢ OpenFault.OldSchema)) }
 {
     one_shape();
-    let (operators, plans) = uncovered_parts(alloc, heads)?;
-    if !are_old(&plans)? {
+    let (operators, plans) = parse_heads(alloc, heads)?;
+    if !are_within_old_limits(&plans)? {
         return Err(OpenFault::NotADesk);
     }
     Ok((operators, plans))
 }
 
-/// Whether plans are within the limits of schema 1.
-pub(crate) fn are_old(plans: &[FiledPlan]) -> Result<bool, AllocError>
+/// Whether all plans are within the limits of schema 1.
+pub(crate) fn are_within_old_limits(plans: &[FiledPlan]) -> Result<bool, AllocError>
     ensures { IfOk result (λ are. IsTrue are ↔ AllByRecursion (λ p. IsOldArea p.row.area) plans.now) }
 {
     let mut left = plans;
     'plan: while let Some((plan, later)) = left.split_first() {
-        if !is_old_area(plan.row.area.volumes())? {
+        if !is_area_within_old_limits(plan.row.area.volumes())? {
             return Ok(false);
         }
         left = later;
@@ -347,7 +347,7 @@ pub(crate) fn are_old(plans: &[FiledPlan]) -> Result<bool, AllocError>
 }
 
 // Whether the volumes of a plan are within the limits of schema 1.
-fn is_old_area(volumes: &[Volume]) -> Result<bool, AllocError>
+fn is_area_within_old_limits(volumes: &[Volume]) -> Result<bool, AllocError>
     ensures { IfOk result (λ is. IsTrue is ↔ IsOldArea volumes.now) }
 {
     if volumes.len() > OLD_MAX_VOLUMES {
@@ -355,7 +355,7 @@ fn is_old_area(volumes: &[Volume]) -> Result<bool, AllocError>
     }
     let mut left = volumes;
     'volume: while let Some((volume, later)) = left.split_first() {
-        if !is_old_volume(volume)? {
+        if !is_volume_within_old_limits(volume)? {
             return Ok(false);
         }
         left = later;
@@ -363,8 +363,8 @@ fn is_old_area(volumes: &[Volume]) -> Result<bool, AllocError>
     Ok(true)
 }
 
-// Whether a volume's footprint is within the limits of schema 1.
-fn is_old_volume(volume: &Volume) -> Result<bool, AllocError>
+// Whether a volume's cover is within the limit of schema 1. That limits the covers of rectangles alone.
+fn is_volume_within_old_limits(volume: &Volume) -> Result<bool, AllocError>
     ensures { IfOk result (λ is. IsTrue is ↔ IsOldShape volume.now.footprint) }
 {
     if let Footprint::Cells(_) = volume.footprint() {

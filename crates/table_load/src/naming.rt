@@ -1,5 +1,5 @@
-//! Which part of a database is that of no desk: what an administrator is shown of files that were refused.
-//! It is found afterwards, by the tests that refuse a database, in their order. Nothing is changed.
+//! Which part of a database is invalid: an administrator is shown it if files were refused. It is found
+//! afterwards, by the checks that refuse a database, in their order. Nothing is changed.
 
 ghost use Rattle.std.specs.Prelude.{◌≡◌, ◌≢◌, ◌⊎◌, List, true, false, IfErr, IfOk, IfSome, OnOk};
 ghost use Rattle.sqlite_value.specs.Order.{Row as Values};
@@ -18,8 +18,8 @@ ghost use Rattle.table_load.specs.OpeningSteps.{ShowsOperators, ShowsPart};
 
 use crate::connecting::connect_there;
 use crate::fault::OpenFault;
-use crate::finding::{heads_in, tables_found};
-use crate::moving::{are_new_empty, are_old, old_heads_in};
+use crate::finding::{find_desk_tables, read_heads};
+use crate::moving::{are_new_tables_empty, are_within_old_limits, read_old_heads};
 use crate::path::NotOpened;
 use crate::spans::{SpanCheck, take_spans};
 use desk_rules::decide::MAX_PRIORITY;
@@ -35,12 +35,12 @@ use sqlite_trees::store::Alter;
 use std::alloc::Global;
 use volume4d::laws::one_shape;
 
-/// A part of a database that is that of no desk.
+/// The part of a database that is invalid.
 #[derive(Clone, Copy, Debug, PartialEq, Eq)]
 pub enum InvalidPart {
     /// There is no table.
     NoTable,
-    /// There are other tables than a desk's.
+    /// There are other tables than the schema's.
     OtherTables,
     /// There are rows of schema 1 and rows of schema 2.
     BothSchemas,
@@ -48,7 +48,7 @@ pub enum InvalidPart {
     Operator,
     /// A row of `plan`.
     Plan,
-    /// The plans of an operator, which are more than it may have; or plans of no operator.
+    /// An operator has more plans than it may have, or a plan's operator isn't there.
     Plans,
     /// The rows of `volume2`.
     Volume,
@@ -60,11 +60,11 @@ pub enum InvalidPart {
     OldVolume,
     /// The rows of `span`, of schema 1.
     OldSpan,
-    /// A plan of schema 1, which is beyond the limits of that.
+    /// A plan of schema 1 that exceeds the limits of schema 1.
     OldPlan,
 }
 
-/// What was named of files, and the connection that read them. Nothing can be done with that but to drop it.
+/// The invalid part of a database, and the connection that read it, which can only be dropped.
 #[derive(Drop)]
 pub struct Named<D: Disk> {
     part: Option<InvalidPart>,
@@ -72,7 +72,7 @@ pub struct Named<D: Disk> {
 }
 
 impl<D: Disk> Named<D> {
-    /// The first part that is that of no desk. None if there is none, or if the database can't be read.
+    /// The first invalid part. None if there is none, or if the database can't be read.
     pub fn part(&self) -> Option<InvalidPart>
         ensures { result ≡ self.now.part }
     {
@@ -80,11 +80,12 @@ impl<D: Disk> Named<D> {
     }
 }
 
-/// What is named of the files at a path, which are only read; `start` stands for what they held.
+/// Finds the first invalid part of the database in the files at `path`, which are only read. `start` says
+/// what they held.
 ///
 /// # Errors
 ///
-/// That the files were not opened.
+/// `NotOpened` if the files were not opened.
 pub fn part_at<S: Start>(
     rt: &HostRuntime,
     path: &str,
@@ -94,13 +95,13 @@ pub fn part_at<S: Start>(
     ensures unread { IfErr result (IsUnreached (image_at S.Start)) }
 {
     match connect_there(rt, path, start) {
-        Ok(connection) => Ok(part_in(rt.alloc(), connection)),
+        Ok(connection) => Ok(name_part(rt.alloc(), connection)),
         Err(unreached) => Err(unreached),
     }
 }
 
-// What is named of the files of a connection, on whatever disk they are.
-fn part_in<D: Disk + Drop>(alloc: Global, mut connection: Connection<FileStore<D>>) -> Named<D>
+// Finds the first invalid part of the database that `connection` has open, and keeps the connection.
+fn name_part<D: Disk + Drop>(alloc: Global, mut connection: Connection<FileStore<D>>) -> Named<D>
     requires { IsNew connection }
     ensures reads { OnlyReads over_files connection result.connection }
     ensures shows { ShowsPartOf over_files connection result.connection result.part FailsPart }
@@ -109,15 +110,14 @@ fn part_in<D: Disk + Drop>(alloc: Global, mut connection: Connection<FileStore<D
     Named { part, connection }
 }
 
-/// The first part of a database that is that of no desk. None if there is none, or if the database can't be
-/// read.
+/// The first invalid part of a database. None if there is none, or if the database can't be read.
 #[tactic(auto, using(crate::proofs::lemmas::Opening::some_operators, crate::proofs::NamedLemmas::new_named, crate::proofs::NamedLemmas::old_named))]
 pub fn first_fault<S: Alter>(alloc: Global, connection: &mut Connection<S>) -> Option<InvalidPart>
     requires settled { connection.old.in_transaction ≡ false }
     ensures reads { OnlyReads S.Store connection.old connection.new }
     ensures shows { ShowsPartOf S.Store connection.old connection.new result FailsPart }
 {
-    let (made, old) = match tables_found(connection) {
+    let (made, old) = match find_desk_tables(connection) {
         Ok(found) => found,
         Err(OpenFault::NotADesk) => return Some(InvalidPart::OtherTables),
         Err(_) => return None,
@@ -132,7 +132,7 @@ pub fn first_fault<S: Alter>(alloc: Global, connection: &mut Connection<S>) -> O
     }
 }
 
-// The first part of tables without rows of schema 1.
+// The first invalid part of a database without rows of schema 1.
 #[tactic(auto, using(crate::proofs::lemmas::Frame::reads_then, crate::proofs::lemmas::Opening::part_on))]
 fn new_fault<S: Alter>(
     alloc: Global,
@@ -144,7 +144,7 @@ fn new_fault<S: Alter>(
     ensures shows { ShowsPartOf S.Store connection.old connection.new result (λ db.
         FailsNew (tables_at made db.trees)) }
 {
-    let Ok((heads, covered)) = heads_in(alloc, connection, made) else {
+    let Ok((heads, covered)) = read_heads(alloc, connection, made) else {
         return None;
     };
     let plans = match plans_of(alloc, &heads, InvalidPart::Volume) {
@@ -158,7 +158,7 @@ fn new_fault<S: Alter>(
     }
 }
 
-// The first part of tables with rows of schema 1.
+// The first invalid part of a database with rows of schema 1.
 #[tactic(auto, using(crate::proofs::lemmas::Opening::some_operators, crate::proofs::NamedLemmas::moving_named))]
 fn old_fault<S: Alter>(
     alloc: Global,
@@ -171,17 +171,17 @@ fn old_fault<S: Alter>(
     ensures shows { ShowsPartOf S.Store connection.old connection.new result (λ db.
         FailsMoving (tables_at made db.trees)) }
 {
-    match are_new_empty(connection, made) {
+    match are_new_tables_empty(connection, made) {
         Ok(true) => {}
         Ok(false) => return Some(InvalidPart::BothSchemas),
         Err(_) => return None,
     }
-    old_part(alloc, connection, made)
+    old_rows_fault(alloc, connection, made)
 }
 
-// The first part of the rows of schema 1.
+// The first invalid part among the rows of schema 1.
 #[tactic(auto, using(crate::proofs::lemmas::Frame::reads_then, crate::proofs::lemmas::Opening::part_on))]
-fn old_part<S: Alter>(
+fn old_rows_fault<S: Alter>(
     alloc: Global,
     connection: &mut Connection<S>,
     made: TablesPresent,
@@ -191,7 +191,7 @@ fn old_part<S: Alter>(
     ensures shows { ShowsPartOf S.Store connection.old connection.new result (λ db.
         FailsOld (tables_at made db.trees)) }
 {
-    let Ok(heads) = old_heads_in(alloc, connection, made) else {
+    let Ok(heads) = read_old_heads(alloc, connection, made) else {
         return None;
     };
     let plans = match plans_of(alloc, &heads, InvalidPart::OldVolume) {
@@ -205,7 +205,8 @@ fn old_part<S: Alter>(
     }
 }
 
-// The spans, which were held against the plans, or the covers, of which it is known whether they agree.
+// `Span` if the rows of spans aren't those of the plans; else `Cover` unless `covered`. None also if memory
+// runs out.
 fn fault_of_spans(mut check: SpanCheck, covered: bool) -> Option<InvalidPart>
     ensures { (rows : List Values) → AreHeld check rows
         → IfSome result (FailsSpans check.plans.items rows covered) }
@@ -222,7 +223,8 @@ fn fault_of_spans(mut check: SpanCheck, covered: bool) -> Option<InvalidPart>
     }
 }
 
-// The spans of schema 1, which were held against the plans, or the limits of these.
+// `OldSpan` if the rows of spans aren't those of the plans; else `OldPlan` if a plan exceeds the limits of
+// schema 1. None if memory runs out.
 fn fault_of_old_spans(mut check: SpanCheck) -> Option<InvalidPart>
     ensures { (rows : List Values) → AreHeld check rows
         → IfSome result (FailsOldSpans check.plans.items rows) }
@@ -232,13 +234,14 @@ fn fault_of_old_spans(mut check: SpanCheck) -> Option<InvalidPart>
         Ok(false) => return Some(InvalidPart::OldSpan),
         Err(_) => return None,
     }
-    match are_old(&check.plans) {
+    match are_within_old_limits(&check.plans) {
         Ok(false) => Some(InvalidPart::OldPlan),
         _ => None,
     }
 }
 
-// The plans of rows, or the first part of them but for spans and covers; none if memory runs out.
+// The plans whose rows are `rows`; else the first invalid part, which is `volume` if it is the volumes, or
+// none if memory runs out.
 fn plans_of(
     alloc: Global,
     rows: &TableRows,
@@ -254,7 +257,7 @@ fn plans_of(
     };
     let plans = match plans_in(alloc, &rows.plans, &rows.volumes) {
         Ok(plans) => plans,
-        Err(fault) => return Err(if_no_desk(fault, plan_or(volume, &rows.plans))),
+        Err(fault) => return Err(if_no_desk(fault, plan_or_volume(volume, &rows.plans))),
     };
     if !names_ascend(&operators) {
         return Err(Some(InvalidPart::Operator));
@@ -268,7 +271,7 @@ fn plans_of(
     Ok(plans)
 }
 
-// The part whose rows were not read, if they are no desk's.
+// The part whose rows were refused, if they are invalid; none if memory ran out.
 fn if_no_desk(fault: RowFault, part: InvalidPart) -> Option<InvalidPart>
     ensures { result ≡ spec.if_no_desk fault part }
 {
@@ -278,31 +281,31 @@ fn if_no_desk(fault: RowFault, part: InvalidPart) -> Option<InvalidPart>
     }
 }
 
-// The plans, if one of these rows of `plan` is none; else the volumes.
-fn plan_or(volume: InvalidPart, heads: &[Row]) -> InvalidPart
+// Which part is invalid if plans weren't read: `Plan` if one of `heads` isn't a row of `plan`, else `volume`.
+fn plan_or_volume(volume: InvalidPart, heads: &[Row]) -> InvalidPart
     ensures { (result ≡ volume) ⊎ ((result ≡ InvalidPart.Plan) × (¬ ArePlanHeads heads.now)) }
 {
-    match test_heads(heads) {
+    match check_plan_rows(heads) {
         Err(RowFault::NoDesk) => InvalidPart::Plan,
         _ => volume,
     }
 }
 
-// Whether each of these rows is one of `plan`, whatever its volumes are.
-fn test_heads(heads: &[Row]) -> Result<(), RowFault>
+// Checks that each row is that of a plan in `plan`, whatever its volumes are; else `NoDesk`.
+fn check_plan_rows(heads: &[Row]) -> Result<(), RowFault>
     ensures are { OnOk result (ArePlanHeads heads.now) }
     ensures none { IfErr result (λ e. e ≡ RowFault.NoDesk → ¬ ArePlanHeads heads.now) }
 {
     let mut left = heads;
     'head: while let Some((head, later)) = left.split_first() {
-        test_head(head)?;
+        check_plan_row(head)?;
         left = later;
     }
     Ok(())
 }
 
-// Whether a row is one of `plan`, whatever its volumes are.
-fn test_head(head: &Row) -> Result<(), RowFault>
+// Checks that `head` is the row of a plan in `plan`, whatever its volumes are; else `NoDesk`.
+fn check_plan_row(head: &Row) -> Result<(), RowFault>
     ensures is { OnOk result (IsPlanHead head.now) }
     ensures none { IfErr result (λ e. e ≡ RowFault.NoDesk → ¬ IsPlanHead head.now) }
 {

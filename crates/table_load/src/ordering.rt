@@ -1,4 +1,4 @@
-//! How a packed file, whose tables come before all indexes, is put into a desk's own order.
+//! How the tables of a packed file, which come before all indexes, are rebuilt in canonical order.
 
 ghost use Rattle.std.specs.Prelude.{◌≡◌, ◌≢◌, IfOk, IfErr, OnOk, OnErr, None};
 ghost use Rattle.sqlite.specs.State.{HasCleanDisk};
@@ -15,7 +15,7 @@ ghost use Rattle.table_load.specs.OpeningSteps.{BeginsOrdered, HadNone, IsSetUp,
 ghost use Rattle.table_load.specs.Writable.{HasSpansToIndex, IsToOrder};
 
 use crate::fault::OpenFault;
-use crate::finding::content_found;
+use crate::finding::load_content;
 use crate::moving::write_plans;
 use desk_sql::laws::committed_and_sound;
 use desk_sql::{TablesPresent, rebuild_tables};
@@ -27,9 +27,9 @@ use sqlite_trees::store::Alter;
 use std::alloc::Global;
 use volume4d::laws::covers_are_few;
 
-/// The world whose rows a packed file has, in which there are no rows of schema 1. Its tables come into a
-/// desk's own order.
-pub(crate) fn ordered_in<S: Alter>(
+/// Loads the state of a packed file without rows of schema 1, and rebuilds its tables in canonical order. It
+/// returns the state, the indexes in memory, and whether there is an operator.
+pub(crate) fn load_and_reorder<S: Alter>(
     alloc: Global,
     connection: &mut Connection<S>,
 ) -> Result<(GhostState, MemoryIndex, bool), OpenFault>
@@ -43,15 +43,15 @@ pub(crate) fn ordered_in<S: Alter>(
     ensures bounded { IfOk result (λ found. Knows found.1 found.0.world) }
     ensures crash { MayBecome S.Store connection.old connection.new IsCompletedAs }
 {
-    let (content, known) = content_found(alloc, connection, TablesPresent::Packed)?;
-    put_in_order(alloc, connection, &content.plans)?;
+    let (content, known) = load_content(alloc, connection, TablesPresent::Packed)?;
+    reorder_tables(alloc, connection, &content.plans)?;
     let is_enrolled = !content.operators.is_empty();
     Ok((GhostState::of(&content), known, is_enrolled))
 }
 
-// The tables come into a desk's own order, with the rows of these plans in `volume2` and `span2`, as one
+// Rebuilds the tables in canonical order, with the rows of `plans` in `volume2` and `span2`, in one
 // transaction.
-fn put_in_order<S: Alter>(
+fn reorder_tables<S: Alter>(
     alloc: Global,
     connection: &mut Connection<S>,
     plans: &[FiledPlan],
@@ -75,9 +75,9 @@ fn put_in_order<S: Alter>(
     Ok(())
 }
 
-/// The tables of a packed file come into a desk's own order, without the rows of `volume2` and `span2`, as
-/// one transaction.
-pub(crate) fn unpack<S: Alter>(connection: &mut Connection<S>) -> Result<(), OpenFault>
+/// Rebuilds the tables of a packed file in canonical order, in one transaction. The rows of `volume2` and
+/// `span2` are lost.
+pub(crate) fn rebuild_alone<S: Alter>(connection: &mut Connection<S>) -> Result<(), OpenFault>
     requires part { ShowsPart S.Store connection.old TablesPresent.Packed }
     ensures done { HasCleanDisk (state S.Store connection.new)
         → OnOk result (Commits S.Store connection.old connection.new RemakesTables) }

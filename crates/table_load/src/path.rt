@@ -1,4 +1,4 @@
-//! What asks for the files at a path, and reports if they were not opened: nothing else makes an `NotOpened`.
+//! Opens the files at a path, or reports why they were not opened. Nothing else makes a `NotOpened`.
 
 ghost use Rattle.std.specs.Prelude.{◌≡◌, IfErr, IfOk, IsTrue, None, true, false};
 ghost use Rattle.std.specs.Option.{IsSomeAnd};
@@ -18,23 +18,22 @@ use std::hash::{BuildHasher, RandomState};
 use std::io::ErrorKind;
 use std::snapshot::Snapshot;
 
-// Whether a new file gets the sums of SQLite's cksumvfs at the ends of its pages.
+// Whether the pages of a new file get checksums, as by SQLite's cksumvfs.
 const NEW_HAS_SUMS: bool = true;
 
-// How many frames the log holds before it is copied into the database file: what 20 to 60 changes write.
+// How many frames the WAL has before it is checkpointed: what 20 to 60 changes write.
 const LOG_FRAMES: usize = 320;
 
-/// Files that were not opened, so that nothing in them was read. Only what opens files makes one, so what has
-/// one has tried.
+/// Why files were not opened. Only functions that try to open files make one.
 #[derive(Drop)]
 pub struct NotOpened<D: Disk> {
     fault: OpenFault,
-    // What is left of the files, if both were there. They are closed, and clauses alone read what it was.
+    // The files as they were left, if both were there. They are closed; only contracts read this.
     left: Option<Snapshot<Leftover<D>>>,
 }
 
 impl<D: Disk> NotOpened<D> {
-    /// Why they were not opened.
+    /// Why the files were not opened.
     pub fn fault(&self) -> OpenFault
         ensures { result ≡ self.now.fault }
     {
@@ -42,8 +41,8 @@ impl<D: Disk> NotOpened<D> {
     }
 }
 
-/// A connection to the database in two files. If there is none, what is left of the files is reported.
-pub(crate) fn over_pair<D: Disk + Drop>(
+/// Connects to the database in `files`. The error has the files as they were left.
+pub(crate) fn connect_over<D: Disk + Drop>(
     alloc: Global,
     files: Files<D>,
     options: Options,
@@ -65,37 +64,37 @@ pub(crate) fn over_pair<D: Disk + Drop>(
     }
 }
 
-/// Nothing, if files are there already.
+/// Checks that there is a file at `path`.
 ///
 /// # Errors
 ///
-/// `Store` if there is no file at the path, or an empty one.
-pub(crate) fn find_file<D: Disk>(rt: &HostRuntime, path: &str) -> Result<(), NotOpened<D>>
+/// `Store` if there is none, or an empty one.
+pub(crate) fn require_file<D: Disk>(rt: &HostRuntime, path: &str) -> Result<(), NotOpened<D>>
     ensures fault { IfErr result (λ it. IsUnread it.fault) }
     ensures left { IfErr result (λ it. it.left ≡ None) }
 {
     match metadata(rt, path) {
         Ok(found) if found.len() > 0 => Ok(()),
-        _ => Err(unopened(OpenFault::Store)),
+        _ => Err(not_opened(OpenFault::Store)),
     }
 }
 
-/// Nothing, if nothing is there.
+/// Checks that there is nothing at `path`.
 ///
 /// # Errors
 ///
-/// `Store` if there is something at the path.
-pub(crate) fn find_nothing<D: Disk>(rt: &HostRuntime, path: &str) -> Result<(), NotOpened<D>>
+/// `Store` if there is something, or if that can't be known.
+pub(crate) fn require_nothing<D: Disk>(rt: &HostRuntime, path: &str) -> Result<(), NotOpened<D>>
     ensures fault { IfErr result (λ it. IsUnread it.fault) }
     ensures left { IfErr result (λ it. it.left ≡ None) }
 {
     match exists(rt, path) {
         Ok(false) => Ok(()),
-        _ => Err(unopened(OpenFault::Store)),
+        _ => Err(not_opened(OpenFault::Store)),
     }
 }
 
-/// The two files at a path. Names that SQLite reads otherwise than as a path are refused.
+/// Opens the database file at `path` and its WAL. Names that SQLite doesn't read as a path are refused.
 pub(crate) fn open_pair<S: Start>(
     rt: &HostRuntime,
     path: &str,
@@ -107,19 +106,19 @@ pub(crate) fn open_pair<S: Start>(
     ensures unread { IfErr result (IsUnreached (image_at S.Start)) }
 {
     if path == ":memory:" || path.starts_with("file:") {
-        return Err(unopened(OpenFault::Store));
+        return Err(not_opened(OpenFault::Store));
     }
     match sqlite_std_file::open(rt, path, start) {
         Ok(files) => Ok(files),
-        Err(OpenError::OutOfMemory) => Err(unopened(OpenFault::OutOfMemory)),
+        Err(OpenError::OutOfMemory) => Err(not_opened(OpenFault::OutOfMemory)),
         Err(OpenError::Io(error)) if error.kind() == ErrorKind::OutOfMemory => {
-            Err(unopened(OpenFault::OutOfMemory))
+            Err(not_opened(OpenFault::OutOfMemory))
         }
-        Err(_) => Err(unopened(OpenFault::Store)),
+        Err(_) => Err(not_opened(OpenFault::Store)),
     }
 }
 
-/// The options of a desk's files: the seed of the log's salts is drawn by the operating system.
+/// The options of a connection. The seed for the salts of the WAL comes from the operating system.
 pub(crate) fn options<D: Disk>(rt: &HostRuntime) -> Result<Options, NotOpened<D>>
     ensures frames { IfOk result (λ options. options.checkpoint_frames ≡ log_frames) }
     ensures fault { IfErr result (λ it. IsUnread it.fault) }
@@ -133,12 +132,12 @@ pub(crate) fn options<D: Disk>(rt: &HostRuntime) -> Result<Options, NotOpened<D>
                 ..Options::new(seed)
             })
         }
-        Err(_) => Err(unopened(OpenFault::Store)),
+        Err(_) => Err(not_opened(OpenFault::Store)),
     }
 }
 
-// Files that were not opened, for this cause, since they were not both there.
-fn unopened<D: Disk>(fault: OpenFault) -> NotOpened<D>
+// The error for files that were not both there, for the cause `fault`.
+fn not_opened<D: Disk>(fault: OpenFault) -> NotOpened<D>
     ensures fault { result.fault ≡ fault }
     ensures left { result.left ≡ None }
 {

@@ -1,4 +1,4 @@
-//! The rows of a table of spans, taken one at a time in the order of their key and held against the plans.
+//! The rows of a table of spans, read one at a time in the order of their key, and compared with the plans.
 
 ghost use Rattle.std.specs.Prelude.{◌≡◌, ◌≢◌, ◌↔◌, ◌<◌, ◌+◌, ◌-◌, ◌^◌, true, false, IsTrue, IfOk, IfErr, OnOk};
 ghost use Rattle.std.specs.Prelude.{List, [], ◌∷◌, ◌++◌, drop};
@@ -26,7 +26,7 @@ ghost use Rattle.table_load.specs.SpansHeld.{AreHeld};
 ghost use Rattle.table_load.specs.OpeningSteps.{ShowsPart};
 
 use crate::fault::OpenFault;
-use crate::finding::length_with;
+use crate::finding::with_span_row;
 use crate::looking::is_live;
 use desk_sql::{RowVisitor, TablesPresent, WholeTable, each_row};
 use row_codec::exact::{FiledPlan, is_slab_row};
@@ -38,16 +38,16 @@ use std::alloc::{AllocError, Global};
 use std::marker::Model;
 use volume4d::Slab;
 
-// As many rows are not counted any more, since no content has them.
+// The number of rows from which they aren't counted: no valid database has so many.
 const TOO_MANY: usize = (1 << 63) - 1;
 
-/// Where the rows of plans, by their key, are: the slab whose row is the next.
+/// The place of the next expected row of spans: which slab of which volume of which plan it stands for.
 #[derive(Drop)]
 pub struct Cursor {
-    // the plan under way, and the place of the next of its volumes
+    // the current plan, and the place of the next of its volumes
     plan: usize,
     place: usize,
-    // the slabs of a volume before that, its place, and the next of them
+    // the slabs of the current volume, its place, and the index of the next slab
     slabs: Vec<Slab>,
     shown: usize,
     next: usize,
@@ -81,8 +81,8 @@ impl Cursor {
         }
     }
 
-    // Goes on to a slab of a plan, if one is left.
-    fn find_in(&mut self, plan: &FiledPlan) -> Result<bool, AllocError>
+    // Moves to the next slab of the live plan `plan`; false if none is left.
+    fn find_slab_in(&mut self, plan: &FiledPlan) -> Result<bool, AllocError>
         requires live { plan_spec.is_live plan.now.row.usage ≡ true }
         ensures same { OnOk result ((later : List Filed) (rows : List Columns)
             → AreAwaited (plan.now ∷ later) (drop self.old.next self.old.slabs) self.old.shown
@@ -105,8 +105,8 @@ impl Cursor {
         Ok(true)
     }
 
-    // Goes on to the plan after the one under way.
-    fn pass(&mut self)
+    // Moves to the next plan.
+    fn skip_plan(&mut self)
         requires { self.old.plan < 2 ^ 64 - 1 }
         ensures { self.new ≡ after_plan self.old }
     {
@@ -116,8 +116,9 @@ impl Cursor {
         self.next = 0;
     }
 
-    // Goes on to a slab of the plan under way, or else to the plan after it.
-    fn enter(&mut self, plan: &FiledPlan) -> Result<bool, AllocError>
+    // Moves to the next slab of the current plan `plan`; if none is left, moves to the next plan and returns
+    // false.
+    fn find_slab_or_skip(&mut self, plan: &FiledPlan) -> Result<bool, AllocError>
         requires { self.old.plan < 2 ^ 64 - 1 }
         ensures same { OnOk result ((plans : List Filed)
             → drop self.old.plan plans ≡ plan.now ∷ drop (self.old.plan + 1) plans
@@ -125,34 +126,34 @@ impl Cursor {
         ensures found { IfOk result (IsEntered plan.now self.old self.new) }
     {
         if !is_live(plan) {
-            self.pass();
+            self.skip_plan();
             return Ok(false);
         }
-        if self.find_in(plan)? {
+        if self.find_slab_in(plan)? {
             return Ok(true);
         }
-        self.pass();
+        self.skip_plan();
         Ok(false)
     }
 
-    // Goes on to the next slab, if one is left.
-    fn find(&mut self, plans: &[FiledPlan]) -> Result<bool, AllocError>
+    // Moves to the next slab of any plan; false if none is left.
+    fn find_slab(&mut self, plans: &[FiledPlan]) -> Result<bool, AllocError>
         ensures same { OnOk result (AwaitsAlike plans.now self.old self.new) }
         ensures found { IfOk result (IsFound plans.now self.new) }
     {
         while let Some(plan) = plans.get(self.plan) {
-            if self.enter(plan)? {
+            if self.find_slab_or_skip(plan)? {
                 return Ok(true);
             }
         }
         Ok(false)
     }
 
-    // Whether a row is the next, which is passed then.
-    fn take(&mut self, plans: &[FiledPlan], row: &Row) -> Result<bool, AllocError>
+    // Whether `row` is the next expected row; if it is, moves past it.
+    fn take_if_next(&mut self, plans: &[FiledPlan], row: &Row) -> Result<bool, AllocError>
         ensures { IfOk result (IsNextRow plans.now self.old self.new row.now) }
     {
-        if !self.find(plans)? {
+        if !self.find_slab(plans)? {
             return Ok(false);
         }
         let Some(plan) = plans.get(self.plan) else {
@@ -171,19 +172,19 @@ impl Cursor {
     }
 }
 
-/// Rows of spans, by their key, held against plans. No row is kept.
+/// A visitor of the rows of spans, which compares them with `plans` and keeps none.
 #[derive(Drop)]
 pub struct SpanCheck {
     pub plans: Vec<FiledPlan>,
     cursor: Cursor,
-    // whether the rows so far are the plans'
+    // whether the rows so far are those of the plans
     agree: bool,
     pub count: usize,
     pub span_bounds: SpanBounds,
 }
 
 impl SpanCheck {
-    /// Of no row yet.
+    /// A check before the first row.
     pub fn new(alloc: Global, plans: Vec<FiledPlan>) -> SpanCheck
         ensures plans { result.plans.items ≡ plans.items }
         ensures fresh { AreHeld result [] }
@@ -197,7 +198,7 @@ impl SpanCheck {
         }
     }
 
-    // Takes the next row.
+    // Counts `row`, adds it to the bounds, and compares it with the next expected row.
     fn add(&mut self, row: &Row) -> Result<(), AllocError>
         ensures taken { OnOk result ((rows : List Columns) → AreHeld self.old rows
             → AreHeld self.new (rows ++ row.now ∷ [])) }
@@ -207,14 +208,14 @@ impl SpanCheck {
             return Err(AllocError);
         }
         self.count += 1;
-        self.span_bounds = length_with(&self.span_bounds, row);
+        self.span_bounds = with_span_row(&self.span_bounds, row);
         if self.agree {
-            self.agree = self.cursor.take(&self.plans, row)?;
+            self.agree = self.cursor.take_if_next(&self.plans, row)?;
         }
         Ok(())
     }
 
-    /// Whether the rows that were taken are all rows of the plans.
+    /// Whether the rows so far are all rows of the plans.
     ///
     /// # Errors
     ///
@@ -229,7 +230,7 @@ impl SpanCheck {
         if !self.agree {
             return Ok(false);
         }
-        Ok(!self.cursor.find(&self.plans)?)
+        Ok(!self.cursor.find_slab(&self.plans)?)
     }
 }
 
@@ -251,13 +252,13 @@ impl RowVisitor for SpanCheck {
     }
 }
 
-/// Takes all rows of a table, so far as it is made, one at a time by its key.
+/// Passes all rows of the table of spans `table` to `check`, ordered by key; none if `made` doesn't have the
+/// table.
 ///
 /// # Errors
 ///
-/// `OutOfMemory` if memory runs out, or if there are 2 ^ 63 rows. `Store` if SQLite refuses for another
-/// cause.
-// Long: the value, and apart from it what holds whatever the disk returned.
+/// `OutOfMemory` if memory runs out, or if there are 2^63 rows. `Store` if SQLite fails for another cause.
+// Long: the value, and what holds whatever bytes the disk returned.
 pub(crate) fn take_spans<S: Alter>(
     connection: &mut Connection<S>,
     table: WholeTable,
@@ -283,8 +284,7 @@ pub(crate) fn take_spans<S: Alter>(
     }
 }
 
-/// What an opening answers where not all rows were taken; so many that they are not counted are as memory
-/// that ran out.
+/// The fault for an error of a query that is read row by row. Too many rows to count become `OutOfMemory`.
 pub(crate) fn fault_of(error: Error) -> OpenFault
     ensures store { result ≡ OpenFault.Store → (error ≢ Error.SqliteFailure ErrorCode.OutOfMemory)
         × (error ≢ Error.SqliteFailure ErrorCode.TooBig) }

@@ -1,11 +1,11 @@
-//! The words of faults of an opening.
+//! The error codes for a database that can't be opened.
 
 ghost use Rattle.std.specs.Prelude.{◌≡◌};
 ghost use Rattle.table_load.specs.OpenWords as spec;
 
 use crate::fault::OpenFault;
 
-/// The word that the program prints if a database can't be opened.
+/// The error code that the program prints if a database can't be opened.
 pub fn open_word(fault: &OpenFault) -> &'static str
     ensures { result.now ≡ spec.open_word fault.now }
 {

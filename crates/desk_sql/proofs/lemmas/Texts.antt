@@ -14,8 +14,8 @@ old_volume_text = codes "CREATE TABLE volume (operator TEXT NOT NULL, id TEXT NO
 abbrev pub old_span_text : List ℕ
 old_span_text = codes "CREATE TABLE span (operator TEXT NOT NULL, id TEXT NOT NULL, place INTEGER NOT NULL, first INTEGER NOT NULL, last INTEGER NOT NULL, lower INTEGER NOT NULL, upper INTEGER NOT NULL, start INTEGER NOT NULL, stop INTEGER NOT NULL, priority INTEGER NOT NULL, PRIMARY KEY (operator, id, place, first), FOREIGN KEY (operator, id) REFERENCES plan (operator, id) ON DELETE CASCADE) STRICT"
 
-abbrev pub old_first_text : List ℕ
-old_first_text = codes
+abbrev pub old_leaf_index_text : List ℕ
+old_leaf_index_text = codes
     "CREATE INDEX span_first ON span (first, last, lower, upper, start, stop, priority, operator, id)"
 
 abbrev pub volume_text : List ℕ
@@ -24,8 +24,8 @@ volume_text = codes "CREATE TABLE volume2 (operator TEXT NOT NULL, id TEXT NOT N
 abbrev pub span_text : List ℕ
 span_text = codes "CREATE TABLE span2 (operator TEXT NOT NULL, id TEXT NOT NULL, place INTEGER NOT NULL, first INTEGER NOT NULL, last INTEGER NOT NULL, lower INTEGER NOT NULL, upper INTEGER NOT NULL, start INTEGER NOT NULL, stop INTEGER NOT NULL, priority INTEGER NOT NULL, PRIMARY KEY (operator, id, place, first), FOREIGN KEY (operator, id) REFERENCES plan (operator, id) ON DELETE CASCADE) STRICT"
 
-abbrev pub first_text : List ℕ
-first_text = codes
+abbrev pub leaf_index_text : List ℕ
+leaf_index_text = codes
     "CREATE INDEX span2_first ON span2 (first, last, lower, upper, start, stop, priority, operator, id)"
 
 abbrev pub all_operators_text : List ℕ

@@ -7,13 +7,13 @@ ghost use Rattle.desk_sql.specs.QueryEnds.{WasOpen, Answers};
 ghost use Rattle.desk_sql.specs.Effects.{IsReady};
 
 use crate::opening::finding::TablesPresent;
-use crate::opening::numbers::{DeskTable, but_memory, rowids_text};
-use crate::reading::taking::{RowVisitor, hand_rows};
+use crate::opening::numbers::{DeskTable, rowids_text, too_big_as_out_of_memory};
+use crate::reading::taking::{RowVisitor, visit_rows};
 use crate::reading::volumes::volume_table;
 use crate::reading::whole::WholeTable;
 use sqlite::{Alter, Connection, Error, Row};
 
-/// Whether a row was taken, where none is kept.
+/// A visitor that only records whether it was given a row.
 #[derive(Drop)]
 struct AnyRow {
     was_taken: bool,
@@ -35,7 +35,7 @@ impl RowVisitor for AnyRow {
     }
 }
 
-/// Whether a table has a row.
+/// Whether `table`, which exists, has a row.
 fn has_row<S: Alter>(connection: &mut Connection<S>, table: DeskTable) -> Result<bool, Error>
     requires ready { IsReady S.Store connection.old (HasTable table) }
     ensures answers { Answers S.Store connection.old connection.new result
@@ -43,13 +43,13 @@ fn has_row<S: Alter>(connection: &mut Connection<S>, table: DeskTable) -> Result
     ensures open { WasOpen S.Store connection.old connection.new result }
 {
     let mut any = AnyRow { was_taken: false };
-    match hand_rows(connection, rowids_text(table), &[], &mut any) {
+    match visit_rows(connection, rowids_text(table), &[], &mut any) {
         Ok(()) => Ok(any.was_taken),
-        Err(e) => Err(but_memory(e)),
+        Err(e) => Err(too_big_as_out_of_memory(e)),
     }
 }
 
-/// Whether a table that may not be made has a row.
+/// Whether `table` has a row; false if it isn't among the tables of `made`.
 fn has_row_in<S: Alter>(
     connection: &mut Connection<S>,
     made: TablesPresent,
@@ -67,7 +67,7 @@ fn has_row_in<S: Alter>(
     }
 }
 
-/// Whether `volume` or `span` has a row: those are of version 1 of the schema.
+/// Whether there are rows of version 1 of the schema: `volume` or `span` has a row.
 pub fn has_old_rows<S: Alter>(
     connection: &mut Connection<S>,
     made: TablesPresent,
@@ -82,7 +82,7 @@ pub fn has_old_rows<S: Alter>(
     has_row_in(connection, made, DeskTable::OldSpan)
 }
 
-/// Whether `volume2` or `span2` has a row: version 1 of the schema has not these tables.
+/// Whether there are rows that only version 2 of the schema has: `volume2` or `span2` has a row.
 pub fn has_new_rows<S: Alter>(
     connection: &mut Connection<S>,
     made: TablesPresent,

@@ -10,10 +10,10 @@ ghost use Rattle.desk_sql.specs.Finding.{Holds, HasOthers};
 ghost use Rattle.desk_sql.specs.Rows.{IsMadeTo};
 
 use crate::opening::matching::tables_present;
-use crate::opening::numbers::{DeskTable, test_tables};
+use crate::opening::numbers::{DeskTable, test_all_rowids};
 use sqlite::{Alter, Connection, Error};
 
-/// How far a desk's tables and their indexes are made, which come in this order, but for `Packed`.
+/// Which tables and indexes of the schema a database has. They are made in this order, but for `Packed`.
 #[derive(Clone, Copy, Debug, PartialEq, Eq)]
 pub enum TablesPresent {
     /// There is no table, index or view.
@@ -34,7 +34,7 @@ pub enum TablesPresent {
     Spans,
     /// There are these and the index over the leaves of `span2`.
     All,
-    /// There are all, but the tables come before the indexes, as in a file that SQLite wrote anew.
+    /// There are all, but the tables come before the indexes, as after a VACUUM.
     Packed,
 }
 
@@ -46,7 +46,7 @@ impl TablesPresent {
         matches!(self, TablesPresent::Packed)
     }
 
-    /// Whether there is this table, in its tree.
+    /// Whether `table` is there. `Volume` and `PackedVolume`, for example, differ by the b-tree alone.
     pub fn has(self, table: DeskTable) -> bool
         ensures { result ≡ has_table self table }
     {
@@ -70,14 +70,13 @@ impl TablesPresent {
     }
 }
 
-/// How far a desk's tables are made in the database, or `None` if it has other tables, indexes or views, or
-/// has them in another order than a desk's own and that of a packed file. It changes nothing.
+/// Which tables and indexes of the schema the database has, or `None` if it has others, or has these in an
+/// order that is neither canonical nor packed. It changes nothing.
 ///
 /// # Errors
 ///
-/// What a query may fail with. Also `DatabaseCorrupt` if the tables are a desk's, and a rowid in them is no
-/// whole number or comes twice, which no sound database shows: that is no want of memory, and never reported
-/// as `None`.
+/// Those of a query. Also `DatabaseCorrupt` if a rowid in the tables isn't an integer or comes twice, which
+/// doesn't happen in a sound database.
 pub fn find_tables<S: Alter>(connection: &mut Connection<S>) -> Result<Option<TablesPresent>, Error>
     requires settled { connection.old.in_transaction ≡ false }
     ensures found { IfOk result (λ found. MatchOption found
@@ -91,6 +90,6 @@ pub fn find_tables<S: Alter>(connection: &mut Connection<S>) -> Result<Option<Ta
     let Some(made) = tables_present(connection.schema()) else {
         return Ok(None);
     };
-    test_tables(connection, made)?;
+    test_all_rowids(connection, made)?;
     Ok(Some(made))
 }

@@ -21,6 +21,7 @@ use crate::opening::objects::{
 use crate::running::run;
 use sqlite::{Alter, Connection, Error, Transaction};
 
+// The statement that makes `operator`.
 #[tactic(auto, using(crate::proofs::StepStops::operator_step))]
 fn operator_text() -> &'static str
     ensures { IsStep result.now TablesPresent.Nothing TablesPresent.Operators }
@@ -28,6 +29,7 @@ fn operator_text() -> &'static str
     OPERATOR_TABLE.sql
 }
 
+// The statement that makes `plan`.
 #[tactic(auto, using(crate::proofs::StepStops::plan_step))]
 fn plan_text() -> &'static str
     ensures { IsStep result.now TablesPresent.Operators TablesPresent.Plans }
@@ -35,6 +37,7 @@ fn plan_text() -> &'static str
     PLAN_TABLE.sql
 }
 
+// The statement that makes `volume`.
 #[tactic(auto, using(crate::proofs::StepStops::old_volume_step))]
 fn old_volume_text() -> &'static str
     ensures { IsStep result.now TablesPresent.Plans TablesPresent.OldVolumes }
@@ -42,6 +45,7 @@ fn old_volume_text() -> &'static str
     OLD_VOLUME_TABLE.sql
 }
 
+// The statement that makes `span`.
 #[tactic(auto, using(crate::proofs::StepStops::old_span_step))]
 fn old_span_text() -> &'static str
     ensures { IsStep result.now TablesPresent.OldVolumes TablesPresent.OldSpans }
@@ -49,13 +53,15 @@ fn old_span_text() -> &'static str
     OLD_SPAN_TABLE.sql
 }
 
+// The statement that makes the index over the leaves of `span`.
 #[tactic(auto, using(crate::proofs::StepStops::old_first_step))]
-fn old_first_text() -> &'static str
+fn old_leaf_index_text() -> &'static str
     ensures { IsStep result.now TablesPresent.OldSpans TablesPresent.OldIndex }
 {
     OLD_LEAVES.sql
 }
 
+// The statement that makes `volume2`.
 #[tactic(auto, using(crate::proofs::StepStops::volume_step))]
 fn volume_text() -> &'static str
     ensures { IsStep result.now TablesPresent.OldIndex TablesPresent.Volumes }
@@ -63,6 +69,7 @@ fn volume_text() -> &'static str
     VOLUME_TABLE.sql
 }
 
+// The statement that makes `span2`.
 #[tactic(auto, using(crate::proofs::StepStops::span_step))]
 fn span_text() -> &'static str
     ensures { IsStep result.now TablesPresent.Volumes TablesPresent.Spans }
@@ -70,14 +77,15 @@ fn span_text() -> &'static str
     SPAN_TABLE.sql
 }
 
+// The statement that makes the index over the leaves of `span2`.
 #[tactic(auto, using(crate::proofs::StepStops::first_step))]
-fn first_text() -> &'static str
+fn leaf_index_text() -> &'static str
     ensures { IsStep result.now TablesPresent.Spans TablesPresent.All }
 {
     LEAVES.sql
 }
 
-// The text that makes what comes next, and how far all is made then.
+// The next statement to run if `made` is there, and what is there after it; `None` if nothing is missing.
 fn next_step(made: TablesPresent) -> Option<(TablesPresent, &'static str)>
     requires { made ≢ TablesPresent.Packed }
     ensures step { IfSome result (λ step. IsStep step.1.now made step.0) }
@@ -90,15 +98,15 @@ fn next_step(made: TablesPresent) -> Option<(TablesPresent, &'static str)>
         TablesPresent::Operators => Some((TablesPresent::Plans, plan_text())),
         TablesPresent::Plans => Some((TablesPresent::OldVolumes, old_volume_text())),
         TablesPresent::OldVolumes => Some((TablesPresent::OldSpans, old_span_text())),
-        TablesPresent::OldSpans => Some((TablesPresent::OldIndex, old_first_text())),
+        TablesPresent::OldSpans => Some((TablesPresent::OldIndex, old_leaf_index_text())),
         TablesPresent::OldIndex => Some((TablesPresent::Volumes, volume_text())),
         TablesPresent::Volumes => Some((TablesPresent::Spans, span_text())),
-        TablesPresent::Spans => Some((TablesPresent::All, first_text())),
+        TablesPresent::Spans => Some((TablesPresent::All, leaf_index_text())),
         TablesPresent::All | TablesPresent::Packed => None,
     }
 }
 
-/// Makes all that is missing, one after the other.
+/// Makes the missing tables and indexes, one statement after the other.
 pub(crate) fn make_rest<S: Alter>(
     tx: &mut Transaction<'_, S>,
     made: TablesPresent,
@@ -122,9 +130,8 @@ pub(crate) fn make_rest<S: Alter>(
     Ok(())
 }
 
-/// Makes those of a desk's tables, and of their indexes, that aren't there, as one transaction. The rows of
-/// the others stay.
-// Long: each way in which it may end has a clause, and so has a crash.
+/// Makes the missing tables and indexes of the schema in one transaction. The rows of the others stay.
+// Long: success, failure and its cause, the end of the transaction and a crash have a clause each.
 pub fn complete_tables<S: Alter>(
     connection: &mut Connection<S>,
     made: TablesPresent,

@@ -1,4 +1,4 @@
-//! Whether a schema is that of a desk's tables and indexes, part by part.
+//! Whether a database has the tables and indexes of the schema, part by part.
 
 ghost use Rattle.std.specs.Prelude.{◌≡◌, ◌≢◌, ◌↔◌, ◌<◌, ◌-◌, ◌^◌, [], ◌∷◌, IsTrue, MatchOption, map};
 ghost use Rattle.sqlite_value.specs.Keys.{plain};
@@ -13,27 +13,27 @@ use sqlite_schema::schema::{Action, Column, Index, Kind, Reference, Schema, Stam
 use sqlite_value::keys::{Collation, Order};
 use sqlite_value::value::{Bytes, Value};
 
-/// A row that says what a part of a schema is.
+/// The description of one part of a schema, such as a column or an index.
 trait FormOf<T> {
     ghost stands_for: { Self → T };
 
-    /// Whether it is this that was found.
+    /// Whether `found` is the part that this describes.
     fn describes(&self, found: &T) -> bool
         ensures { IsTrue result ↔ (found.now ≡ stands_for self.now) };
 }
 
-/// Whether these were found, in this order, and nothing else.
-fn are_all<T, F: FormOf<T>>(found: &[T], forms: &[F]) -> bool
+/// Whether `found` has the parts that `forms` describe, in this order, and nothing else.
+fn all_match<T, F: FormOf<T>>(found: &[T], forms: &[F]) -> bool
     ensures { IsTrue result ↔ (found.now ≡ map F.stands_for forms.now) }
 {
     match (found, forms) {
         ([], []) => true,
-        ([one, others @ ..], [form, more @ ..]) => form.describes(one) && are_all(others, more),
+        ([one, others @ ..], [form, more @ ..]) => form.describes(one) && all_match(others, more),
         _ => false,
     }
 }
 
-/// Whether a column of a STRICT table has this name and this type, takes no NULL, and has no default.
+/// Whether `column` is one of a STRICT table with this name and type, takes no NULL, and has no default.
 fn is_column(column: &Column, name: &[u8], kind: Kind) -> bool
     ensures { IsTrue result ↔ (column.now ≡ column_of name.now kind) }
 {
@@ -69,19 +69,21 @@ impl FormOf<Bytes> for ColumnForm {
     }
 }
 
+// Whether the column numbers `found` are `places`.
 fn are_places(found: &Items<usize>, places: &[usize]) -> bool
     ensures { IsTrue result ↔ (found.now ≡ places.now) }
 {
     found.as_slice() == places
 }
 
+// Whether the text `found` is `name`.
 fn is_name(found: &Bytes, name: &[u8]) -> bool
     ensures { IsTrue result ↔ (found.now ≡ name.now) }
 {
     found.as_slice() == name
 }
 
-/// Whether there is one key, which has these places.
+/// Whether there is one key, of the columns `places`.
 fn is_only_key(keys: &[Items<usize>], places: &[usize]) -> bool
     ensures { IsTrue result ↔ (keys.now ≡ places.now ∷ []) }
 {
@@ -101,7 +103,7 @@ fn is_only_plain(orders: &[Order]) -> bool
     }
 }
 
-/// Whether no default reads the time.
+/// Whether no column has the current time as its default.
 fn is_stampless(stamps: &Stamps) -> bool
     ensures { IsTrue result ↔ (stamps.now ≡ no_stamps) }
 {
@@ -119,7 +121,7 @@ fn has_no_extras(table: &Table) -> bool
         && !table.is_counted
 }
 
-/// Whether a table has this name, tree and primary key, and nothing else beside columns and references.
+/// Whether `table` has this name, b-tree and primary key, and nothing else beside columns and foreign keys.
 fn is_plain_table(table: &Table, name: &[u8], tree: u32, key: &[usize]) -> bool
     ensures { IsTrue result ↔ (table.now ≡ plain_table table.now name.now tree key.now) }
 {
@@ -137,23 +139,23 @@ impl FormOf<Reference> for ReferenceForm {
     fn describes(&self, found: &Reference) -> bool {
         are_places(&found.columns, self.places)
             && is_name(&found.parent, self.parent)
-            && are_all(found.parent_columns.as_slice(), self.parent_columns)
+            && all_match(found.parent_columns.as_slice(), self.parent_columns)
             && found.on_delete == self.on_delete
             && found.on_update == Action::NoAction
             && !found.is_deferred
     }
 }
 
-/// Whether it is the table of this form, in this tree.
+/// Whether `table` is the one that `form` describes, in the b-tree `tree`.
 fn is_table(table: &Table, form: &TableForm, tree: u32) -> bool
     ensures { IsTrue result ↔ (table.now ≡ table_from form.now tree) }
 {
     is_plain_table(table, form.name, tree, form.key)
-        && are_all(table.columns.as_slice(), form.columns)
-        && are_all(table.references.as_slice(), form.references)
+        && all_match(table.columns.as_slice(), form.columns)
+        && all_match(table.references.as_slice(), form.references)
 }
 
-/// Whether these are the tables of these objects, in their order.
+/// Whether `tables` are the tables among `objects`, in their order.
 fn are_tables(tables: &[Table], objects: &[DeskObject]) -> bool
     ensures { IsTrue result ↔ (tables.now ≡ tables_from objects.now) }
 {
@@ -169,7 +171,7 @@ fn are_tables(tables: &[Table], objects: &[DeskObject]) -> bool
     }
 }
 
-/// Whether it is the index that SQLite makes for the primary key of the table in the tree before.
+/// Whether `index` is the one that SQLite makes for the primary key of `form`, in the b-tree after `table`.
 fn is_key_index(index: &Index, form: &TableForm, table: u32) -> bool
     ensures { IsTrue result ↔ (index.now ≡ key_index form.now.key_index.now table form.now.key.now) }
 {
@@ -181,7 +183,7 @@ fn is_key_index(index: &Index, form: &TableForm, table: u32) -> bool
         && index.is_unique
 }
 
-/// Whether it is an index over the leaves of spans, made after the table in the tree `table`.
+/// Whether `index` is the index over the leaves of the spans in the b-tree `table`, itself in `tree`.
 fn is_leaf_index(index: &Index, name: &[u8], tree: u32, table: u32) -> bool
     ensures { IsTrue result ↔ (index.now ≡ record (first_index_of name.now table) { tree = tree }) }
 {
@@ -206,29 +208,30 @@ impl FormOf<Index> for DeskObject {
     }
 }
 
+// Whether the database has no view.
 fn has_no_views(schema: &Schema) -> bool
     ensures { IsTrue result ↔ (schema.now.views ≡ []) }
 {
     schema.views.is_empty()
 }
 
-/// Whether there are these objects, in their order, and nothing else.
+/// Whether the database has the tables and indexes `objects`, in this order, and nothing else.
 fn has_objects(schema: &Schema, objects: &[DeskObject]) -> bool
     ensures { IsTrue result ↔ (schema.now ≡ schema_from objects.now) }
 {
     are_tables(schema.tables.as_slice(), objects)
-        && are_all(schema.indexes.as_slice(), objects)
+        && all_match(schema.indexes.as_slice(), objects)
         && has_no_views(schema)
 }
 
-/// Whether there is what is made so far, and nothing else.
+/// Whether the database has the tables and indexes of `made`, and nothing else.
 fn is_made(schema: &Schema, made: TablesPresent) -> bool
     ensures { IsTrue result ↔ (schema.now ≡ schema_of made) }
 {
     has_objects(schema, objects(made))
 }
 
-/// How far a desk's tables and indexes are made, if there is nothing else.
+/// Which tables and indexes of the schema the database has; `None` if there is anything else.
 pub(crate) fn tables_present(schema: &Schema) -> Option<TablesPresent>
     ensures { MatchOption result ((made : TablesPresent) → schema.now ≢ schema_of made)
         (λ made. schema.now ≡ schema_of made) }

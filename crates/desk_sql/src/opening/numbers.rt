@@ -1,4 +1,4 @@
-//! Whether the rowids of the tables are whole numbers, none of them twice.
+//! Whether the rowids of the tables are integers, none of them twice.
 
 ghost use Rattle.std.specs.Prelude.{◌≡◌, ◌&&◌, List, [], ◌∷◌, true, false, IsTrue, OnOk, OnErr, IfErr};
 ghost use Rattle.sqlite.specs.Order.{Row as Values};
@@ -7,18 +7,18 @@ ghost use Rattle.sqlite.specs.State.{HasCleanDisk};
 ghost use Rattle.sqlite.specs.Held.{state};
 ghost use Rattle.desk_sql.specs.Schema.{HasTable, schema_of, has_table, is_old, tree_of};
 ghost use Rattle.desk_sql.specs.Rows.{AreNumbered, IsMadeTo};
-ghost use Rattle.desk_sql.specs.Refusals.{AreRowsUnread, IsUnnumbered, but_memory};
+ghost use Rattle.desk_sql.specs.Refusals.{AreRowsUnread, IsUnnumbered, too_big_as_out_of_memory};
 ghost use Rattle.desk_sql.specs.Statements.{SelectsAll, rowids};
 ghost use Rattle.desk_sql.specs.Finding.{Holds, next_above, rises};
 ghost use Rattle.desk_sql.specs.Frames.{OnlyReads};
 ghost use Rattle.desk_sql.specs.Effects.{IsReady};
 
 use crate::opening::finding::TablesPresent;
-use crate::reading::taking::{RowVisitor, hand_rows};
+use crate::reading::taking::{RowVisitor, visit_rows};
 use sqlite::{Alter, Connection, Error, ErrorCode, Row};
 use sqlite_value::value::ValueRef;
 
-/// The rowid, if it is a whole number, and above the last one.
+/// The rowid in the first column of `row`, if it is an integer and greater than `last`.
 fn next_above(last: Option<i64>, row: &Row) -> Option<i64>
     ensures { result ≡ next_above last (rowid row.now) }
 {
@@ -31,8 +31,8 @@ fn next_above(last: Option<i64>, row: &Row) -> Option<i64>
     }
 }
 
-/// Rowids that are taken one at a time: the last of them, and whether each was a whole number, and above the
-/// one before.
+/// A visitor that checks rowids: `last` is the one before, and `rise` is whether each so far was an integer
+/// and greater than the one before.
 #[derive(Drop)]
 struct Rowids {
     last: Option<i64>,
@@ -40,7 +40,7 @@ struct Rowids {
 }
 
 impl Rowids {
-    // Takes the next.
+    // Checks the rowid in `row` against the one before.
     fn add(&mut self, row: &Row)
         ensures { (rest : List Values) → (self.new.rise && rises rest self.new.last)
             ≡ (self.old.rise && rises (row.now ∷ rest) self.old.last) }
@@ -71,12 +71,8 @@ impl RowVisitor for Rowids {
     }
 }
 
-/// That rowids rise.
-///
-/// # Errors
-///
-/// `DatabaseCorrupt` if they do not.
-fn tested(rise: bool) -> Result<(), Error>
+/// Returns `DatabaseCorrupt` unless `rise` is true.
+fn require_rising(rise: bool) -> Result<(), Error>
     ensures rising { OnOk result (rise ≡ true) }
     ensures broken { OnErr result (rise ≡ false) }
     ensures code { IfErr result (λ e. e ≡ Error.SqliteFailure ErrorCode.DatabaseCorrupt) }
@@ -88,9 +84,10 @@ fn tested(rise: bool) -> Result<(), Error>
     }
 }
 
-/// Of so many rows that they are not counted, that memory ran out.
-pub(crate) fn but_memory(error: Error) -> Error
-    ensures { result ≡ but_memory error }
+/// The error of a query as it is reported: `OutOfMemory` instead of `TooBig`, which means too many rows to
+/// count.
+pub(crate) fn too_big_as_out_of_memory(error: Error) -> Error
+    ensures { result ≡ too_big_as_out_of_memory error }
 {
     match error {
         Error::SqliteFailure(ErrorCode::TooBig) => Error::SqliteFailure(ErrorCode::OutOfMemory),
@@ -98,7 +95,7 @@ pub(crate) fn but_memory(error: Error) -> Error
     }
 }
 
-/// One of the tables of a desk.
+/// A table of the schema, in the b-tree that it has there.
 #[derive(Clone, Copy, Debug, PartialEq, Eq)]
 pub enum DeskTable {
     /// `operator`
@@ -113,14 +110,14 @@ pub enum DeskTable {
     Volume,
     /// `span2`
     Span,
-    /// `volume2`, as it stands in a packed file
+    /// `volume2` in a packed file
     PackedVolume,
-    /// `span2`, as it stands in a packed file
+    /// `span2` in a packed file
     PackedSpan,
 }
 
 impl DeskTable {
-    /// Whether version 1 of the schema has it.
+    /// Whether version 1 of the schema has the table.
     pub(crate) fn is_old(self) -> bool
         ensures { result ≡ is_old self }
     {
@@ -131,6 +128,7 @@ impl DeskTable {
     }
 }
 
+/// The query of the rowids of `table`, ascending.
 pub(crate) fn rowids_text(table: DeskTable) -> &'static str
     ensures { SelectsAll table result.now (0 ∷ []) (λ db. rowids (db (tree_of table))) }
 {
@@ -146,6 +144,7 @@ pub(crate) fn rowids_text(table: DeskTable) -> &'static str
     }
 }
 
+// The query of the rowids of `operator`.
 #[tactic(auto, using(crate::proofs::lemmas::Rowid::operator_rowids_selected))]
 fn operator_rowids_text() -> &'static str
     ensures { SelectsAll DeskTable.Operator result.now (0 ∷ []) (λ db. rowids (db 0)) }
@@ -153,6 +152,7 @@ fn operator_rowids_text() -> &'static str
     "SELECT rowid FROM operator ORDER BY rowid"
 }
 
+// The query of the rowids of `plan`.
 #[tactic(auto, using(crate::proofs::lemmas::Rowid::plan_rowids_selected))]
 fn plan_rowids_text() -> &'static str
     ensures { SelectsAll DeskTable.Plan result.now (0 ∷ []) (λ db. rowids (db 2)) }
@@ -160,6 +160,7 @@ fn plan_rowids_text() -> &'static str
     "SELECT rowid FROM plan ORDER BY rowid"
 }
 
+// The query of the rowids of `volume`.
 #[tactic(auto, using(crate::proofs::lemmas::Rowid::old_volume_rowids_selected))]
 fn old_volume_rowids_text() -> &'static str
     ensures { SelectsAll DeskTable.OldVolume result.now (0 ∷ []) (λ db. rowids (db 4)) }
@@ -167,6 +168,7 @@ fn old_volume_rowids_text() -> &'static str
     "SELECT rowid FROM volume ORDER BY rowid"
 }
 
+// The query of the rowids of `span`.
 #[tactic(auto, using(crate::proofs::lemmas::Rowid::old_span_rowids_selected))]
 fn old_span_rowids_text() -> &'static str
     ensures { SelectsAll DeskTable.OldSpan result.now (0 ∷ []) (λ db. rowids (db 6)) }
@@ -174,6 +176,7 @@ fn old_span_rowids_text() -> &'static str
     "SELECT rowid FROM span ORDER BY rowid"
 }
 
+// The query of the rowids of `volume2`.
 #[tactic(auto, using(crate::proofs::lemmas::Rowid::volume_rowids_selected, crate::proofs::PackedLemmas::volume_rowids_selected))]
 fn volume_rowids_text() -> &'static str
     ensures own { SelectsAll DeskTable.Volume result.now (0 ∷ []) (λ db. rowids (db 9)) }
@@ -182,6 +185,7 @@ fn volume_rowids_text() -> &'static str
     "SELECT rowid FROM volume2 ORDER BY rowid"
 }
 
+// The query of the rowids of `span2`.
 #[tactic(auto, using(crate::proofs::lemmas::Rowid::span_rowids_selected, crate::proofs::PackedLemmas::span_rowids_selected))]
 fn span_rowids_text() -> &'static str
     ensures own { SelectsAll DeskTable.Span result.now (0 ∷ []) (λ db. rowids (db 11)) }
@@ -190,7 +194,7 @@ fn span_rowids_text() -> &'static str
     "SELECT rowid FROM span2 ORDER BY rowid"
 }
 
-/// Tests the rowids of a table.
+/// Checks that the rowids of `table`, which exists, are integers, each once.
 fn test_rowids<S: Alter>(connection: &mut Connection<S>, table: DeskTable) -> Result<(), Error>
     requires ready { IsReady S.Store connection.old (HasTable table) }
     ensures numbered { OnOk result (Holds S.Store connection.new
@@ -204,14 +208,14 @@ fn test_rowids<S: Alter>(connection: &mut Connection<S>, table: DeskTable) -> Re
         last: None,
         rise: true,
     };
-    match hand_rows(connection, rowids_text(table), &[], &mut rowids) {
-        Ok(()) => tested(rowids.rise),
-        Err(e) => Err(but_memory(e)),
+    match visit_rows(connection, rowids_text(table), &[], &mut rowids) {
+        Ok(()) => require_rising(rowids.rise),
+        Err(e) => Err(too_big_as_out_of_memory(e)),
     }
 }
 
-/// Tests the rowids of a table that may not be made.
-fn test_made<S: Alter>(
+/// Checks the rowids of `table` if it is among the tables of `made`.
+fn test_rowids_if_made<S: Alter>(
     connection: &mut Connection<S>,
     made: TablesPresent,
     table: DeskTable,
@@ -231,12 +235,12 @@ fn test_made<S: Alter>(
     }
 }
 
-/// Tests the rowids of the tables that are made.
+/// Checks the rowids of all tables of `made`.
 ///
 /// # Errors
 ///
-/// `DatabaseCorrupt` if those of a table are not whole numbers, each once; and what a query may fail with.
-pub(crate) fn test_tables<S: Alter>(
+/// `DatabaseCorrupt` if those of a table aren't integers, each once; and those of a query.
+pub(crate) fn test_all_rowids<S: Alter>(
     connection: &mut Connection<S>,
     made: TablesPresent,
 ) -> Result<(), Error>
@@ -247,12 +251,12 @@ pub(crate) fn test_tables<S: Alter>(
         → IfErr result (AreRowsUnread S.Store connection.old connection.new) }
     ensures reads { OnlyReads S.Store connection.old connection.new }
 {
-    test_made(connection, made, DeskTable::Operator)?;
-    test_made(connection, made, DeskTable::Plan)?;
-    test_made(connection, made, DeskTable::OldVolume)?;
-    test_made(connection, made, DeskTable::OldSpan)?;
-    test_made(connection, made, DeskTable::Volume)?;
-    test_made(connection, made, DeskTable::Span)?;
-    test_made(connection, made, DeskTable::PackedVolume)?;
-    test_made(connection, made, DeskTable::PackedSpan)
+    test_rowids_if_made(connection, made, DeskTable::Operator)?;
+    test_rowids_if_made(connection, made, DeskTable::Plan)?;
+    test_rowids_if_made(connection, made, DeskTable::OldVolume)?;
+    test_rowids_if_made(connection, made, DeskTable::OldSpan)?;
+    test_rowids_if_made(connection, made, DeskTable::Volume)?;
+    test_rowids_if_made(connection, made, DeskTable::Span)?;
+    test_rowids_if_made(connection, made, DeskTable::PackedVolume)?;
+    test_rowids_if_made(connection, made, DeskTable::PackedSpan)
 }

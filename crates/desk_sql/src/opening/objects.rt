@@ -1,4 +1,4 @@
-//! The tables and the indexes of a desk, as rows: in its own order, and in that of a packed file.
+//! The tables and indexes of the schema, in canonical and in packed order.
 
 ghost use Rattle.std.specs.Prelude.{◌≡◌};
 ghost use Rattle.desk_sql.specs.Objects.{schema_from};
@@ -35,7 +35,7 @@ pub(crate) struct TableForm {
     /// The name of the index that SQLite makes for the key.
     pub(crate) key_index: &'static [u8],
     pub(crate) references: &'static [ReferenceForm],
-    /// The text that makes it.
+    /// The statement that makes it.
     pub(crate) sql: &'static str,
 }
 
@@ -43,16 +43,16 @@ pub(crate) struct TableForm {
 #[derive(Clone, Copy)]
 pub(crate) struct LeafForm {
     pub(crate) name: &'static [u8],
-    /// The text that makes it.
+    /// The statement that makes it.
     pub(crate) sql: &'static str,
 }
 
-/// What a desk makes by one statement, with the tree in which it stands.
+/// A table or an index that one statement makes, with the number of its b-tree.
 #[derive(Clone, Copy)]
 pub(crate) enum DeskObject {
-    /// A table; the index of its key is the tree after its own.
+    /// A table. The index of its primary key has the next b-tree.
     KeyedTable(TableForm, u32),
-    /// An index over the leaves of the spans in the table whose tree is `table`.
+    /// An index over the leaves of the spans in the b-tree `table`.
     LeafIndex {
         form: LeafForm,
         tree: u32,
@@ -188,14 +188,14 @@ pub(crate) const OLD_LEAVES: LeafForm = LeafForm {
           (first, last, lower, upper, start, stop, priority, operator, id)",
 };
 
-// The columns after `last` are those that the query of rivals reads, so that it reads the index alone.
+// It also has all columns that the query of rivals reads, so that this query reads the index alone.
 pub(crate) const LEAVES: LeafForm = LeafForm {
     name: b"span2_first",
     sql: "CREATE INDEX span2_first ON span2 \
           (first, last, lower, upper, start, stop, priority, operator, id)",
 };
 
-// All, in the order in which a desk makes them.
+// All tables and indexes in canonical order, in which the desk makes them.
 static OWN: [DeskObject; 8] = [
     DeskObject::KeyedTable(OPERATOR_TABLE, 0),
     DeskObject::KeyedTable(PLAN_TABLE, 2),
@@ -215,7 +215,7 @@ static OWN: [DeskObject; 8] = [
     },
 ];
 
-// All, in the order of a packed file.
+// All tables and indexes in packed order: the tables before the indexes.
 static PACKED: [DeskObject; 8] = [
     DeskObject::KeyedTable(OPERATOR_TABLE, 0),
     DeskObject::KeyedTable(PLAN_TABLE, 2),
@@ -235,7 +235,7 @@ static PACKED: [DeskObject; 8] = [
     },
 ];
 
-/// The tables and the indexes that are made so far, in their order.
+/// The tables and indexes that a database at the step `made` has, in their order.
 #[tactic(auto, unfolding(sqlite_tied::specs::Compute::everything))]
 pub(crate) fn objects(made: TablesPresent) -> &'static [DeskObject]
     ensures { schema_from result.now ≡ schema_of made }

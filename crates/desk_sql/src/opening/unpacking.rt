@@ -1,4 +1,4 @@
-//! How the tables of a packed file come into a desk's own order.
+//! How the tables of a packed file are rebuilt in canonical order.
 
 ghost use Rattle.std.specs.Prelude.{◌≡◌, IsTrue};
 ghost use Rattle.sqlite.specs.Effect.{IsDatabase};
@@ -16,13 +16,15 @@ use crate::opening::making::make_rest;
 use crate::running::run;
 use sqlite::{Alter, Error, Transaction};
 
+// The statement that drops the index over the leaves of `span`.
 #[tactic(auto, using(crate::proofs::DropStops::old_first_drops))]
-fn drop_old_first_text() -> &'static str
+fn drop_old_leaf_index_text() -> &'static str
     ensures { Drops result.now packed_schema loose_schema }
 {
     "DROP INDEX span_first"
 }
 
+// The statement that drops `span2`.
 #[tactic(auto, using(crate::proofs::DropStops::spans_drop))]
 fn drop_spans_text() -> &'static str
     ensures { Drops result.now loose_schema spanless_schema }
@@ -30,6 +32,7 @@ fn drop_spans_text() -> &'static str
     "DROP TABLE span2"
 }
 
+// The statement that drops `volume2`.
 #[tactic(auto, using(crate::proofs::DropStops::volumes_drop))]
 fn drop_volumes_text() -> &'static str
     ensures { Drops result.now spanless_schema old_table_schema }
@@ -37,7 +40,7 @@ fn drop_volumes_text() -> &'static str
     "DROP TABLE volume2"
 }
 
-// Drops what stands in another place than in a desk's own order.
+// Drops the tables and the index of a packed file that have other b-trees in canonical order.
 fn unpack<S: Alter>(tx: &mut Transaction<'_, S>) -> Result<(), Error>
     requires at { Holds S.Store tx.old.conn.now (IsMadeTo TablesPresent.Packed) }
     ensures same_reference { tx.new.conn.ghost_name ≡ tx.old.conn.ghost_name }
@@ -45,14 +48,14 @@ fn unpack<S: Alter>(tx: &mut Transaction<'_, S>) -> Result<(), Error>
         (Unpacks S.Store tx.old.conn.now tx.new.conn.now)
         (Holds S.Store tx.old.conn.now IsDatabase × IsTrue tx.old.conn.now.in_transaction) }
 {
-    run(tx, drop_old_first_text(), &[])?;
+    run(tx, drop_old_leaf_index_text(), &[])?;
     run(tx, drop_spans_text(), &[])?;
     run(tx, drop_volumes_text(), &[])?;
     Ok(())
 }
 
-/// Puts the tables of a packed file into a desk's own order, within a transaction. The rows of `volume2` and
-/// `span2` go, and those of the others stay, which stand in the same trees.
+/// Rebuilds the tables of a packed file in canonical order, within a transaction. The rows of `volume2` and
+/// `span2` are lost; those of the other tables stay.
 #[tactic(auto, using(crate::proofs::DropLemmas::remade))]
 pub fn rebuild_tables<S: Alter>(tx: &mut Transaction<'_, S>) -> Result<(), Error>
     requires at { Holds S.Store tx.old.conn.now (IsMadeTo TablesPresent.Packed) }

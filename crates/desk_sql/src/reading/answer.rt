@@ -1,4 +1,4 @@
-//! All rows of a query's answer.
+//! All rows of a query.
 
 ghost use Rattle.desk_sql.specs.Rows.{tables_of, Lists, IsDesk};
 ghost use Rattle.desk_sql.specs.Effects.{IsReady};
@@ -9,8 +9,8 @@ use crate::laws::committed_and_sound;
 use crate::reading::query::Query;
 use sqlite::{Alter, Connection, Error, Row};
 
-/// All rows of a query's answer. The rows of the tables stay, whatever is answered.
-pub(crate) fn answer<S: Alter>(
+/// All rows of `query`. It changes no row, even if it fails.
+pub(crate) fn query_rows<S: Alter>(
     connection: &mut Connection<S>,
     query: Query<'_>,
 ) -> Result<Vec<Row>, Error>
@@ -20,7 +20,7 @@ pub(crate) fn answer<S: Alter>(
     ensures open { WasOpen S.Store connection.old connection.new result }
 {
     committed_and_sound(connection);
-    // Refused on a connection that is shut, whose schema is not known.
+    // It fails on a connection that an error has shut, whose schema isn't known.
     let statement = connection.prepare(query.text())?;
     statement.query_all(connection, query.params().as_slice())
 }

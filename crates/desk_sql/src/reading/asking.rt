@@ -1,4 +1,4 @@
-//! All rows of a query that is given nothing.
+//! All rows of a query without parameters.
 
 ghost use Rattle.std.specs.Prelude.{[], OnOk};
 ghost use Rattle.sqlite.specs.State.{Shown};
@@ -10,8 +10,11 @@ ghost use Rattle.desk_sql.specs.QueryEnds.{WasOpen, Answers};
 use crate::laws::committed_and_sound;
 use sqlite::{Alter, Connection, Error, Row};
 
-/// All rows of a query with no parameters. The rows of the tables stay, whatever is answered.
-pub(crate) fn ask<S: Alter>(connection: &mut Connection<S>, query: &str) -> Result<Vec<Row>, Error>
+/// All rows of `query`, which has no parameters. It changes no row, even if it fails.
+pub(crate) fn select_all<S: Alter>(
+    connection: &mut Connection<S>,
+    query: &str,
+) -> Result<Vec<Row>, Error>
     requires ready { IsReady S.Store connection.old (λ db. IsSure db.schema query.now) }
     ensures answers { Answers S.Store connection.old connection.new result
         (λ _ rows. Shown query.now [] (state S.Store connection.old) (state S.Store connection.new)
@@ -20,7 +23,7 @@ pub(crate) fn ask<S: Alter>(connection: &mut Connection<S>, query: &str) -> Resu
     ensures live { OnOk result (StaysOpen S.Store connection.old connection.new) }
 {
     committed_and_sound(connection);
-    // Refused on a connection that is shut, whose schema is not known.
+    // It fails on a connection that an error has shut, whose schema isn't known.
     let statement = connection.prepare(query)?;
     statement.query_all(connection, &[])
 }

@@ -1,4 +1,4 @@
-//! The spans that other operators hold.
+//! The spans of other operators.
 
 ghost use Rattle.std.specs.Prelude.{[], filter, map, IsPermutation};
 ghost use Rattle.desk_sql.specs.Rows.{held_columns, tables_of, IsDesk};
@@ -11,34 +11,34 @@ use crate::reading::rivals::SpanFilter;
 use crate::reading::taking::{RowVisitor, for_each_row};
 use sqlite::{Alter, Connection, Error};
 
-/// Hands over, one at a time and by `first`, the columns of `span2` from `first` on of each span that is
-/// reached and begins at the leaf position `low` or later, but for those of this operator's plans. Rows that
-/// begin before `low`, or after the reach, are not looked at.
+/// Passes to `visitor` the spans that `span_filter` selects and that begin at leaf position `low` or later,
+/// except those of the operator's plans: each row of `span2` from the column `first` on, ordered by that.
+/// Rows that begin before `low` or after `span_filter.last` aren't read.
 ///
 /// # Errors
 ///
-/// What a query or the taker may fail with. Nothing is said of what the taker has taken then.
+/// Those of the query and of `visitor`, which may have taken some of the rows then.
 pub fn other_spans<S: Alter, T: RowVisitor>(
     connection: &mut Connection<S>,
     operator: &str,
-    reach: SpanFilter,
+    span_filter: SpanFilter,
     low: i64,
-    taker: &mut T,
+    visitor: &mut T,
 ) -> Result<(), Error>
     requires ready { IsReady S.Store connection.old IsDesk }
-    requires fresh { T.has_taken taker.old [] }
+    requires fresh { T.has_taken visitor.old [] }
     ensures answers { HandsOut S.Store connection.old connection.new result
-        (λ db. IsPermutation (map held_columns (filter (is_others_from operator.now reach low)
-        (tables_of db).spans))) (T.has_taken taker.new) T.refuses }
+        (λ db. IsPermutation (map held_columns (filter (is_others_from operator.now span_filter low)
+        (tables_of db).spans))) (T.has_taken visitor.new) T.refuses }
     ensures open { WasOpen S.Store connection.old connection.new result }
 {
     for_each_row(
         connection,
         Query::OtherSpans {
             operator,
-            reach,
+            span_filter,
             low,
         },
-        taker,
+        visitor,
     )
 }

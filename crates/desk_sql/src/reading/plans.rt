@@ -11,24 +11,24 @@ use crate::reading::rivals::SpanFilter;
 use crate::reading::taking::{RowVisitor, for_each_row};
 use sqlite::{Alter, Connection, Error};
 
-/// Hands over, one at a time, the columns of `span2` from `first` on of each span that is reached of the plan
-/// of this operator with this id. They are looked up by their key, so no row of another plan is looked at.
+/// Passes to `visitor` the spans of the operator's plan `id` that `span_filter` selects: each row of `span2`
+/// from the column `first` on. They are looked up by key, so that no row of another plan is read.
 ///
 /// # Errors
 ///
-/// What a query or the taker may fail with. Nothing is said of what the taker has taken then.
+/// Those of the query and of `visitor`, which may have taken some of the rows then.
 pub fn plan_spans<S: Alter, T: RowVisitor>(
     connection: &mut Connection<S>,
     operator: &str,
     id: &str,
-    reach: SpanFilter,
-    taker: &mut T,
+    span_filter: SpanFilter,
+    visitor: &mut T,
 ) -> Result<(), Error>
     requires ready { IsReady S.Store connection.old IsDesk }
-    requires fresh { T.has_taken taker.old [] }
+    requires fresh { T.has_taken visitor.old [] }
     ensures answers { HandsOut S.Store connection.old connection.new result
-        (λ db. IsPermutation (map held_columns (filter (is_plans operator.now id.now reach)
-        (tables_of db).spans))) (T.has_taken taker.new) T.refuses }
+        (λ db. IsPermutation (map held_columns (filter (is_plans operator.now id.now span_filter)
+        (tables_of db).spans))) (T.has_taken visitor.new) T.refuses }
     ensures open { WasOpen S.Store connection.old connection.new result }
 {
     for_each_row(
@@ -36,8 +36,8 @@ pub fn plan_spans<S: Alter, T: RowVisitor>(
         Query::SpansOf {
             operator,
             id,
-            reach,
+            span_filter,
         },
-        taker,
+        visitor,
     )
 }

@@ -1,4 +1,4 @@
-//! The queries that are given something.
+//! The queries with parameters.
 
 ghost use Rattle.std.specs.Prelude.{◌≡◌, [], ◌∷◌, ℕ, ℤ, List, filter, map};
 ghost use Rattle.sqlite.specs.declared.types.Value.TheVariants.{Text};
@@ -12,50 +12,52 @@ use crate::parameters::Parameters;
 use crate::reading::rivals::SpanFilter;
 use sqlite::params;
 
-// In place of a plan's id. No comparison with NULL is true: so the text of the spans but for those of one
-// plan leaves out all spans of the operator then.
+// NULL in place of a plan's id. No comparison with NULL is true, so that the query of rivals then leaves out
+// all spans of the operator.
 const NO_ID: Option<&'static str> = None;
 
-/// A query, with what it is given.
+/// A query with the values of its parameters.
 #[derive(Clone, Copy)]
 pub(crate) enum Query<'a> {
-    /// The row of the plan of this operator with this id.
+    /// The row of `plan` of the operator's plan `id`.
     PlanOf {
         operator: &'a str,
         id: &'a str,
     },
-    /// The rows of the volumes of a plan, by place.
+    /// The rows of `volume2` of the operator's plan `id`, ordered by place.
     VolumesOf {
         operator: &'a str,
         id: &'a str,
     },
-    /// Each plan of an operator with each of its volumes, by id and place.
+    /// Each plan of an operator with each of its volumes, ordered by id and place.
     OwnPlans {
         operator: &'a str,
     },
-    /// The spans that are reached and begin at `low` or later, but for those of one plan, by `first`.
+    /// The spans that `span_filter` selects and that begin at `low` or later, except those of one plan,
+    /// ordered by `first`.
     RivalSpans {
         operator: &'a str,
         id: &'a str,
-        reach: SpanFilter,
+        span_filter: SpanFilter,
         low: i64,
     },
-    /// The spans that are reached and begin at `low` or later, but for those of one operator, by `first`.
+    /// The spans that `span_filter` selects and that begin at `low` or later, except those of one operator,
+    /// ordered by `first`.
     OtherSpans {
         operator: &'a str,
-        reach: SpanFilter,
+        span_filter: SpanFilter,
         low: i64,
     },
-    /// The spans of one plan that are reached.
+    /// The spans of one plan that `span_filter` selects.
     SpansOf {
         operator: &'a str,
         id: &'a str,
-        reach: SpanFilter,
+        span_filter: SpanFilter,
     },
 }
 
 impl<'a> Query<'a> {
-    /// The text, whose parameters are what the query is given.
+    /// The query as SQL.
     pub(crate) fn text(self) -> &'static str
         ensures { Selects result.now (params_of self.entry) (order_of self.entry) (rows_of self.entry) }
     {
@@ -69,7 +71,7 @@ impl<'a> Query<'a> {
         }
     }
 
-    /// What the query is given, as the parameters of its text.
+    /// The values of the query's parameters.
     pub(crate) fn params(self) -> Parameters<'a>
         ensures { result ≡ params_of self.entry }
     {
@@ -80,14 +82,14 @@ impl<'a> Query<'a> {
             Query::RivalSpans {
                 operator,
                 id,
-                reach: r,
+                span_filter: r,
                 low,
             } => Parameters::of(params![
                 r.last, r.first, r.upper, r.lower, r.stop, r.start, r.priority, operator, id, low
             ]),
             Query::OtherSpans {
                 operator,
-                reach: r,
+                span_filter: r,
                 low,
             } => Parameters::of(params![
                 r.last, r.first, r.upper, r.lower, r.stop, r.start, r.priority, operator, NO_ID,
@@ -96,7 +98,7 @@ impl<'a> Query<'a> {
             Query::SpansOf {
                 operator,
                 id,
-                reach: r,
+                span_filter: r,
             } => Parameters::of(params![
                 r.last, r.first, r.upper, r.lower, r.stop, r.start, r.priority, operator, id
             ]),
@@ -104,7 +106,7 @@ impl<'a> Query<'a> {
     }
 }
 
-// The row of a plan.
+// The query of the row of one plan.
 fn plan_of_text() -> &'static str
     ensures { (operator id : List ℕ) → Selects result.now (Text operator ∷ Text id ∷ []) []
         (λ t. filter (is_of operator id) t.plans) }
@@ -112,7 +114,7 @@ fn plan_of_text() -> &'static str
     "SELECT operator, id, priority, usage, aircraft FROM plan WHERE operator = ?1 AND id = ?2"
 }
 
-// The rows of a plan's volumes, by place.
+// The query of the volumes of one plan, ordered by place.
 fn volumes_of_text() -> &'static str
     ensures { (operator id : List ℕ) → Selects result.now (Text operator ∷ Text id ∷ []) (2 ∷ [])
         (λ t. filter (is_of operator id) t.volumes) }
@@ -121,7 +123,7 @@ fn volumes_of_text() -> &'static str
      WHERE operator = ?1 AND id = ?2 ORDER BY place"
 }
 
-// Each plan of an operator with each of its volumes, by id and place.
+// The query of each plan of an operator with each of its volumes, ordered by id and place.
 fn own_plans_text() -> &'static str
     ensures { (operator : List ℕ) → Selects result.now (Text operator ∷ []) (1 ∷ 5 ∷ [])
         (with_volumes (is_row_by operator)) }
@@ -132,14 +134,14 @@ fn own_plans_text() -> &'static str
      WHERE plan.operator = ?1 ORDER BY plan.id, volume2.place"
 }
 
-// The query of the spans that are reached, but for those of one plan, or of one operator if the id is NULL.
+// The query of selected spans, except those of one plan, or of one operator if the id is NULL.
 fn spans_but_text() -> &'static str
-    ensures rivals { (operator id : List ℕ) (reach : Reach) (low : ℤ) → Selects result.now
-        (rival_params operator id reach low) (0 ∷ [])
-        (λ t. map held_columns (filter (is_wanted operator id reach low) t.spans)) }
-    ensures others { (operator : List ℕ) (reach : Reach) (low : ℤ) → Selects result.now
-        (others_params operator reach low) (0 ∷ [])
-        (λ t. map held_columns (filter (is_others_from operator reach low) t.spans)) }
+    ensures rivals { (operator id : List ℕ) (span_filter : Reach) (low : ℤ) → Selects result.now
+        (rival_params operator id span_filter low) (0 ∷ [])
+        (λ t. map held_columns (filter (is_wanted operator id span_filter low) t.spans)) }
+    ensures others { (operator : List ℕ) (span_filter : Reach) (low : ℤ) → Selects result.now
+        (others_params operator span_filter low) (0 ∷ [])
+        (λ t. map held_columns (filter (is_others_from operator span_filter low) t.spans)) }
 {
     "SELECT first, last, lower, upper, start, stop, priority FROM span2 \
      WHERE first >= ?10 AND first <= ?1 AND last >= ?2 AND lower < ?3 AND upper > ?4 \
@@ -147,10 +149,11 @@ fn spans_but_text() -> &'static str
      ORDER BY first"
 }
 
-// The spans of one plan that are reached.
+// The query of selected spans of one plan.
 fn plan_spans_text() -> &'static str
-    ensures { (operator id : List ℕ) (reach : Reach) → Selects result.now
-        (plan_params operator id reach) [] (λ t. map held_columns (filter (is_plans operator id reach) t.spans)) }
+    ensures { (operator id : List ℕ) (span_filter : Reach) → Selects result.now
+        (plan_params operator id span_filter) []
+        (λ t. map held_columns (filter (is_plans operator id span_filter) t.spans)) }
 {
     "SELECT first, last, lower, upper, start, stop, priority FROM span2 \
      WHERE first <= ?1 AND last >= ?2 AND lower < ?3 AND upper > ?4 AND start < ?5 \

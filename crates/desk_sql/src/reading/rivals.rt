@@ -1,4 +1,4 @@
-//! The spans that may stand in the way of a plan.
+//! The spans of other plans that may block a plan.
 
 ghost use Rattle.std.specs.Prelude.{[], filter, map, IsPermutation};
 ghost use Rattle.desk_sql.specs.Rows.{is_wanted, held_columns, tables_of, IsDesk};
@@ -9,9 +9,8 @@ use crate::reading::query::Query;
 use crate::reading::taking::{RowVisitor, for_each_row};
 use sqlite::{Alter, Connection, Error};
 
-/// What spans are asked for: those that share a leaf position of `first..=last`, an altitude of
-/// `lower..upper` (decimetres above the WGS84 ellipsoid) and a moment of `start..stop` (seconds since
-/// 1970), of a priority at least.
+/// It selects spans that have a leaf position of `first..=last`, an altitude of `lower..upper` (decimetres
+/// above the WGS84 ellipsoid), a time of `start..stop` (Unix seconds) and a priority of at least `priority`.
 #[derive(Clone, Copy, Debug)]
 pub struct SpanFilter {
     pub first: i64,
@@ -23,26 +22,26 @@ pub struct SpanFilter {
     pub priority: u32,
 }
 
-/// Hands over, one at a time and by `first`, the columns of `span2` from `first` on of each span that is
-/// reached and begins at the leaf position `low` or later, but for those of the plan of this operator with
-/// this id. Rows that begin before `low`, or after the reach, are not looked at.
+/// Passes to `visitor` the spans that `span_filter` selects and that begin at leaf position `low` or later,
+/// except those of the operator's plan `id`: each row of `span2` from the column `first` on, ordered by that.
+/// Rows that begin before `low` or after `span_filter.last` aren't read.
 ///
 /// # Errors
 ///
-/// What a query or the taker may fail with. Nothing is said of what the taker has taken then.
+/// Those of the query and of `visitor`, which may have taken some of the rows then.
 pub fn rival_spans<S: Alter, T: RowVisitor>(
     connection: &mut Connection<S>,
     operator: &str,
     id: &str,
-    reach: SpanFilter,
+    span_filter: SpanFilter,
     low: i64,
-    taker: &mut T,
+    visitor: &mut T,
 ) -> Result<(), Error>
     requires ready { IsReady S.Store connection.old IsDesk }
-    requires fresh { T.has_taken taker.old [] }
+    requires fresh { T.has_taken visitor.old [] }
     ensures answers { HandsOut S.Store connection.old connection.new result
-        (λ db. IsPermutation (map held_columns (filter (is_wanted operator.now id.now reach low)
-        (tables_of db).spans))) (T.has_taken taker.new) T.refuses }
+        (λ db. IsPermutation (map held_columns (filter (is_wanted operator.now id.now span_filter low)
+        (tables_of db).spans))) (T.has_taken visitor.new) T.refuses }
     ensures open { WasOpen S.Store connection.old connection.new result }
 {
     for_each_row(
@@ -50,9 +49,9 @@ pub fn rival_spans<S: Alter, T: RowVisitor>(
         Query::RivalSpans {
             operator,
             id,
-            reach,
+            span_filter,
             low,
         },
-        taker,
+        visitor,
     )
 }

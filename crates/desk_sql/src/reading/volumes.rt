@@ -1,4 +1,4 @@
-//! The rows of `volume2` with all their columns, as an opening reads them.
+//! All rows of `volume2`, as they are read when a store is opened.
 
 ghost use Rattle.std.specs.Prelude.{◌≡◌, Bool, true, List, [], ◌∷◌, map, OnOk};
 ghost use Rattle.sqlite.specs.Order.{Row as Values};
@@ -12,10 +12,10 @@ ghost use Rattle.desk_sql.specs.Volumes.{ListVolumes, volume_table_in};
 
 use crate::opening::finding::TablesPresent;
 use crate::opening::numbers::DeskTable;
-use crate::reading::taking::{RowVisitor, hand_rows};
+use crate::reading::taking::{RowVisitor, visit_rows};
 use sqlite::{Alter, Connection, Error};
 
-/// `volume2`, which in a packed file stands in another tree.
+/// `volume2`, in the b-tree that it has if the file is packed, or if it isn't.
 pub(crate) fn volume_table(packed: bool) -> DeskTable
     ensures { result ≡ volume_table_in packed }
 {
@@ -26,7 +26,7 @@ pub(crate) fn volume_table(packed: bool) -> DeskTable
     }
 }
 
-// The query of all rows of `volume2`, by its key.
+// The query of all rows of `volume2`, ordered by key.
 fn volumes_text() -> &'static str
     ensures { (packed : Bool) → SelectsAll (volume_table_in packed) result.now (0 ∷ 1 ∷ 2 ∷ [])
         (λ db. map (columns 9) (db (tree_of (volume_table_in packed)))) }
@@ -35,29 +35,29 @@ fn volumes_text() -> &'static str
      ORDER BY operator, id, place"
 }
 
-/// Hands over, one at a time and by the key, all rows of `volume2` with all columns: `operator`, `id`,
-/// `place`, `lower`, `upper`, `start`, `stop`, `asked`, `canon`. None if the table isn't made.
+/// Passes all rows of `volume2` to `visitor`, ordered by key: `operator`, `id`, `place`, `lower`, `upper`,
+/// `start`, `stop`, `asked`, `canon`; none if `made` doesn't have the table.
 ///
 /// # Errors
 ///
-/// What a query or the taker may fail with.
+/// Those of the query and of `visitor`; `TooBig` if there are 2^64 - 1 rows or more.
 pub fn each_volume<S: Alter, T: RowVisitor>(
     connection: &mut Connection<S>,
     made: TablesPresent,
-    taker: &mut T,
+    visitor: &mut T,
 ) -> Result<(), Error>
     requires ready { IsReady S.Store connection.old (IsMadeTo made) }
-    requires fresh { T.has_taken taker.old [] }
+    requires fresh { T.has_taken visitor.old [] }
     ensures answers { HandsOut S.Store connection.old connection.new result
-        (λ db. ListVolumes (tables_at made db)) (T.has_taken taker.new) T.refuses }
+        (λ db. ListVolumes (tables_at made db)) (T.has_taken visitor.new) T.refuses }
     ensures open { has_table made (volume_table_in (is_packed made)) ≡ true
         → WasOpen S.Store connection.old connection.new result }
     ensures live { OnOk result (StaysOpen S.Store connection.old connection.new) }
-    ensures taken { OnOk result ((rows : List Values) × T.has_taken taker.new rows) }
-    ensures kept { OnOk result (KeepsOn T.keeps taker.old taker.new) }
+    ensures taken { OnOk result ((rows : List Values) × T.has_taken visitor.new rows) }
+    ensures kept { OnOk result (KeepsOn T.keeps visitor.old visitor.new) }
 {
     if made.has(volume_table(made.is_packed())) {
-        hand_rows(connection, volumes_text(), &[], taker)
+        visit_rows(connection, volumes_text(), &[], visitor)
     } else {
         Ok(())
     }

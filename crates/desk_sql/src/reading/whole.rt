@@ -1,4 +1,4 @@
-//! The rows of whole tables, as an opening reads them.
+//! All rows of a table, as they are read when a store is opened.
 
 ghost use Rattle.std.specs.Prelude.{◌≡◌, true, OnOk, List, []};
 ghost use Rattle.sqlite.specs.Order.{Row as Values};
@@ -12,12 +12,12 @@ ghost use Rattle.desk_sql.specs.QueryEnds.{WasOpen, Answers, HandsOut};
 
 use crate::opening::finding::TablesPresent;
 use crate::opening::numbers::DeskTable;
-use crate::reading::asking::ask;
-use crate::reading::taking::{RowVisitor, hand_rows};
+use crate::reading::asking::select_all;
+use crate::reading::taking::{RowVisitor, visit_rows};
 use sqlite::{Alter, Connection, Error, Row};
 use std::alloc::Global;
 
-/// What is read as a whole: the rows of a table.
+/// A table that is read as a whole.
 #[derive(Clone, Copy)]
 pub enum WholeTable {
     /// `operator`: `name`, `ceiling`
@@ -34,7 +34,7 @@ pub enum WholeTable {
 }
 
 impl WholeTable {
-    /// The table that is read.
+    /// The table, in the b-tree that it has if the file is packed, or if it isn't.
     pub(crate) fn table(self, packed: bool) -> DeskTable
         ensures { result ≡ table_in self packed }
     {
@@ -48,7 +48,7 @@ impl WholeTable {
         }
     }
 
-    /// The query of these rows, by the table's key.
+    /// The query of all rows, ordered by the table's key.
     fn text(self) -> &'static str
         ensures { ShowsWhole self result.now }
     {
@@ -62,18 +62,21 @@ impl WholeTable {
     }
 }
 
+// The query of all rows of `operator`, ordered by key.
 fn operators_text() -> &'static str
     ensures { ShowsWhole WholeTable.Operators result.now }
 {
     "SELECT name, ceiling FROM operator ORDER BY name"
 }
 
+// The query of all rows of `plan`, ordered by key.
 fn plans_text() -> &'static str
     ensures { ShowsWhole WholeTable.Plans result.now }
 {
     "SELECT operator, id, priority, usage, aircraft FROM plan ORDER BY operator, id"
 }
 
+// The query of all rows of `volume`, ordered by key.
 fn old_volumes_text() -> &'static str
     ensures { ShowsWhole WholeTable.OldVolumes result.now }
 {
@@ -81,6 +84,7 @@ fn old_volumes_text() -> &'static str
      ORDER BY operator, id, place"
 }
 
+// The query of all rows of `span`, ordered by key.
 fn old_spans_text() -> &'static str
     ensures { ShowsWhole WholeTable.OldSpans result.now }
 {
@@ -88,6 +92,7 @@ fn old_spans_text() -> &'static str
      ORDER BY operator, id, place, first"
 }
 
+// The query of all rows of `span2`, ordered by key.
 fn spans_text() -> &'static str
     ensures { ShowsWhole WholeTable.Spans result.now }
 {
@@ -95,7 +100,7 @@ fn spans_text() -> &'static str
      ORDER BY operator, id, place, first"
 }
 
-/// All rows of what is read, by the table's key; none if the table isn't made.
+/// All rows of the table `whole`, ordered by its key; none if `made` doesn't have the table.
 pub fn all_rows<S: Alter>(
     alloc: Global,
     connection: &mut Connection<S>,
@@ -110,36 +115,37 @@ pub fn all_rows<S: Alter>(
     ensures live { OnOk result (StaysOpen S.Store connection.old connection.new) }
 {
     if made.has(whole.table(made.is_packed())) {
-        ask(connection, whole.text())
+        select_all(connection, whole.text())
     } else {
         Ok(Vec::new(alloc))
     }
 }
 
-/// Hands over, one at a time and by the table's key, all rows of what is read; none if the table isn't made.
+/// Passes all rows of the table `whole` to `visitor`, ordered by its key; none if `made` doesn't have the
+/// table.
 ///
 /// # Errors
 ///
-/// What a query or the taker may fail with.
+/// Those of the query and of `visitor`; `TooBig` if there are 2^64 - 1 rows or more.
 pub fn each_row<S: Alter, T: RowVisitor>(
     connection: &mut Connection<S>,
     whole: WholeTable,
     made: TablesPresent,
-    taker: &mut T,
+    visitor: &mut T,
 ) -> Result<(), Error>
     requires ready { IsReady S.Store connection.old (IsMadeTo made) }
-    requires fresh { T.has_taken taker.old [] }
+    requires fresh { T.has_taken visitor.old [] }
     ensures answers { HandsOut S.Store connection.old connection.new result
         (λ db. Lists (key_cells (table_read whole)) (rows_read whole (tables_at made db)))
-        (T.has_taken taker.new) T.refuses }
+        (T.has_taken visitor.new) T.refuses }
     ensures open { has_table made (table_in whole (is_packed made)) ≡ true
         → WasOpen S.Store connection.old connection.new result }
     ensures live { OnOk result (StaysOpen S.Store connection.old connection.new) }
-    ensures taken { OnOk result ((rows : List Values) × T.has_taken taker.new rows) }
-    ensures kept { OnOk result (KeepsOn T.keeps taker.old taker.new) }
+    ensures taken { OnOk result ((rows : List Values) × T.has_taken visitor.new rows) }
+    ensures kept { OnOk result (KeepsOn T.keeps visitor.old visitor.new) }
 {
     if made.has(whole.table(made.is_packed())) {
-        hand_rows(connection, whole.text(), &[], taker)
+        visit_rows(connection, whole.text(), &[], visitor)
     } else {
         Ok(())
     }

@@ -34,12 +34,12 @@ use sqlite_trees::store::Alter;
 use volume4d::laws::covers_are_few;
 
 impl<S: Alter> DeskTables<S> {
-    /// Makes a change that fits the world, as one transaction. The answer is how long spans are then.
+    /// Applies `change`, which has to fit the state, in one transaction; returns the span bounds after it.
     ///
     /// # Errors
     ///
-    /// `OutOfMemory` if memory runs out. `Store` if SQLite refuses the change for another cause, or if
-    /// the rows are no plan's. The tables then stand for the world that they stood for.
+    /// `OutOfMemory` if memory runs out. `Store` if SQLite fails for another cause, or if the rows aren't
+    /// those of a plan. The tables then have the state that they had.
     pub(crate) fn make(
         &mut self,
         span_bounds: &SpanBounds,
@@ -51,7 +51,7 @@ impl<S: Alter> DeskTables<S> {
         ensures cause { IfErr result (BlamesChange S.Store self.old.held self.new.held change.now) }
     {
         let before = *span_bounds;
-        let next = self.next(change);
+        let next = self.state_after(change);
         match change {
             Change::Enrol { operator, ceiling } => self.enrol(operator, *ceiling, next)?,
             Change::Put { operator, row } => return self.put(span_bounds, operator, row, next),
@@ -61,14 +61,14 @@ impl<S: Alter> DeskTables<S> {
         Ok(before)
     }
 
-    // The world after a change.
-    fn next(&self, change: &Change) -> GhostState
+    // The state after `change`.
+    fn state_after(&self, change: &Change) -> GhostState
         ensures { result.world ≡ changed_by change.now self.now.world }
     {
         GhostState::after(&self.kept, change)
     }
 
-    // Lists an operator under a ceiling.
+    // Adds an operator with `ceiling`, or replaces its ceiling; `next` is the state after it.
     fn enrol(
         &mut self,
         operator: &Operator,
@@ -81,11 +81,11 @@ impl<S: Alter> DeskTables<S> {
             → IfErr result (BlamesStore S.Store self.old.held self.new.held) }
     {
         let committed = put_operator(&mut self.connection, operator.as_str(), ceiling);
-        follow(&mut self.kept, committed, next, (), self.reported)
+        advance_if_committed(&mut self.kept, committed, next, (), self.reported)
     }
 
-    // Stores a plan's row for its id, with its volumes and, while it is live, their spans. The answer is how
-    // long spans are then.
+    // Stores a plan with its volumes and, if it is live, their spans; `next` is the state after it. It
+    // returns the span bounds after it.
     fn put(
         &mut self,
         span_bounds: &SpanBounds,
@@ -116,10 +116,11 @@ impl<S: Alter> DeskTables<S> {
         covers_are_few();
         let committed = put_plan(&mut self.connection, head, &volumes, &spans);
         let after = lengths_with(span_bounds, &spans);
-        follow(&mut self.kept, committed, next, after, self.reported)
+        advance_if_committed(&mut self.kept, committed, next, after, self.reported)
     }
 
-    // Closes the operator's plan of the id: its spans go, and all else of it but the usage stays.
+    // Closes the operator's plan `id`: its spans are removed, and else only its usage changes. `next` is the
+    // state after it.
     fn close(
         &mut self,
         operator: &Operator,
@@ -145,10 +146,10 @@ impl<S: Alter> DeskTables<S> {
             priority,
             aircraft,
         );
-        follow(&mut self.kept, committed, next, (), self.reported)
+        advance_if_committed(&mut self.kept, committed, next, (), self.reported)
     }
 
-    // Takes the operator's plans of the ids out.
+    // Removes the operator's plans `ids`; `next` is the state after it.
     fn clear(
         &mut self,
         operator: &Operator,
@@ -161,11 +162,11 @@ impl<S: Alter> DeskTables<S> {
     {
         let texts = texts_of(self.alloc, ids)?;
         let committed = clear_plans(&mut self.connection, operator.as_str(), &texts);
-        follow(&mut self.kept, committed, next, (), self.reported)
+        advance_if_committed(&mut self.kept, committed, next, (), self.reported)
     }
 }
 
-// The priority in the row of a plan, and the number of the state of its aircraft.
+// The priority in a row of `plan`, and the number that stands for the state of the aircraft.
 fn numbers_in(head: &Row) -> Result<(u32, u32), StoreFault>
     ensures priority { IfOk result (λ found. column head.now 2 ≡ Int (pos found.0)) }
     ensures aircraft { IfOk result (λ found. column head.now 4 ≡ Int (pos found.1)) }
@@ -177,9 +178,9 @@ fn numbers_in(head: &Row) -> Result<(u32, u32), StoreFault>
     Ok((priority, aircraft))
 }
 
-// If SQLite committed the change, the kept world becomes `next`, and `answer` is the answer. If not, it stays,
-// and SQLite's error is the fault: `reported` for an error of input and output.
-fn follow<T: Copy>(
+// Returns `answer` if SQLite committed the change: the kept state becomes `next`. Else the state stays, and
+// SQLite's error is returned as a fault, an I/O error as `reported`.
+fn advance_if_committed<T: Copy>(
     kept: &mut GhostState,
     committed: Result<(), Error>,
     next: GhostState,

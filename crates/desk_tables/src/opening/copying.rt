@@ -1,4 +1,4 @@
-//! How a new database gets a content.
+//! Writes a database state into a new database.
 
 ghost use Rattle.std.specs.Prelude.{◌≡◌, List, ◌∷◌, false, IfOk, IfErr, OnOk, None};
 ghost use Rattle.sqlite.specs.State.{HasCleanDisk};
@@ -38,14 +38,14 @@ use table_load::finding::create_tables;
 use table_load::moving::write_plans;
 use volume4d::laws::covers_are_few;
 
-/// A store of a content, over a connection to a database that has to have no table. The tables are made in
-/// one transaction, and all rows come in another.
+/// Makes a store with the state `content` over a connection to a database that has to have no table. The
+/// tables are made in one transaction, and all rows added in another.
 ///
 /// # Errors
 ///
-/// The connection, and `OutOfMemory` if memory runs out. `Store` if there is a table, or if SQLite refuses
-/// for another cause.
-// Long: what is known of the content, of the file and of the store are parted.
+/// The connection, and `OutOfMemory` if memory runs out; `Store` if there is a table, or if SQLite fails for
+/// another cause.
+// Long: the facts on the state, the file and the store have clauses of their own.
 pub(crate) fn store_of<S: Alter + Drop>(
     alloc: Global,
     mut connection: Connection<S>,
@@ -70,7 +70,7 @@ pub(crate) fn store_of<S: Alter + Drop>(
     }
 }
 
-// Makes the tables, which have to be none before, and adds all rows of a content.
+// Makes the tables in a database that has to have none, and adds all rows of `content`.
 fn make_world<S: Alter>(
     alloc: Global,
     connection: &mut Connection<S>,
@@ -86,14 +86,14 @@ fn make_world<S: Alter>(
     ensures fault { IfErr result IsUnread }
     ensures cause { IfErr result (BlamesNew S.Store connection.old connection.new) }
 {
-    find_blank(connection)?;
+    require_blank(connection)?;
     create_tables(connection)?;
     fill(alloc, connection, &content.operators, &content.plans)?;
     Ok(GhostState::of(content))
 }
 
-// Finds that a database has no table; else it fails.
-fn find_blank<S: Alter>(connection: &mut Connection<S>) -> Result<(), OpenFault>
+// Checks that the database has no table; else `Store`.
+fn require_blank<S: Alter>(connection: &mut Connection<S>) -> Result<(), OpenFault>
     requires rest { IsAtRest connection.old }
     ensures blank { OnOk result (Holds S.Store connection.new (IsMadeTo TablesPresent.Nothing)) }
     ensures fault { IfErr result IsUnread }
@@ -109,8 +109,8 @@ fn find_blank<S: Alter>(connection: &mut Connection<S>) -> Result<(), OpenFault>
     Ok(())
 }
 
-// Adds the rows of operators and plans, as one transaction.
-// Long: each way in which it may end has a clause.
+// Adds the rows of `operators` and `plans`, in one transaction.
+// Long: success, failure and its cause, and the end of the transaction have a clause each.
 fn fill<S: Alter>(
     alloc: Global,
     connection: &mut Connection<S>,
@@ -135,7 +135,7 @@ fn fill<S: Alter>(
     Ok(())
 }
 
-// Adds the rows of operators and plans.
+// Adds the rows of `operators` and `plans`, within a transaction.
 fn write_world<S: Alter>(
     alloc: Global,
     tx: &mut Transaction<'_, S>,
@@ -159,7 +159,7 @@ fn write_world<S: Alter>(
     write_plans(alloc, tx, plans)
 }
 
-// Adds the rows of operators.
+// Adds the rows of `operators`, within a transaction.
 fn write_operators<S: Alter>(
     tx: &mut Transaction<'_, S>,
     operators: &[ListedOperator],
@@ -179,8 +179,8 @@ fn write_operators<S: Alter>(
     Ok(())
 }
 
-// Adds the row of an operator.
-// Long: what it adds, and what is left to add, by which the next call finds room.
+// Adds the row of an operator, within a transaction.
+// Long: what it adds, and that there is room for the rows that the next calls add.
 fn write_operator<S: Alter>(
     tx: &mut Transaction<'_, S>,
     listed: &ListedOperator,
@@ -203,7 +203,7 @@ fn write_operator<S: Alter>(
     Ok(())
 }
 
-// Adds the rows of plans in `plan`.
+// Adds the rows of `plans` in the table `plan`, within a transaction.
 fn write_heads<S: Alter>(tx: &mut Transaction<'_, S>, plans: &[FiledPlan]) -> Result<(), OpenFault>
     requires under_way { IsUnderWay S.Store tx.old.conn.now }
     ensures same_reference { tx.new.conn.ghost_name ≡ tx.old.conn.ghost_name }
@@ -220,8 +220,8 @@ fn write_heads<S: Alter>(tx: &mut Transaction<'_, S>, plans: &[FiledPlan]) -> Re
     Ok(())
 }
 
-// Adds the row of a plan in `plan`.
-// Long: what it adds, and what is left to add, by which the next call finds room.
+// Adds the row of a plan in the table `plan`, within a transaction.
+// Long: what it adds, and that there is room for the rows that the next calls add.
 fn write_head<S: Alter>(tx: &mut Transaction<'_, S>, plan: &FiledPlan) -> Result<(), OpenFault>
     requires under_way { IsUnderWay S.Store tx.old.conn.now }
     ensures same_reference { tx.new.conn.ghost_name ≡ tx.old.conn.ghost_name }

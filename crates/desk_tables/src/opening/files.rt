@@ -1,4 +1,4 @@
-//! Stores of plans over files.
+//! Opens stores of plans over files.
 
 ghost use Rattle.std.specs.Prelude.{◌≡◌, IfErr, IfOk, MatchResult};
 ghost use Rattle.sqlite_wal.specs.Files.{image_at};
@@ -31,26 +31,26 @@ use table_load::fault::OpenFault;
 use table_load::looking::{DbStats, holdings_of, read_content};
 use table_load::path::NotOpened;
 
-// A connection to files, the content that was read with it, what is known of it, and whether it is of
-// schema 1.
+// A connection to files, the state that was read from them, the indexes in memory, and whether the rows are
+// those of schema 1.
 type ReadFiles<S> = (Connection<S>, Content, MemoryIndex, bool);
 
-/// A connection to the database that was copied, the store of its content, and what it holds.
+/// A connection to the database that was copied; and the copy's store, with its statistics.
 pub type Copied<D, E> = (
     Connection<FileStore<D>>,
     (SqliteStore<FileStore<E>>, DbStats),
 );
 
-/// Why files were refused, with the connection that read them, or that they were not opened.
+/// Why files were refused, with the connection that read them, or the error if they weren't opened.
 #[derive(Drop)]
 pub struct FilesFault<D: Disk> {
-    /// What was found in them, or what kept them from being opened.
+    /// The cause.
     pub fault: OpenFault,
-    /// The connection, with the rows that it had; or that nothing in the files was read.
+    /// The connection, with the rows that it had; or the error if the files weren't opened.
     pub connection: Result<Connection<FileStore<D>>, NotOpened<D>>,
 }
 
-/// The connection to what was to be copied. Nothing can be done with it but to drop it.
+/// The connection to the database that was to be copied. It can only be dropped.
 #[derive(Drop)]
 pub struct Source<D: Disk> {
     connection: Connection<FileStore<D>>,
@@ -59,21 +59,21 @@ pub struct Source<D: Disk> {
 /// Why nothing was copied.
 #[derive(Drop)]
 pub enum CopyFault<D: Disk, E: Disk> {
-    /// What was to be copied was not read.
+    /// The database to be copied wasn't read.
     Unread(FilesFault<D>),
-    /// In the new files no store was made. What was to be copied is as it was when it was read.
+    /// No store was made in the new files. The database to be copied is as it was.
     Unmade(FilesFault<E>, Source<D>),
 }
 
 impl<S: Start> SqliteStore<FileStore<FileFrom<S>>> {
-    /// The store over the database in the files at a path, as `adopt` gives it; `start` stands for what
-    /// the files held. Where there are no files, they are made.
+    /// Opens the store over the database in the files at `path`, as `adopt` does. The files are made if they
+    /// aren't there. `start` says what they held.
     ///
     /// # Errors
     ///
-    /// The connection, if there was one, and `OutOfMemory` if memory runs out. `Store` if the files cannot be
-    /// opened, or if SQLite refuses for another cause. `OldSchema` if there are rows of schema 1. `NotADesk`
-    /// if there are other tables than a desk's, or if their rows are those of no content.
+    /// The connection, if there was one, and `OutOfMemory` if memory runs out. `Store` if the files can't be
+    /// opened, or if SQLite fails for another cause. `OldSchema` if there are rows of schema 1. `NotADesk`
+    /// if there are other tables than the schema's, or if their rows aren't those of a valid state.
     pub fn open_from(
         rt: &HostRuntime,
         path: &str,
@@ -96,15 +96,14 @@ impl<S: Start> SqliteStore<FileStore<FileFrom<S>>> {
         }
     }
 
-    /// The store over the database in the files at a path, and how many plans were moved to it from schema 1,
-    /// as `adopt_old` gives them; `start` stands for what the files held.
+    /// Opens the store over the database in the files at `path`, which it migrates if it is of schema 1, as
+    /// `adopt_old` does. Also returned is how many plans were migrated. `start` says what the files held.
     ///
     /// # Errors
     ///
     /// The connection, if there was one, and `OutOfMemory` if memory runs out. `Store` if there is no file,
-    /// if the files cannot be opened, or if SQLite refuses for another cause. `NotADesk` if there are other
-    /// tables than a desk's, or if their rows are neither those of a content in schema 1 nor those of one in
-    /// schema 2.
+    /// if the files can't be opened, or if SQLite fails for another cause. `NotADesk` if there are other
+    /// tables than the schema's, or if their rows aren't those of a valid state in either schema.
     pub fn migrate_from(
         rt: &HostRuntime,
         path: &str,
@@ -129,8 +128,8 @@ impl<S: Start> SqliteStore<FileStore<FileFrom<S>>> {
 }
 
 impl SqliteStore<FileStore<FileFrom<Unknown>>> {
-    /// `open_from` over files of which nothing is known. After a torn write each of their bytes is
-    /// supposed to be old or new.
+    /// As `open_from`, over files of which nothing is known. It is assumed that a torn write leaves each byte
+    /// old or new.
     ///
     /// # Errors
     ///
@@ -148,8 +147,8 @@ impl SqliteStore<FileStore<FileFrom<Unknown>>> {
         SqliteStore::open_from(rt, path, Unknown)
     }
 
-    /// `migrate_from` over files of which nothing is known. After a torn write each of their bytes is
-    /// supposed to be old or new.
+    /// As `migrate_from`, over files of which nothing is known. It is assumed that a torn write leaves each
+    /// byte old or new.
     ///
     /// # Errors
     ///
@@ -169,14 +168,14 @@ impl SqliteStore<FileStore<FileFrom<Unknown>>> {
     }
 }
 
-/// What the files at a path hold, and the connection with which it was read; `start` stands for what the
-/// files held. No table is made and no row changed. Where there is no log beside the file, one is made.
+/// The statistics of the database in the files at `path`, with the connection that read it; `start` says what
+/// the files held. No table or row is changed. A WAL is made if there is none.
 ///
 /// # Errors
 ///
 /// The connection, if there was one, and `OutOfMemory` if memory runs out. `Store` if there is no file, if
-/// the files cannot be opened, or if SQLite refuses for another cause. `NotADesk` if there is no table, if
-/// there are other tables than a desk's, or if the rows are those of no content in either schema.
+/// the files can't be opened, or if SQLite fails for another cause. `NotADesk` if there is no table, if there
+/// are other tables than the schema's, or if the rows aren't those of a valid state in either schema.
 pub fn look_at<S: Start>(
     rt: &HostRuntime,
     path: &str,
@@ -186,18 +185,18 @@ pub fn look_at<S: Start>(
         × LooksIn (image_at S.Start) found.0 found.1.is_old w) }
     ensures fault { IfErr result (λ e. AreNotRead (image_at S.Start) e.fault e.connection) }
 {
-    let (connection, content, _, old) = read_there(rt, path, start)?;
+    let (connection, content, _, old) = read_at(rt, path, start)?;
     Ok((connection, holdings_of(&content, old)))
 }
 
-/// A store of the content of the files at a path in new files at another, with the connection to the first
-/// and what it holds; `start` and `other` stand for what these files held. In the first no table is made and
-/// no row changed. If the store can't be made, the new files are left half made.
+/// Copies the state of the database in the files at `path` into new files at `to`; returns the connection to
+/// the first, the store over the new ones, and its statistics. `start` and `other` say what these files held.
+/// In the first, no table or row is changed. If it fails, the new files may have a part of the copy.
 ///
 /// # Errors
 ///
-/// Those of `look_at`; and of the new files `OutOfMemory` if memory runs out, and `Store` if there is a file
-/// at the other path, if they can't be opened, if they have a table, or if they fail.
+/// Those of `look_at`. For the new files `OutOfMemory` if memory runs out, and `Store` if there is a file at
+/// `to`, if they can't be opened, if they have a table, or if SQLite fails.
 pub fn copy_from<S: Start, N: Start>(
     rt: &HostRuntime,
     path: &str,
@@ -211,13 +210,13 @@ pub fn copy_from<S: Start, N: Start>(
     ensures left { IfOk result (λ copied. IsSettledAt over_files copied.1.0.held copied.1.0.world) }
     ensures fault { IfErr result (AreNotCopied (image_at S.Start) (image_at N.Start)) }
 {
-    match read_there(rt, path, start) {
+    match read_at(rt, path, start) {
         Ok(found) => copy_read(rt, found, to, other),
         Err(refused) => Err(CopyFault::Unread(refused)),
     }
 }
 
-// A store of the content that was read, in new files at a path.
+// Makes the store with the state that was read, `found`, in new files at `to`.
 fn copy_read<D: Disk + Drop, N: Start>(
     rt: &HostRuntime,
     found: ReadFiles<FileStore<D>>,
@@ -242,8 +241,8 @@ fn copy_read<D: Disk + Drop, N: Start>(
     }
 }
 
-// The content of the files at a path, with the connection with which it was read.
-fn read_there<S: Start>(
+// Reads the state of the database in the files at `path`; returns it with the connection.
+fn read_at<S: Start>(
     rt: &HostRuntime,
     path: &str,
     start: S,
@@ -255,7 +254,7 @@ fn read_there<S: Start>(
     ensures fault { IfErr result (λ e. AreNotRead (image_at S.Start) e.fault e.connection) }
 {
     match connect_there(rt, path, start) {
-        Ok(connection) => read_files(rt.alloc(), connection),
+        Ok(connection) => read_connected(rt.alloc(), connection),
         Err(unreached) => Err(FilesFault {
             fault: unreached.fault(),
             connection: Err(unreached),
@@ -263,8 +262,8 @@ fn read_there<S: Start>(
     }
 }
 
-// The content of files, with the connection with which it was read.
-fn read_files<D: Disk + Drop>(
+// Reads the state of the database that `connection` has open; returns it with the connection.
+fn read_connected<D: Disk + Drop>(
     alloc: Global,
     mut connection: Connection<FileStore<D>>,
 ) -> Result<ReadFiles<FileStore<D>>, FilesFault<D>>
@@ -286,7 +285,7 @@ fn read_files<D: Disk + Drop>(
     }
 }
 
-// The store of a content in new files at a path.
+// Makes a store with the state `content` in new files at `path`.
 fn store_at<S: Start>(
     rt: &HostRuntime,
     path: &str,
@@ -311,7 +310,7 @@ fn store_at<S: Start>(
     }
 }
 
-// The store of a content in new files.
+// Makes a store with the state `content` in the new files that `connection` has open.
 fn store_files<D: Disk + Drop>(
     alloc: Global,
     connection: Connection<FileStore<D>>,
@@ -338,8 +337,8 @@ fn store_files<D: Disk + Drop>(
     }
 }
 
-// The store over a connection that was opened to files, as `adopt` gives it, on whatever disk they are. A
-// function of any disk is checked once, and costs seconds where it is called at one.
+// As `adopt`, over a connection to files on any disk. Since the disk is a type parameter, this is proved once
+// and used at little cost for each disk.
 fn adopt_files<D: Disk + Drop>(
     alloc: Global,
     connection: Connection<FileStore<D>>,
@@ -364,7 +363,7 @@ fn adopt_files<D: Disk + Drop>(
     }
 }
 
-// The same, as `adopt_old` gives it, with the number of plans that were moved.
+// As `adopt_old`, over a connection to files on any disk.
 fn adopt_old_files<D: Disk + Drop>(
     alloc: Global,
     connection: Connection<FileStore<D>>,

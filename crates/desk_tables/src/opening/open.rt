@@ -1,4 +1,4 @@
-//! Stores of plans made over connections.
+//! Opens stores of plans over connections.
 
 ghost use Rattle.std.specs.Prelude.{◌≡◌, ◌-◌, ◌++◌, [], false, length, replicate, IfOk, IfErr, MatchResult, None};
 ghost use Rattle.desk_sql.specs.Effects.{StaysShown};
@@ -20,19 +20,18 @@ use table_load::fault::OpenFault;
 use table_load::finding::{create_tables, load_world};
 use table_load::moving::moved_world_in;
 
-// What a log in memory takes its salts from. No other program writes to it, so that any number will do.
+// The seed for the salts of a WAL in memory. No other program writes to it, so that any number will do.
 const SEED: u64 = 1;
 
-// How many pages of a store in memory are kept twice, so that not each look copies them out of its file.
+// How many pages of a store in memory are cached, so that not each read copies them from the file.
 const CACHED_PAGES: usize = 2048;
 
-// The bytes of a page in memory. A commit writes, digests and copies whole pages, so that small ones are
-// quicker; an entry of the index over the leaves of spans fits into it several times.
+// The page size of a store in memory. A commit writes, digests and copies whole pages, so that small ones are
+// faster; several entries of the index over the leaves of spans fit into one.
 const PAGE: usize = 1024;
 
-// What a database of one such page begins with that has no table (the SQLite file format, sections 1.3 and
-// 1.6): its name, the size of a page, two versions for a log, three fractions and the counts of a new file;
-// and then a leaf without cells.
+// The beginning of a database of one such page and without tables (the SQLite file format, sections 1.3 and
+// 1.6): the header of the file, and then that of a leaf page without cells.
 const BLANK: [u8; 108] = [
     83, 81, 76, 105, 116, 101, 32, 102, 111, 114, 109, 97, 116, 32, 51, 0, 4, 0, 2, 2, 0, 64, 32,
     32, 0, 0, 0, 0, 0, 0, 0, 1, 0, 0, 0, 0, 0, 0, 0, 0, 0, 0, 0, 1, 0, 0, 0, 4, 0, 0, 0, 0, 0, 0,
@@ -40,17 +39,17 @@ const BLANK: [u8; 108] = [
     0, 0, 0, 0, 0, 0, 0, 0, 0, 0, 0, 46, 118, 136, 13, 0, 0, 0, 0, 4, 0, 0,
 ];
 
-/// Why a connection was not adopted, with the connection.
+/// Why no store was opened over a connection, with the connection.
 #[derive(Drop)]
 pub struct AdoptFault<S: Alter> {
-    /// What kept it from being a store's.
+    /// The cause.
     pub fault: OpenFault,
     /// The connection, with the rows that it had.
     pub connection: Connection<S>,
 }
 
 impl SqliteStore<FileStore<Ram>> {
-    /// A store of no operators and no plans, in memory. It fails only if memory runs out, and says so.
+    /// A store in memory, without operators and plans.
     ///
     /// # Errors
     ///
@@ -59,23 +58,23 @@ impl SqliteStore<FileStore<Ram>> {
         ensures empty { IfOk result (λ store. store.world ≡ record { operators = []; plans = [] }) }
         ensures fault { IfErr result (λ e. e ≡ OpenFault.OutOfMemory) }
     {
-        over_ram(alloc).map_err(|_| OpenFault::OutOfMemory)
+        store_in_ram(alloc).map_err(|_| OpenFault::OutOfMemory)
     }
 }
 
 impl<S: Alter> SqliteStore<S> {
-    /// The store over a connection, which is open. In a database with no table a desk's tables are made,
-    /// and the world is empty. A desk's tables stay as they are, and the world is the content whose rows
-    /// they have; those of a packed file are put into a desk's own order, in one transaction. That holds
-    /// while the disk has returned what was written. If the connection has a limit on steps, it is lifted.
+    /// Opens the store over a connection. Missing tables are made; those of a packed file are rebuilt in
+    /// canonical order, in one transaction. The store has the state whose rows the tables have, which is
+    /// empty if there was no table. This holds as long as the disk returns what was written. A step limit of
+    /// the connection is lifted.
     ///
     /// # Errors
     ///
     /// The connection, with the rows that it had, and the first of these that applies: `OutOfMemory` if
-    /// memory runs out, `Store` if SQLite refuses for another cause, `OldSchema` if there are rows of
-    /// schema 1, and `NotADesk` if there are other tables than a desk's, or if their rows are those of no
-    /// content.
-    // Long: a store, a refusal and a crash have each a clause over the connection.
+    /// memory runs out, `Store` if SQLite fails for another cause, `OldSchema` if there are rows of schema 1,
+    /// and `NotADesk` if there are other tables than the schema's, or if their rows aren't those of a valid
+    /// state.
+    // Long: success, a refusal and a crash have a clause each.
     pub fn adopt(
         alloc: Global,
         mut connection: Connection<S>,
@@ -108,19 +107,16 @@ impl<S: Alter> SqliteStore<S> {
         }
     }
 
-    /// The store over a connection, as `adopt` gives it, and how many plans were moved to it from schema 1.
-    /// A limit on steps is lifted.
-    /// Where there are rows of schema 1, they are replaced by those of the same content in schema 2, in one
-    /// transaction. Where there are none, no plan is moved, and the number is 0. More plans than the number
-    /// can report are reported as its greatest value.
+    /// Opens the store over a connection as `adopt` does, but migrates a database of schema 1: its rows are
+    /// replaced by those of the same state in schema 2, in one transaction. Also returned is how many plans
+    /// were migrated: 0 if the database is of schema 2, and at most 2^32 - 1.
     ///
     /// # Errors
     ///
     /// The connection, with the rows that it had, and the first of these that applies: `OutOfMemory` if
-    /// memory runs out, `Store` if SQLite refuses for another cause, and `NotADesk` if there are other tables
-    /// than a desk's, or if their rows are neither those of a content in schema 1 nor those of one in
-    /// schema 2.
-    // Long: a store, a refusal and a crash have each a clause over the connection.
+    /// memory runs out, `Store` if SQLite fails for another cause, and `NotADesk` if there are other tables
+    /// than the schema's, or if their rows aren't those of a valid state in either schema.
+    // Long: success, a refusal and a crash have a clause each.
     pub fn adopt_old(
         alloc: Global,
         mut connection: Connection<S>,
@@ -157,8 +153,8 @@ impl<S: Alter> SqliteStore<S> {
     }
 }
 
-// A store of no operators and no plans over files in memory.
-fn over_ram(alloc: Global) -> Result<SqliteStore<FileStore<Ram>>, OpenFault>
+// A store over files in memory, without operators and plans.
+fn store_in_ram(alloc: Global) -> Result<SqliteStore<FileStore<Ram>>, OpenFault>
     ensures { IfOk result (λ store. store.world ≡ record { operators = []; plans = [] }) }
 {
     let page = blank_database(alloc)?;
@@ -171,12 +167,12 @@ fn over_ram(alloc: Global) -> Result<SqliteStore<FileStore<Ram>>, OpenFault>
         ..Options::new(SEED)
     };
     match Connection::open_files(alloc, files, options) {
-        Ok(connection) => over_blank(alloc, connection),
+        Ok(connection) => store_over_blank(alloc, connection),
         Err((error, _)) => Err(OpenFault::from(error)),
     }
 }
 
-// The bytes of a database with no table.
+// The bytes of a database without tables.
 fn blank_database(alloc: Global) -> Result<Vec<u8>, AllocError>
     ensures { IfOk result (λ page. page.items ≡ BLANK ++ replicate (PAGE - length BLANK) 0) }
 {
@@ -185,8 +181,8 @@ fn blank_database(alloc: Global) -> Result<Vec<u8>, AllocError>
     Ok(page)
 }
 
-// A store of no operators and no plans over a connection in memory, in which there has to be no table.
-fn over_blank<S: Alter + Drop>(
+// Makes an empty store over a connection to a database in memory that has to have no table.
+fn store_over_blank<S: Alter + Drop>(
     alloc: Global,
     mut connection: Connection<S>,
 ) -> Result<SqliteStore<S>, OpenFault>

@@ -1,4 +1,4 @@
-//! The spans that are wanted near an extent: a question for each part of the curve where they may begin.
+//! The spans of other plans in a query region: one query for each range of leaves at which they may begin.
 
 ghost use Rattle.std.specs.Prelude.{◌<◌, IfSome, IsTrue, OnOk, length};
 ghost use Rattle.std.specs.List.{AllByRecursion};
@@ -10,7 +10,7 @@ ghost use Rattle.row_codec.specs.RivalRows.{AreWanted, HaveTaken, HaveTakenAll, 
 ghost use Rattle.row_codec.specs.SpanBounds.{Bounds, IsWithinExtent};
 ghost use Rattle.desk_tables.specs.ReadsMade.{ReadsSpans, spans_shown};
 
-use crate::reading::readers::held_by;
+use crate::reading::readers::slabs_if_read;
 use crate::tables::DeskTables;
 use desk_sql::{other_spans, rival_spans};
 use desk_store::StoreFault;
@@ -22,14 +22,13 @@ use sqlite_trees::store::Alter;
 use volume4d::{Held, Slab};
 
 impl<S: Alter> DeskTables<S> {
-    /// The slabs that live plans hold, of those that are wanted, where they meet an extent, as the tables
-    /// have them. How long the spans of live plans is says at which leaves one begins that reaches the
-    /// extent: no row is read that begins at another.
+    /// Reads slabs that have, at each point of `extent`, the greatest priority of the live plans there that
+    /// `wanted` selects. The span bounds say at which leaves their spans may begin: no other row is read.
     ///
     /// # Errors
     ///
-    /// `OutOfMemory` if memory runs out. `Store` if SQLite refuses a query for another cause, or if a row is
-    /// no slab's.
+    /// `OutOfMemory` if memory runs out. `Store` if SQLite fails for another cause, or if a row isn't that of
+    /// a slab.
     #[tactic(auto, using(table_load::proofs::lemmas::Frame::reads_itself))]
     pub(crate) fn wanted_in_tables(
         &mut self,
@@ -42,13 +41,13 @@ impl<S: Alter> DeskTables<S> {
             AreWanted self.old.world wanted.now extent.now helds.items) }
     {
         let questions = span_bounds.questions(self.allocator(), extent)?;
-        named_by_an_id(wanted);
-        self.asked_all(wanted, extent, &questions)
+        id_is_valid(wanted);
+        self.query_all(wanted, extent, &questions)
     }
 
-    // The slabs of the spans that questions are for, those of one question after those of another.
+    // Runs all `questions`, and returns the slabs of one after those of the other.
     #[tactic(auto, using(table_load::proofs::lemmas::Frame::reads_then))]
-    fn asked_all(
+    fn query_all(
         &mut self,
         wanted: &Wanted,
         extent: &Slab,
@@ -63,14 +62,15 @@ impl<S: Alter> DeskTables<S> {
     {
         let mut helds = Vec::new(self.allocator());
         for question in questions {
-            let mut more = self.asked(wanted, extent, question)?;
+            let mut more = self.query_one(wanted, extent, question)?;
             helds.append(&mut more)?;
         }
         Ok(helds)
     }
 
-    // The slabs of the spans that one question is for, of those that may hold a point of an extent.
-    fn asked(
+    // Runs one query: the slabs whose spans begin at the leaves of `question` and may share a point with
+    // `extent`.
+    fn query_one(
         &mut self,
         wanted: &Wanted,
         extent: &Slab,
@@ -83,7 +83,7 @@ impl<S: Alter> DeskTables<S> {
         ensures open { WasOpen S.Store self.old.held self.new.held result }
     {
         let mut rivals = SpanCollector::new(self.alloc);
-        let reach = reach_from(question, extent, wanted.least);
+        let span_filter = reach_from(question, extent, wanted.least);
         let low = question.first as i64;
         let operator = wanted.operator.as_str();
         match &wanted.id {
@@ -94,22 +94,28 @@ impl<S: Alter> DeskTables<S> {
                     &mut self.connection,
                     operator,
                     text,
-                    reach,
+                    span_filter,
                     low,
                     &mut rivals,
                 );
-                held_by(handed, rivals, self.reported)
+                slabs_if_read(handed, rivals, self.reported)
             }
             None => {
-                let handed = other_spans(&mut self.connection, operator, reach, low, &mut rivals);
-                held_by(handed, rivals, self.reported)
+                let handed = other_spans(
+                    &mut self.connection,
+                    operator,
+                    span_filter,
+                    low,
+                    &mut rivals,
+                );
+                slabs_if_read(handed, rivals, self.reported)
             }
         }
     }
 }
 
-// That the plan which is left out, if there is one, is named by an id: its text is read as that.
-fn named_by_an_id(wanted: &Wanted)
+// States that `wanted` names the plan that it leaves out, if any, by a valid id. It changes nothing.
+fn id_is_valid(wanted: &Wanted)
     ensures { IfSome wanted.now.id IsId }
 {
     if let Some(id) = &wanted.id {

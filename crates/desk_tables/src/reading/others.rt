@@ -1,4 +1,4 @@
-//! The slabs that other operators hold.
+//! The slabs of other operators' plans.
 
 ghost use Rattle.std.specs.Prelude.{◌≡◌, None, cond};
 ghost use Rattle.volume4d.specs.Point.{Point};
@@ -9,7 +9,7 @@ ghost use Rattle.desk_tables.specs.ReadsMade.{ReadsSpans};
 ghost use Rattle.row_codec.specs.Known.{Knows};
 ghost use Rattle.row_codec.specs.SpanBounds.{Bounds};
 
-use crate::reading::plans::{FEW, MOST};
+use crate::reading::plans::{MAX_ROWS, MAX_ROWS_AT_ONE};
 use crate::tables::DeskTables;
 use desk_rules::operator::Operator;
 use desk_store::StoreFault;
@@ -20,14 +20,14 @@ use sqlite_trees::store::Alter;
 use volume4d::{Held, Slab};
 
 impl<S: Alter> DeskTables<S> {
-    /// The slabs that live plans of other operators hold, where they meet extents. No row is read but near
-    /// volumes of theirs whose bounds meet an extent, and none twice for extents that overlap along the
-    /// curve; if these are of few plans, only the rows of these.
+    /// Reads slabs that have, at each point of `extents`, the greatest priority of live plans of other
+    /// operators there. If volumes of few plans overlap `extents`, only these plans' rows are read; else the
+    /// rows near such volumes, none twice.
     ///
     /// # Errors
     ///
-    /// `OutOfMemory` if memory runs out. `Store` if SQLite refuses the query for another cause, or if
-    /// a row is no slab's.
+    /// `OutOfMemory` if memory runs out. `Store` if SQLite fails for another cause, or if a row isn't that of
+    /// a slab.
     #[tactic(auto, using(table_load::proofs::lemmas::Frame::reads_itself))]
     pub(crate) fn held_by_others(
         &mut self,
@@ -39,8 +39,12 @@ impl<S: Alter> DeskTables<S> {
         ensures { ReadsSpans S.Store self.old self.new result (λ helds.
             AreHeldByOthers self.old.world operator.now extents.now helds.items) }
     {
-        let wanted = of_others(operator);
-        let room = if extents.len() < 2 { FEW } else { MOST };
+        let wanted = wanted_of_others(operator);
+        let room = if extents.len() < 2 {
+            MAX_ROWS_AT_ONE
+        } else {
+            MAX_ROWS
+        };
         if let Some(keys) = known
             .live
             .wanted_plans(self.allocator(), &wanted, extents, room)?
@@ -48,12 +52,12 @@ impl<S: Alter> DeskTables<S> {
             return self.held_near(&keys, extents);
         }
         let regions = known.live.regions(self.allocator(), operator, extents)?;
-        self.held_in(operator, &regions, &known.span_bounds)
+        self.held_in_regions(operator, &regions, &known.span_bounds)
     }
 
-    // What others hold in regions, and nothing else.
+    // Reads the slabs of other operators' live plans, clipped to `regions`.
     #[tactic(auto, using(table_load::proofs::lemmas::Frame::reads_then))]
-    fn held_in(
+    fn held_in_regions(
         &mut self,
         operator: &Operator,
         regions: &[Slab],
@@ -64,7 +68,7 @@ impl<S: Alter> DeskTables<S> {
             ≡ cond (slabs_have regions.now x) (held self.old.world operator.now x) None) }
     {
         let mut helds = Vec::new(self.allocator());
-        let wanted = of_others(operator);
+        let wanted = wanted_of_others(operator);
         for region in regions {
             let more = self.wanted_in_tables(&wanted, region, span_bounds)?;
             push_clipped(&mut helds, &more, region)?;
@@ -73,8 +77,8 @@ impl<S: Alter> DeskTables<S> {
     }
 }
 
-// All that others hold, at any priority.
-fn of_others(operator: &Operator) -> Wanted
+// It selects the live plans of all operators but `operator`, of any priority.
+fn wanted_of_others(operator: &Operator) -> Wanted
     ensures { result ≡ record { operator = operator.now; id = None; least = 0 } }
 {
     Wanted {

@@ -11,7 +11,7 @@ ghost use Rattle.desk_tables.specs.ReadsMade.{ReadsSpans, spans_shown};
 ghost use Rattle.row_codec.specs.RivalRows.{HaveTaken, is_asked_of_plan, leaves_begun};
 ghost use Rattle.desk_sql.specs.QueryEnds.{WasOpen};
 
-use crate::reading::readers::held_by;
+use crate::reading::readers::slabs_if_read;
 use crate::tables::DeskTables;
 use desk_sql::plan_spans;
 use desk_store::StoreFault;
@@ -21,29 +21,29 @@ use s2_cover::Span;
 use sqlite_trees::store::Alter;
 use volume4d::{Held, Slab};
 
-/// Near one extent so many rows of plans are read by their keys at most. If there are more, one question that
-/// reads what lies there costs less.
-pub(crate) const FEW: usize = 160;
+/// For one extent, the most rows that are read by the keys of plans. If there are more, one query of the rows
+/// that are near costs less.
+pub(crate) const MAX_ROWS_AT_ONE: usize = 160;
 
-/// So many rows are read by the keys of plans at most, where each extent would be a question, or where
-/// questions may be for many rows. Reading these takes half a second.
-pub(crate) const MOST: usize = 1 << 19;
+/// The most rows that are read by the keys of plans if each extent would need a query, or if queries might
+/// read many rows. Reading so many takes half a second.
+pub(crate) const MAX_ROWS: usize = 1 << 19;
 
-// A stretch of the curve of at most so many leaves, as a cell of level 7 has, is short.
-const SHORT: u64 = 1 << 46;
+// How many leaves a short range of the curve has at most: as many as a cell of level 7.
+const MAX_SHORT: u64 = 1 << 46;
 
-// So many rows are read by the keys of plans at most, where questions are for a short stretch: there are few
-// rows there, and it costs less to read these one after the other.
-const FEW_BESIDE_SHORT: usize = 1 << 12;
+// The most rows that are read by the keys of plans if queries are of a short range of the curve: there are
+// few rows there, and it costs less to read these one after the other.
+const MAX_ROWS_BESIDE_SHORT: usize = 1 << 12;
 
 impl<S: Alter> DeskTables<S> {
-    /// The slabs that live ones among some plans hold, where they meet some extents. Only their own rows are
-    /// read.
+    /// Reads slabs that have, at each point of `extents`, the greatest priority of those plans of `keys` that
+    /// are live. Only these plans' rows are read.
     ///
     /// # Errors
     ///
-    /// `OutOfMemory` if memory runs out. `Store` if SQLite refuses a query for another cause, or if a row is
-    /// no slab's.
+    /// `OutOfMemory` if memory runs out. `Store` if SQLite fails for another cause, or if a row isn't that of
+    /// a slab.
     #[tactic(auto, using(table_load::proofs::lemmas::Frame::reads_itself))]
     pub(crate) fn held_near(
         &mut self,
@@ -60,13 +60,13 @@ impl<S: Alter> DeskTables<S> {
         self.held_by_plans(keys, 0, &whole_of(first, others))
     }
 
-    /// The slabs that live ones among some plans hold, of those of a priority at least, where they meet an
-    /// extent. Only their own rows are read.
+    /// Reads slabs that have, at each point of `extent`, the greatest priority of those plans of `keys` that
+    /// are live, if it is at least `least`. Only these plans' rows are read.
     ///
     /// # Errors
     ///
-    /// `OutOfMemory` if memory runs out. `Store` if SQLite refuses a query for another cause, or if a row is
-    /// no slab's.
+    /// `OutOfMemory` if memory runs out. `Store` if SQLite fails for another cause, or if a row isn't that of
+    /// a slab.
     #[tactic(auto, using(table_load::proofs::lemmas::Frame::reads_then))]
     pub(crate) fn held_by_plans(
         &mut self,
@@ -85,7 +85,7 @@ impl<S: Alter> DeskTables<S> {
         Ok(helds)
     }
 
-    // The slabs of the spans of one plan that may hold a point of an extent, if it is of a priority at least.
+    // Reads the slabs of the plan `key` that may overlap `extent`, if its priority is at least `least`.
     fn held_by_plan(
         &mut self,
         key: &PlanKey,
@@ -101,43 +101,44 @@ impl<S: Alter> DeskTables<S> {
         let mut rivals = SpanCollector::new(self.alloc);
         let mut buffer = [0u8; 36];
         let id = key.id.encode(&mut buffer);
-        let reach = reach_of(extent, least);
+        let span_filter = reach_of(extent, least);
         let handed = plan_spans(
             &mut self.connection,
             key.operator.as_str(),
             id,
-            reach,
+            span_filter,
             &mut rivals,
         );
-        held_by(handed, rivals, self.reported)
+        slabs_if_read(handed, rivals, self.reported)
     }
 }
 
-/// How many rows are read by the keys of plans at most, where these questions would do too: that decides
-/// about time alone.
-pub(crate) fn room_beside(questions: &[Span]) -> usize
-    ensures { result ≡ (if nat_le (leaves_begun questions.now) SHORT then FEW_BESIDE_SHORT else MOST) }
+/// The most rows that are read by the keys of plans, instead of by the queries `questions`. This only matters
+/// for speed.
+pub(crate) fn max_rows_beside(questions: &[Span]) -> usize
+    ensures { result ≡ (if nat_le (leaves_begun questions.now) MAX_SHORT then MAX_ROWS_BESIDE_SHORT
+        else MAX_ROWS) }
 {
-    if leaves_of(questions) <= SHORT {
-        FEW_BESIDE_SHORT
+    if count_leaves(questions) <= MAX_SHORT {
+        MAX_ROWS_BESIDE_SHORT
     } else {
-        MOST
+        MAX_ROWS
     }
 }
 
-// At how many leaves the spans begin that questions are for.
-fn leaves_of(questions: &[Span]) -> u64
+// How many leaves the ranges of all queries have; it saturates.
+fn count_leaves(questions: &[Span]) -> u64
     ensures { result ≡ min (leaves_begun questions.now) (2 ^ 64 - 1) }
 {
     let mut leaves: u64 = 0;
     for question in questions {
-        leaves = with_leaves(leaves, question);
+        leaves = add_leaves(leaves, question);
     }
     leaves
 }
 
-// So many leaves, and those that a question is for.
-fn with_leaves(leaves: u64, question: &Span) -> u64
+// Adds to `leaves` how many leaves the range of one query has; it saturates.
+fn add_leaves(leaves: u64, question: &Span) -> u64
     ensures { result ≡ min (leaves + (question.now.last - question.now.first + 1)) (2 ^ 64 - 1) }
 {
     leaves

@@ -1,4 +1,4 @@
-//! What a store answers, read from its tables.
+//! What a store reads from its tables.
 
 ghost use Rattle.std.specs.Prelude.{◌≡◌, ◌≢◌, ◌<◌, ◌^◌, List, IfErr, IfOk, IsOk, OnOk, map};
 ghost use Rattle.std.specs.List.{AllByRecursion, AllZip};
@@ -14,7 +14,7 @@ ghost use Rattle.row_codec.specs.Known.{Knows};
 ghost use Rattle.row_codec.specs.RivalRows.{AreWantedNear};
 ghost use Rattle.desk_tables.specs.ReadsMade.{ReadsPlans, ReadsSpans};
 
-use crate::reading::plans::room_beside;
+use crate::reading::plans::max_rows_beside;
 use crate::tables::DeskTables;
 use desk_rules::operator::Operator;
 use desk_rules::plan::PlanRow;
@@ -32,11 +32,11 @@ use std::alloc::Global;
 use volume4d::{Held, Slab};
 
 impl<S: Alter> DeskTables<S> {
-    /// The row of `plan` of the operator's plan of the id, if it is stored.
+    /// The row of `plan` of the operator's plan `id`; no row if it isn't stored.
     ///
     /// # Errors
     ///
-    /// `OutOfMemory` if memory runs out. `Store` if SQLite refuses the query for another cause.
+    /// `OutOfMemory` if memory runs out. `Store` if SQLite fails for another cause.
     pub(crate) fn head_rows(
         &mut self,
         operator: &Operator,
@@ -51,7 +51,7 @@ impl<S: Alter> DeskTables<S> {
         or_fault(answer, self.reported)
     }
 
-    // The rows of `volume2` of the operator's plan of the id, by place.
+    // The rows of `volume2` of the operator's plan `id`, ordered by place.
     fn volumes(&mut self, operator: &Operator, id: &PlanId) -> Result<Vec<Row>, StoreFault>
         ensures { ReadsPlans S.Store self.old self.new result (λ rows. IsContent self.old.world
             × (rows.items ≡ volume_rows (own_of operator.now id.now self.old.world))) }
@@ -62,12 +62,12 @@ impl<S: Alter> DeskTables<S> {
         or_fault(answer, self.reported)
     }
 
-    /// The operator's plan of the id, or none if it is not stored.
+    /// The operator's plan `id`, or none if it isn't stored.
     ///
     /// # Errors
     ///
-    /// `OutOfMemory` if memory runs out. `Store` if SQLite refuses a query for another cause, or if the
-    /// rows are no plan's.
+    /// `OutOfMemory` if memory runs out. `Store` if SQLite fails for another cause, or if the rows aren't
+    /// those of a plan.
     #[tactic(auto, using(table_load::proofs::lemmas::Frame::reads_then))]
     pub(crate) fn plan(
         &mut self,
@@ -89,25 +89,25 @@ impl<S: Alter> DeskTables<S> {
     ///
     /// # Errors
     ///
-    /// `OutOfMemory` if memory runs out. `Store` if SQLite refuses the query for another cause, or if
-    /// the rows are no plans'.
+    /// `OutOfMemory` if memory runs out. `Store` if SQLite fails for another cause, or if the rows aren't
+    /// those of plans.
     pub(crate) fn own_plans(&mut self, operator: &Operator) -> Result<Vec<PlanRow>, StoreFault>
         ensures { ReadsPlans S.Store self.old self.new result (λ rows.
             rows.items ≡ plans_of operator.now self.old.world) }
     {
         let mut collector = PlanCollector::new(self.alloc);
         let taken = own_listing(&mut self.connection, operator.as_str(), &mut collector);
-        collected(taken, collector, self.reported)
+        plans_if_read(taken, collector, self.reported)
     }
 
-    /// The slabs that live plans hold, of those that are wanted, where they meet extents. No row is read if
-    /// the bounds of none of their volumes meet one of these, and if those of few plans do, only the rows of
-    /// these plans.
+    /// Reads slabs that have, at each point of `extents`, the greatest priority of the live plans there that
+    /// `wanted` selects. The index in memory says whose volumes overlap `extents`: if these are few plans,
+    /// only their rows are read.
     ///
     /// # Errors
     ///
-    /// `OutOfMemory` if memory runs out. `Store` if SQLite refuses the query for another cause, or if
-    /// a row is no slab's.
+    /// `OutOfMemory` if memory runs out. `Store` if SQLite fails for another cause, or if a row isn't that of
+    /// a slab.
     #[tactic(auto, using(table_load::proofs::lemmas::Frame::reads_itself))]
     pub(crate) fn rivals_near(
         &mut self,
@@ -124,7 +124,7 @@ impl<S: Alter> DeskTables<S> {
         };
         let whole = whole_of(first, others);
         let questions = known.span_bounds.questions(self.allocator(), &whole)?;
-        let room = room_beside(&questions);
+        let room = max_rows_beside(&questions);
         if let Some(keys) = known
             .live
             .wanted_plans(self.allocator(), wanted, extents, room)?
@@ -135,7 +135,7 @@ impl<S: Alter> DeskTables<S> {
     }
 }
 
-// The plan of a row of `plan`, with the volumes of rows of `volume2`.
+// The plan whose row of `plan` is `head` and whose rows of `volume2` are `rows`.
 fn plan_of_rows(alloc: Global, head: &Row, rows: &[Row]) -> Result<PlanRow, StoreFault>
     ensures value { IfOk result (λ plan. (p : Plan) → IsId p.id → IsHead head.now p
         → AllByRecursion IsBlock p.area → AllZip (λ row v. IsVolumeAt row 3 v) rows.now p.area
@@ -148,8 +148,9 @@ fn plan_of_rows(alloc: Global, head: &Row, rows: &[Row]) -> Result<PlanRow, Stor
     plan_in(head, area)
 }
 
-// The plans of a listing, if it was taken to its end; `reported` for an error of input and output.
-fn collected(
+// The plans that `collector` has, if the query passed all rows to it; else the fault, an I/O error as
+// `reported`.
+fn plans_if_read(
     taken: Result<(), Error>,
     collector: PlanCollector,
     reported: StoreFault,
@@ -169,8 +170,9 @@ fn collected(
     }
 }
 
-// The slabs of spans that were handed over, if all were; `reported` for an error of input and output.
-pub(crate) fn held_by(
+// The slabs that `rivals` has, if the query passed all rows to it; else the fault, an I/O error as
+// `reported`.
+pub(crate) fn slabs_if_read(
     handed: Result<(), Error>,
     rivals: SpanCollector,
     reported: StoreFault,

@@ -19,7 +19,7 @@ returns-then-not-has_salts-clause-value g c page stop bytes len head first =
 
 pub loop-preserved : goal.loop-preserved
 loop-preserved g c = record {
-  few = omega (arith, c.loop.invariant.few, one_at_most _ _ c.ends_of.ensures);
+  few = omega (arith, c.loop.invariant.few, one_at_most _ _ c.commits_ended.ensures);
   counted = λ page stop bytes len head first.
       let n = c.loop.counter in
       let here = c.loop.invariant.counted page stop bytes len head first in
@@ -29,7 +29,7 @@ loop-preserved g c = record {
       let next =
       rw c.if-not-branch.false at (c.in_ok-next_frame.ensures.value page (stop + (n + 1)) bytes
       (c.loop.auto.frame ∙ len) behind) in
-      goes_on page stop n _ bytes _ _ _ head here _ c.ends_of.ensures salted _ _ next;
+      goes_on page stop n _ bytes _ _ _ head here _ c.commits_ended.ensures salted _ _ next;
   read = frame_more _ _ _ _ c.loop.counter c.loop.invariant.read
       (omega (arith, c.requires, c.loop.auto.frame, c.next_frame.auto.frame))
       (c.in_ok-next_frame.ensures.read c.if-not-branch.false);
@@ -45,4 +45,4 @@ returns-then-not-branch-clause-value g c page stop bytes len head first =
     let next =
     rw c.if-not-branch.true at (c.in_ok-next_frame.ensures.value page (stop + (n + 1)) bytes
     (c.loop.auto.frame ∙ len) behind) in
-    ends_behind page stop n _ bytes _ _ _ head here _ c.ends_of.ensures salted next
+    ends_behind page stop n _ bytes _ _ _ head here _ c.commits_ended.ensures salted next

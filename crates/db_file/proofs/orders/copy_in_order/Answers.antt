@@ -12,7 +12,7 @@ returns g c =
     let left = g.R.Read.remaining c.read_in_order.new.file in
     let size : length page ≡ bytes_of c.args.size = search rules in
     mended_all c.copy_with.result known _ (bytes_of c.args.size) c.args.len
-    c.args.has_checksums (g.W.Write.contents c.args.twin.now) (g.W.Write.contents c.copy_with.new.twin)
+    c.args.has_checksums (g.W.Write.contents c.args.output.now) (g.W.Write.contents c.copy_with.new.output)
     (subst (λ n. IfSome known (λ bytes. length (spec.ordered_file n bytes) ≡ length bytes)) size
     c.in_ok-read_in_order.ensures.size)
     (subst (λ w. IfSome known (λ bytes. w ≡ Some (spec.ordered_file (bytes_of c.args.size) bytes)))

@@ -8,5 +8,5 @@ invariant-loop g l =
     record {
       room : length l.room ≡ 65536;
       copied : IfSome (g.R.Read.remaining l.fn.file) (λ bytes. IsPassing bytes (g.R.Read.remaining l.file)
-          (g.W.Write.contents l.fn.twin) (g.W.Write.contents l.twin));
+          (g.W.Write.contents l.fn.output) (g.W.Write.contents l.output));
     }

@@ -16,7 +16,7 @@ loop-preserved g c =
           (λ it. g.R.Read.remaining c.copy_page.new.file ≡ Some (drop n it))) size
           c.in_ok-copy_page.ensures.left)
           (subst (λ n. IfSome (g.R.Read.remaining c.loop.file)
-          (λ it. Appends (g.W.Write.contents c.loop.twin) (g.W.Write.contents c.copy_page.new.twin)
+          (λ it. Appends (g.W.Write.contents c.loop.output) (g.W.Write.contents c.copy_page.new.output)
           (summed (take n it)))) size c.in_ok-copy_page.ensures.copied)
           c.loop.invariant.copied;
     }

@@ -9,6 +9,6 @@ invariant-loop g l =
     record {
       whole_page : length l.page ≡ bytes_of l.fn.size;
       copied : IfSome (g.R.Read.remaining l.fn.file) (λ bytes. IsCopying (bytes_of l.fn.size) l.fn.count
-          l.counter bytes (g.R.Read.remaining l.file) (g.W.Write.contents l.fn.twin)
-          (g.W.Write.contents l.twin));
+          l.counter bytes (g.R.Read.remaining l.file) (g.W.Write.contents l.fn.output)
+          (g.W.Write.contents l.output));
     }

@@ -33,8 +33,8 @@ pub ids-preserved : goal.ids-preserved
 ids-preserved g c =
     let ids = c.args.ids.now in
     let at = c.ids.id-index in (
-      c.remove_one.ensures.same_reference ∙ c.ids.invariant.0,
-      goes_on g.S.Store c.args.tx.now.conn.now c.ids.tx.conn.now c.remove_one.new.tx.conn.now
+      c.remove_plan_by_id.ensures.same_reference ∙ c.ids.invariant.0,
+      goes_on g.S.Store c.args.tx.now.conn.now c.ids.tx.conn.now c.remove_plan_by_id.new.tx.conn.now
           (RemovesPlans c.args.operator.now (map string_bytes (take at ids)))
           (RemovesPlan c.args.operator.now (string_bytes c.id-item.result))
           (RemovesPlans c.args.operator.now (map string_bytes (take (at + 1) ids)))
@@ -42,8 +42,8 @@ ids-preserved g c =
           (map string_bytes (take (at + 1) ids))
           (map_more string_bytes ids at _ c.ids-test.true
           ∙ ap (λ id. map string_bytes (take at ids) ++ id ∷ []) (sym (ap string_bytes c.id-item.is))))
-          c.ids.invariant.1 c.remove_one.ensures.changed.remembered
-          c.in_ok-remove_one.ensures.changed.done,
+          c.ids.invariant.1 c.remove_plan_by_id.ensures.changed.remembered
+          c.in_ok-remove_plan_by_id.ensures.changed.done,
     )
 
 pub returns-in_err-prepare-clause-cause : goal.returns-in_err-prepare-clause-cause
@@ -56,22 +56,22 @@ returns-in_err-prepare-clause-cause g c clean live =
     (c.in_err-prepare.ensures.err clean (key_row c.args.operator.now [])) in
     search (rules, it)
 
-pub returns-in_err-remove_one-clause-cause : goal.returns-in_err-remove_one-clause-cause
-returns-in_err-remove_one-clause-cause g c clean live =
-    let it : IsRefusal g.S.Store c.args.tx.now.conn.now c.remove_one.new.tx.conn.now
-    c.in_err-remove_one.field-0.0 =
-    refused_on g.S.Store c.args.tx.now.conn.now c.ids.tx.conn.now c.remove_one.new.tx.conn.now
+pub returns-in_err-remove_plan_by_id-clause-cause : goal.returns-in_err-remove_plan_by_id-clause-cause
+returns-in_err-remove_plan_by_id-clause-cause g c clean live =
+    let it : IsRefusal g.S.Store c.args.tx.now.conn.now c.remove_plan_by_id.new.tx.conn.now
+    c.in_err-remove_plan_by_id.field-0.0 =
+    refused_on g.S.Store c.args.tx.now.conn.now c.ids.tx.conn.now c.remove_plan_by_id.new.tx.conn.now
     (RemovesPlans c.args.operator.now (map string_bytes (take c.ids.id-index c.args.ids.now)))
-    c.ids.invariant.1 c.in_err-remove_one.field-0.0
-    (c.in_err-remove_one.ensures.changed.cause (way_on g.S.Store c.args.tx.now.conn.now c.ids.tx.conn.now
+    c.ids.invariant.1 c.in_err-remove_plan_by_id.field-0.0
+    (c.in_err-remove_plan_by_id.ensures.changed.cause (way_on g.S.Store c.args.tx.now.conn.now c.ids.tx.conn.now
     (RemovesPlans c.args.operator.now (map string_bytes (take c.ids.id-index c.args.ids.now)))
     c.ids.invariant.1) tt clean) in
     search (rules, it)
 
-pub returns-in_err-remove_one-clause-remembered : goal.returns-in_err-remove_one-clause-remembered
-returns-in_err-remove_one-clause-remembered g c =
-    remembers_then g.S.Store c.args.tx.now.conn.now c.ids.tx.conn.now c.remove_one.new.tx.conn.now
-    c.ids.invariant.1.remembered c.remove_one.ensures.changed.remembered
+pub returns-in_err-remove_plan_by_id-clause-remembered : goal.returns-in_err-remove_plan_by_id-clause-remembered
+returns-in_err-remove_plan_by_id-clause-remembered g c =
+    remembers_then g.S.Store c.args.tx.now.conn.now c.ids.tx.conn.now c.remove_plan_by_id.new.tx.conn.now
+    c.ids.invariant.1.remembered c.remove_plan_by_id.ensures.changed.remembered
 
 pub returns-clause-remembered : goal.returns-clause-remembered
 returns-clause-remembered g c = c.ids.invariant.1.remembered

@@ -9,13 +9,13 @@ use Rattle.row_codec.proofs.content.are_shared.Goals as goal
 pub loop-listed-init : goal.loop-listed-init
 loop-listed-init c = begin c.args.operators.now c.args.plans.now c.requires.names c.requires.keys
 
-pub returns-then-not-are_few : goal.returns-then-not-are_few
-returns-then-not-are_few c =
+pub returns-then-not-is_within_limit : goal.returns-then-not-is_within_limit
+returns-then-not-is_within_limit c =
     stops c.args.operators.now c.args.plans.now c.loop-listed.others.now c.in-Some.later.now
     c.in-Some.listed.now c.loop-listed.left.now c.loop-listed.left.now c.count_own-count.result
     c.loop-listed.invariant c.in-Some.ensures.cases.0 (c.count_own-count.ensures.value
     ∙ ap (λ (l : Listed). prefix_len (is_by l.name) c.loop-listed.left.now) c.listed.view_is)
-    (λ few. true≢false (sym (c.are_few.ensures.1 few) ∙ c.if-not-are_few.true))
+    (λ few. true≢false (sym (c.is_within_limit.ensures.1 few) ∙ c.if-not-is_within_limit.true))
 
 pub loop-listed-preserved : goal.loop-listed-preserved
 loop-listed-preserved c =
@@ -23,7 +23,7 @@ loop-listed-preserved c =
     c.in-Some.listed.now c.loop-listed.left.now c.split_at.result.1.now c.count_own-count.result
     c.loop-listed.invariant c.in-Some.ensures.cases.0 (c.count_own-count.ensures.value
     ∙ ap (λ (l : Listed). prefix_len (is_by l.name) c.loop-listed.left.now) c.listed.view_is)
-    (c.are_few.ensures.0 c.if-not-are_few.false) c.split_at.ensures.back
+    (c.is_within_limit.ensures.0 c.if-not-is_within_limit.false) c.split_at.ensures.back
 
 pub returns : goal.returns
 returns c = ends c.args.operators.now c.args.plans.now c.loop-listed.others.now c.loop-listed.left.now

@@ -5,8 +5,8 @@ use Rattle.row_codec.proofs.content.plans_in.Goals as goal
 pub returns-in_err-filed_in-clause-none : goal.returns-in_err-filed_in-clause-none
 returns-in_err-filed_in-clause-none c =
     let none = refused c.loop-head.left.now c.in-Some.later.now c.loop-head.rest.now c.split_at.result.0.now
-    c.split_at.result.1.now c.in-Some.head.now c.own_volumes.result c.in-Some.ensures.cases.0
-    c.own_volumes.ensures.of c.split_at.ensures.front c.split_at.ensures.back c.args.head_rows.now
+    c.split_at.result.1.now c.in-Some.head.now c.count_own_volumes.result c.in-Some.ensures.cases.0
+    c.count_own_volumes.ensures.of c.split_at.ensures.front c.split_at.ensures.back c.args.head_rows.now
     c.args.volumes.now c.loop-head.plans.items c.loop-head.invariant in
     search (rules, none, c.in_err-filed_in.ensures.none)
 
@@ -16,8 +16,8 @@ loop-head-preserved c =
     c.split_at.result.1.now)
     (sym c.in_ok-push.ensures.items)
     (goes_on c.loop-head.left.now c.in-Some.later.now c.loop-head.rest.now c.split_at.result.0.now
-    c.split_at.result.1.now c.in-Some.head.now c.own_volumes.result c.in-Some.ensures.cases.0
-    c.own_volumes.ensures.of c.split_at.ensures.front c.split_at.ensures.back
+    c.split_at.result.1.now c.in-Some.head.now c.count_own_volumes.result c.in-Some.ensures.cases.0
+    c.count_own_volumes.ensures.of c.split_at.ensures.front c.split_at.ensures.back
     c.args.head_rows.now c.args.volumes.now c.loop-head.plans.items c.in_ok-filed_in.field-0
     c.loop-head.invariant
     c.in_ok-filed_in.ensures.ok.0 c.in_ok-filed_in.ensures.ok.1)

@@ -24,8 +24,8 @@ loop-first-preserved c =
     c.in-Some.ensures.cases.0 (c.count_own.ensures.value
     ∙ ap (λ (f : Filed). prefix_len (is_by f.operator) c.in-Some.others.now) c.first.view_is)
     c.split_at.ensures.front c.split_at.ensures.back
-    c.greater_of-most.result c.sum_of.result c.sum_of.ensures c.greater_of-most.ensures.no_less.0
-    c.greater_of-most.ensures.no_less.1 c.greater_of-most.ensures.which
+    c.max_of-most.result c.sum_of.result c.sum_of.ensures c.max_of-most.ensures.no_less.0
+    c.max_of-most.ensures.no_less.1 c.max_of-most.ensures.which
 
 pub returns : goal.returns
 returns c = ends (count_of c.args.counted) c.args.plans.now c.loop-first.left.now c.loop-first.most c.loop-first.invariant

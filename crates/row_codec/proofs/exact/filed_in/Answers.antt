@@ -10,9 +10,9 @@ returns-in_err-area-clause-none c =
     (λ e. no_area c.args.head.now c.args.volumes.now
     (c.in_err-area.ensures.none (store_of c.in_err-area.field-0.0 e)))
 
-pub returns-then-not-has_rows-clause-none : goal.returns-then-not-has_rows-clause-none
-returns-then-not-has_rows-clause-none c =
+pub returns-then-not-are_rows_of-clause-none : goal.returns-then-not-are_rows_of-clause-none
+returns-then-not-are_rows_of-clause-none c =
     λ _. no_other c.args.head.now c.args.volumes.now c.in-Some.operator c.in_ok-row.row c.in_ok-area.area
     c.in-Some.ensures.1
     c.in_ok-area.ensures.value c.in_ok-row.ensures.value
-    (λ rows. true≢false (sym (c.if-not-has_rows.ensures.1 rows)))
+    (λ rows. true≢false (sym (c.if-not-are_rows_of.ensures.1 rows)))

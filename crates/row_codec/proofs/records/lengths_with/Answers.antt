@@ -11,8 +11,8 @@ loop-span-preserved c =
     let place = c.loop-span.span-index in (
       records_on span_row_in spans (drop place spans) c.loop-span.after c.loop-span.invariant.0
           _ (drop (place + 1) spans) (drop_more spans place _ c.loop-span-test.true)
-          c.length_with-after.result c.length_with-after.ensures.kept c.length_with-after.ensures.known,
-      λ span was. c.length_with-after.ensures.kept span (c.loop-span.invariant.1 span was),
+          c.with_span_row-after.result c.with_span_row-after.ensures.kept c.with_span_row-after.ensures.known,
+      λ span was. c.with_span_row-after.ensures.kept span (c.loop-span.invariant.1 span was),
     )
 
 pub returns-clause-known : goal.returns-clause-known

@@ -84,4 +84,4 @@ returns-clause-none c =
     λ e. no_cover c.args.row.now c.args.at c.one_shape.ensures c.in_ok-asked.asked.items shape
     c.in_ok-asked.ensures.value bytes
     (past_limit c.args.row.now c.args.at shape c.in-Err.e c.in-Err.ensures.fault
-    (c.fault_from.ensures e))
+    (c.fault_of_volume.ensures e))

@@ -18,7 +18,7 @@ returns-clause-found g c =
     let (log, db) = c.in_ok-files.ensures.fresh in
     let same = ap₂ image (ap₂ (seen g.S.Start.log g.S.Start.db) log.0 log.1)
     (ap₂ (seen g.S.Start.log g.S.Start.db) db.0 db.1) in
-    subst (λ i. IfOk c.over_pair.result (Finds i)) same c.over_pair.ensures.found
+    subst (λ i. IfOk c.connect_over.result (Finds i)) same c.connect_over.ensures.found
 
 pub returns-clause-unread : goal.returns-clause-unread
 returns-clause-unread g c =
@@ -29,4 +29,4 @@ returns-clause-unread g c =
     let stays = stays_as_is start.is_mixing start.log start.db in
     unread_if (image_at start) c.in_ok-files.files same
     (λ next may. ap₂ image (stays _ _ _ _ log.0 log.1 next.log may.0) (stays _ _ _ _ db.0 db.1 next.db may.1))
-    c.over_pair.result c.over_pair.ensures.unread c.over_pair.ensures.left
+    c.connect_over.result c.connect_over.ensures.unread c.connect_over.ensures.left

@@ -8,7 +8,7 @@ use Rattle.table_load.proofs.looking.read_content.Goals as goal
 pub returns-in_err-made-clause-none : goal.returns-in_err-made-clause-none
 returns-in_err-made-clause-none g c =
     let old = c.args.connection.now in
-    let new = c.tables_found.new.connection in
+    let new = c.find_desk_tables.new.connection in
     reported_as (λ e. e ≡ NotADesk → ShowsNone g.S.Store old new) c.from_residual.result _
     c.from_residual.ensures.1
     (λ n. none_shown g.S.Store old new (c.in_err-made.ensures.none n))
@@ -16,8 +16,8 @@ returns-in_err-made-clause-none g c =
 pub returns-in_err-content-clause-none : goal.returns-in_err-content-clause-none
 returns-in_err-content-clause-none g c =
     let a = c.args.connection.now in
-    let b = c.tables_found.new.connection in
-    let d = c.content_at.new.connection in
+    let b = c.find_desk_tables.new.connection in
+    let d = c.load_content_in_schema.new.connection in
     reported_as (λ e. e ≡ NotADesk → ShowsNone g.S.Store a d) c.from_residual-in_err-content.result _
     c.from_residual-in_err-content.ensures.1
     (none_later_shown g.S.Store a b d c.in_ok-made.made c.in_ok-made.old c.in_ok-made.ensures.reads

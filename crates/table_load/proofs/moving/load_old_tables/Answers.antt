@@ -11,14 +11,14 @@ use Rattle.table_load.proofs.moving.load_old_tables.Goals as goal
 pub returns-in_err-heads-clause-read : goal.returns-in_err-heads-clause-read
 returns-in_err-heads-clause-read g c =
     let heads = c.in_err-heads.ensures in
-    refused_on g.S.Store c.args.made c.args.connection.now c.old_heads_alone.new.connection
+    refused_on g.S.Store c.args.made c.args.connection.now c.read_old_heads_alone.new.connection
     c.from_residual.result _ c.from_residual.ensures.1 heads.reads
     (λ reported clean w old are. heads.none reported clean are.new) heads.newer heads.cause
 
 pub returns-in_err-operators-clause-read : goal.returns-in_err-operators-clause-read
 returns-in_err-operators-clause-read g c =
     let heads = c.in_ok-heads.ensures in
-    refused_in_hand g.S.Store c.args.made c.args.connection.now c.old_heads_alone.new.connection
+    refused_in_hand g.S.Store c.args.made c.args.connection.now c.read_old_heads_alone.new.connection
     c.from_residual-in_err-operators.result _ c.from_residual-in_err-operators.ensures.1 heads.reads
     (λ reported clean. none_of_old_heads (tables_at c.args.made (state g.S.Store c.args.connection.now).now.trees)
     c.in_ok-heads.heads (heads.value clean).1 (c.in_err-operators.ensures.none reported))
@@ -27,7 +27,7 @@ returns-in_err-operators-clause-read g c =
 pub returns-clause-read : goal.returns-clause-read
 returns-clause-read g c =
     let a = c.args.connection.now in
-    let m = c.old_heads_alone.new.connection in
+    let m = c.read_old_heads_alone.new.connection in
     let b = c.take_spans.new.connection in
     let heads = c.in_ok-heads.ensures in
     let taken = c.in_ok-take_spans.ensures in
@@ -39,14 +39,14 @@ returns-clause-read g c =
     c.new-check.result.plans.items check.plans.items c.in_ok-operators.ensures.value c.new-check.ensures.plans
     taken.plans in
     old_content_held c.one_shape.ensures c.in_ok-heads.heads ls check.plans.items are g.S.Store c.args.made
-    a b (λ found. found.0) Checked c.content_with.result
+    a b (λ found. found.0) Checked c.finish_content.result
     (λ clean. heads.value (omega (arith, taken.reads.doubt, clean)))
     (λ clean. heads.open (omega (arith, taken.reads.doubt, clean)))
     (reads_then g.S.Store a m b heads.reads taken.reads)
     (listed_since g.S.Store c.args.made (λ t. t.old_spans) a m b Checked heads.reads taken.reads heads.live
     taken.value)
-    c.content_with.ensures.value c.content_with.ensures.agree c.content_with.ensures.none
-    c.content_with.ensures.fault
+    c.finish_content.ensures.value c.finish_content.ensures.agree c.finish_content.ensures.none
+    c.finish_content.ensures.fault
 
 pub returns-clause-content : goal.returns-clause-content
 returns-clause-content g c =
@@ -57,8 +57,8 @@ returns-clause-content g c =
     c.new-check.result.plans.items check.plans.items c.in_ok-operators.ensures.value c.new-check.ensures.plans
     taken.plans in
     content_if c.one_shape.ensures c.in_ok-heads.heads ls check.plans.items are.parts (λ found. found.0)
-    c.content_with.result taken.taken.0 c.content_with.ensures.value
-    (c.content_with.ensures.agree taken.taken.0 taken.taken.1)
+    c.finish_content.result taken.taken.0 c.finish_content.ensures.value
+    (c.finish_content.ensures.agree taken.taken.0 taken.taken.1)
 
 pub returns-clause-bounded : goal.returns-clause-bounded
 returns-clause-bounded g c =
@@ -66,4 +66,4 @@ returns-clause-bounded g c =
     let are = of_plans (AreOldParts c.in_ok-heads.heads ls) c.in_ok-operators.plans.items
     c.new-check.result.plans.items c.take_spans.new.check.plans.items c.in_ok-operators.ensures.value
     c.new-check.ensures.plans c.in_ok-take_spans.ensures.plans in
-    c.content_with.ensures.bounded are.parts.order
+    c.finish_content.ensures.bounded are.parts.order

@@ -16,6 +16,6 @@ returns-in-Ok-take_spans-clause-shows g c =
     let good = of_plans (AreGoodHeads c.in-Ok.heads) c.in-Ok-plans_of.plans.items
     c.new-check.result.plans.items check.plans.items c.in-Ok-plans_of.ensures.ok c.new-check.ensures.plans
     taken.plans in
-    spans_named g.S.Store c.args.connection.now c.heads_in.new.connection c.take_spans.new.connection c.fault_of_spans.result
+    spans_named g.S.Store c.args.connection.now c.read_heads.new.connection c.take_spans.new.connection c.fault_of_spans.result
     c.args.made heads.reads taken.reads c.in-Ok.heads c.in-Ok.covered check.plans.items Checked heads.value good
     taken.value c.fault_of_spans.ensures

@@ -5,8 +5,8 @@ use Rattle.desk_sql.proofs.old_tables.RowLemmas.{some_shown}
 use Rattle.desk_sql.proofs.lemmas.Read.{was_open}
 use Rattle.desk_sql.proofs.old.rows.has_row.Goals as goal
 
-pub hand_rows-requires-clause-ready : goal.hand_rows-requires-clause-ready
-hand_rows-requires-clause-ready g c = record {
+pub visit_rows-requires-clause-ready : goal.visit_rows-requires-clause-ready
+visit_rows-requires-clause-ready g c = record {
   settled = c.requires.ready.settled;
   shown = λ clean live.
       c.rowids_text.ensures.sure (state g.S.Store c.args.connection.now).now
@@ -16,7 +16,7 @@ hand_rows-requires-clause-ready g c = record {
 pub returns-in-Ok-clause-answers : goal.returns-in-Ok-clause-answers
 returns-in-Ok-clause-answers g c =
     let old = state g.S.Store c.args.connection.now in
-    let new = state g.S.Store c.hand_rows.new.connection in
+    let new = state g.S.Store c.visit_rows.new.connection in
     let a = c.in-Ok.ensures.answers in record {
       value = λ clean.
           let (rows, shown, is) = a.value clean in

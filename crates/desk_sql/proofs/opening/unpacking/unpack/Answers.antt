@@ -18,7 +18,7 @@ returns-in_err-run-clause-ran g c =
     → IsTrue (state g.S.Store h0).is_open → IsRefusal g.S.Store h0 h1 c.in_err-run.field-0.0 =
     λ fits clean live.
     let at0 : HasCleanDisk (state g.S.Store h0) = omega (arith, c.run.ensures.remembered.doubt, clean) in
-    drop_refused g.S.Store packed_schema loose_schema h0 h0 h1 _ c.drop_old_first_text.ensures (omega arith)
+    drop_refused g.S.Store packed_schema loose_schema h0 h0 h1 _ c.drop_old_leaf_index_text.ensures (omega arith)
     refl live (c.requires.at at0 live).schema (fits.0 at0 live) fits.1 _
     (c.in_err-run.ensures.stopped clean) in
     search (rules, refused)
@@ -34,7 +34,7 @@ returns-in_err-run-2-clause-ran g c =
     λ fits clean live.
     let at1 : HasCleanDisk (state g.S.Store h1) = omega (arith, c.run-2.ensures.remembered.doubt, clean) in
     let at0 : HasCleanDisk (state g.S.Store h0) = omega (arith, first.doubt, at1) in
-    let one = shrinks g.S.Store packed_schema loose_schema h0 h1 _ c.drop_old_first_text.ensures
+    let one = shrinks g.S.Store packed_schema loose_schema h0 h1 _ c.drop_old_leaf_index_text.ensures
     (λ clean live. (c.requires.at clean live).schema) at0 (c.in_ok-run.ensures.shown at1) _
     (c.in_ok-run.ensures.ran at1) in
     drop_refused g.S.Store loose_schema spanless_schema h0 h1 h2 _ c.drop_spans_text.ensures first.faults
@@ -55,7 +55,7 @@ returns-in_err-run-3-clause-ran g c =
     let at2 : HasCleanDisk (state g.S.Store h2) = omega (arith, c.run-3.ensures.remembered.doubt, clean) in
     let at1 : HasCleanDisk (state g.S.Store h1) = omega (arith, second.doubt, at2) in
     let at0 : HasCleanDisk (state g.S.Store h0) = omega (arith, first.doubt, at1) in
-    let one = shrinks g.S.Store packed_schema loose_schema h0 h1 _ c.drop_old_first_text.ensures
+    let one = shrinks g.S.Store packed_schema loose_schema h0 h1 _ c.drop_old_leaf_index_text.ensures
     (λ clean live. (c.requires.at clean live).schema) at0 (c.in_ok-run.ensures.shown at1) _
     (c.in_ok-run.ensures.ran at1) in
     let two = shrinks g.S.Store loose_schema spanless_schema h1 h2 _ c.drop_spans_text.ensures
@@ -75,7 +75,7 @@ returns-clause-ran g c =
     let at2 : HasCleanDisk (state g.S.Store h2) = omega (arith, c.run-3.ensures.remembered.doubt, clean) in
     let at1 : HasCleanDisk (state g.S.Store h1) = omega (arith, c.run-2.ensures.remembered.doubt, at2) in
     let at0 : HasCleanDisk (state g.S.Store h0) = omega (arith, c.run.ensures.remembered.doubt, at1) in
-    let one = shrinks g.S.Store packed_schema loose_schema h0 h1 _ c.drop_old_first_text.ensures
+    let one = shrinks g.S.Store packed_schema loose_schema h0 h1 _ c.drop_old_leaf_index_text.ensures
     (λ clean live. (c.requires.at clean live).schema) at0 (c.in_ok-run.ensures.shown at1) _
     (c.in_ok-run.ensures.ran at1) in
     let two = shrinks g.S.Store loose_schema spanless_schema h1 h2 _ c.drop_spans_text.ensures

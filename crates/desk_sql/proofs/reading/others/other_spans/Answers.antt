@@ -11,10 +11,10 @@ pub returns-clause-answers : goal.returns-clause-answers
 returns-clause-answers g c =
     let same = to_z-of_z w64 c.args.low c.ranges.low in
     let wanted = map held_columns
-    (filter (is_others_from c.args.operator.now c.args.reach c.args.low)
+    (filter (is_others_from c.args.operator.now c.args.span_filter c.args.low)
     (tables_of (state g.S.Store c.args.connection.now).now.trees).spans) in record {
       value = λ clean. handed_as (Lists (0 ∷ []) wanted) (IsPermutation wanted)
-          (g.T.RowVisitor.has_taken c.for_each_row.new.taker) (λ rows lists. lists.same) c.for_each_row.result
+          (g.T.RowVisitor.has_taken c.for_each_row.new.visitor) (λ rows lists. lists.same) c.for_each_row.result
           (rw same at (c.for_each_row.ensures.answers.value clean));
       cause = λ clean live. cut_short_of g.S.Store c.args.connection.now c.for_each_row.new.connection
           (Lists (0 ∷ []) wanted) (IsPermutation wanted) g.T.RowVisitor.refuses (λ rows lists. lists.same)

@@ -9,10 +9,10 @@ use Rattle.desk_sql.proofs.reading.plans.plan_spans.Goals as goal
 pub returns-clause-answers : goal.returns-clause-answers
 returns-clause-answers g c =
     let wanted = map held_columns
-    (filter (is_plans c.args.operator.now c.args.id.now c.args.reach)
+    (filter (is_plans c.args.operator.now c.args.id.now c.args.span_filter)
     (tables_of (state g.S.Store c.args.connection.now).now.trees).spans) in record {
       value = λ clean. handed_as (Lists [] wanted) (IsPermutation wanted)
-          (g.T.RowVisitor.has_taken c.for_each_row.new.taker) (λ rows lists. lists.same) c.for_each_row.result
+          (g.T.RowVisitor.has_taken c.for_each_row.new.visitor) (λ rows lists. lists.same) c.for_each_row.result
           (c.for_each_row.ensures.answers.value clean);
       cause = λ clean live. cut_short_of g.S.Store c.args.connection.now c.for_each_row.new.connection
           (Lists [] wanted) (IsPermutation wanted) g.T.RowVisitor.refuses (λ rows lists. lists.same)

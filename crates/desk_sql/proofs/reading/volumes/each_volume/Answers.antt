@@ -14,8 +14,8 @@ use Rattle.desk_sql.proofs.TakingLemmas.{if_handed}
 use Rattle.desk_sql.proofs.VolumeLemmas.{parts_listed}
 use Rattle.desk_sql.proofs.reading.volumes.each_volume.Goals as goal
 
-pub hand_rows-requires-clause-ready : goal.hand_rows-requires-clause-ready
-hand_rows-requires-clause-ready g c = record {
+pub visit_rows-requires-clause-ready : goal.visit_rows-requires-clause-ready
+visit_rows-requires-clause-ready g c = record {
   settled = c.requires.ready.settled;
   shown = λ clean live.
       let packed = is_packed c.args.made in
@@ -31,7 +31,7 @@ hand_rows-requires-clause-ready g c = record {
 pub returns-then-has-clause-answers : goal.returns-then-has-clause-answers
 returns-then-has-clause-answers g c =
     let old = c.args.connection.now in
-    let new = c.hand_rows.new.connection in
+    let new = c.visit_rows.new.connection in
     let packed = is_packed c.args.made in
     let table = volume_table_in packed in
     let trees = (state g.S.Store old).now.trees in
@@ -41,7 +41,7 @@ returns-then-has-clause-answers g c =
     ap (has_table c.args.made) (sym (c.volume_table.ensures ∙ ap volume_table_in c.is_packed.ensures))
     ∙ sym c.has.ensures ∙ c.if-has.true in
     let start : HasCleanDisk (state g.S.Store new) → HasCleanDisk (state g.S.Store old) = λ clean.
-    omega (arith, clean, c.hand_rows.ensures.answers.reads.doubt) in
+    omega (arith, clean, c.visit_rows.ensures.answers.reads.doubt) in
     let are : (rows : List Row) → HasTable table (state g.S.Store old).now
     → Shown sql [] (state g.S.Store old) (state g.S.Store new) rows → IsAnswer rows = λ rows has shown.
     parts_listed c.args.made trees there rows
@@ -51,12 +51,12 @@ returns-then-has-clause-answers g c =
     has_made c.args.made table (state g.S.Store old).now there (c.requires.ready.shown clean live).schema in
     record {
       value = λ clean. if_handed g.S.Store old new sql [] (HasTable table) IsAnswer
-          (g.T.RowVisitor.has_taken c.hand_rows.new.taker) holds (start clean) are c.hand_rows.result
-          (c.hand_rows.ensures.answers.value clean);
+          (g.T.RowVisitor.has_taken c.visit_rows.new.visitor) holds (start clean) are c.visit_rows.result
+          (c.visit_rows.ensures.answers.value clean);
       cause = λ clean live. cut_short_of g.S.Store old new
           (Shown sql [] (state g.S.Store old) (state g.S.Store new)) IsAnswer g.T.RowVisitor.refuses
           (λ rows shown. are rows
           (holds (start clean) (was_open _ _ (state g.S.Store old) (state g.S.Store new) rows shown)) shown)
-          c.hand_rows.result (c.hand_rows.ensures.answers.cause clean live);
-      reads = c.hand_rows.ensures.answers.reads;
+          c.visit_rows.result (c.visit_rows.ensures.answers.cause clean live);
+      reads = c.visit_rows.ensures.answers.reads;
     }

@@ -8,8 +8,8 @@ use Rattle.desk_sql.proofs.SchemaLemmas.{has_made}
 use Rattle.desk_sql.proofs.StatementLemmas.{if_read}
 use Rattle.desk_sql.proofs.reading.whole.all_rows.Goals as goal
 
-pub ask-requires : goal.ask-requires
-ask-requires g c = record {
+pub select_all-requires : goal.select_all-requires
+select_all-requires g c = record {
   ready = record {
     settled = c.requires.ready.settled;
     shown = λ clean live.
@@ -32,15 +32,15 @@ returns-then-has-clause-answers g c =
     ap (has_table c.args.made) (sym (c.table.ensures ∙ ap (table_in c.args.whole) c.is_packed.ensures))
     ∙ sym c.has.ensures ∙ c.if-has.true in
     let old = state g.S.Store c.args.connection.now in record {
-      value = λ clean. read_at c.args.whole c.args.made true there (λ v. v.items) old.now.trees c.ask.result
-          (if_read g.S.Store c.args.connection.now c.ask.new.connection (λ v. v.items) _ _
+      value = λ clean. read_at c.args.whole c.args.made true there (λ v. v.items) old.now.trees c.select_all.result
+          (if_read g.S.Store c.args.connection.now c.select_all.new.connection (λ v. v.items) _ _
           (Lists (key_cells (table_read c.args.whole))
           (rows_read c.args.whole (tables_in packed old.now.trees))) table
           (λ clean live. has_made c.args.made table old.now there (c.requires.ready.shown clean live).schema)
-          (omega (arith, c.ask.ensures.answers.reads.doubt, clean))
+          (omega (arith, c.select_all.ensures.answers.reads.doubt, clean))
           (λ rows has shown. all_selected _ _ _ _ (c.text.ensures packed)
-          old (state g.S.Store c.ask.new.connection) rows has shown) c.ask.result
-          (c.ask.ensures.answers.value clean));
-      cause = c.ask.ensures.answers.cause;
-      reads = c.ask.ensures.answers.reads;
+          old (state g.S.Store c.select_all.new.connection) rows has shown) c.select_all.result
+          (c.select_all.ensures.answers.value clean));
+      cause = c.select_all.ensures.answers.cause;
+      reads = c.select_all.ensures.answers.reads;
     }

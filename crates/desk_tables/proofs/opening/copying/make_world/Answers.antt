@@ -30,9 +30,9 @@ returns-clause-made g c =
 pub returns-in_err-create_tables-clause-cause : goal.returns-in_err-create_tables-clause-cause
 returns-in_err-create_tables-clause-cause g c =
     let old = c.args.connection.now in
-    let mid = c.find_blank.new.connection in
+    let mid = c.require_blank.new.connection in
     let new = c.create_tables.new.connection in
-    let reads = c.find_blank.ensures.reads in
+    let reads = c.require_blank.ensures.reads in
     reported_as (BlamesNew g.S.Store old new) c.from_residual-in_err-create_tables.result _
     c.from_residual-in_err-create_tables.ensures.1
     (blames_later g.S.Store old new mid reads.faults reads.limit _ c.requires.rest.unlimited
@@ -43,7 +43,7 @@ returns-in_err-fill-clause-cause g c =
     let old = c.args.connection.now in
     let mid = c.create_tables.new.connection in
     let new = c.fill.new.connection in
-    let reads = c.find_blank.ensures.reads in
+    let reads = c.require_blank.ensures.reads in
     let tables = c.in_ok-create_tables.ensures.set_up in
     let content = c.args.content.now in
     let one = c.deref.ensures.value ∙ ap (λ (w : World). w.operators) c.content.view_is in

@@ -9,4 +9,4 @@ pub returns-clause-content : goal.returns-clause-content
 returns-clause-content g c = λ honest.
     let clean : HasCleanDisk (state g.S.Store c.self.inside.tables.held) =
     omega (arith, c.own_plans-answer.ensures.reads.doubt, honest) in
-    on_any c.counted.result (subst (λ s. IsContent s.world) c.self.view_is (c.self.invariant.1 clean))
+    on_any c.count_fault.result (subst (λ s. IsContent s.world) c.self.view_is (c.self.invariant.1 clean))

@@ -35,8 +35,8 @@ invariant_of-self g c =
     let same : mid.world ≡ old.world = ap (λ t. t.world) c.self.view_is ∙ read.same in
     let next = next_after g.S.Store old mid mid same reads c.args.next.world change c.requires in
     let first = some_first c.deref.result.now c.in-Some.head.now c.in-Some.ensures.value in
-    (followed g.S.Store mid.held new mid.world c.follow.new.kept.world c.args.next.world tt change
-    c.close_plan-committed.result c.follow.result
+    (followed g.S.Store mid.held new mid.world c.advance_if_committed.new.kept.world c.args.next.world tt change
+    c.close_plan-committed.result c.advance_if_committed.result
     (made_closed g.S.Store mid.held new mid.world c.self.invariant _ operator id priority aircraft rows
     first.0 c.in-Some.head.now (parsed_id c.encode-text.result.now id c.encode-text.ensures.parsed)
     c.in_ok-priority.ensures.priority c.in_ok-priority.ensures.aircraft
@@ -47,7 +47,7 @@ invariant_of-self g c =
     (committed_as (λ text. ClosesPlan operator text priority aircraft) c.encode-text.ensures.text
     (committed_as (λ name. ClosesPlan name c.encode-text.result.now priority aircraft)
     c.as_str.ensures.value c.close_plan-committed.ensures.committed)) next.fits)
-    c.follow.ensures next.world).0
+    c.advance_if_committed.ensures next.world).0
 
 pub returns-clause-made : goal.returns-clause-made
 returns-clause-made g c =
@@ -66,10 +66,10 @@ returns-clause-made g c =
     let same : mid.world ≡ old.world = ap (λ t. t.world) c.self.view_is ∙ read.same in
     let next = next_after g.S.Store old mid mid same reads c.args.next.world change c.requires in
     let first = some_first c.deref.result.now c.in-Some.head.now c.in-Some.ensures.value in
-    made_after g.S.Store old mid (record { held = new; world = c.follow.new.kept.world }) same reads
-    c.follow.result change
-    (followed g.S.Store mid.held new mid.world c.follow.new.kept.world c.args.next.world tt change
-    c.close_plan-committed.result c.follow.result
+    made_after g.S.Store old mid (record { held = new; world = c.advance_if_committed.new.kept.world }) same reads
+    c.advance_if_committed.result change
+    (followed g.S.Store mid.held new mid.world c.advance_if_committed.new.kept.world c.args.next.world tt change
+    c.close_plan-committed.result c.advance_if_committed.result
     (made_closed g.S.Store mid.held new mid.world c.self.invariant _ operator id priority aircraft rows
     first.0 c.in-Some.head.now (parsed_id c.encode-text.result.now id c.encode-text.ensures.parsed)
     c.in_ok-priority.ensures.priority c.in_ok-priority.ensures.aircraft
@@ -80,7 +80,7 @@ returns-clause-made g c =
     (committed_as (λ text. ClosesPlan operator text priority aircraft) c.encode-text.ensures.text
     (committed_as (λ name. ClosesPlan name c.encode-text.result.now priority aircraft)
     c.as_str.ensures.value c.close_plan-committed.ensures.committed)) next.fits)
-    c.follow.ensures next.world).1
+    c.advance_if_committed.ensures next.world).1
 
 -- why it is refused
 pub returns-in_err-head_rows-clause-cause : goal.returns-in_err-head_rows-clause-cause
@@ -119,9 +119,9 @@ returns-clause-cause g c low =
     let committed = c.close_plan-committed.ensures.committed in
     let reads : OnlyReads g.S.Store old mid =
     subst (λ t. OnlyReads g.S.Store old t.held) (sym c.self.view_is) c.in_ok-head_rows.ensures.reads in
-    err_weaker c.follow.result (BlamesStore g.S.Store old new)
-    (followed_blamed g.S.Store mid new c.self.inside.kept.world c.follow.new.kept.world c.args.next.world tt
-    c.close_plan-committed.result c.follow.result c.self.invariant.unlimited c.follow.ensures
+    err_weaker c.advance_if_committed.result (BlamesStore g.S.Store old new)
+    (followed_blamed g.S.Store mid new c.self.inside.kept.world c.advance_if_committed.new.kept.world c.args.next.world tt
+    c.close_plan-committed.result c.advance_if_committed.result c.self.invariant.unlimited c.advance_if_committed.ensures
     (λ clean live. on_refused _ c.close_plan-committed.result committed.kept (λ kept.
     (let before = kept clean live in
     let here : AreLow ((state g.S.Store mid).now.trees 2) = subst (λ (db : _). AreLow (db.trees 2))

@@ -17,22 +17,22 @@ returns-clause-read g c =
     let answers = c.plan_spans-handed.ensures.answers in
     rw (← c.self.view_is) (record {
       value = λ clean.
-          on_whole _ c.plan_spans-handed.result c.held_by.result c.held_by.ensures.whole
+          on_whole _ c.plan_spans-handed.result c.slabs_if_read.result c.slabs_if_read.ensures.whole
           (answers.value clean) (λ handed.
           (let (rows, by_texts, taken) = handed in
           let spans = (tables_of (state g.S.Store old).now.trees).spans in
           let reach = reach_of c.args.extent.now c.args.least in
           let reached = subst (λ r. IsPermutation (map held_columns (filter (is_plans c.as_str.result.now
-          c.encode-id.result.now r) spans)) rows) c.reach_of-reach.ensures by_texts in
+          c.encode-id.result.now r) spans)) rows) c.reach_of-span_filter.ensures by_texts in
           let named = subst (λ name. IsPermutation (map held_columns
           (filter (is_plans name c.encode-id.result.now reach) spans)) rows) c.as_str.ensures.value reached in
           let mine = subst (λ id. IsPermutation (map held_columns
           (filter (is_plans c.args.key.now.operator id reach) spans)) rows) c.encode-id.ensures.text named in
-          weaker c.held_by.result
+          weaker c.slabs_if_read.result
           (λ helds are. (rows, mine, subst (λ hs. HasTakenHelds hs rows) (sym are) taken))
-          c.held_by.ensures.value));
+          c.slabs_if_read.ensures.value));
       -- the rows of spans are read
-      cause = err_weaker c.held_by.result (BlamesSpans g.S.Store old new) c.held_by.ensures.none
+      cause = err_weaker c.slabs_if_read.result (BlamesSpans g.S.Store old new) c.slabs_if_read.ensures.none
           (λ e why clean live is.
           (let standing = c.self.invariant.standing (omega (arith, answers.reads.doubt, clean))
           (answers.reads.kept clean live).was_open in

@@ -6,23 +6,23 @@ use Rattle.desk_tables.proofs.tables.DeskTables.make.Goals as goal
 
 pub enrol-requires : goal.enrol-requires
 enrol-requires g c =
-    subst (IsNext g.S.Store c.args.self.now c.next-next.result.world) c.in-Enrol.is
-    (record { world = c.next-next.ensures; fits = c.requires })
+    subst (IsNext g.S.Store c.args.self.now c.state_after-next.result.world) c.in-Enrol.is
+    (record { world = c.state_after-next.ensures; fits = c.requires })
 
 pub put-requires : goal.put-requires
 put-requires g c =
-    subst (IsNext g.S.Store c.args.self.now c.next-next.result.world) c.in-Put.is
-    (record { world = c.next-next.ensures; fits = c.requires })
+    subst (IsNext g.S.Store c.args.self.now c.state_after-next.result.world) c.in-Put.is
+    (record { world = c.state_after-next.ensures; fits = c.requires })
 
 pub close-requires : goal.close-requires
 close-requires g c =
-    subst (IsNext g.S.Store c.args.self.now c.next-next.result.world) c.in-Close.is
-    (record { world = c.next-next.ensures; fits = c.requires })
+    subst (IsNext g.S.Store c.args.self.now c.state_after-next.result.world) c.in-Close.is
+    (record { world = c.state_after-next.ensures; fits = c.requires })
 
 pub clear-requires : goal.clear-requires
 clear-requires g c =
-    subst (IsNext g.S.Store c.args.self.now c.next-next.result.world) c.in-Clear.is
-    (record { world = c.next-next.ensures; fits = c.requires })
+    subst (IsNext g.S.Store c.args.self.now c.state_after-next.result.world) c.in-Clear.is
+    (record { world = c.state_after-next.ensures; fits = c.requires })
 
 pub returns-in-Put-clause-known : goal.returns-in-Put-clause-known
 unfolding BringsKnown

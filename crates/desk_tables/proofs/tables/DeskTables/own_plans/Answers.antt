@@ -23,23 +23,23 @@ returns g c =
     let new = c.own_plans-taken.new.connection in
     let answers = c.own_plans-taken.ensures.answers in
     let tables = tables_of (state g.S.Store old).now.trees in
-    let collector = c.own_plans-taken.new.taker in
+    let collector = c.own_plans-taken.new.visitor in
     rw (← c.self.view_is) (record {
       value = λ clean.
-          on_whole _ c.own_plans-taken.result c.collected.result c.collected.ensures.whole
+          on_whole _ c.own_plans-taken.result c.plans_if_read.result c.plans_if_read.ensures.whole
           (c.own_plans-taken.ensures.open clean) (λ live. on_whole _ c.own_plans-taken.result
-          c.collected.result c.collected.ensures.whole (answers.value clean) (λ handed.
+          c.plans_if_read.result c.plans_if_read.ensures.whole (answers.value clean) (λ handed.
           (let standing = c.self.invariant.standing (omega (arith, answers.reads.doubt, clean)) live in
           let (rows, by_name, taken) = handed in
           let lists = subst (λ name. Lists (1 ∷ 5 ∷ []) (with_volumes (sql.is_row_by name) tables) rows)
           c.as_str.ensures.value by_name in
           let listing = own_listing tables w o rows standing.content standing.tables lists in
-          weaker c.collected.result
+          weaker c.plans_if_read.result
           (λ plans read. read (filter (is_by o) w.plans) (own_plans_are w o standing.content)
           (subst (HasCollected collector.plans.items collector.head collector.volumes.items) listing taken))
-          c.collected.ensures.value)));
+          c.plans_if_read.ensures.value)));
       -- the rows of an operator's plans are gathered
-      cause = err_weaker c.collected.result (BlamesStore g.S.Store old new) c.collected.ensures.none
+      cause = err_weaker c.plans_if_read.result (BlamesStore g.S.Store old new) c.plans_if_read.ensures.none
           (λ e why clean live is.
           (let before = answers.reads.kept clean live in
           let standing = c.self.invariant.standing (omega (arith, answers.reads.doubt, clean))

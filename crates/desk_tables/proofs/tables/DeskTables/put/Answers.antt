@@ -32,8 +32,8 @@ invariant_of-self g c =
     let volumes = map volume_row_in c.deref-3.result.now in
     let covers = map cover_of c.deref-3.result.now in
     let spans = map span_row_in c.deref-4.result.now in
-    (followed g.S.Store old new w c.follow.new.kept.world c.args.next.world c.lengths_with-after.result change
-    c.put_plan-committed.result c.follow.result
+    (followed g.S.Store old new w c.advance_if_committed.new.kept.world c.args.next.world c.lengths_with-after.result change
+    c.put_plan-committed.result c.advance_if_committed.result
     (made_put g.S.Store old new w c.self.invariant _ operator row text volumes covers spans
     c.encode-id.ensures.text
     (ap (map volume_row_in) c.deref-3.ensures.value ∙ c.in_ok-volumes.ensures.volumes
@@ -55,7 +55,7 @@ invariant_of-self g c =
     (committed_as (λ aircraft. PutsPlan (put_as c.as_str-3.result.now text row.priority c.usage_number.result
     aircraft volumes covers spans)) c.aircraft_number.ensures
     c.put_plan-committed.ensures.committed))) next.fits)
-    c.follow.ensures next.world).0
+    c.advance_if_committed.ensures next.world).0
 
 pub returns-clause-made : goal.returns-clause-made
 returns-clause-made g c =
@@ -70,8 +70,8 @@ returns-clause-made g c =
     let volumes = map volume_row_in c.deref-3.result.now in
     let covers = map cover_of c.deref-3.result.now in
     let spans = map span_row_in c.deref-4.result.now in
-    rw (← c.self.view_is) (followed g.S.Store old new w c.follow.new.kept.world c.args.next.world
-    c.lengths_with-after.result change c.put_plan-committed.result c.follow.result
+    rw (← c.self.view_is) (followed g.S.Store old new w c.advance_if_committed.new.kept.world c.args.next.world
+    c.lengths_with-after.result change c.put_plan-committed.result c.advance_if_committed.result
     (made_put g.S.Store old new w c.self.invariant _ operator row text volumes covers spans
     c.encode-id.ensures.text
     (ap (map volume_row_in) c.deref-3.ensures.value ∙ c.in_ok-volumes.ensures.volumes
@@ -93,7 +93,7 @@ returns-clause-made g c =
     (committed_as (λ aircraft. PutsPlan (put_as c.as_str-3.result.now text row.priority c.usage_number.result
     aircraft volumes covers spans)) c.aircraft_number.ensures
     c.put_plan-committed.ensures.committed))) next.fits)
-    c.follow.ensures next.world).1
+    c.advance_if_committed.ensures next.world).1
 
 pub returns-clause-known : goal.returns-clause-known
 returns-clause-known g c =
@@ -101,8 +101,8 @@ returns-clause-known g c =
     let row = c.args.row.now in
     let after = c.lengths_with-after.result in
     let spans = map span_row_in c.in_ok-spans.spans.items in
-    followed_value _ c.self.inside.kept.world c.follow.new.kept.world c.args.next.world after
-    c.put_plan-committed.result c.follow.result c.follow.ensures (
+    followed_value _ c.self.inside.kept.world c.advance_if_committed.new.kept.world c.args.next.world after
+    c.put_plan-committed.result c.advance_if_committed.result c.advance_if_committed.ensures (
       c.lengths_with-after.ensures.kept,
       plan_near c.one_list_of_ranges.ensures after (filed_by operator row) spans
           (subst (λ name. ArePlanSpanRows (filed_by name row) spans) c.as_str-2.ensures.value
@@ -126,8 +126,8 @@ returns-clause-cause g c =
     let covers = map cover_of c.deref-3.result.now in
     let spans = map span_row_in c.deref-4.result.now in
     let committed = c.put_plan-committed.ensures.committed in
-    followed_blamed g.S.Store old new w c.follow.new.kept.world c.args.next.world c.lengths_with-after.result
-    c.put_plan-committed.result c.follow.result c.self.invariant.unlimited c.follow.ensures
+    followed_blamed g.S.Store old new w c.advance_if_committed.new.kept.world c.args.next.world c.lengths_with-after.result
+    c.put_plan-committed.result c.advance_if_committed.result c.self.invariant.unlimited c.advance_if_committed.ensures
     (λ clean live. on_refused _ c.put_plan-committed.result committed.kept (λ kept.
     (let early : HasCleanDisk (state g.S.Store old) = omega (arith, committed.over.doubt, clean) in
     let stood = c.self.invariant.standing early (kept clean live).was_open in

@@ -9,10 +9,10 @@ use Rattle.desk_tables.proofs.tables.DeskTables.wanted_in_tables.Goals as goal
 
 pub returns : goal.returns
 returns g c =
-    let read = c.asked_all.ensures.read in
+    let read = c.query_all.ensures.read in
     record {
       value = λ clean.
-          both_ok c.asked_all.result (c.asked_all.ensures.open clean) (read.value clean)
+          both_ok c.query_all.result (c.query_all.ensures.open clean) (read.value clean)
           (λ helds opened taken.
           (let wanted = c.args.wanted.now in
           let extent = c.args.extent.now in
@@ -24,7 +24,7 @@ returns g c =
           let mine = subst (λ qs. HaveTakenAll (is_asked wanted extent) qs tables.spans helds.items)
           c.deref.ensures.value taken in
           are_wanted tables c.args.self.now.world wanted.operator wanted.id wanted.least extent
-          c.args.span_bounds.now questions helds.items c.named_by_an_id.ensures
+          c.args.span_bounds.now questions helds.items c.id_is_valid.ensures
           standing.content standing.tables c.requires
           c.in_ok-questions.ensures.whole c.in_ok-questions.ensures.within mine));
       cause = read.cause;

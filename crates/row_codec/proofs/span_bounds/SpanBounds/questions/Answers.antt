@@ -6,5 +6,5 @@ pub loop-long_span-preserved : goal.loop-long_span-preserved
 loop-long_span-preserved c =
     asked_on c.args.extent.now c.low-low.result c.args.self.now.long_spans c.loop-long_span.long_span-index
     None
-    c.loop-long_span.questions.items c.ask_for.new.questions.items (search rules) c.loop-long_span.invariant
-    c.in_ok-ask_for.ensures.asked c.in_ok-ask_for.ensures.kept c.in_ok-ask_for.ensures.within
+    c.loop-long_span.questions.items c.push_query.new.questions.items (search rules) c.loop-long_span.invariant
+    c.in_ok-push_query.ensures.asked c.in_ok-push_query.ensures.kept c.in_ok-push_query.ensures.within

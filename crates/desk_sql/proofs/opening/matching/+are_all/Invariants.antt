@@ -1,5 +1,0 @@
-use Rattle.std.proofs.Common.{length}
-use Rattle.desk_sql.proofs.opening.matching.+are_all.Given as goal
-
-abbrev pub decreases-are_all : goal.decreases-are_all
-decreases-are_all g l = length l.found.now
