@@ -13,7 +13,7 @@ pub fn empty_is_sound()
 {}
 
 /// A WAL is not damaged if recovery accepts each whole frame of it.
-pub fn good_is_sound()
+pub fn accepted_is_sound()
     ensures { (log : List ℕ) → let page = be32 (header log) 8 in
         ((i : ℕ) → is_frame_whole page log i ≡ true → Passes page log i)
         → (stop commits : ℕ) → ¬ IsDamaged log stop commits }
@@ -31,7 +31,7 @@ pub fn torn_is_sound()
 
 /// A WAL is not damaged if the frame `first`, at which recovery stops, lacks the WAL's salts: it is left from
 /// before the WAL was last reset.
-pub fn shut_is_sound()
+pub fn stop_without_salts_is_sound()
     ensures { (log : List ℕ) (first : ℕ) → let page = be32 (header log) 8 in
         ((i : ℕ) → i < first → Passes page log i) → is_salted page log first ≡ false
         → (stop commits : ℕ) → ¬ IsDamaged log stop commits }

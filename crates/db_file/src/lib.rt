@@ -20,8 +20,8 @@ pub use commits::takes_commit;
 pub use committing::{Ordered, Unordered, is_in_order, put_in_order, reorder_first_page};
 pub use judging::{WalError, WalState, check_wal};
 pub use laws::{
-    commits_are_long, damaged_is_long, damaged_once, empty_is_sound, good_is_sound, shut_is_sound,
-    torn_is_sound,
+    accepted_is_sound, commits_are_long, damaged_is_long, damaged_once, empty_is_sound,
+    stop_without_salts_is_sound, torn_is_sound,
 };
 pub use orders::{copy_in_order, copy_mended, has_other_order, order_page, order_text};
 pub use ram::Ram;

@@ -323,7 +323,7 @@ fn try_reorder(old: &[u8], page: &mut [u8]) -> bool
 
 // Whether a first page lists the schema's tables and indexes, or the first few of them, in an order that is
 // neither canonical nor packed.
-fn is_disordered(page: &[u8]) -> bool
+fn is_out_of_order(page: &[u8]) -> bool
     requires { IsFirstPage page.now }
     ensures { result ≡ is_some (spec.ordered page.now) }
 {
@@ -409,7 +409,7 @@ fn is_first_page_disordered<R: Read>(
     let mut room = [0u8; MAX_PAGE];
     let page = &mut room[..size.bytes()];
     read_page(file, header, size, page)?;
-    Ok(is_disordered(page))
+    Ok(is_out_of_order(page))
 }
 
 // Reads the first page, of `size` bytes, into `page`; `header` was read from `file` before.

@@ -65,7 +65,7 @@ pub fn reorder_for(
     let Some(path) = database.path() else {
         return Ok(());
     };
-    if !host.is_disordered(path) {
+    if !host.is_out_of_order(path) {
         return Ok(());
     }
     let file = ReorderTarget {

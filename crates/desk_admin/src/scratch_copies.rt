@@ -99,7 +99,9 @@ pub fn check_by_scratch<F: Start, P: Folder, W: Write + Drop, E: Write + Drop>(
 }
 
 /// The exit status of `check_by_scratch`. The scratch copy is closed.
-pub fn status_judged<D: Disk + Drop, E>(judged: (ExitReport<E>, Option<ReadResult<D>>)) -> u8
+pub fn status_checked_by_scratch<D: Disk + Drop, E>(
+    judged: (ExitReport<E>, Option<ReadResult<D>>),
+) -> u8
     ensures { result ≡ judged.0.status }
 {
     let (exit, _) = judged;
@@ -257,7 +259,7 @@ pub fn copy_by_scratch<F: Start, N: Start, P: Folder, W: Write + Drop, E: Write 
 }
 
 /// The exit status of `copy_by_scratch`. All files are closed.
-pub fn status_twinned<D: Disk + Drop, N: Disk + Drop, E>(
+pub fn status_copied_by_scratch<D: Disk + Drop, N: Disk + Drop, E>(
     copied: (ExitReport<E>, Option<Result<Copies<D, N>, CopyEnd<D, N>>>),
 ) -> u8
     ensures { result ≡ copied.0.status }

@@ -13,13 +13,13 @@ abbrev pub is_blank : ℕ → Bool
 is_blank byte = byte == 32
 
 -- `NAME CEILING`, parted at the first blank
-unfoldable pub enrolment_on : Text → Option Enrolment
-enrolment_on line =
+unfoldable pub parse_enrolment_line : Text → Option Enrolment
+parse_enrolment_line line =
     option_and_then (λ place. enrolment_by (take place line) (drop (place + 1) line)) (position is_blank line)
 
 -- the enrolments of those lines that are `NAME CEILING`, in their order
-abbrev pub enrolments_on : List Text → List Enrolment
-enrolments_on lines = filter_map enrolment_on lines
+abbrev pub parse_enrolment_lines : List Text → List Enrolment
+parse_enrolment_lines lines = filter_map parse_enrolment_line lines
 
 abbrev pub lines_of : Text → List Text
 lines_of text = slice_split is_newline text

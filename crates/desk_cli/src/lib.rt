@@ -16,7 +16,7 @@ pub use line::{
     CopyArgs, CoverArgs, Database, DeskArgs, DeskCommand, EnrolArgs, Enrolment, Line, PlayArgs,
     ReplayArgs, ServeArgs, WordsFault, read_words,
 };
-pub use malformed::bad_argument;
+pub use malformed::find_malformed_argument;
 pub use printed::print_line;
-pub use register::{enrolment_on, enrolments_on, lines_of};
-pub use reporting::{report, report_malformed};
+pub use register::{lines_of, parse_enrolment_line, parse_enrolment_lines};
+pub use reporting::{report, report_malformed_argument};

@@ -26,7 +26,10 @@ const NO_LIST: &str =
 
 /// The first malformed argument, and what it should have been. None if no argument is malformed, or if memory runs
 /// out.
-pub fn bad_argument<'w>(alloc: Global, words: &'w [String]) -> Option<(&'w str, &'static str)>
+pub fn find_malformed_argument<'w>(
+    alloc: Global,
+    words: &'w [String],
+) -> Option<(&'w str, &'static str)>
     ensures { IfSome result (λ found. IsMalformed (map string_bytes words.now) found.0.now) }
 {
     let matches = match_words(alloc, words).ok()?;

@@ -16,10 +16,10 @@ pub fn lines_of<'t>(alloc: Global, text: &'t str) -> Result<Vec<&'t str>, AllocE
 }
 
 /// Parses the lines that are `NAME CEILING`, in their order; other lines are skipped.
-pub fn enrolments_on(alloc: Global, lines: &[&str]) -> Result<Vec<Enrolment>, AllocError>
+pub fn parse_enrolment_lines(alloc: Global, lines: &[&str]) -> Result<Vec<Enrolment>, AllocError>
     ensures small { IfOk result (λ enrolments. AreEnrolments enrolments.items) }
     ensures value { IfOk result (λ enrolments.
-        enrolments.items ≡ spec.enrolments_on (map (λ line. line.now) lines.now)) }
+        enrolments.items ≡ spec.parse_enrolment_lines (map (λ line. line.now) lines.now)) }
 {
     let mut enrolments = Vec::new(alloc);
     for line in lines {
@@ -33,18 +33,18 @@ fn add_enrolment(enrolments: &mut Vec<Enrolment>, line: &str) -> Result<(), Allo
     ensures small { IfOk result (λ _. AreEnrolments enrolments.old.items →
         AreEnrolments enrolments.new.items) }
     ensures value { IfOk result (λ _. enrolments.new.items
-        ≡ enrolments.old.items ++ spec.enrolments_on (line.now ∷ [])) }
+        ≡ enrolments.old.items ++ spec.parse_enrolment_lines (line.now ∷ [])) }
 {
-    if let Some(enrolment) = enrolment_on(line) {
+    if let Some(enrolment) = parse_enrolment_line(line) {
         enrolments.push(enrolment)?;
     }
     Ok(())
 }
 
 /// Parses a line `NAME CEILING`, split at its first blank. None if it is malformed.
-#[tactic(auto, unfolding(crate::specs::Register::enrolment_on))]
-pub fn enrolment_on(line: &str) -> Option<Enrolment>
-    ensures value { result ≡ spec.enrolment_on line.now }
+#[tactic(auto, unfolding(crate::specs::Register::parse_enrolment_line))]
+pub fn parse_enrolment_line(line: &str) -> Option<Enrolment>
+    ensures value { result ≡ spec.parse_enrolment_line line.now }
     ensures small { IfSome result (λ e. e.ceiling ≤ max_priority) }
 {
     let (name, ceiling) = line.split_once(' ')?;

@@ -4,7 +4,7 @@ ghost use Rattle.std.specs.Prelude.{◌≡◌, IfOk, map, string_bytes};
 ghost use Rattle.desk_cli.specs.Reporting as spec;
 ghost use Rattle.desk_cli.specs.Reporting.{IsMalformedReported, IsPrintedPart, IsReported};
 
-use crate::malformed::bad_argument;
+use crate::malformed::find_malformed_argument;
 use io_ends::write_whole;
 use std::alloc::{AllocError, Global};
 use std::io::Write;
@@ -38,11 +38,11 @@ fn report_line(alloc: Global, place: &str, text: &str) -> Result<String, AllocEr
 /// Prints the first malformed argument and why it is so: `uss_desk: WORD: CAUSE`. Write errors are ignored; if no
 /// argument is malformed, or memory runs out, nothing is printed.
 #[tactic(auto, using(crate::proofs::ReportLemmas::nothing_malformed))]
-pub fn report_malformed<E: Write>(alloc: Global, words: &[String], errors: &mut E)
+pub fn report_malformed_argument<E: Write>(alloc: Global, words: &[String], errors: &mut E)
     ensures { IsMalformedReported (map string_bytes words.now) (E.contents errors.old)
         (E.contents errors.new) }
 {
-    if let Some((word, cause)) = bad_argument(alloc, words) {
+    if let Some((word, cause)) = find_malformed_argument(alloc, words) {
         report(alloc, word, cause, errors);
     }
 }

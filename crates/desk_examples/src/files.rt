@@ -8,7 +8,7 @@ ghost use Rattle.table_load.specs.HeldContent.{ShowsContent};
 ghost use Rattle.table_load.specs.Files.{OpensIn, no_files};
 
 use desk_run::Desk;
-use desk_tables::{OpenFault, SqliteStore, look_into};
+use desk_tables::{OpenFault, SqliteStore, read_stats};
 use sqlite::{Connection, FileFrom, FileStore, Files, Unknown};
 use sqlite_disk::Disk;
 use sqlite_trees::store::Alter;
@@ -56,5 +56,5 @@ pub fn plan_count<S: Alter>(
     ensures { IfOk result (λ count. (is_old : Bool) × (w : World) × (count ≡ length w.plans)
         × ShowsContent S.Store connection.old connection.new is_old w) }
 {
-    Ok(look_into(alloc, connection)?.plans)
+    Ok(read_stats(alloc, connection)?.plans)
 }

@@ -8,7 +8,7 @@ ghost use Rattle.desk_cli.specs.Lines.{IsPlay, file_of};
 
 use desk_cli::{
     ErrorCode, Line, PlayArgs, WordsFault, print_line, read_words, report, report_exit,
-    report_malformed,
+    report_malformed_argument,
 };
 use desk_program::play;
 use desk_run::Desk;
@@ -89,7 +89,7 @@ fn keeps(line: &PlayArgs) -> bool
 // Reports which of the words is malformed, prints the error code, and answers its exit status.
 fn fail_for_a_word(rt: &HostRuntime) -> u8 {
     if let Some(words) = given_words(rt) {
-        report_malformed(rt.alloc(), &words, &mut rt.stderr());
+        report_malformed_argument(rt.alloc(), &words, &mut rt.stderr());
     }
     fail(rt, ErrorCode::Value)
 }

@@ -8,10 +8,10 @@ use Rattle.desk_host.specs.declared.operators.Stamp.{Stamp}
 
 -- of a file that can't be read there are no news
 pub no_news : (path : List ℕ) (seen after stamp : Option Stamp) (old between new now : Option (List Asking))
-    (news : List Enrolment) → Grows old between (Stamped path stamp ∷ [])
-    → IsFileUnread path (course between new) → now ≡ new → after ≡ None → news ≡ []
-    → AreNewsAt path (course seen after) (course old now) news
-no_news path seen after stamp old between new now news stamped unread same unseen empty =
+    (newly_enrolled : List Enrolment) → Grows old between (Stamped path stamp ∷ [])
+    → IsFileUnread path (course between new) → now ≡ new → after ≡ None → newly_enrolled ≡ []
+    → AreNewsAt path (course seen after) (course old now) newly_enrolled
+no_news path seen after stamp old between new now newly_enrolled stamped unread same unseen empty =
     record {
       stamp = stamp;
       between = between;

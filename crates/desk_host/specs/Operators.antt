@@ -9,7 +9,7 @@ use Rattle.std.specs.Result.{IsErrAnd}
 use Rattle.std.specs.Str.Lossy.{utf8_lossy}
 use Rattle.std.specs.declared.io.ErrorKind.{ErrorKind}
 use Rattle.desk_host.specs.Causes.{unread_by, unread_text}
-use Rattle.desk_cli.specs.Register.{enrolment_on, enrolments_on, lines_of}
+use Rattle.desk_cli.specs.Register.{parse_enrolment_line, parse_enrolment_lines, lines_of}
 use Rattle.desk_cli.specs.declared.line.Enrolment.{Enrolment}
 use Rattle.desk_wire.specs.Passage.{Course, course}
 use Rattle.desk_program.specs.Serving.{Grows}
@@ -67,7 +67,7 @@ IsUnreadIf None result = ⊤
 
 -- a line is neither empty nor an enrolment
 abbrev pub is_malformed : List ℕ → Bool
-is_malformed line = if length line == 0 then false else is_none (enrolment_on line)
+is_malformed line = if length line == 0 then false else is_none (parse_enrolment_line line)
 
 -- what is reported of a line that can't be read, and of those past the first ones
 unfoldable pub malformed_line : ℕ → List ℕ
@@ -83,7 +83,7 @@ pub record AreEnrolmentsRead (path : List ℕ) (files : Course (Option (List Ask
     pub stamp : Stamp
     pub text : List ℕ
     pub asked : Grows files.before files.after (Stamped path (Some stamp) ∷ Read path (Some text) ∷ [])
-    pub are : enrolments ≡ enrolments_on (lines_of text)
+    pub are : enrolments ≡ parse_enrolment_lines (lines_of text)
 
 -- the file can't be read
 abbrev pub IsFileUnread : List ℕ → Course (Option (List Asking)) → Type 0
@@ -98,18 +98,18 @@ HasUnreadCause path files (Cause text) = IsFileUnread path files
 -- the new enrolments of a file: none if its stamp is the one that was seen; else those of its text, and its
 -- stamp is seen then; or it can't be read, and none is
 pub record AreNewsAt (path : List ℕ) (seen : Course (Option Stamp)) (files : Course (Option (List Asking)))
-    (news : List Enrolment) : Type 0
+    (newly_enrolled : List Enrolment) : Type 0
   where
     pub stamp : Option Stamp
     pub between : Option (List Asking)
     pub stamped : Grows files.before between (Stamped path stamp ∷ [])
     pub reported : (IsSome stamp × (stamp ≡ seen.before) × (seen.after ≡ seen.before)
-        × (files.after ≡ between) × (news ≡ []))
-        ⊎ ((AreEnrolmentsRead path (course between files.after) news × (seen.after ≡ stamp))
-        ⊎ (IsFileUnread path (course between files.after) × (seen.after ≡ None) × (news ≡ [])))
+        × (files.after ≡ between) × (newly_enrolled ≡ []))
+        ⊎ ((AreEnrolmentsRead path (course between files.after) newly_enrolled × (seen.after ≡ stamp))
+        ⊎ (IsFileUnread path (course between files.after) × (seen.after ≡ None) × (newly_enrolled ≡ [])))
 
 -- of no file there are none
 abbrev pub AreNews :
     Option (List ℕ) → Course (Option Stamp) → Course (Option (List Asking)) → List Enrolment → Type 0
-AreNews None seen files news = (news ≡ []) × (files.after ≡ files.before)
-AreNews (Some path) seen files news = AreNewsAt path seen files news
+AreNews None seen files newly_enrolled = (newly_enrolled ≡ []) × (files.after ≡ files.before)
+AreNews (Some path) seen files newly_enrolled = AreNewsAt path seen files newly_enrolled

@@ -18,7 +18,7 @@ ghost use Rattle.desk_host.specs.ReportedLines as reported;
 ghost use Rattle.desk_host.specs.ReportedLines.{AreReported};
 ghost use Rattle.host_files.specs.Reporting.{IsWrittenIfRoom, Reports, line_of};
 
-use desk_cli::{Enrolment, ErrorCode, enrolment_on, enrolments_on, lines_of};
+use desk_cli::{Enrolment, ErrorCode, lines_of, parse_enrolment_line, parse_enrolment_lines};
 use desk_program::EnrolmentSource;
 use host_files::files::{HostFiles, LocalHost};
 use host_files::reporting::report_of;
@@ -188,7 +188,7 @@ impl<F: TextFiles + Drop> EnrolmentFile<'_, F> {
             self.checked = Some(stamp);
             report_lines(alloc, path, &lines, &mut self.rt.stderr())?;
         }
-        Ok(enrolments_on(alloc, &lines)?)
+        Ok(parse_enrolment_lines(alloc, &lines)?)
     }
 
     // Reports why the file can't be read, unless that cause was the last one reported.
@@ -206,11 +206,11 @@ impl<F: TextFiles + Drop> EnrolmentFile<'_, F> {
 impl<F: TextFiles + Drop> EnrolmentSource for EnrolmentFile<'_, F> {
     #[tactic(auto, using(crate::proofs::OperatorLemmas::no_news))]
     fn look(&mut self, alloc: Global) -> Result<Vec<Enrolment>, ErrorCode>
-        ensures small { IfOk result (λ news. AreEnrolments news.items) }
+        ensures small { IfOk result (λ newly_enrolled. AreEnrolments newly_enrolled.items) }
         ensures fault { IfErr result (λ f. f ≡ ErrorCode.Memory) }
-        ensures news { IfOk result (λ news. AreNews (option_map (λ path. path.now) self.old.path)
+        ensures newly_enrolled { IfOk result (λ newly_enrolled. AreNews (option_map (λ path. path.now) self.old.path)
             (course self.old.seen self.new.seen) (course (F.asked self.old.files) (F.asked self.new.files))
-            news.items) }
+            newly_enrolled.items) }
     {
         let Some(path) = self.path else {
             return Ok(Vec::new(alloc));
@@ -384,7 +384,7 @@ fn is_malformed(line: &str) -> bool
     if line.is_empty() {
         return false;
     }
-    enrolment_on(line).is_none()
+    parse_enrolment_line(line).is_none()
 }
 
 // Reports that the line with this number is malformed.

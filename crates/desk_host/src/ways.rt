@@ -69,13 +69,13 @@ fn mode_at<F: HostFiles>(alloc: Global, files: &F, path: &str, is_damaged: bool)
     if has_changes(alloc, files, path) {
         return ReadMode::Itself;
     }
-    way_for(false, files.unsummed(path), files.is_disordered(path))
+    way_for(false, files.unsummed(path), files.is_out_of_order(path))
 }
 
 // How a file is read, by whether its WAL is damaged, how many pages have wrong checksums (if known), and
 // whether its tables are in a non-canonical order.
-fn way_for(is_damaged: bool, unsummed: Option<u64>, is_disordered: bool) -> ReadMode
-    ensures way { result ≡ spec.way_for is_damaged unsummed is_disordered }
+fn way_for(is_damaged: bool, unsummed: Option<u64>, is_out_of_order: bool) -> ReadMode
+    ensures way { result ≡ spec.way_for is_damaged unsummed is_out_of_order }
     ensures may { MayBeRead is_damaged false result }
 {
     if is_damaged {
@@ -83,7 +83,7 @@ fn way_for(is_damaged: bool, unsummed: Option<u64>, is_disordered: bool) -> Read
     }
     match unsummed {
         Some(count) if count != 0 => ReadMode::BadChecksums(count),
-        _ if is_disordered => ReadMode::OtherOrder,
+        _ if is_out_of_order => ReadMode::OtherOrder,
         _ => ReadMode::Itself,
     }
 }

@@ -129,7 +129,7 @@ both_found : (xs ys : List Exchange) (last : Option (List Enrolment)) (u v w : D
 both_found xs ys last u v w before mid found first (inl (inl is)) = inl (inl is)
 both_found xs ys last u v w before mid found first (inl (inr (inl some))) =
     inl (inr (inl (some_right xs ys w found some)))
-both_found xs ys last u v w before mid found first (inl (inr (inr news))) = inl (inr (inr news))
+both_found xs ys last u v w before mid found first (inl (inr (inr newly_enrolled))) = inl (inr (inr newly_enrolled))
 both_found xs ys last u v w before mid found first (inr p) = by (first p.1)
   where
     by : IsFoundServed xs None v found ⊎ ((v ≡ u) × before)
@@ -178,9 +178,9 @@ module _ {A B C : Type 0} where
           fresh = All-append (λ x. IsUnsent a x.out) xs ys h.taken.fresh
               (all_unsent a b (map (λ x. x.parting) xs) h.taken.closed ys t.taken.fresh);
           reported = All-append (λ x. x.parting.outcome ≡ outcome_of x.served) xs ys h.taken.reported t.taken.reported;
-          news = subst (λ z. Grows a.news c.news z) (both_news xs ys t.taken.last)
-              (both_more a.news b.news c.news (news_of xs None) (news_of ys t.taken.last)
-              (subst (λ l. Grows a.news b.news (news_of xs l)) goes.0 h.taken.news) t.taken.news);
+          newly_enrolled = subst (λ z. Grows a.newly_enrolled c.newly_enrolled z) (both_news xs ys t.taken.last)
+              (both_more a.newly_enrolled b.newly_enrolled c.newly_enrolled (news_of xs None) (news_of ys t.taken.last)
+              (subst (λ l. Grows a.newly_enrolled b.newly_enrolled (news_of xs l)) goes.0 h.taken.newly_enrolled) t.taken.newly_enrolled);
           recorded = both_noted xs ys t.taken.last a.recorded b.recorded c.recorded h.taken.ends.1
               (subst (λ l. AreNoted a.recorded xs l b.recorded) goes.0 h.taken.recorded) t.taken.recorded;
           stays_open = λ was. well (IsOpen c.recorded) (t.taken.stays_open (h.taken.stays_open was));
@@ -207,29 +207,29 @@ none_kept g done count old new desk denies still ends = record {
 }
 
 -- news are brought, and no connection is taken then
-last_news : {A : Type 0} (H : Type 0) (done : Result A ErrorCode) (f : ErrorCode) (news : List Enrolment)
-    (w after : DeskWorld) → IsErrAnd done (λ e. e ≡ f) → EndsAtNews H f news w after
-    → IsLastNews H (Some news) done w after
-last_news H (Ok d) f news w after is ends = absurd is
-last_news H (Err e) f news w after is ends = subst (λ v. EndsAtNews H v news w after) (sym is) ends
+last_news : {A : Type 0} (H : Type 0) (done : Result A ErrorCode) (f : ErrorCode) (newly_enrolled : List Enrolment)
+    (w after : DeskWorld) → IsErrAnd done (λ e. e ≡ f) → EndsAtNews H f newly_enrolled w after
+    → IsLastNews H (Some newly_enrolled) done w after
+last_news H (Ok d) f newly_enrolled w after is ends = absurd is
+last_news H (Err e) f newly_enrolled w after is ends = subst (λ v. EndsAtNews H v newly_enrolled w after) (sym is) ends
 
-ends_news : {A : Type 0} (done : Result A ErrorCode) (f : ErrorCode) (news : List Enrolment)
-    → IsErrAnd done (λ e. e ≡ f) → EndsAfter done 1 [] (Some news)
-ends_news (Ok d) f news is = absurd is
-ends_news (Err e) f news is = tt
+ends_news : {A : Type 0} (done : Result A ErrorCode) (f : ErrorCode) (newly_enrolled : List Enrolment)
+    → IsErrAnd done (λ e. e ≡ f) → EndsAfter done 1 [] (Some newly_enrolled)
+ends_news (Ok d) f newly_enrolled is = absurd is
+ends_news (Err e) f newly_enrolled is = tt
 
 pub news_kept : {A S : Type 0} (g : Ghosts S) (done : Result A ErrorCode) (f : ErrorCode)
-    (news : List Enrolment) (old mid new : Traffic) (begun left : Parts S)
-    → IsErrAnd done (λ e. e ≡ f) → BringsNews old mid news → Denies mid new
-    → EndsAtNews (IsHonest (g.doubt left.store)) f news (world_of g.content begun) (world_of g.content left)
+    (newly_enrolled : List Enrolment) (old mid new : Traffic) (begun left : Parts S)
+    → IsErrAnd done (λ e. e ≡ f) → BringsNews old mid newly_enrolled → Denies mid new
+    → EndsAtNews (IsHonest (g.doubt left.store)) f newly_enrolled (world_of g.content begun) (world_of g.content left)
     → (IsHonest (g.doubt left.store) → (found : Option World) → g.may_leave left.store found
-    → IsFoundServed [] (Some news) (world_of g.content left) found
+    → IsFoundServed [] (Some newly_enrolled) (world_of g.content left) found
     ⊎ ((world_of g.content left ≡ world_of g.content begun) × g.may_leave begun.store found))
     → AreKept g done 1 (course old new) begun left
-news_kept g done f news old mid new begun left is brings denies ends finds = record {
+news_kept g done f newly_enrolled old mid new begun left is brings denies ends finds = record {
   taken = record {
     exchanges = [];
-    last = Some news;
+    last = Some newly_enrolled;
     between = world_of g.content begun;
     few = omega arith;
     listened = denies.0 ∙ brings.3;
@@ -237,41 +237,41 @@ news_kept g done f news old mid new begun left is brings denies ends finds = rec
     closed = none_more old.closed new.closed (denies.2 ∙ brings.2);
     fresh = All-nil (λ x. IsUnsent old x.out);
     reported = All-nil (λ x. x.parting.outcome ≡ outcome_of x.served);
-    news = subst (λ v. Grows old.news v (news ∷ [])) (sym denies.3) brings.0;
+    newly_enrolled = subst (λ v. Grows old.newly_enrolled v (newly_enrolled ∷ [])) (sym denies.3) brings.0;
     recorded = (mid.recorded, brings.4, denies.4);
     stays_open = λ was. not_ok done f (IsOpen new.recorded) is;
     served = refl;
-    untaken = last_news (IsHonest (g.doubt left.store)) done f news (world_of g.content begun)
+    untaken = last_news (IsHonest (g.doubt left.store)) done f newly_enrolled (world_of g.content begun)
         (world_of g.content left) is ends;
-    ends = ends_news done f news is;
+    ends = ends_news done f newly_enrolled is;
   };
   finds = finds;
 }
 
 -- what is found then: an operator could not be listed, or all are
-module _ {A B : Type 0} (done : Result A B) (news : List Enrolment) (w after : DeskWorld)
-    (before now : Option World → Type 0) (finds : FindsNews done news w after before now)
+module _ {A B : Type 0} (done : Result A B) (newly_enrolled : List Enrolment) (w after : DeskWorld)
+    (before now : Option World → Type 0) (finds : FindsNews done newly_enrolled w after before now)
     (found : Option World) where
   pub unlisted_found : (fault : B) → done ≡ Err fault → now found
-      → IsFoundServed [] (Some news) after found ⊎ ((after ≡ w) × before found)
+      → IsFoundServed [] (Some newly_enrolled) after found ⊎ ((after ≡ w) × before found)
   unlisted_found fault was may =
-      by (subst (λ r. FindsNews r news w after before now) was finds found may)
+      by (subst (λ r. FindsNews r newly_enrolled w after before now) was finds found may)
     where
-      by : AreKeptSoFar ⊤ news w after found ⊎ ((after ≡ w) × before found)
-          → IsFoundServed [] (Some news) after found ⊎ ((after ≡ w) × before found)
+      by : AreKeptSoFar ⊤ newly_enrolled w after found ⊎ ((after ≡ w) × before found)
+          → IsFoundServed [] (Some newly_enrolled) after found ⊎ ((after ≡ w) × before found)
       by (inl kept) = inl (inr (inr (w, kept)))
       by (inr same) = inr same
 
   pub listed_found : (d : A) → done ≡ Ok d → now found
       → (found ≡ Some after.content) ⊎ ((after ≡ w) × before found)
-  listed_found d was may = subst (λ r. FindsNews r news w after before now) was finds found may
+  listed_found d was may = subst (λ r. FindsNews r newly_enrolled w after before now) was finds found may
 
   pub untaken_found : (d : A) → done ≡ Ok d → now found
-      → IsFoundServed [] (Some news) after found ⊎ ((after ≡ w) × before found)
+      → IsFoundServed [] (Some newly_enrolled) after found ⊎ ((after ≡ w) × before found)
   untaken_found d was may = by (listed_found d was may)
     where
       by : (found ≡ Some after.content) ⊎ ((after ≡ w) × before found)
-          → IsFoundServed [] (Some news) after found ⊎ ((after ≡ w) × before found)
+          → IsFoundServed [] (Some newly_enrolled) after found ⊎ ((after ≡ w) × before found)
       by (inl is) = inl (inl is)
       by (inr same) = inr same
 
@@ -301,8 +301,8 @@ after_news : (x : Exchange) (w listed after : DeskWorld) (before mid : Type 0) (
     → (mid → (found ≡ Some listed.content) ⊎ ((listed ≡ w) × before))
     → IsFoundServed (x ∷ []) None after found ⊎ ((after ≡ listed) × mid)
     → IsFoundServed (x ∷ []) None after found ⊎ ((after ≡ w) × before)
-after_news x w listed after before mid found news (inl is) = inl is
-after_news x w listed after before mid found news (inr p) = by (news p.1)
+after_news x w listed after before mid found newly_enrolled (inl is) = inl is
+after_news x w listed after before mid found newly_enrolled (inr p) = by (newly_enrolled p.1)
   where
     by : (found ≡ Some listed.content) ⊎ ((listed ≡ w) × before)
         → IsFoundServed (x ∷ []) None after found ⊎ ((after ≡ w) × before)
@@ -313,9 +313,9 @@ pub one_kept : {A S : Type 0} (g : Ghosts S) (done : Result A ErrorCode) (x : Ex
     (closed : Result ⊤ ErrorCode) (old new : Traffic) (begun listed left : Parts S)
     → new.listened ≡ old.listened → Grows old.taken new.taken (x.arrival ∷ [])
     → Grows old.closed new.closed (x.parting ∷ []) → IsUnsent old x.out
-    → x.parting.outcome ≡ outcome_of x.served → Grows old.news new.news (x.news ∷ [])
+    → x.parting.outcome ≡ outcome_of x.served → Grows old.newly_enrolled new.newly_enrolled (x.newly_enrolled ∷ [])
     → AreNoted old.recorded (x ∷ []) None new.recorded
-    → AreEnrolled (IsHonest (g.doubt left.store)) x.news (world_of g.content begun)
+    → AreEnrolled (IsHonest (g.doubt left.store)) x.newly_enrolled (world_of g.content begun)
     (world_of g.content listed)
     → HasServed (IsHonest (g.doubt left.store)) x.served (passage_of x) (world_of g.content listed)
     x.arrival.moment (world_of g.content left)
@@ -328,7 +328,7 @@ pub one_kept : {A S : Type 0} (g : Ghosts S) (done : Result A ErrorCode) (x : Ex
     → IsFoundNow x.served (g.may_leave listed.store) (IsTaken x.arrival.bytes x.parting.unread)
     (world_of g.content listed) x.arrival.moment (world_of g.content left) found)
     → AreKept g done 1 (course old new) begun left
-one_kept g done x closed old new begun listed left listened takes closes fresh reported news noted lists served
+one_kept g done x closed old new begun listed left listened takes closes fresh reported newly_enrolled noted lists served
     is still denied first finds =
     let H = IsHonest (g.doubt left.store) in
     let w = world_of g.content begun in
@@ -346,7 +346,7 @@ one_kept g done x closed old new begun listed left listened takes closes fresh r
         fresh = All-cons (λ z. IsUnsent old z.out) x [] fresh (All-nil (λ z. IsUnsent old z.out));
         reported = All-cons (λ z. z.parting.outcome ≡ outcome_of z.served) x [] reported
             (All-nil (λ z. z.parting.outcome ≡ outcome_of z.served));
-        news = news;
+        newly_enrolled = newly_enrolled;
         recorded = noted;
         stays_open = λ was. one_closed (IsOpen new.recorded) done (failure_at x.served) closed is still;
         served = (then, after, lists, served, refl);

@@ -47,7 +47,7 @@ unsent_is out sent fresh h = by sent (subst (λ o. Keeps o sent) fresh h) where
 
 abbrev turn_of : Exchange → Option (List ℕ) → Turn
 turn_of x request =
-    record { news = x.news; arrival = x.arrival; parting = x.parting; request = request }
+    record { newly_enrolled = x.newly_enrolled; arrival = x.arrival; parting = x.parting; request = request }
 
 -- the turn of an exchange, by the world just before its request
 record IsTurn (w : DeskWorld) (x : Exchange) (between : DeskWorld) : Type 0 where
@@ -106,35 +106,35 @@ record InTurns (w : DeskWorld) (xs : List Exchange) (between : DeskWorld) : Type
   turns : List Turn
   arrivals : map (λ t. t.arrival) turns ≡ map (λ x. x.arrival) xs
   partings : map (λ t. t.parting) turns ≡ map (λ x. x.parting) xs
-  news : map (λ t. t.news) turns ≡ map (λ x. x.news) xs
+  newly_enrolled : map (λ t. t.newly_enrolled) turns ≡ map (λ x. x.newly_enrolled) xs
   given : (i : ℕ) (t : Turn) → slice_get turns i ≡ Some t → IsGiven (world_met w turns i t) t t.request
   left : between ≡ world_by w turns
 
 one_more : (w listed mid between : DeskWorld) (x : Exchange) (xs : List Exchange)
-    → listed ≡ with_operators w x.news → IsTurn listed x mid → InTurns mid xs between
+    → listed ≡ with_operators w x.newly_enrolled → IsTurn listed x mid → InTurns mid xs between
     → InTurns w (x ∷ xs) between
 one_more w listed mid between x xs is one rest = record {
   turns = t ∷ rest.turns;
   arrivals = ap (λ ys. x.arrival ∷ ys) rest.arrivals;
   partings = ap (λ ys. x.parting ∷ ys) rest.partings;
-  news = ap (λ ys. x.news ∷ ys) rest.news;
+  newly_enrolled = ap (λ ys. x.newly_enrolled ∷ ys) rest.newly_enrolled;
   given = given;
   left = rest.left ∙ ap (λ v. world_by v rest.turns) next;
 } where
   t : Turn
   t = turn_of x one.request
 
-  next : mid ≡ left_by (with_operators w x.news) (sent_in t)
+  next : mid ≡ left_by (with_operators w x.newly_enrolled) (sent_in t)
   next = one.left ∙ ap (λ v. left_by v (sent_in t)) is
 
   given : (i : ℕ) (u : Turn) → slice_get (t ∷ rest.turns) i ≡ Some u
       → IsGiven (world_met w (t ∷ rest.turns) i u) u u.request
   given zero u e =
       let same : t ≡ u = cc in
-      subst (λ z. IsGiven (with_operators w z.news) z z.request) same
+      subst (λ z. IsGiven (with_operators w z.newly_enrolled) z z.request) same
       (subst (λ v. IsGiven v t one.request) is one.given)
   given (suc k) u e =
-      subst (λ v. IsGiven (with_operators (world_by v (take k rest.turns)) u.news) u u.request) next
+      subst (λ v. IsGiven (with_operators (world_by v (take k rest.turns)) u.newly_enrolled) u u.request) next
       (rest.given k u e)
 
 in_turns : (H : Type 0) → H → (xs : List Exchange) (w between : DeskWorld)
@@ -144,12 +144,12 @@ in_turns H p [] w between reported fresh h = record {
   turns = [];
   arrivals = refl;
   partings = refl;
-  news = refl;
+  newly_enrolled = refl;
   given = λ i t e. cc;
   left = h;
 }
 in_turns H p (x ∷ xs) w between reported fresh h =
-    one_more w h.0 h.1 between x xs (all_listed H p x.news w h.0 h.2)
+    one_more w h.0 h.1 between x xs (all_listed H p x.newly_enrolled w h.0 h.2)
     (by_served h.0 x h.1 H p x.served
     (ap (λ o. o.is_answered) (All-head (λ z. z.parting.outcome ≡ outcome_of z.served) x xs reported))
     (All-head (λ z. z.out ≡ Some []) x xs fresh) h.3)
@@ -165,11 +165,11 @@ all_fresh (Some partings) some xs h = h
 last_listed : {A : Type 0} (H : Type 0) → H → (last : Option (List Enrolment)) (done : Result A ErrorCode)
     (w after : DeskWorld) → IsLastNews H last done w after → ListsLast last w after
 last_listed H p None done w after h = h
-last_listed H p (Some news) (Ok d) w after h = absurd h
-last_listed H p (Some news) (Err f) w after (inl broken) =
+last_listed H p (Some newly_enrolled) (Ok d) w after h = absurd h
+last_listed H p (Some newly_enrolled) (Err f) w after (inl broken) =
     (broken.1.count, broken.1.left p)
-last_listed H p (Some news) (Err f) w after (inr denied) =
-    (length news, all_listed H p news w after denied.1 ∙ ap (with_operators w) (sym (take-length news)))
+last_listed H p (Some newly_enrolled) (Err f) w after (inr denied) =
+    (length newly_enrolled, all_listed H p newly_enrolled w after denied.1 ∙ ap (with_operators w) (sym (take-length newly_enrolled)))
 
 pub port_turns : {A : Type 0} (H : Type 0) (done : Result A ErrorCode) (count : ℕ) (port : Course Traffic)
     (w after : DeskWorld) → AreTaken H done count port w after → H → IsSome port.before.closed
@@ -182,8 +182,8 @@ port_turns H done count port w after h p reports =
       record {
         taken = subst (Grows port.before.taken port.after.taken) (sym run.arrivals) h.taken;
         closed = subst (Grows port.before.closed port.after.closed) (sym run.partings) h.closed;
-        news = subst (λ news. Grows port.before.news port.after.news (news ++ option_to_list h.last))
-            (sym run.news) h.news;
+        newly_enrolled = subst (λ newly_enrolled. Grows port.before.newly_enrolled port.after.newly_enrolled (newly_enrolled ++ option_to_list h.last))
+            (sym run.newly_enrolled) h.newly_enrolled;
         given = run.given;
         left = subst (λ v. ListsLast h.last v after) run.left
             (last_listed H p h.last done h.between after h.untaken);
@@ -200,7 +200,7 @@ listening_turns port listening number w after is h = (
   record {
     taken = subst (λ old. Grows old port.after.taken (map (λ t. t.arrival) h.0)) is.1.1 h.2.taken;
     closed = subst (λ old. Grows old port.after.closed (map (λ t. t.parting) h.0)) is.1.2 h.2.closed;
-    news = subst (λ old. Grows old port.after.news (map (λ t. t.news) h.0 ++ option_to_list h.1)) is.1.3 h.2.news;
+    newly_enrolled = subst (λ old. Grows old port.after.newly_enrolled (map (λ t. t.newly_enrolled) h.0 ++ option_to_list h.1)) is.1.3 h.2.newly_enrolled;
     given = h.2.given;
     left = h.2.left;
   },
@@ -296,25 +296,25 @@ module _ (o : List ℕ) where
   last_quiet : (last : Option (List Enrolment)) (w after : DeskWorld) → All Spares (option_to_list last)
       → ListsLast last w after → OwnAlike o after w
   last_quiet None w after h left = ap (λ v. side v o) left
-  last_quiet (Some news) w after h left =
+  last_quiet (Some newly_enrolled) w after h left =
       ap (λ v. side v o) left.1
-      ∙ news_quiet (take left.0 news) w
-      (All-take (λ x. x.operator ≢ o) left.0 news (All-head Spares news [] h))
+      ∙ news_quiet (take left.0 newly_enrolled) w
+      (All-take (λ x. x.operator ≢ o) left.0 newly_enrolled (All-head Spares newly_enrolled [] h))
 
   turns_quiet : (last : Option (List Enrolment)) (ts : List Turn) (w after : DeskWorld)
-      → All (λ t. caller t ≢ Some o) ts → All Spares (map (λ t. t.news) ts ++ option_to_list last)
+      → All (λ t. caller t ≢ Some o) ts → All Spares (map (λ t. t.newly_enrolled) ts ++ option_to_list last)
       → ListsLast last (world_by w ts) after → OwnAlike o after w
   turns_quiet last [] w after others h left = last_quiet last w after h left
   turns_quiet last (t ∷ ts) w after others h left =
-      let listed = with_operators w t.news in
-      let rest = map (λ t. t.news) ts ++ option_to_list last in
+      let listed = with_operators w t.newly_enrolled in
+      let rest = map (λ t. t.newly_enrolled) ts ++ option_to_list last in
       turns_quiet last ts (left_by listed (sent_in t)) after
-      (All-tail (λ z. caller z ≢ Some o) t ts others) (All-tail Spares t.news rest h) left
+      (All-tail (λ z. caller z ≢ Some o) t ts others) (All-tail Spares t.newly_enrolled rest h) left
       ∙ sent_quiet listed (sent_in t) (All-head (λ z. caller z ≢ Some o) t ts others)
-      ∙ news_quiet t.news w (All-head Spares t.news rest h)
+      ∙ news_quiet t.newly_enrolled w (All-head Spares t.newly_enrolled rest h)
 
 pub port_quiet : (port : Course Traffic) (w after : DeskWorld) (turns : List Turn)
     (last : Option (List Enrolment)) (o : List ℕ) → AreTurns port w after turns last
     → All (λ t. caller t ≢ Some o) turns
-    → All (All (λ e. e.operator ≢ o)) (map (λ t. t.news) turns ++ option_to_list last) → OwnAlike o after w
+    → All (All (λ e. e.operator ≢ o)) (map (λ t. t.newly_enrolled) turns ++ option_to_list last) → OwnAlike o after w
 port_quiet port w after turns last o h others spared = turns_quiet o last turns w after others spared h.left

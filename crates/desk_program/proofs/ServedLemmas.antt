@@ -68,12 +68,12 @@ stays port = (refl, refl, refl, refl, stays_noted port.recorded)
 none_noted : (xs : List Exchange) (last : Option (List Enrolment)) (new : Option Recorded)
     → AreNoted None xs last new
 none_noted [] None new = tt
-none_noted [] (Some news) new = (None, tt, tt)
+none_noted [] (Some newly_enrolled) new = (None, tt, tt)
 none_noted (x ∷ xs) last new = (
   None,
   None,
   None,
-  record { news = tt; unsent = tt; request = tt; answer = tt },
+  record { newly_enrolled = tt; unsent = tt; request = tt; answer = tt },
   tt,
   none_noted xs last new,
 )
@@ -83,8 +83,8 @@ ended_noted : (n : Noted) (text : List ℕ) (xs : List Exchange) (last : Option 
     (new : Option Recorded) → IsCutOff n (Some (Ended text)) → AreNoted (Some (Ended text)) xs last new
     → AreNoted (Some (Open n)) xs last new
 ended_noted n text [] None new cut same = inr (subst (IsCutOff n) (sym same) cut)
-ended_noted n text [] (Some news) new cut h = absurd h.1
-ended_noted n text (x ∷ xs) last new cut h = absurd h.3.news
+ended_noted n text [] (Some newly_enrolled) new cut h = absurd h.1
+ended_noted n text (x ∷ xs) last new cut h = absurd h.3.newly_enrolled
 
 -- nothing is brought or taken, and then others are
 then_noted : (old mid new : Option Recorded) (xs : List Exchange) (last : Option (List Enrolment))
@@ -94,7 +94,7 @@ then_noted (Some (Ended text)) mid new xs last first then =
     subst (λ r. AreNoted r xs last new) first then
 then_noted (Some (Open n)) mid new xs last (inl same) then = subst (λ r. AreNoted r xs last new) same then
 then_noted (Some (Open n)) mid new xs last (inr cut) then =
-    ended_noted n (with_request (with_news n cut.news) cut.moment cut.request).text xs last new
+    ended_noted n (with_request (with_news n cut.newly_enrolled) cut.moment cut.request).text xs last new
     (subst (IsCutOff n) cut.ended cut) (subst (λ r. AreNoted r xs last new) cut.ended then)
 
 not_failed : (r mid new : Option Recorded) (Fails : Type 0) → ¬ Fails
@@ -163,7 +163,7 @@ all_then H K by [] w after h = h
 all_then H K by (x ∷ xs) w after h = (
   h.0,
   h.1,
-  enrolled_then H K by x.news w h.0 h.2,
+  enrolled_then H K by x.newly_enrolled w h.0 h.2,
   served_then H K by x.served (passage_of x) h.0 x.arrival.moment h.1
       h.3,
   all_then H K by xs h.1 after h.4,
@@ -181,13 +181,13 @@ both_served H (x ∷ xs) ys u v w first then =
 pub both_news : (xs ys : List Exchange) (last : Option (List Enrolment)) → news_of xs None ++ news_of ys last
     ≡ news_of (xs ++ ys) last
 both_news [] ys last = refl
-both_news (x ∷ xs) ys last = ap (λ rest. x.news ∷ rest) (both_news xs ys last)
+both_news (x ∷ xs) ys last = ap (λ rest. x.newly_enrolled ∷ rest) (both_news xs ys last)
 
 -- a desk that goes on has listed the operators of all news
 pub none_last : {A : Type 0} (H : Type 0) (last : Option (List Enrolment)) (d : A) (w after : DeskWorld)
     → IsLastNews H last (Ok d) w after → (last ≡ None) × (after ≡ w)
 none_last H None d w after h = (refl, h)
-none_last H (Some news) d w after h = absurd h
+none_last H (Some newly_enrolled) d w after h = absurd h
 
 -- nothing is taken
 pub none : {A : Type 0} (H : Type 0) (done : Result A ErrorCode) (count : ℕ)
@@ -204,7 +204,7 @@ none H done count old new w after denies still left ends = record {
   closed = none_more old.closed new.closed denies.2;
   fresh = All-nil (λ x. IsUnsent old x.out);
   reported = All-nil (λ x. x.parting.outcome ≡ outcome_of x.served);
-  news = none_more old.news new.news denies.3;
+  newly_enrolled = none_more old.newly_enrolled new.newly_enrolled denies.3;
   recorded = denies.4;
   stays_open = still;
   served = refl;
@@ -292,17 +292,17 @@ pub last_goes_on : {B C : Type 0} (H : Type 0) (then : Result B ErrorCode) (e : 
     → (last : Option (List Enrolment)) (w after : DeskWorld) → IsLastNews H last then w after
     → IsLastNews {A = C} H last (Ok whole) w after
 last_goes_on H then e whole is None w after h = h
-last_goes_on H then e whole is (Some news) w after h =
-    absurd (subst (λ r. IsLastNews H (Some news) r w after) is h)
+last_goes_on H then e whole is (Some newly_enrolled) w after h =
+    absurd (subst (λ r. IsLastNews H (Some newly_enrolled) r w after) is h)
 
 pub last_stops : {A B : Type 0} (H : Type 0) (whole : Result A ErrorCode) (f : ErrorCode)
     (then : Result B ErrorCode) → IsErrAnd whole (λ e. e ≡ f) → then ≡ Err f
     → (last : Option (List Enrolment)) (w after : DeskWorld) → IsLastNews H last then w after
     → IsLastNews H last whole w after
 last_stops H whole f then is was None w after h = h
-last_stops H (Ok d) f then is was (Some news) w after h = absurd is
-last_stops H (Err e) f then is was (Some news) w after h = subst (λ v. EndsAtNews H v news w after) (sym is)
-    (subst (λ r. IsLastNews H (Some news) r w after) was h)
+last_stops H (Ok d) f then is was (Some newly_enrolled) w after h = absurd is
+last_stops H (Err e) f then is was (Some newly_enrolled) w after h = subst (λ v. EndsAtNews H v newly_enrolled w after) (sym is)
+    (subst (λ r. IsLastNews H (Some newly_enrolled) r w after) was h)
 
 -- what is printed, after connections were served
 pub still_heard : (old mid new : Traffic) (number : ℕ) (writes : Course (Option (List ℕ)))

@@ -77,7 +77,7 @@ IsLeftByOne w found (x ∷ xs) = IsLeftUncertain w found x ⊎ IsLeftByOne w fou
 -- of the last new enrolments an operator could not be listed, and what is found has it listed, or has not
 abbrev pub IsLeftByNews : DeskWorld → Option World → Option (List Enrolment) → Type 0
 IsLeftByNews w found last =
-    IsSomeAnd last (λ news. (before : DeskWorld) × AreKeptSoFar ⊤ news before w found)
+    IsSomeAnd last (λ newly_enrolled. (before : DeskWorld) × AreKeptSoFar ⊤ newly_enrolled before w found)
 
 -- what is found after connections is what their requests and the new enrolments left; or what one of these
 -- would leave of that, which left it as it was, and its answer was a 500 or is not whole; or one more

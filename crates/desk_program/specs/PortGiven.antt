@@ -39,7 +39,7 @@ pub record PortGiven : Type 0 where
   pub quiet : (port : Course Traffic) (w after : DeskWorld) (turns : List Turn)
       (last : Option (List Enrolment)) (operator : List ℕ) → AreTurns port w after turns last
       → All (λ t. caller t ≢ Some operator) turns
-      → All (All (λ e. e.operator ≢ operator)) (map (λ t. t.news) turns ++ option_to_list last)
+      → All (All (λ e. e.operator ≢ operator)) (map (λ t. t.newly_enrolled) turns ++ option_to_list last)
       → OwnAlike operator after w
   pub served : (doubt : ℕ) (done : Result ⊤ ErrorCode) (serve : ServeArgs) (port : Course Traffic)
       (w after : DeskWorld) (h : HasBegunServing (IsHonest doubt) done serve port w after) → IsHonest doubt

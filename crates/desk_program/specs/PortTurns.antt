@@ -19,7 +19,7 @@ use Rattle.desk_program.specs.Serving.{Arrival, Grows, Parting, Traffic}
 -- was taken and as it was closed, and its request, if the desk decided it: none if none came whole, or the
 -- desk failed
 pub record Turn : Type 0 where
-  pub news : List Enrolment
+  pub newly_enrolled : List Enrolment
   pub arrival : Arrival
   pub parting : Parting
   pub request : Option (List ℕ)
@@ -39,11 +39,11 @@ left_by w (Some r) = world_after w r.0 (asked r.1)
 
 abbrev pub world_by : DeskWorld → List Turn → DeskWorld
 world_by w [] = w
-world_by w (t ∷ ts) = world_by (left_by (with_operators w t.news) (sent_in t)) ts
+world_by w (t ∷ ts) = world_by (left_by (with_operators w t.newly_enrolled) (sent_in t)) ts
 
 -- the world just before the request of t, the turn at place i
 abbrev pub world_met : DeskWorld → List Turn → ℕ → Turn → DeskWorld
-world_met w ts i t = with_operators (world_by w (take i ts)) t.news
+world_met w ts i t = with_operators (world_by w (take i ts)) t.newly_enrolled
 
 -- a client was sent a text, whole if the connection is said to be answered, or else its first bytes
 abbrev pub IsSent : Bool → Option (List ℕ) → List ℕ → Type 0
@@ -64,7 +64,7 @@ IsGiven w t None =
 -- of the new enrolments after which no connection was taken, if there are any, the first operators are listed
 abbrev pub ListsLast : Option (List Enrolment) → DeskWorld → DeskWorld → Type 0
 ListsLast None w after = after ≡ w
-ListsLast (Some news) w after = (n : ℕ) × (after ≡ with_operators w (take n news))
+ListsLast (Some newly_enrolled) w after = (n : ℕ) × (after ≡ with_operators w (take n newly_enrolled))
 
 -- the connections and the new enrolments that a port reports came in these turns: their clients were sent
 -- what is given in each, and that is what they left
@@ -72,7 +72,7 @@ pub record AreTurns (port : Course Traffic) (w after : DeskWorld) (turns : List 
     (last : Option (List Enrolment)) : Type 0 where
   pub taken : Grows port.before.taken port.after.taken (map (λ t. t.arrival) turns)
   pub closed : Grows port.before.closed port.after.closed (map (λ t. t.parting) turns)
-  pub news : Grows port.before.news port.after.news (map (λ t. t.news) turns ++ option_to_list last)
+  pub newly_enrolled : Grows port.before.newly_enrolled port.after.newly_enrolled (map (λ t. t.newly_enrolled) turns ++ option_to_list last)
   pub given : (i : ℕ) (t : Turn) → slice_get turns i ≡ Some t
       → IsGiven (world_met w turns i t) t t.request
   pub left : ListsLast last (world_by w turns) after

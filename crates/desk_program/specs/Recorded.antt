@@ -42,7 +42,7 @@ with_entry n e = record n { text = n.text ++ entry e }
 -- with new enrolments; with a request, or nothing where no whole request came; with an answer, or nothing
 -- where none was made
 abbrev pub with_news : Noted → List Enrolment → Noted
-with_news n news = record n { text = n.text ++ entries (map operator_entry news) }
+with_news n newly_enrolled = record n { text = n.text ++ entries (map operator_entry newly_enrolled) }
 
 abbrev pub with_request : Noted → ℤ → List ℕ → Noted
 with_request n moment [] = n
@@ -55,14 +55,14 @@ with_answer n (b ∷ bytes) = with_entry n (answer_entry n.second (b ∷ bytes))
 
 -- each has the name of an operator
 abbrev pub AreNamed : List Enrolment → Type 0
-AreNamed news = AllByRecursion (λ e. IsTrue (is_operator_name e.operator)) news
+AreNamed newly_enrolled = AllByRecursion (λ e. IsTrue (is_operator_name e.operator)) newly_enrolled
 
 -- enrolments that may be made are recorded; no new enrolments are brought once the journal has ended
 abbrev pub RecordsNews : Option Recorded → Option Recorded → List Enrolment → Type 0
-RecordsNews None now news = ⊤
-RecordsNews (Some (Ended text)) now news = ⊥
-RecordsNews (Some (Open n)) now news =
-    AreEnrolments news × AreNamed news × (now ≡ Some (Open (with_news n news)))
+RecordsNews None now newly_enrolled = ⊤
+RecordsNews (Some (Ended text)) now newly_enrolled = ⊥
+RecordsNews (Some (Open n)) now newly_enrolled =
+    AreEnrolments newly_enrolled × AreNamed newly_enrolled × (now ≡ Some (Open (with_news n newly_enrolled)))
 
 -- what comes from a client is one request, which is recorded at its moment, or nothing
 pub record IsRecorded (n : Noted) (now : Option Recorded) (moment : ℤ) (bytes : Option (List ℕ)) : Type 0
@@ -97,10 +97,10 @@ RecordsAnswer (Some (Open n)) now sent is_answered =
 -- the journal ends where something can't be kept. It may have enrolments and a request that were not carried
 -- out
 pub record IsCutOff (n : Noted) (now : Option Recorded) : Type 0 where
-  pub news : List Enrolment
+  pub newly_enrolled : List Enrolment
   pub moment : ℤ
   pub request : List ℕ
-  pub ended : now ≡ Some (Ended (with_request (with_news n news) moment request).text)
+  pub ended : now ≡ Some (Ended (with_request (with_news n newly_enrolled) moment request).text)
 
 -- nothing is brought or taken
 abbrev pub RecordsNone : Option Recorded → Option Recorded → Type 0

@@ -51,11 +51,11 @@ pub record Traffic : Type 0 where
   pub listened : Option (List (ℕ × Bool))
   pub taken : Option (List Arrival)
   pub closed : Option (List Parting)
-  pub news : Option (List (List Enrolment))
+  pub newly_enrolled : Option (List (List Enrolment))
   pub recorded : Option Recorded
 
 abbrev pub unreported : Traffic
-unreported = record { listened = None; taken = None; closed = None; news = None; recorded = None }
+unreported = record { listened = None; taken = None; closed = None; newly_enrolled = None; recorded = None }
 
 -- what is known is followed by these
 abbrev pub Grows : {A : Type 0} → Option (List A) → Option (List A) → List A → Type 0
@@ -67,7 +67,7 @@ Grows (Some old) (Some new) more = new ≡ old ++ more
 -- are brought
 abbrev pub Listens : Traffic → Traffic → ℕ → Bool → Type 0
 Listens old new number does = Grows old.listened new.listened ((number, does) ∷ [])
-    × (new.taken ≡ old.taken) × (new.closed ≡ old.closed) × (new.news ≡ old.news)
+    × (new.taken ≡ old.taken) × (new.closed ≡ old.closed) × (new.newly_enrolled ≡ old.newly_enrolled)
     × (new.recorded ≡ old.recorded)
 
 abbrev pub IsAskedToListen : Traffic → Traffic → ℕ → Type 0
@@ -80,23 +80,23 @@ PrintsIfListening port number writes =
 
 abbrev pub TakesArrival : Traffic → Traffic → Arrival → Type 0
 TakesArrival old new arrival = Grows old.taken new.taken (arrival ∷ []) × (new.closed ≡ old.closed)
-    × (new.listened ≡ old.listened) × (new.news ≡ old.news)
+    × (new.listened ≡ old.listened) × (new.newly_enrolled ≡ old.newly_enrolled)
     × RecordsRequest old.recorded new.recorded arrival.moment arrival.bytes
 
 abbrev pub Closes : Traffic → Traffic → Parting → Type 0
 Closes old new parting = Grows old.closed new.closed (parting ∷ []) × (new.taken ≡ old.taken)
-    × (new.listened ≡ old.listened) × (new.news ≡ old.news)
+    × (new.listened ≡ old.listened) × (new.newly_enrolled ≡ old.newly_enrolled)
     × RecordsAnswer old.recorded new.recorded parting.sent parting.outcome.is_answered
 
 abbrev pub BringsNews : Traffic → Traffic → List Enrolment → Type 0
-BringsNews old new enrolments = Grows old.news new.news (enrolments ∷ []) × (new.taken ≡ old.taken)
+BringsNews old new enrolments = Grows old.newly_enrolled new.newly_enrolled (enrolments ∷ []) × (new.taken ≡ old.taken)
     × (new.closed ≡ old.closed) × (new.listened ≡ old.listened)
     × RecordsNews old.recorded new.recorded enrolments
 
 -- nothing is brought, taken or closed, and the record goes on or is cut off
 abbrev pub Denies : Traffic → Traffic → Type 0
 Denies old new = (new.listened ≡ old.listened) × (new.taken ≡ old.taken) × (new.closed ≡ old.closed)
-    × (new.news ≡ old.news) × RecordsNone old.recorded new.recorded
+    × (new.newly_enrolled ≡ old.newly_enrolled) × RecordsNone old.recorded new.recorded
 
 -- at a port that reports what it closes, or what it has recorded, nothing was sent yet
 abbrev pub IsUnsent : Traffic → Option (List ℕ) → Type 0
@@ -108,7 +108,7 @@ IsFresh port out = IsUnsent port out × IfSome port.recorded (λ recorded. out �
 -- the new enrolments that were brought before a connection was taken, the connection, what its client was
 -- sent before, if that is known, what came of its request, and the connection as it is closed then
 pub record Exchange : Type 0 where
-  pub news : List Enrolment
+  pub newly_enrolled : List Enrolment
   pub arrival : Arrival
   pub out : Option (List ℕ)
   pub served : Result Served ServeFault
@@ -134,7 +134,7 @@ outcome_of served = record { is_whole = is_whole served; is_answered = is_answer
 
 -- the new enrolments, the request and the answer of a connection are recorded
 pub record IsNoted (x : Exchange) (old listed asked new : Option Recorded) : Type 0 where
-  pub news : RecordsNews old listed x.news
+  pub newly_enrolled : RecordsNews old listed x.newly_enrolled
   pub unsent : IfSome listed (λ recorded. x.out ≡ Some [])
   pub request : RecordsRequest listed asked x.arrival.moment x.arrival.bytes
   pub answer : RecordsAnswer asked new x.parting.sent x.parting.outcome.is_answered
@@ -143,8 +143,8 @@ pub record IsNoted (x : Exchange) (old listed asked new : Option Recorded) : Typ
 -- after which none was taken
 abbrev pub AreNoted : Option Recorded → List Exchange → Option (List Enrolment) → Option Recorded → Type 0
 AreNoted old [] None new = RecordsNone old new
-AreNoted old [] (Some news) new =
-    (listed : Option Recorded) × RecordsNews old listed news × RecordsNone listed new
+AreNoted old [] (Some newly_enrolled) new =
+    (listed : Option Recorded) × RecordsNews old listed newly_enrolled × RecordsNone listed new
 AreNoted old (x ∷ xs) last new =
     (listed : Option Recorded)
     × (asked : Option Recorded)
@@ -160,7 +160,7 @@ AreServed H [] w after = after ≡ w
 AreServed H (x ∷ xs) w after =
     (listed : DeskWorld)
     × (between : DeskWorld)
-    × AreEnrolled H x.news w listed
+    × AreEnrolled H x.newly_enrolled w listed
     × HasServed H x.served (passage_of x) listed x.arrival.moment between
     × AreServed H xs between after
 
@@ -184,25 +184,25 @@ IsDenied f =
 -- the new enrolments after which no connection was taken: an operator could not be listed, and those before
 -- it are; or all are listed, and the machine denied something
 abbrev pub EndsAtNews : Type 0 → ErrorCode → List Enrolment → DeskWorld → DeskWorld → Type 0
-EndsAtNews H f news w after =
-    (IsLineBreakdown f × AreListedSoFar H news w after) ⊎ (IsDenied f × AreEnrolled H news w after)
+EndsAtNews H f newly_enrolled w after =
+    (IsLineBreakdown f × AreListedSoFar H newly_enrolled w after) ⊎ (IsDenied f × AreEnrolled H newly_enrolled w after)
 
 -- what was reported after the last connection that was taken is listed, as far as it could be, if the desk
 -- ended
 abbrev pub IsLastNews :
     {A : Type 0} → Type 0 → Option (List Enrolment) → Result A ErrorCode → DeskWorld → DeskWorld → Type 0
 IsLastNews H None done w after = after ≡ w
-IsLastNews H (Some news) done w after = IsErrAnd done (λ failure. EndsAtNews H failure news w after)
+IsLastNews H (Some newly_enrolled) done w after = IsErrAnd done (λ failure. EndsAtNews H failure newly_enrolled w after)
 
 -- the new enrolments of connections, and the last of them
 abbrev pub news_of : List Exchange → Option (List Enrolment) → List (List Enrolment)
-news_of xs last = map (λ x. x.news) xs ++ option_to_list last
+news_of xs last = map (λ x. x.newly_enrolled) xs ++ option_to_list last
 
 -- the failure is what the last of these connections ended the desk with, or came as that was closed or after
 -- it, with the new enrolments for which no connection was taken; none before ended the desk
 abbrev pub EndsDeskBy : ErrorCode → List Exchange → Option (List Enrolment) → Type 0
 EndsDeskBy f [] None = IsDenied f
-EndsDeskBy f [] (Some news) = ⊤
+EndsDeskBy f [] (Some newly_enrolled) = ⊤
 EndsDeskBy f (x ∷ xs) last = ((failure_at x.served ≡ None) × EndsDeskBy f xs last)
     ⊎ ((failure_at x.served ≡ Some f) × (xs ≡ []) × (last ≡ None))
 
@@ -227,7 +227,7 @@ pub record AreTaken {A : Type 0} (H : Type 0) (done : Result A ErrorCode) (count
   pub closed : Grows port.before.closed port.after.closed (map (λ x. x.parting) exchanges)
   pub fresh : All (λ x. IsUnsent port.before x.out) exchanges
   pub reported : All (λ x. x.parting.outcome ≡ outcome_of x.served) exchanges
-  pub news : Grows port.before.news port.after.news (news_of exchanges last)
+  pub newly_enrolled : Grows port.before.newly_enrolled port.after.newly_enrolled (news_of exchanges last)
   pub recorded : AreNoted port.before.recorded exchanges last port.after.recorded
   pub stays_open : IsOpen port.before.recorded → OnOk done (IsOpen port.after.recorded)
   pub served : AreServed H exchanges w between

@@ -100,7 +100,7 @@ impl<'s, N: Net, C: Clock, G: EnrolmentSource + Drop, E: Write> Port for LocalPo
         }
     }
 
-    fn news(&mut self, alloc: Global) -> Result<Vec<Enrolment>, ErrorCode> {
+    fn newly_enrolled(&mut self, alloc: Global) -> Result<Vec<Enrolment>, ErrorCode> {
         self.waiting = Some(self.next_stream()?);
         self.enrolment_source.look(alloc)
     }

@@ -41,7 +41,7 @@ pub trait EnrolmentSource {
     ///
     /// `Memory` if memory runs out.
     fn look(&mut self, alloc: Global) -> Result<Vec<Enrolment>, ErrorCode>
-        ensures small { IfOk result (λ news. AreEnrolments news.items) }
+        ensures small { IfOk result (λ newly_enrolled. AreEnrolments newly_enrolled.items) }
         ensures fault { IfErr result (λ f. f ≡ ErrorCode.Memory) };
 }
 
@@ -70,9 +70,9 @@ pub trait Port {
     /// # Errors
     ///
     /// `Network` if no connection can be accepted, `Memory`; `Broken` if the journal can't be written.
-    fn news(&mut self, alloc: Global) -> Result<Vec<Enrolment>, ErrorCode>
-        ensures small { IfOk result (λ news. AreEnrolments news.items) }
-        ensures brings { IfOk result (λ news. BringsNews (traffic self.old) (traffic self.new) news.items) }
+    fn newly_enrolled(&mut self, alloc: Global) -> Result<Vec<Enrolment>, ErrorCode>
+        ensures small { IfOk result (λ newly_enrolled. AreEnrolments newly_enrolled.items) }
+        ensures brings { IfOk result (λ newly_enrolled. BringsNews (traffic self.old) (traffic self.new) newly_enrolled.items) }
         ensures same { OnErr result (Denies (traffic self.old) (traffic self.new)) }
         ensures fault { IfErr result IsDenied };
 

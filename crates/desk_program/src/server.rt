@@ -178,7 +178,7 @@ fn serve_connection<S: PlanStore, P: Port>(
     ensures remembered { Remembers S.doubt S.faults S.is_shielded desk.old.store desk.new.store }
     ensures cause { IsEndCounted result (S.faults desk.old.store) (S.faults desk.new.store) }
 {
-    let enrolments = port.news(alloc)?;
+    let enrolments = port.newly_enrolled(alloc)?;
     enrol_new(desk, &enrolments)?;
     let mut client = port.take(alloc)?;
     let served = serve_one(

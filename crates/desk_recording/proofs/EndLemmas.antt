@@ -44,37 +44,37 @@ ends_as n now (inr cut) = inr (inr cut)
 -- ---- what is found
 
 -- what is left has caught up; and so has what is found, if that is the same
-caught : (after : DeskWorld) (news : List Enrolment) (moment : ℤ) (request : List ℕ) (left : DeskWorld)
-    → left ≡ caught_up after news moment request → (found : Option World) → found ≡ Some after.content
-    → CatchesUp found after news moment request left
-caught after news moment request left behind found is = record {
+caught : (after : DeskWorld) (newly_enrolled : List Enrolment) (moment : ℤ) (request : List ℕ) (left : DeskWorld)
+    → left ≡ caught_up after newly_enrolled moment request → (found : Option World) → found ≡ Some after.content
+    → CatchesUp found after newly_enrolled moment request left
+caught after newly_enrolled moment request left behind found is = record {
   content = after.content;
   is = is;
   behind = behind;
 }
 
 -- after no connection
-none_found : (after : DeskWorld) (news : List Enrolment) (moment : ℤ) (request : List ℕ) (left : DeskWorld)
-    (last : Option (List Enrolment)) → left ≡ caught_up after news moment request → (found : Option World)
+none_found : (after : DeskWorld) (newly_enrolled : List Enrolment) (moment : ℤ) (request : List ℕ) (left : DeskWorld)
+    (last : Option (List Enrolment)) → left ≡ caught_up after newly_enrolled moment request → (found : Option World)
     → IsFoundServed [] last after found
-    → CatchesUp found after news moment request left ⊎ IsLeftByNews after found last
-none_found after news moment request left last behind found (inl is) =
-    inl (caught after news moment request left behind found is)
-none_found after news moment request left last behind found (inr (inl none)) = absurd none
-none_found after news moment request left last behind found (inr (inr some)) = inr some
+    → CatchesUp found after newly_enrolled moment request left ⊎ IsLeftByNews after found last
+none_found after newly_enrolled moment request left last behind found (inl is) =
+    inl (caught after newly_enrolled moment request left behind found is)
+none_found after newly_enrolled moment request left last behind found (inr (inl none)) = absurd none
+none_found after newly_enrolled moment request left last behind found (inr (inr some)) = inr some
 
 -- after one connection, by what its request leaves if that isn't certain
-one_found : (x : Exchange) (after : DeskWorld) (news : List Enrolment) (moment : ℤ) (request : List ℕ)
-    (left : DeskWorld) → left ≡ caught_up after news moment request
+one_found : (x : Exchange) (after : DeskWorld) (newly_enrolled : List Enrolment) (moment : ℤ) (request : List ℕ)
+    (left : DeskWorld) → left ≡ caught_up after newly_enrolled moment request
     → ((found : Option World) → IsLeftUncertain after found x
-    → CatchesUp found after news moment request left) → (found : Option World)
+    → CatchesUp found after newly_enrolled moment request left) → (found : Option World)
     → IsFoundServed (x ∷ []) None after found
-    → CatchesUp found after news moment request left ⊎ IsLeftByNews after found None
-one_found x after news moment request left behind next found (inl is) =
-    inl (caught after news moment request left behind found is)
-one_found x after news moment request left behind next found (inr (inl (inl some))) = inl (next found some)
-one_found x after news moment request left behind next found (inr (inl (inr none))) = absurd none
-one_found x after news moment request left behind next found (inr (inr none)) = absurd none
+    → CatchesUp found after newly_enrolled moment request left ⊎ IsLeftByNews after found None
+one_found x after newly_enrolled moment request left behind next found (inl is) =
+    inl (caught after newly_enrolled moment request left behind found is)
+one_found x after newly_enrolled moment request left behind next found (inr (inl (inl some))) = inl (next found some)
+one_found x after newly_enrolled moment request left behind next found (inr (inl (inr none))) = absurd none
+one_found x after newly_enrolled moment request left behind next found (inr (inr none)) = absurd none
 
 -- a request changes no terms, and asked twice in a row it leaves what it leaves once
 on_its_terms : (w : DeskWorld) (moment : ℤ) (reading : Reading Asked)
@@ -130,7 +130,7 @@ none_ends n now s w left none same at = record {
   why = All-nil (IsUnanswered n now);
   left = s;
   plays = refl;
-  news = [];
+  newly_enrolled = [];
   moment = pos 0;
   request = [];
   behind = at.world ∙ sym same;
@@ -138,43 +138,43 @@ none_ends n now s w left none same at = record {
 }
 
 -- news are brought, and no connection is taken then
-news_end : (n : Noted) (now : Option Recorded) (news later : List Enrolment) (s : State) (w left : DeskWorld)
-    → AreEnrolments news → AreNamed news → RecordsNone (Some (Open (with_news n news))) now
-    → with_operators w news ≡ with_operators left later → IsPlayedTo s w
-    → EndsPlayed n now [] (Some news) s left
-news_end n now news later s w left small named none is at = record {
+news_end : (n : Noted) (now : Option Recorded) (newly_enrolled later : List Enrolment) (s : State) (w left : DeskWorld)
+    → AreEnrolments newly_enrolled → AreNamed newly_enrolled → RecordsNone (Some (Open (with_news n newly_enrolled))) now
+    → with_operators w newly_enrolled ≡ with_operators left later → IsPlayedTo s w
+    → EndsPlayed n now [] (Some newly_enrolled) s left
+news_end n now newly_enrolled later s w left small named none is at = record {
   whole = [];
   others = [];
   split = refl;
   few = omega arith;
-  rest = map operator_entry news;
-  m = with_news n news;
+  rest = map operator_entry newly_enrolled;
+  m = with_news n newly_enrolled;
   text_is = refl;
-  ends = ends_as (with_news n news) now none;
-  why = All-nil (IsUnanswered (with_news n news) now);
-  left = record s { world = with_operators s.world news };
-  plays = news_played s news at.begun small named;
-  news = later;
+  ends = ends_as (with_news n newly_enrolled) now none;
+  why = All-nil (IsUnanswered (with_news n newly_enrolled) now);
+  left = record s { world = with_operators s.world newly_enrolled };
+  plays = news_played s newly_enrolled at.begun small named;
+  newly_enrolled = later;
   moment = pos 0;
   request = [];
-  behind = ap (λ v. with_operators v news) at.world ∙ is;
-  finds = none_found left later (pos 0) [] (with_operators s.world news) (Some news)
-      (ap (λ v. with_operators v news) at.world ∙ is);
+  behind = ap (λ v. with_operators v newly_enrolled) at.world ∙ is;
+  finds = none_found left later (pos 0) [] (with_operators s.world newly_enrolled) (Some newly_enrolled)
+      (ap (λ v. with_operators v newly_enrolled) at.world ∙ is);
 }
 
 last_news_end : (H : Type 0) (h : H) (done : Result ⊤ ErrorCode) (n : Noted) (now : Option Recorded)
-    (news : List Enrolment) (s : State) (w left : DeskWorld) → IsLastNews H (Some news) done w left
-    → AreEnrolments news → AreNamed news → RecordsNone (Some (Open (with_news n news))) now → IsPlayedTo s w
-    → EndsPlayed n now [] (Some news) s left
-last_news_end H h (Ok d) n now news s w left last small named none at = absurd last
-last_news_end H h (Err f) n now news s w left (inl some) small named none at =
+    (newly_enrolled : List Enrolment) (s : State) (w left : DeskWorld) → IsLastNews H (Some newly_enrolled) done w left
+    → AreEnrolments newly_enrolled → AreNamed newly_enrolled → RecordsNone (Some (Open (with_news n newly_enrolled))) now → IsPlayedTo s w
+    → EndsPlayed n now [] (Some newly_enrolled) s left
+last_news_end H h (Ok d) n now newly_enrolled s w left last small named none at = absurd last
+last_news_end H h (Err f) n now newly_enrolled s w left (inl some) small named none at =
     let listed = some.1 in
-    news_end n now news (drop listed.count news) s w left small named none
-    (ap (with_operators w) (sym (take-append-drop listed.count news))
-    ∙ with_both_operators w (take listed.count news) (drop listed.count news)
-    ∙ ap (λ v. with_operators v (drop listed.count news)) (sym (listed.left h))) at
-last_news_end H h (Err f) n now news s w left (inr all) small named none at =
-    news_end n now news [] s w left small named none (sym (all_enrolled H h news w left all.1)) at
+    news_end n now newly_enrolled (drop listed.count newly_enrolled) s w left small named none
+    (ap (with_operators w) (sym (take-append-drop listed.count newly_enrolled))
+    ∙ with_both_operators w (take listed.count newly_enrolled) (drop listed.count newly_enrolled)
+    ∙ ap (λ v. with_operators v (drop listed.count newly_enrolled)) (sym (listed.left h))) at
+last_news_end H h (Err f) n now newly_enrolled s w left (inr all) small named none at =
+    news_end n now newly_enrolled [] s w left small named none (sym (all_enrolled H h newly_enrolled w left all.1)) at
 
 -- one entry more
 entry_last : (text : List ℕ) (xs : List EntryParts) (e : EntryParts)
@@ -185,32 +185,32 @@ entry_last text xs e =
 
 -- the operators of a connection are listed, and its request is asked
 abbrev listed_state : State → List Enrolment → State
-listed_state s news = record s { world = with_operators s.world news }
+listed_state s newly_enrolled = record s { world = with_operators s.world newly_enrolled }
 
-module _ (H : Type 0) (h : H) (news : List Enrolment) (moment : ℤ) (request : List ℕ) (s : State)
-    (w listed : DeskWorld) (small : AreEnrolments news) (named : AreNamed news)
-    (enrolled : AreEnrolled H news w listed) (range : IsMoment moment) (at : IsPlayedTo s w) where
-  listed_world : (listed_state s news).world ≡ listed
-  listed_world = ap (λ v. with_operators v news) at.world ∙ sym (all_enrolled H h news w listed enrolled)
+module _ (H : Type 0) (h : H) (newly_enrolled : List Enrolment) (moment : ℤ) (request : List ℕ) (s : State)
+    (w listed : DeskWorld) (small : AreEnrolments newly_enrolled) (named : AreNamed newly_enrolled)
+    (enrolled : AreEnrolled H newly_enrolled w listed) (range : IsMoment moment) (at : IsPlayedTo s w) where
+  listed_world : (listed_state s newly_enrolled).world ≡ listed
+  listed_world = ap (λ v. with_operators v newly_enrolled) at.world ∙ sym (all_enrolled H h newly_enrolled w listed enrolled)
 
-  asked_world : world_after (listed_state s news).world (pos (nat_abs moment)) (asked request)
+  asked_world : world_after (listed_state s newly_enrolled).world (pos (nat_abs moment)) (asked request)
       ≡ world_after listed moment (asked request)
-  asked_world = ap (λ m. world_after (listed_state s news).world m (asked request)) (same_second moment range)
+  asked_world = ap (λ m. world_after (listed_state s newly_enrolled).world m (asked request)) (same_second moment range)
       ∙ ap (λ v. world_after v moment (asked request)) listed_world
 
-  asked_played : played s (map operator_entry news ++ request_entry (nat_abs moment) request ∷ [])
-      ≡ Ok (asked_of (listed_state s news) (nat_abs moment) request)
-  asked_played = played_then s (listed_state s news) (map operator_entry news)
-      (request_entry (nat_abs moment) request ∷ []) (news_played s news at.begun small named)
-      ∙ played_one (listed_state s news) (asked_of (listed_state s news) (nat_abs moment) request)
+  asked_played : played s (map operator_entry newly_enrolled ++ request_entry (nat_abs moment) request ∷ [])
+      ≡ Ok (asked_of (listed_state s newly_enrolled) (nat_abs moment) request)
+  asked_played = played_then s (listed_state s newly_enrolled) (map operator_entry newly_enrolled)
+      (request_entry (nat_abs moment) request ∷ []) (news_played s newly_enrolled at.begun small named)
+      ∙ played_one (listed_state s newly_enrolled) (asked_of (listed_state s newly_enrolled) (nat_abs moment) request)
       (request_entry (nat_abs moment) request)
-      (is_asked (listed_state s news) (nat_abs moment) request at.begun at.answered (low_second moment range))
+      (is_asked (listed_state s newly_enrolled) (nat_abs moment) request at.begun at.answered (low_second moment range))
 
 -- the answer of a connection is lost: it is the last
 lost_end : (H : Type 0) (h : H) (x : Exchange) (n : Noted) (now : Option Recorded) (moment : ℤ)
-    (request : List ℕ) (s : State) (w listed left : DeskWorld) → AreEnrolments x.news → AreNamed x.news
-    → AreEnrolled H x.news w listed → IsMoment moment → IsPlayedTo s w
-    → now ≡ Some (Ended (with_request (with_news n x.news) moment request).text)
+    (request : List ℕ) (s : State) (w listed left : DeskWorld) → AreEnrolments x.newly_enrolled → AreNamed x.newly_enrolled
+    → AreEnrolled H x.newly_enrolled w listed → IsMoment moment → IsPlayedTo s w
+    → now ≡ Some (Ended (with_request (with_news n x.newly_enrolled) moment request).text)
     → IsLeft listed moment request left → Next left moment request x
     → EndsPlayed n now (x ∷ []) None s left
 lost_end H h x n now moment [] s w listed left small named enrolled range at is (inl same) next = record {
@@ -218,20 +218,20 @@ lost_end H h x n now moment [] s w listed left small named enrolled range at is 
   others = x ∷ [];
   split = refl;
   few = omega arith;
-  rest = map operator_entry x.news;
-  m = with_news n x.news;
+  rest = map operator_entry x.newly_enrolled;
+  m = with_news n x.newly_enrolled;
   text_is = refl;
   ends = inr (inl is);
-  why = All-cons (IsUnanswered (with_news n x.news) now) x [] (inl is)
-      (All-nil (IsUnanswered (with_news n x.news) now));
-  left = listed_state s x.news;
-  plays = news_played s x.news at.begun small named;
-  news = [];
+  why = All-cons (IsUnanswered (with_news n x.newly_enrolled) now) x [] (inl is)
+      (All-nil (IsUnanswered (with_news n x.newly_enrolled) now));
+  left = listed_state s x.newly_enrolled;
+  plays = news_played s x.newly_enrolled at.begun small named;
+  newly_enrolled = [];
   moment = pos 0;
   request = [];
-  behind = listed_world H h x.news moment [] s w listed small named enrolled range at ∙ sym same;
-  finds = one_found x left [] (pos 0) [] (listed_state s x.news).world
-      (listed_world H h x.news moment [] s w listed small named enrolled range at ∙ sym same)
+  behind = listed_world H h x.newly_enrolled moment [] s w listed small named enrolled range at ∙ sym same;
+  finds = one_found x left [] (pos 0) [] (listed_state s x.newly_enrolled).world
+      (listed_world H h x.newly_enrolled moment [] s w listed small named enrolled range at ∙ sym same)
       (λ found some. absurd (omega (arith, (next found some).0)));
 }
 lost_end H h x n now moment [] s w listed left small named enrolled range at is (inr one) next =
@@ -242,25 +242,25 @@ lost_end H h x n now moment (b ∷ request) s w listed left small named enrolled
       others = x ∷ [];
       split = refl;
       few = omega arith;
-      rest = map operator_entry x.news ++ request_entry (nat_abs moment) (b ∷ request) ∷ [];
-      m = with_request (with_news n x.news) moment (b ∷ request);
-      text_is = sym (entry_last n.text (map operator_entry x.news)
+      rest = map operator_entry x.newly_enrolled ++ request_entry (nat_abs moment) (b ∷ request) ∷ [];
+      m = with_request (with_news n x.newly_enrolled) moment (b ∷ request);
+      text_is = sym (entry_last n.text (map operator_entry x.newly_enrolled)
           (request_entry (nat_abs moment) (b ∷ request)));
       ends = inr (inl is);
-      why = All-cons (IsUnanswered (with_request (with_news n x.news) moment (b ∷ request)) now) x [] (inl is)
-          (All-nil (IsUnanswered (with_request (with_news n x.news) moment (b ∷ request)) now));
-      left = asked_of (listed_state s x.news) (nat_abs moment) (b ∷ request);
-      plays = asked_played H h x.news moment (b ∷ request) s w listed small named enrolled range at;
-      news = [];
+      why = All-cons (IsUnanswered (with_request (with_news n x.newly_enrolled) moment (b ∷ request)) now) x [] (inl is)
+          (All-nil (IsUnanswered (with_request (with_news n x.newly_enrolled) moment (b ∷ request)) now));
+      left = asked_of (listed_state s x.newly_enrolled) (nat_abs moment) (b ∷ request);
+      plays = asked_played H h x.newly_enrolled moment (b ∷ request) s w listed small named enrolled range at;
+      newly_enrolled = [];
       moment = moment;
       request = b ∷ request;
-      behind = asked_world H h x.news moment (b ∷ request) s w listed small named enrolled range at
+      behind = asked_world H h x.newly_enrolled moment (b ∷ request) s w listed small named enrolled range at
           ∙ ap (λ v. world_after v moment (asked (b ∷ request))) (sym same);
       finds = one_found x left [] moment (b ∷ request) _
-          (asked_world H h x.news moment (b ∷ request) s w listed small named enrolled range at
+          (asked_world H h x.newly_enrolled moment (b ∷ request) s w listed small named enrolled range at
           ∙ ap (λ v. world_after v moment (asked (b ∷ request))) (sym same))
           (again_found x left moment b request _
-          (asked_world H h x.news moment (b ∷ request) s w listed small named enrolled range at
+          (asked_world H h x.newly_enrolled moment (b ∷ request) s w listed small named enrolled range at
           ∙ ap (λ v. world_after v moment (asked (b ∷ request))) (sym same)) next);
     }
 lost_end H h x n now moment (b ∷ request) s w listed left small named enrolled range at is
@@ -269,32 +269,32 @@ lost_end H h x n now moment (b ∷ request) s w listed left small named enrolled
       others = x ∷ [];
       split = refl;
       few = omega arith;
-      rest = map operator_entry x.news ++ request_entry (nat_abs moment) (b ∷ request) ∷ [];
-      m = with_request (with_news n x.news) moment (b ∷ request);
-      text_is = sym (entry_last n.text (map operator_entry x.news)
+      rest = map operator_entry x.newly_enrolled ++ request_entry (nat_abs moment) (b ∷ request) ∷ [];
+      m = with_request (with_news n x.newly_enrolled) moment (b ∷ request);
+      text_is = sym (entry_last n.text (map operator_entry x.newly_enrolled)
           (request_entry (nat_abs moment) (b ∷ request)));
       ends = inr (inl is);
-      why = All-cons (IsUnanswered (with_request (with_news n x.news) moment (b ∷ request)) now) x [] (inl is)
-          (All-nil (IsUnanswered (with_request (with_news n x.news) moment (b ∷ request)) now));
-      left = asked_of (listed_state s x.news) (nat_abs moment) (b ∷ request);
-      plays = asked_played H h x.news moment (b ∷ request) s w listed small named enrolled range at;
-      news = [];
+      why = All-cons (IsUnanswered (with_request (with_news n x.newly_enrolled) moment (b ∷ request)) now) x [] (inl is)
+          (All-nil (IsUnanswered (with_request (with_news n x.newly_enrolled) moment (b ∷ request)) now));
+      left = asked_of (listed_state s x.newly_enrolled) (nat_abs moment) (b ∷ request);
+      plays = asked_played H h x.newly_enrolled moment (b ∷ request) s w listed small named enrolled range at;
+      newly_enrolled = [];
       moment = pos 0;
       request = [];
-      behind = asked_world H h x.news moment (b ∷ request) s w listed small named enrolled range at
+      behind = asked_world H h x.newly_enrolled moment (b ∷ request) s w listed small named enrolled range at
           ∙ sym one.1;
       finds = one_found x left [] (pos 0) [] _
-          (asked_world H h x.news moment (b ∷ request) s w listed small named enrolled range at ∙ sym one.1)
+          (asked_world H h x.newly_enrolled moment (b ∷ request) s w listed small named enrolled range at ∙ sym one.1)
           (done_found x listed left moment (b ∷ request) _
-          (asked_world H h x.news moment (b ∷ request) s w listed small named enrolled range at ∙ sym one.1)
+          (asked_world H h x.newly_enrolled moment (b ∷ request) s w listed small named enrolled range at ∙ sym one.1)
           one.1 next);
     }
 
 -- its answer says that the desk failed: it is the last
 failed_end : (H : Type 0) (h : H) (x : Exchange) (n : Noted) (now : Option Recorded) (moment : ℤ)
-    (request answer : List ℕ) (s : State) (w listed left : DeskWorld) → AreEnrolments x.news
-    → AreNamed x.news → AreEnrolled H x.news w listed → IsMoment moment → IsPlayedTo s w
-    → now ≡ Some (Open (with_answer (with_request (with_news n x.news) moment request) answer))
+    (request answer : List ℕ) (s : State) (w listed left : DeskWorld) → AreEnrolments x.newly_enrolled
+    → AreNamed x.newly_enrolled → AreEnrolled H x.newly_enrolled w listed → IsMoment moment → IsPlayedTo s w
+    → now ≡ Some (Open (with_answer (with_request (with_news n x.newly_enrolled) moment request) answer))
     → IsGivenUp listed request answer left → failure_at x.served ≢ None → Next left moment request x
     → EndsPlayed n now (x ∷ []) None s left
 failed_end H h x n now moment [] answer s w listed left small named enrolled range at is given fails next =
@@ -304,32 +304,32 @@ failed_end H h x n now moment (b ∷ request) [] s w listed left small named enr
     absurd (omega (arith, subst (λ a. 0 < length a) (sym given.reported) (some_failure given.why)))
 failed_end H h x n now moment (b ∷ request)
     (c ∷ answer) s w listed left small named enrolled range at is given fails next =
-    let m = with_answer (with_request (with_news n x.news) moment (b ∷ request)) (c ∷ answer) in
+    let m = with_answer (with_request (with_news n x.newly_enrolled) moment (b ∷ request)) (c ∷ answer) in
     let request_is = request_entry (nat_abs moment) (b ∷ request) in
     let answer_is = answer_entry (nat_abs moment) (c ∷ answer) in
-    let asked_state = asked_of (listed_state s x.news) (nat_abs moment) (b ∷ request) in
-    let taken_so = failure_taken (listed_state s x.news) (nat_abs moment) (b ∷ request) given.why at.begun in
+    let asked_state = asked_of (listed_state s x.newly_enrolled) (nat_abs moment) (b ∷ request) in
+    let taken_so = failure_taken (listed_state s x.newly_enrolled) (nat_abs moment) (b ∷ request) given.why at.begun in
     let behind_is : taken_so.0.world ≡ world_after left moment (asked (b ∷ request)) =
-    taken_so.2 ∙ asked_world H h x.news moment (b ∷ request) s w listed small named enrolled range at
+    taken_so.2 ∙ asked_world H h x.newly_enrolled moment (b ∷ request) s w listed small named enrolled range at
     ∙ ap (λ v. world_after v moment (asked (b ∷ request))) (sym given.left) in
     record {
       whole = [];
       others = x ∷ [];
       split = refl;
       few = omega arith;
-      rest = (map operator_entry x.news ++ request_is ∷ []) ++ answer_is ∷ [];
+      rest = (map operator_entry x.newly_enrolled ++ request_is ∷ []) ++ answer_is ∷ [];
       m = m;
-      text_is = sym (entry_last n.text (map operator_entry x.news ++ request_is ∷ []) answer_is
-          ∙ ap (λ v. v ++ entry answer_is) (entry_last n.text (map operator_entry x.news) request_is));
+      text_is = sym (entry_last n.text (map operator_entry x.newly_enrolled ++ request_is ∷ []) answer_is
+          ∙ ap (λ v. v ++ entry answer_is) (entry_last n.text (map operator_entry x.newly_enrolled) request_is));
       ends = inl is;
       why = All-cons (IsUnanswered m now) x [] (inr fails) (All-nil (IsUnanswered m now));
       left = taken_so.0;
-      plays = played_then s asked_state (map operator_entry x.news ++ request_is ∷ []) (answer_is ∷ [])
-          (asked_played H h x.news moment (b ∷ request) s w listed small named enrolled range at)
+      plays = played_then s asked_state (map operator_entry x.newly_enrolled ++ request_is ∷ []) (answer_is ∷ [])
+          (asked_played H h x.newly_enrolled moment (b ∷ request) s w listed small named enrolled range at)
           ∙ played_one asked_state taken_so.0 answer_is
           (subst (λ a. taken asked_state (answer_entry (nat_abs moment) a) ≡ Ok taken_so.0) (sym given.reported)
           taken_so.1);
-      news = [];
+      newly_enrolled = [];
       moment = moment;
       request = b ∷ request;
       behind = behind_is;
@@ -349,19 +349,19 @@ then_found : (x : Exchange) (xs : List Exchange) (last : Option (List Enrolment)
 then_found x xs last after found certain (inl is) = inl is
 then_found x xs last after found certain (inr (inl (inl some))) = absurd (some.0 certain)
 then_found x xs last after found certain (inr (inl (inr more))) = inr (inl more)
-then_found x xs last after found certain (inr (inr news)) = inr (inr news)
+then_found x xs last after found certain (inr (inr newly_enrolled)) = inr (inr newly_enrolled)
 
 then_ends : (x : Exchange) (xs : List Exchange) (last : Option (List Enrolment)) (n k : Noted)
     (now : Option Recorded) (s : State) (v left : DeskWorld) → IsCertain x.served
-    → AddsPlayed n k.text (map operator_entry x.news
+    → AddsPlayed n k.text (map operator_entry x.newly_enrolled
     ++ pair_of x.arrival.moment (known x.arrival.bytes) (known x.parting.sent)) s v
     → ((t : State) → IsPlayedTo t v → EndsPlayed k now xs last t left)
     → EndsPlayed n now (x ∷ xs) last s left
 then_ends x xs last n k now s v left certain first then =
     let more = then first.left first.now in
     let pair = pair_of x.arrival.moment (known x.arrival.bytes) (known x.parting.sent) in
-    let front = map operator_entry x.news ++ pair in
-    let same = parts_then (map operator_entry x.news) pair (entries_of more.whole) more.rest in
+    let front = map operator_entry x.newly_enrolled ++ pair in
+    let same = parts_then (map operator_entry x.newly_enrolled) pair (entries_of more.whole) more.rest in
     record {
       whole = x ∷ more.whole;
       others = more.others;
@@ -378,7 +378,7 @@ then_ends x xs last n k now s v left certain first then =
       left = more.left;
       plays = ap (played s) same
           ∙ played_then s first.left front (entries_of more.whole ++ more.rest) first.plays ∙ more.plays;
-      news = more.news;
+      newly_enrolled = more.newly_enrolled;
       moment = more.moment;
       request = more.request;
       behind = more.behind;
@@ -416,27 +416,27 @@ only_last (Err f) count xs last ends = by xs ends
 lost_last : (text : List ℕ) (xs : List Exchange) (last : Option (List Enrolment)) (now : Option Recorded)
     → AreNoted (Some (Ended text)) xs last now → (xs ≡ []) × (last ≡ None) × (now ≡ Some (Ended text))
 lost_last text [] None now noted = (refl, refl, noted)
-lost_last text [] (Some news) now noted = absurd noted.1
-lost_last text (x ∷ xs) last now noted = absurd noted.3.news
+lost_last text [] (Some newly_enrolled) now noted = absurd noted.1
+lost_last text (x ∷ xs) last now noted = absurd noted.3.newly_enrolled
 
 last_left : (H : Type 0) (done : Result ⊤ ErrorCode) (xs : List Exchange) (last : Option (List Enrolment))
     (v between left : DeskWorld) → xs ≡ [] → last ≡ None → AreServed H xs v between
     → IsLastNews H last done between left → left ≡ v
 last_left H done [] None v between left empty without served is = is ∙ served
-last_left H done [] (Some news) v between left empty without served is = cc
+last_left H done [] (Some newly_enrolled) v between left empty without served is = cc
 last_left H done (x ∷ xs) last v between left empty without served is = cc
 
 module _ (H : Type 0) (h : H) (Ends : (request rest : List ℕ) → IsRequest request
     → request_len (request ++ rest) ≡ Some (length request)) where
   one_ends : (x : Exchange) (xs : List Exchange) (last : Option (List Enrolment)) (done : Result ⊤ ErrorCode)
       (n : Noted) (answered now : Option Recorded) (s : State) (w listed v between left : DeskWorld)
-      (request : List ℕ) → AreEnrolments x.news → AreNamed x.news → AreEnrolled H x.news w listed
+      (request : List ℕ) → AreEnrolments x.newly_enrolled → AreNamed x.newly_enrolled → AreEnrolled H x.newly_enrolled w listed
       → IsMoment x.arrival.moment → (0 < length request → IsRequest request)
       → x.arrival.bytes ≡ Some request → x.out ≡ Some [] → x.parting.outcome ≡ outcome_of x.served
       → HasServed H x.served (passage_of x) listed x.arrival.moment v
-      → IsAnswerRecorded (with_request (with_news n x.news) x.arrival.moment request) answered x.parting.sent
+      → IsAnswerRecorded (with_request (with_news n x.newly_enrolled) x.arrival.moment request) answered x.parting.sent
       x.parting.outcome.is_answered
-      ⊎ (answered ≡ Some (Ended (with_request (with_news n x.news) x.arrival.moment request).text))
+      ⊎ (answered ≡ Some (Ended (with_request (with_news n x.newly_enrolled) x.arrival.moment request).text))
       → IfSome answered (λ recorded. failure_at x.served ≢ None → now ≡ answered)
       → AreNoted answered xs last now → OnlyLast (x ∷ xs) last → AreServed H xs v between
       → IsLastNews H last done between left
@@ -445,16 +445,16 @@ module _ (H : Type 0) (h : H) (Ends : (request rest : List ℕ) → IsRequest re
       → IsPlayedTo s w → EndsPlayed n now (x ∷ xs) last s left
   one_ends x xs last done n answered now s w listed v between left request small named enrolled range whole
       bytes out reported served (inl a) stays noted (inl on) others is rest at =
-      let first = with_news n x.news in
+      let first = with_news n x.newly_enrolled in
       let then = with_answer (with_request first x.arrival.moment request) a.answer in
       then_ends x xs last n then now s v left (is_certain x.served on.0 (reported_whole x reported a.whole))
-      (subst (λ b. AddsPlayed n then.text (map operator_entry x.news
+      (subst (λ b. AddsPlayed n then.text (map operator_entry x.newly_enrolled
       ++ pair_of x.arrival.moment (known b) (known x.parting.sent)) s v) (sym bytes)
-      (subst (λ c. AddsPlayed n then.text (map operator_entry x.news
+      (subst (λ c. AddsPlayed n then.text (map operator_entry x.newly_enrolled
       ++ pair_of x.arrival.moment request (known c)) s v) (sym a.known)
-      (both_played n first then (map operator_entry x.news)
+      (both_played n first then (map operator_entry x.newly_enrolled)
       (pair_of x.arrival.moment request a.answer) s listed v
-      (news_added H h n x.news s w listed small named enrolled at)
+      (news_added H h n x.newly_enrolled s w listed small named enrolled at)
       (λ t here. pair_added first x.arrival.moment request a.answer t listed v range
       (are_asked H h Ends x.served request a.answer x.parting.unread listed x.arrival.moment v on.0
       (reported_whole x reported a.whole) whole
@@ -475,7 +475,7 @@ module _ (H : Type 0) (h : H) (Ends : (request rest : List ℕ) → IsRequest re
       (left_next Ends x request left bytes whole)))
   one_ends x xs last done n answered now s w listed v between left request small named enrolled range whole
       bytes out reported served (inr lost) stays noted only others is rest at =
-      let end = lost_last (with_request (with_news n x.news) x.arrival.moment request).text xs last now
+      let end = lost_last (with_request (with_news n x.newly_enrolled) x.arrival.moment request).text xs last now
       (subst (λ r. AreNoted r xs last now) lost noted) in
       let same : left ≡ v = last_left H done xs last v between left end.0 end.1 others is in
       subst (λ ys. EndsPlayed n now (x ∷ ys) last s left) (sym end.0)
@@ -493,17 +493,17 @@ module _ (H : Type 0) (h : H) (Ends : (request rest : List ℕ) → IsRequest re
       → EndsPlayed n now xs last s left
   all_end [] None done n now s w between left noted served is only reported at =
       none_ends n now s w left noted (is ∙ served) at
-  all_end [] (Some news) done n now s w between left noted served is only reported at =
-      last_news_end H h done n now news s w left
-      (subst (λ v. IsLastNews H (Some news) done v left) served is) noted.1.0 noted.1.1
+  all_end [] (Some newly_enrolled) done n now s w between left noted served is only reported at =
+      last_news_end H h done n now newly_enrolled s w left
+      (subst (λ v. IsLastNews H (Some newly_enrolled) done v left) served is) noted.1.0 noted.1.1
       (subst (λ r. RecordsNone r now) noted.1.2 noted.2) at
   all_end (x ∷ xs) last done n now s w between left noted served is only reported at =
-      let news = noted.3.news in
-      let request : IsRecorded (with_news n x.news) noted.1 x.arrival.moment x.arrival.bytes =
-      subst (λ r. RecordsRequest r noted.1 x.arrival.moment x.arrival.bytes) news.2 noted.3.request in
-      one_ends x xs last done n noted.2 now s w served.0 served.1 between left request.request news.0 news.1
+      let newly_enrolled = noted.3.newly_enrolled in
+      let request : IsRecorded (with_news n x.newly_enrolled) noted.1 x.arrival.moment x.arrival.bytes =
+      subst (λ r. RecordsRequest r noted.1 x.arrival.moment x.arrival.bytes) newly_enrolled.2 noted.3.request in
+      one_ends x xs last done n noted.2 now s w served.0 served.1 between left request.request newly_enrolled.0 newly_enrolled.1
       served.2 request.range request.whole request.known
-      (subst (λ r. IfSome r (λ _. x.out ≡ Some [])) news.2 noted.3.unsent)
+      (subst (λ r. IfSome r (λ _. x.out ≡ Some [])) newly_enrolled.2 noted.3.unsent)
       (All-head (λ x. x.parting.outcome ≡ outcome_of x.served) x xs reported) served.3
       (subst (λ r. RecordsAnswer r noted.2 x.parting.sent x.parting.outcome.is_answered) request.added
       noted.3.answer) noted.4 noted.5 only served.4 is

@@ -118,8 +118,8 @@ pair_added n moment (b ∷ request) answer s w left range (inr one) now =
 not_opened : (text : List ℕ) (xs : List Exchange) (last : Option (List Enrolment)) (m : Noted)
     → AreNoted (Some (Ended text)) xs last (Some (Open m)) → ⊥
 not_opened text [] None m noted = cc
-not_opened text [] (Some news) m noted = noted.1
-not_opened text (x ∷ xs) last m noted = noted.3.news
+not_opened text [] (Some newly_enrolled) m noted = noted.1
+not_opened text (x ∷ xs) last m noted = noted.3.newly_enrolled
 
 -- what was recorded stays known
 abbrev IsKnown : Option Recorded → Type 0
@@ -130,12 +130,12 @@ stays_known : (xs : List Exchange) (r : Recorded) (now : Option Recorded) → Ar
 stays_known [] (Ended text) now same = (Ended text, same)
 stays_known [] (Open n) now (inl same) = (Open n, same)
 stays_known [] (Open n) now (inr cut) =
-    (Ended (with_request (with_news n cut.news) cut.moment cut.request).text, cut.ended)
-stays_known (x ∷ xs) (Ended text) now noted = absurd noted.3.news
+    (Ended (with_request (with_news n cut.newly_enrolled) cut.moment cut.request).text, cut.ended)
+stays_known (x ∷ xs) (Ended text) now noted = absurd noted.3.newly_enrolled
 stays_known (x ∷ xs) (Open n) now noted =
-    let asked : IsRecorded (with_news n x.news) noted.1 x.arrival.moment x.arrival.bytes =
-    subst (λ r. RecordsRequest r noted.1 x.arrival.moment x.arrival.bytes) noted.3.news.2 noted.3.request in
-    by (with_request (with_news n x.news) x.arrival.moment asked.request) (subst (λ r. RecordsAnswer r noted.2
+    let asked : IsRecorded (with_news n x.newly_enrolled) noted.1 x.arrival.moment x.arrival.bytes =
+    subst (λ r. RecordsRequest r noted.1 x.arrival.moment x.arrival.bytes) noted.3.newly_enrolled.2 noted.3.request in
+    by (with_request (with_news n x.newly_enrolled) x.arrival.moment asked.request) (subst (λ r. RecordsAnswer r noted.2
     x.parting.sent x.parting.outcome.is_answered) asked.added noted.3.answer)
     (λ r is. stays_known xs r now (subst (λ v. AreNoted v xs None now) is noted.5)) where
       by : (k : Noted) → IsAnswerRecorded k noted.2 x.parting.sent x.parting.outcome.is_answered
@@ -160,7 +160,7 @@ reported_whole x reported whole = sym (ap (λ o. o.is_answered) reported) ∙ wh
 none_last : (H : Type 0) (last : Option (List Enrolment)) (w left : DeskWorld)
     → IsLastNews {A = ⊤} H last (Ok tt) w left → (last ≡ None) × (left ≡ w)
 none_last H None w left is = (refl, is)
-none_last H (Some news) w left is = absurd is
+none_last H (Some newly_enrolled) w left is = absurd is
 
 module _ (H : Type 0) (h : H) (Ends : (request rest : List ℕ) → IsRequest request
     → request_len (request ++ rest) ≡ Some (length request)) where
@@ -180,29 +180,29 @@ module _ (H : Type 0) (h : H) (Ends : (request rest : List ℕ) → IsRequest re
 
   -- one connection, and then others
   one_then : (x : Exchange) (xs : List Exchange) (n m : Noted) (s : State) (w listed between left : DeskWorld)
-      (answered : Option Recorded) (request : List ℕ) → AreEnrolments x.news → AreNamed x.news
-      → AreEnrolled H x.news w listed → IsMoment x.arrival.moment → (0 < length request → IsRequest request)
+      (answered : Option Recorded) (request : List ℕ) → AreEnrolments x.newly_enrolled → AreNamed x.newly_enrolled
+      → AreEnrolled H x.newly_enrolled w listed → IsMoment x.arrival.moment → (0 < length request → IsRequest request)
       → x.arrival.bytes ≡ Some request → x.out ≡ Some [] → failure_at x.served ≡ None
       → x.parting.outcome ≡ outcome_of x.served
       → HasServed H x.served (passage_of x) listed x.arrival.moment between
-      → IsAnswerRecorded (with_request (with_news n x.news) x.arrival.moment request) answered x.parting.sent
+      → IsAnswerRecorded (with_request (with_news n x.newly_enrolled) x.arrival.moment request) answered x.parting.sent
       x.parting.outcome.is_answered
-      ⊎ (answered ≡ Some (Ended (with_request (with_news n x.news) x.arrival.moment request).text))
+      ⊎ (answered ≡ Some (Ended (with_request (with_news n x.newly_enrolled) x.arrival.moment request).text))
       → AreNoted answered xs None (Some (Open m))
       → ((k : Noted) (t : State) → AreNoted (Some (Open k)) xs None (Some (Open m)) → IsPlayedTo t between
       → AddsPlayed k m.text (entries_of xs) t left)
       → IsPlayedTo s w → AddsPlayed n m.text (entries_of (x ∷ xs)) s left
   one_then x xs n m s w listed between left answered request small named enrolled range whole bytes out none
       reported served (inl a) noted rest now =
-      let first = with_news n x.news in
+      let first = with_news n x.newly_enrolled in
       let then = with_answer (with_request first x.arrival.moment request) a.answer in
-      subst (λ b. AddsPlayed n m.text (map operator_entry x.news
+      subst (λ b. AddsPlayed n m.text (map operator_entry x.newly_enrolled
       ++ (pair_of x.arrival.moment (known b) (known x.parting.sent) ++ entries_of xs)) s left) (sym bytes)
-      (subst (λ v. AddsPlayed n m.text (map operator_entry x.news
+      (subst (λ v. AddsPlayed n m.text (map operator_entry x.newly_enrolled
       ++ (pair_of x.arrival.moment request (known v) ++ entries_of xs)) s left) (sym a.known)
-      (both_played n first m (map operator_entry x.news)
+      (both_played n first m (map operator_entry x.newly_enrolled)
       (pair_of x.arrival.moment request a.answer ++ entries_of xs) s listed left
-      (news_added H h n x.news s w listed small named enrolled now)
+      (news_added H h n x.newly_enrolled s w listed small named enrolled now)
       (λ t at. both_played first then m (pair_of x.arrival.moment request a.answer) (entries_of xs) t between
       left (pair_added first x.arrival.moment request a.answer t listed between range
       (are_asked H h Ends x.served request a.answer x.parting.unread listed x.arrival.moment between none
@@ -211,7 +211,7 @@ module _ (H : Type 0) (h : H) (Ends : (request rest : List ℕ) → IsRequest re
       (λ u here. rest then u (subst (λ r. AreNoted r xs None (Some (Open m))) a.added noted) here))))
   one_then x xs n m s w listed between left answered request small named enrolled range whole bytes out none
       reported served (inr ended) noted rest now =
-      absurd (not_opened (with_request (with_news n x.news) x.arrival.moment request).text xs None m
+      absurd (not_opened (with_request (with_news n x.newly_enrolled) x.arrival.moment request).text xs None m
       (subst (λ r. AreNoted r xs None (Some (Open m))) ended noted))
 
   pub all_added : (xs : List Exchange) (n m : Noted) (s : State) (w left : DeskWorld)
@@ -222,15 +222,15 @@ module _ (H : Type 0) (h : H) (Ends : (request rest : List ℕ) → IsRequest re
       none_played n m s w left (same_open n m same) served now
   all_added [] n m s w left (inr cut) served none reported now =
       let never : Some (Open m) ≡ Some (Ended (with_request
-      (with_news n cut.news) cut.moment cut.request).text)
+      (with_news n cut.newly_enrolled) cut.moment cut.request).text)
       = cut.ended in cc
   all_added (x ∷ xs) n m s w left noted served none reported now =
-      let news = noted.3.news in
-      let request : IsRecorded (with_news n x.news) noted.1 x.arrival.moment x.arrival.bytes =
-      subst (λ r. RecordsRequest r noted.1 x.arrival.moment x.arrival.bytes) news.2 noted.3.request in
-      one_then x xs n m s w served.0 served.1 left noted.2 request.request news.0 news.1 served.2
+      let newly_enrolled = noted.3.newly_enrolled in
+      let request : IsRecorded (with_news n x.newly_enrolled) noted.1 x.arrival.moment x.arrival.bytes =
+      subst (λ r. RecordsRequest r noted.1 x.arrival.moment x.arrival.bytes) newly_enrolled.2 noted.3.request in
+      one_then x xs n m s w served.0 served.1 left noted.2 request.request newly_enrolled.0 newly_enrolled.1 served.2
       request.range
-      request.whole request.known (subst (λ r. IfSome r (λ _. x.out ≡ Some [])) news.2 noted.3.unsent)
+      request.whole request.known (subst (λ r. IfSome r (λ _. x.out ≡ Some [])) newly_enrolled.2 noted.3.unsent)
       (All-head (λ x. failure_at x.served ≡ None) x xs none)
       (All-head (λ x. x.parting.outcome ≡ outcome_of x.served) x xs reported) served.3
       (subst (λ r. RecordsAnswer r noted.2 x.parting.sent x.parting.outcome.is_answered) request.added

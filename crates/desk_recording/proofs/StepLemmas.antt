@@ -16,7 +16,7 @@ use Rattle.desk_recording.specs.Reporting.{recorded_by}
 news_and : (steps : List Step) (step : Step)
     → news_in (steps ++ step ∷ []) ≡ news_in steps ++ news_in (step ∷ [])
 news_and [] step = refl
-news_and (Enrolled news ∷ steps) step = ap (λ rest. news ∷ rest) (news_and steps step)
+news_and (Enrolled newly_enrolled ∷ steps) step = ap (λ rest. newly_enrolled ∷ rest) (news_and steps step)
 news_and (Asked moment bytes ∷ steps) step = news_and steps step
 news_and (Answered parting ∷ steps) step = news_and steps step
 news_and (Lost parting ∷ steps) step = news_and steps step
@@ -24,7 +24,7 @@ news_and (Lost parting ∷ steps) step = news_and steps step
 arrivals_and : (steps : List Step) (step : Step)
     → arrivals_in (steps ++ step ∷ []) ≡ arrivals_in steps ++ arrivals_in (step ∷ [])
 arrivals_and [] step = refl
-arrivals_and (Enrolled news ∷ steps) step = arrivals_and steps step
+arrivals_and (Enrolled newly_enrolled ∷ steps) step = arrivals_and steps step
 arrivals_and (Asked moment bytes ∷ steps) step =
     ap (λ rest. arrived moment (Some bytes) ∷ rest) (arrivals_and steps step)
 arrivals_and (Answered parting ∷ steps) step = arrivals_and steps step
@@ -33,7 +33,7 @@ arrivals_and (Lost parting ∷ steps) step = arrivals_and steps step
 partings_and : (steps : List Step) (step : Step)
     → partings_in (steps ++ step ∷ []) ≡ partings_in steps ++ partings_in (step ∷ [])
 partings_and [] step = refl
-partings_and (Enrolled news ∷ steps) step = partings_and steps step
+partings_and (Enrolled newly_enrolled ∷ steps) step = partings_and steps step
 partings_and (Asked moment bytes ∷ steps) step = partings_and steps step
 partings_and (Answered parting ∷ steps) step = ap (λ rest. parting ∷ rest) (partings_and steps step)
 partings_and (Lost parting ∷ steps) step = ap (λ rest. parting ∷ rest) (partings_and steps step)
@@ -46,28 +46,28 @@ ends_with None text is = cc
 ends_with (Some n) text is = ap (λ t. option_map Ended t) is
 
 -- news are noted, or aren't
-records_news : (noted now : Option Noted) (news : List Enrolment)
-    → NotesOnDisk noted now true (λ n. with_news n news) → AreEnrolments news
-    → IfSome noted (λ n. AreNamed news)
-    → RecordsNews (recorded_by false noted) (recorded_by false now) news
-records_news None now news is small named = tt
-records_news (Some n) now news is small named = (small, named, ap (λ v. recorded_by false v) is)
+records_news : (noted now : Option Noted) (newly_enrolled : List Enrolment)
+    → NotesOnDisk noted now true (λ n. with_news n newly_enrolled) → AreEnrolments newly_enrolled
+    → IfSome noted (λ n. AreNamed newly_enrolled)
+    → RecordsNews (recorded_by false noted) (recorded_by false now) newly_enrolled
+records_news None now newly_enrolled is small named = tt
+records_news (Some n) now newly_enrolled is small named = (small, named, ap (λ v. recorded_by false v) is)
 
-cut_news : (noted now : Option Noted) (news : List Enrolment)
-    → NotesOnDisk noted now false (λ n. with_news n news)
+cut_news : (noted now : Option Noted) (newly_enrolled : List Enrolment)
+    → NotesOnDisk noted now false (λ n. with_news n newly_enrolled)
     → RecordsNone (recorded_by false noted) (recorded_by true now)
-cut_news None now news is = tt
-cut_news (Some n) now news (inl is) = inr (record {
-  news = [];
+cut_news None now newly_enrolled is = tt
+cut_news (Some n) now newly_enrolled (inl is) = inr (record {
+  newly_enrolled = [];
   moment = pos 0;
   request = [];
   ended = ends_with now n.text is ∙ ap (λ t. Some (Ended t)) (sym (append-nil n.text));
 })
-cut_news (Some n) now news (inr is) = inr (record {
-  news = news;
+cut_news (Some n) now newly_enrolled (inr is) = inr (record {
+  newly_enrolled = newly_enrolled;
   moment = pos 0;
   request = [];
-  ended = ends_with now (with_news n news).text is;
+  ended = ends_with now (with_news n newly_enrolled).text is;
 })
 
 -- a request is noted, or isn't
@@ -95,13 +95,13 @@ cut_request : (noted now : Option Noted) (moment : ℤ) (request : List ℕ)
     → RecordsNone (recorded_by false noted) (recorded_by true now)
 cut_request None now moment request is = tt
 cut_request (Some n) now moment request (inl is) = inr (record {
-  news = [];
+  newly_enrolled = [];
   moment = moment;
   request = [];
   ended = ends_with now n.text is ∙ ap (λ t. Some (Ended t)) (sym (append-nil n.text));
 })
 cut_request (Some n) now moment request (inr is) = inr (record {
-  news = [];
+  newly_enrolled = [];
   moment = moment;
   request = request;
   ended = ends_with now (with_request n moment request).text is
@@ -136,22 +136,22 @@ is_open (Some steps) None = tt
 is_open (Some steps) (Some n) = tt
 
 -- enrolments are brought
-pub brings_news : (old new : Option (List Step)) (noted now : Option Noted) (news : List Enrolment)
-    → AddsStep old new (Enrolled news) → NotesOnDisk noted now true (λ n. with_news n news)
-    → AreEnrolments news
-    → IfSome noted (λ n. AreNamed news)
-    → BringsNews (traffic_of old (recorded_by false noted)) (traffic_of new (recorded_by false now)) news
-brings_news None new noted now news is noting small named =
+pub brings_news : (old new : Option (List Step)) (noted now : Option Noted) (newly_enrolled : List Enrolment)
+    → AddsStep old new (Enrolled newly_enrolled) → NotesOnDisk noted now true (λ n. with_news n newly_enrolled)
+    → AreEnrolments newly_enrolled
+    → IfSome noted (λ n. AreNamed newly_enrolled)
+    → BringsNews (traffic_of old (recorded_by false noted)) (traffic_of new (recorded_by false now)) newly_enrolled
+brings_news None new noted now newly_enrolled is noting small named =
     subst (λ s. BringsNews (traffic_of None (recorded_by false noted)) (traffic_of s (recorded_by false now))
-    news) (sym is) (tt, refl, refl, refl, records_news noted now news noting small named)
-brings_news (Some steps) new noted now news is noting small named =
+    newly_enrolled) (sym is) (tt, refl, refl, refl, records_news noted now newly_enrolled noting small named)
+brings_news (Some steps) new noted now newly_enrolled is noting small named =
     subst (λ s. BringsNews (traffic_of (Some steps) (recorded_by false noted))
-    (traffic_of s (recorded_by false now)) news) (sym is) (
-      news_and steps (Enrolled news),
-      ap Some (arrivals_and steps (Enrolled news) ∙ append-nil (arrivals_in steps)),
-      ap Some (partings_and steps (Enrolled news) ∙ append-nil (partings_in steps)),
+    (traffic_of s (recorded_by false now)) newly_enrolled) (sym is) (
+      news_and steps (Enrolled newly_enrolled),
+      ap Some (arrivals_and steps (Enrolled newly_enrolled) ∙ append-nil (arrivals_in steps)),
+      ap Some (partings_and steps (Enrolled newly_enrolled) ∙ append-nil (partings_in steps)),
       refl,
-      records_news noted now news noting small named,
+      records_news noted now newly_enrolled noting small named,
     )
 
 -- nothing is brought or taken
@@ -164,10 +164,10 @@ denies (Some steps) new recorded after same none =
     subst (λ s. Denies (traffic_of (Some steps) recorded) (traffic_of s after)) (sym same)
     (refl, refl, refl, refl, none)
 
-pub no_news : (old new : Option (List Step)) (noted now : Option Noted) (news : List Enrolment) → new ≡ old
-    → NotesOnDisk noted now false (λ n. with_news n news)
+pub no_news : (old new : Option (List Step)) (noted now : Option Noted) (newly_enrolled : List Enrolment) → new ≡ old
+    → NotesOnDisk noted now false (λ n. with_news n newly_enrolled)
     → Denies (traffic_of old (recorded_by false noted)) (traffic_of new (recorded_by true now))
-no_news old new noted now news same noting = denies old new _ _ same (cut_news noted now news noting)
+no_news old new noted now newly_enrolled same noting = denies old new _ _ same (cut_news noted now newly_enrolled noting)
 
 pub none_taken : (old new : Option (List Step)) (noted now : Option Noted) (moment : ℤ) (request : List ℕ)
     → new ≡ old → NotesOnDisk noted now false (λ n. with_request n moment request)

@@ -24,7 +24,7 @@ use Rattle.desk_program.specs.PortPlays.{IsInputKept, IsInputPlayed}
 use Rattle.desk_program.specs.Serving.{Traffic}
 use Rattle.desk_recording.specs.Reporting.{reported_of}
 use Rattle.desk_recording.specs.declared.inputs.InputEnd.{InputEnd}
-use Rattle.desk_recording.specs.declared.inputs.InputEnd.TheVariants.{AtEnd, CutShort, Unread, OutOfMemory, Unframed, Unwritten}
+use Rattle.desk_recording.specs.declared.inputs.InputEnd.TheVariants.{AtEnd, CutShort, Unread, OutOfMemory, Unframed, AppendError}
 use Rattle.desk_recording.specs.declared.inputs.InputPort.{InputPort}
 use Rattle.desk_recording.specs.declared.port.RecordedPort.{RecordedPort}
 use Rattle.desk_recording.specs.declared.record.Record.{Ghosts}
@@ -37,7 +37,7 @@ HandsOutNone unframed left CutShort = (unframed ≡ false) × IfSome left IsCut
 HandsOutNone unframed left (Unread unread) = unframed ≡ false
 HandsOutNone unframed left OutOfMemory = unframed ≡ false
 HandsOutNone unframed left Unframed = unframed ≡ true
-HandsOutNone unframed left (Unwritten cut) = ⊥
+HandsOutNone unframed left (AppendError cut) = ⊥
 
 -- how a line ends by why an input hands out no more
 abbrev pub reported_as : {R W : Type 0} → InputEnd R W → Result ⊤ ErrorCode
@@ -46,11 +46,11 @@ reported_as CutShort = Err failure.CutShort
 reported_as (Unread unread) = Err failure.Read
 reported_as OutOfMemory = Err failure.Memory
 reported_as Unframed = Err failure.Unframed
-reported_as (Unwritten cut) = Err failure.Write
+reported_as (AppendError cut) = Err failure.Write
 
 -- an input ends since its output broke off inside an answer
 abbrev pub IsUnwritten : {R W : Type 0} → List ℕ → Course (Option (List ℕ)) → InputEnd R W → Type 0
-IsUnwritten answer writes (Unwritten cut) = BreaksOff answer writes.before writes.after cut.fault
+IsUnwritten answer writes (AppendError cut) = BreaksOff answer writes.before writes.after cut.fault
 IsUnwritten answer writes _ = ⊥
 
 -- an answer is written, and the input has ended if it had; or it breaks off, and so the input ends

@@ -27,7 +27,7 @@ pair_of moment (b ∷ request) answer =
 -- the enrolments of connections, their requests, and their answers
 abbrev pub entries_of : List Exchange → List EntryParts
 entries_of [] = []
-entries_of (x ∷ xs) = map operator_entry x.news
+entries_of (x ∷ xs) = map operator_entry x.newly_enrolled
     ++ (pair_of x.arrival.moment (known x.arrival.bytes) (known x.parting.sent) ++ entries_of xs)
 
 -- records were played up to this world: one has begun, and its requests are answered
@@ -53,8 +53,8 @@ pub record AddsOpen (n : Noted) (now : Option Recorded) (added : List EntryParts
 
 -- the world in which operators are listed, and then a request is answered, if there is one
 abbrev pub caught_up : DeskWorld → List Enrolment → ℤ → List ℕ → DeskWorld
-caught_up w news moment [] = with_operators w news
-caught_up w news moment (b ∷ request) = world_after (with_operators w news) moment (asked (b ∷ request))
+caught_up w newly_enrolled moment [] = with_operators w newly_enrolled
+caught_up w newly_enrolled moment (b ∷ request) = world_after (with_operators w newly_enrolled) moment (asked (b ∷ request))
 
 -- a record is open with this text; or it has ended with it, or with what was not carried out behind it
 abbrev pub EndsAs : Noted → Option Recorded → Type 0
@@ -65,11 +65,11 @@ abbrev pub IsUnanswered : Noted → Option Recorded → Exchange → Type 0
 IsUnanswered m now x = (now ≡ Some (Ended m.text)) ⊎ (failure_at x.served ≢ None)
 
 -- a desk that begins with what is found, on the same terms, leaves this once it has caught up
-pub record CatchesUp (found : Option World) (after : DeskWorld) (news : List Enrolment) (moment : ℤ)
+pub record CatchesUp (found : Option World) (after : DeskWorld) (newly_enrolled : List Enrolment) (moment : ℤ)
     (request : List ℕ) (left : DeskWorld) : Type 0 where
   pub content : World
   pub is : found ≡ Some content
-  pub behind : left ≡ caught_up (with_content after.terms content) news moment request
+  pub behind : left ≡ caught_up (with_content after.terms content) newly_enrolled moment request
 
 -- however a run of connections ended: all but the last of them are added, and of the last whatever it got to.
 -- That differs nowhere, and leaves what the run left, once it has caught up with what is written there
@@ -86,16 +86,16 @@ pub record EndsPlayed (n : Noted) (now : Option Recorded) (xs : List Exchange)
   pub why : All (IsUnanswered m now) others
   pub left : State
   pub plays : played s (entries_of whole ++ rest) ≡ Ok left
-  pub news : List Enrolment
+  pub newly_enrolled : List Enrolment
   pub moment : ℤ
   pub request : List ℕ
-  pub behind : left.world ≡ caught_up after news moment request
+  pub behind : left.world ≡ caught_up after newly_enrolled moment request
   pub finds : (found : Option World) → IsFoundServed xs last after found
-      → CatchesUp found after news moment request left.world ⊎ IsLeftByNews after found last
+      → CatchesUp found after newly_enrolled moment request left.world ⊎ IsLeftByNews after found last
 
 -- and so does a desk that begins with what is found then; or of the last news an operator could not be listed
 pub record EndsFound (n : Noted) (now : Option Recorded) (xs : List Exchange) (last : Option (List Enrolment))
     (s : State) (after : DeskWorld) (found : Option World) : Type 0 where
   pub ended : EndsPlayed n now xs last s after
-  pub finds : CatchesUp found after ended.news ended.moment ended.request ended.left.world
+  pub finds : CatchesUp found after ended.newly_enrolled ended.moment ended.request ended.left.world
       ⊎ IsLeftByNews after found last

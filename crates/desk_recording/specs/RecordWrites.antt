@@ -3,8 +3,8 @@ use Rattle.std.specs.Prelude.{◌≡◌, ◌⊎◌, ⊤, ℕ, Bool, true, false,
 use Rattle.desk_cli.specs.declared.line.Enrolment.{Enrolment}
 use Rattle.desk_record.specs.Record.{EntryParts, entries, entry}
 use Rattle.desk_program.specs.Recorded.{Noted, answer_entry, operator_entry, request_entry}
-use Rattle.desk_recording.specs.declared.journal.Unwritten.{Unwritten}
-use Rattle.desk_recording.specs.declared.journal.Unwritten.TheVariants.{Journal, OutOfMemory}
+use Rattle.desk_recording.specs.declared.journal.AppendError.{AppendError}
+use Rattle.desk_recording.specs.declared.journal.AppendError.TheVariants.{Journal, OutOfMemory}
 
 -- bytes are appended; all that was appended is on the disk; or what was asked is not done
 pub data Write : Type 0 where
@@ -32,7 +32,7 @@ MakesWrite old new true write = FollowsWrites old new (write ∷ [])
 MakesWrite old new false write = FollowsWrites old new (Failed ∷ [])
 
 -- the journal itself failed
-abbrev pub IsOfJournal : {F : Type 0} → Unwritten F → Type 0
+abbrev pub IsOfJournal : {F : Type 0} → AppendError F → Type 0
 IsOfJournal OutOfMemory = ⊥
 IsOfJournal (Journal fault) = ⊤
 

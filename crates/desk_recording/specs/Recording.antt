@@ -34,21 +34,21 @@ AddsIf old new false step = new ≡ old
 -- the news, the connections that were taken, and those that were closed, of these steps
 abbrev pub news_in : List Step → List (List Enrolment)
 news_in [] = []
-news_in (Enrolled news ∷ steps) = news ∷ news_in steps
+news_in (Enrolled newly_enrolled ∷ steps) = newly_enrolled ∷ news_in steps
 news_in (Asked moment bytes ∷ steps) = news_in steps
 news_in (Answered parting ∷ steps) = news_in steps
 news_in (Lost parting ∷ steps) = news_in steps
 
 abbrev pub arrivals_in : List Step → List Arrival
 arrivals_in [] = []
-arrivals_in (Enrolled news ∷ steps) = arrivals_in steps
+arrivals_in (Enrolled newly_enrolled ∷ steps) = arrivals_in steps
 arrivals_in (Asked moment bytes ∷ steps) = arrived moment (Some bytes) ∷ arrivals_in steps
 arrivals_in (Answered parting ∷ steps) = arrivals_in steps
 arrivals_in (Lost parting ∷ steps) = arrivals_in steps
 
 abbrev pub partings_in : List Step → List Parting
 partings_in [] = []
-partings_in (Enrolled news ∷ steps) = partings_in steps
+partings_in (Enrolled newly_enrolled ∷ steps) = partings_in steps
 partings_in (Asked moment bytes ∷ steps) = partings_in steps
 partings_in (Answered parting ∷ steps) = parting ∷ partings_in steps
 partings_in (Lost parting ∷ steps) = parting ∷ partings_in steps
@@ -60,7 +60,7 @@ traffic_of (Some steps) recorded = record {
   listened = None;
   taken = Some (arrivals_in steps);
   closed = Some (partings_in steps);
-  news = Some (news_in steps);
+  newly_enrolled = Some (news_in steps);
   recorded = recorded;
 }
 

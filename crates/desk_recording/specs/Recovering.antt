@@ -16,8 +16,8 @@ use Rattle.desk_program.specs.Enrolling.{AreListedSoFar, on_terms, with_operator
 use Rattle.desk_program.specs.Serving.{Parting, parted}
 use Rattle.desk_program.specs.declared.port.ExchangeEnd.{ExchangeEnd}
 use Rattle.desk_replay.specs.Replaying.{last_moment}
-use Rattle.desk_recording.specs.declared.recovering.Unrecovered.{Unrecovered}
-use Rattle.desk_recording.specs.declared.recovering.Unrecovered.TheVariants.{OutOfMemory, Store, Clock, JournalError}
+use Rattle.desk_recording.specs.declared.recovering.RecoveryError.{RecoveryError}
+use Rattle.desk_recording.specs.declared.recovering.RecoveryError.TheVariants.{OutOfMemory, Store, Clock, JournalError}
 use Rattle.desk_recording.specs.Recording.{Answered, Asked, Lost, Step}
 use Rattle.desk_recording.specs.Tail.{UnansweredParts}
 
@@ -29,8 +29,8 @@ abbrev pub is_missing : List Enrolment → Enrolment → Bool
 is_missing roll e = not (nat_lt max_priority e.ceiling) && not (is_on_roll roll e.operator)
 
 -- the enrolments under ceilings in range whose operators are not on a roll
-abbrev pub missing_of : List Enrolment → List Enrolment → List Enrolment
-missing_of roll enrolments = filter (is_missing roll) enrolments
+abbrev pub missing_enrolments : List Enrolment → List Enrolment → List Enrolment
+missing_enrolments roll enrolments = filter (is_missing roll) enrolments
 
 -- known steps are followed by two more
 abbrev pub AddsBoth : Option (List Step) → Option (List Step) → Step → Step → Type 0
@@ -45,13 +45,13 @@ abbrev pub reported_again : List ℕ → Parting
 reported_again answer = parted (Some []) (Some answer) whole_outcome
 
 -- the failure that is reported where what is left undone is not done; and how that ends
-abbrev pub failure_of : {R : Type 0} → Unrecovered R → ErrorCode
+abbrev pub failure_of : {R : Type 0} → RecoveryError R → ErrorCode
 failure_of OutOfMemory = failure.Memory
 failure_of Store = failure.Store
 failure_of Clock = failure.Clock
 failure_of (JournalError lost) = failure.Broken
 
-abbrev pub ended_as : {R : Type 0} → Result ⊤ (Unrecovered R) → Result ⊤ ErrorCode
+abbrev pub ended_as : {R : Type 0} → Result ⊤ (RecoveryError R) → Result ⊤ ErrorCode
 ended_as (Ok done) = Ok done
 ended_as (Err why) = Err (failure_of why)
 

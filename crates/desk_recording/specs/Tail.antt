@@ -16,7 +16,7 @@ use Rattle.desk_record.specs.declared.kind.Kind.{Kind}
 use Rattle.desk_record.specs.declared.kind.Kind.TheVariants as kind
 use Rattle.desk_replay.specs.Replaying.{is_failure, last_moment, version}
 use Rattle.desk_recording.specs.declared.tail.Tail.{Tail}
-use Rattle.desk_recording.specs.declared.tail.Unanswered.{Unanswered}
+use Rattle.desk_recording.specs.declared.tail.PendingRequest.{PendingRequest}
 use Rattle.desk_recording.specs.declared.tail.TailEnd.{TailEnd}
 use Rattle.desk_recording.specs.declared.tail.TailEnd.TheVariants.{End, Short, Damaged}
 use Rattle.desk_recording.specs.declared.tail.TailFault.{TailFault}
@@ -38,10 +38,10 @@ pub record TailParts : Type 0 where
   pub asked : Option UnansweredParts
   pub size : ℕ
 
-abbrev pub unanswered_shown : Unanswered → UnansweredParts
+abbrev pub unanswered_shown : PendingRequest → UnansweredParts
 unanswered_shown u = record { second = u.second; request = u.request.items }
 
-abbrev pub unanswered_in : Option Unanswered → Option UnansweredParts
+abbrev pub unanswered_in : Option PendingRequest → Option UnansweredParts
 unanswered_in None = None
 unanswered_in (Some u) = Some (unanswered_shown u)
 

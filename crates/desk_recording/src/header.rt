@@ -7,7 +7,7 @@ ghost use Rattle.desk_recording.specs.Beginning.{limit_entry};
 ghost use Rattle.desk_program.specs.Recorded.{operator_entry};
 ghost use Rattle.desk_recording.specs.RecordWrites.{Appended, FollowsWrites, StopsWriting};
 
-use crate::journal::{Journal, Unwritten, append_to, sync_to};
+use crate::journal::{AppendError, Journal, append_to, sync_to};
 use desk_cli::Enrolment;
 use desk_record::{Kind, write_entry};
 use desk_rules::decide::MAX_PRIORITY;
@@ -23,14 +23,14 @@ const VERSION: &[u8] = b"1";
 ///
 /// # Errors
 ///
-/// As `Unwritten` says.
-pub fn begin_record<J: Journal>(
+/// As `AppendError` says.
+pub fn write_header<J: Journal>(
     alloc: Global,
     journal: &mut J,
     number: u64,
     terms: &Terms,
     operators: &[Enrolment],
-) -> Result<(), Unwritten<J::Fault>>
+) -> Result<(), AppendError<J::Fault>>
     ensures done { OnOk result (FollowsWrites (J.writes journal.old) (J.writes journal.new)
         (header_writes number terms.now operators.now)) }
     ensures stops { OnErr result (StopsWriting (J.writes journal.old) (J.writes journal.new)

@@ -38,7 +38,7 @@ pub(crate) enum InputEnd<R, W> {
     /// It isn't known where the next request begins.
     Unframed,
     /// The output could not be written.
-    Unwritten(WriteError<W>),
+    AppendError(WriteError<W>),
 }
 
 impl<R, W> InputEnd<R, W> {
@@ -52,7 +52,7 @@ impl<R, W> InputEnd<R, W> {
             InputEnd::Unread(_) => Err(ErrorCode::Read),
             InputEnd::OutOfMemory => Err(ErrorCode::Memory),
             InputEnd::Unframed => Err(ErrorCode::Unframed),
-            InputEnd::Unwritten(_) => Err(ErrorCode::Write),
+            InputEnd::AppendError(_) => Err(ErrorCode::Write),
         }
     }
 }
@@ -117,12 +117,12 @@ impl<R: Read + Drop, W: Write + Drop> Port for InputPort<R, W> {
     }
 
     // There are no new enrolments while `play` runs.
-    fn news(&mut self, alloc: Global) -> Result<Vec<Enrolment>, ErrorCode>
-        ensures small { IfOk result (λ news. AreEnrolments news.items) }
-        ensures brings { IfOk result (λ news. BringsNews unreported unreported news.items) }
+    fn newly_enrolled(&mut self, alloc: Global) -> Result<Vec<Enrolment>, ErrorCode>
+        ensures small { IfOk result (λ newly_enrolled. AreEnrolments newly_enrolled.items) }
+        ensures brings { IfOk result (λ newly_enrolled. BringsNews unreported unreported newly_enrolled.items) }
         ensures same { OnErr result (Denies unreported unreported) }
         ensures fault { IfErr result IsDenied }
-        ensures none { IsOkAnd result (λ news. news.items ≡ []) }
+        ensures none { IsOkAnd result (λ newly_enrolled. newly_enrolled.items ≡ []) }
         ensures stays { self.new ≡ self.old }
     {
         Ok(Vec::new(alloc))
@@ -182,7 +182,7 @@ impl<R: Read + Drop, W: Write + Drop> Port for InputPort<R, W> {
     {
         self.is_unframed = !outcome.is_whole;
         if let Err(cut) = write_whole(&mut self.output, &output) {
-            self.ended = Some(InputEnd::Unwritten(cut));
+            self.ended = Some(InputEnd::AppendError(cut));
         }
         Ok(())
     }

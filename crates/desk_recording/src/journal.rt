@@ -33,21 +33,21 @@ pub trait Journal {
 
 /// Why entries could not be written; `F` is the error of the file.
 #[derive(Drop)]
-pub enum Unwritten<F> {
+pub enum AppendError<F> {
     /// Memory ran out.
     OutOfMemory,
     /// The file failed.
     Journal(F),
 }
 
-impl<F> From<AllocError> for Unwritten<F> {
+impl<F> From<AllocError> for AppendError<F> {
     ghost use Rattle.std.specs.Prelude.{◌≡◌};
-    ghost use Rattle.desk_recording.specs.declared.journal.Unwritten.TheVariants as unwritten;
+    ghost use Rattle.desk_recording.specs.declared.journal.AppendError.TheVariants as unwritten;
 
     ghost from_gives = { λ _ fault. fault ≡ unwritten.OutOfMemory };
 
-    fn from(_error: AllocError) -> Unwritten<F> {
-        Unwritten::OutOfMemory
+    fn from(_error: AllocError) -> AppendError<F> {
+        AppendError::OutOfMemory
     }
 }
 
@@ -59,14 +59,14 @@ impl<F> From<AllocError> for Unwritten<F> {
 pub(crate) fn append_to<J: Journal>(
     journal: &mut J,
     bytes: &[u8],
-) -> Result<(), Unwritten<J::Fault>>
+) -> Result<(), AppendError<J::Fault>>
     ensures done { MakesWrite (J.writes journal.old) (J.writes journal.new) (is_ok result)
         (Appended bytes.now) }
     ensures fault { IfErr result IsOfJournal }
 {
     match journal.append(bytes) {
         Ok(()) => Ok(()),
-        Err(fault) => Err(Unwritten::Journal(fault)),
+        Err(fault) => Err(AppendError::Journal(fault)),
     }
 }
 
@@ -75,12 +75,12 @@ pub(crate) fn append_to<J: Journal>(
 /// # Errors
 ///
 /// `Journal`.
-pub(crate) fn sync_to<J: Journal>(journal: &mut J) -> Result<(), Unwritten<J::Fault>>
+pub(crate) fn sync_to<J: Journal>(journal: &mut J) -> Result<(), AppendError<J::Fault>>
     ensures done { MakesWrite (J.writes journal.old) (J.writes journal.new) (is_ok result) Synced }
     ensures fault { IfErr result IsOfJournal }
 {
     match journal.sync() {
         Ok(()) => Ok(()),
-        Err(fault) => Err(Unwritten::Journal(fault)),
+        Err(fault) => Err(AppendError::Journal(fault)),
     }
 }

@@ -14,12 +14,12 @@ mod streams;
 mod tail;
 mod written;
 
-pub use header::begin_record;
+pub use header::write_header;
 pub use inputs::{InputPort, play_opened};
-pub use journal::{Journal, Unwritten};
+pub use journal::{AppendError, Journal};
 pub use port::RecordedPort;
 pub use record::{Exchange, Record, RecordFault};
-pub use recovering::{Unrecovered, missing_of, recover};
+pub use recovering::{RecoveryError, missing_enrolments, recover};
 pub use streams::{Given, Held};
-pub use tail::{Tail, TailEnd, TailFault, Unanswered, read_tail};
+pub use tail::{PendingRequest, Tail, TailEnd, TailFault, read_tail};
 pub use written::WrittenRecord;

@@ -88,14 +88,14 @@ impl<P: Port + Drop, R: Record + Drop> Port for RecordedPort<P, R> {
 
     // Takes the new enrolments of the port below, and writes them to the journal before they are made.
     #[tactic(auto, using(crate::proofs::StepLemmas::brings_news))]
-    fn news(&mut self, alloc: Global) -> Result<Vec<Enrolment>, ErrorCode>
-        ensures small { IfOk result (λ news. AreEnrolments news.items) }
-        ensures brings { IfOk result (λ news.
-            BringsNews (reported_of R.Record self.old) (reported_of R.Record self.new) news.items) }
+    fn newly_enrolled(&mut self, alloc: Global) -> Result<Vec<Enrolment>, ErrorCode>
+        ensures small { IfOk result (λ newly_enrolled. AreEnrolments newly_enrolled.items) }
+        ensures brings { IfOk result (λ newly_enrolled.
+            BringsNews (reported_of R.Record self.old) (reported_of R.Record self.new) newly_enrolled.items) }
         ensures same { OnErr result (Denies (reported_of R.Record self.old) (reported_of R.Record self.new)) }
         ensures fault { IfErr result IsDenied }
-        ensures asked { IfOk result (λ news.
-            BringsNews (P.traffic self.old.port) (P.traffic self.new.port) news.items) }
+        ensures asked { IfOk result (λ newly_enrolled.
+            BringsNews (P.traffic self.old.port) (P.traffic self.new.port) newly_enrolled.items) }
         ensures broken { IsSome self.old.broken → result ≡ Err ErrorCode.Broken }
         ensures cause { result ≡ Err ErrorCode.Broken → IsSome self.new.broken }
         ensures lost { self.new.broken ≡ Some StopCause.NoAnswer → self.old.broken ≡ Some StopCause.NoAnswer }
@@ -103,12 +103,12 @@ impl<P: Port + Drop, R: Record + Drop> Port for RecordedPort<P, R> {
         if self.broken.is_some() {
             return Err(ErrorCode::Broken);
         }
-        let news = match self.port.news(alloc) {
-            Ok(news) => news,
+        let newly_enrolled = match self.port.newly_enrolled(alloc) {
+            Ok(newly_enrolled) => newly_enrolled,
             Err(failure) => return Err(port_error(failure)),
         };
-        match self.journal.keep_news(&news) {
-            Ok(()) => Ok(news),
+        match self.journal.append_new_enrolments(&newly_enrolled) {
+            Ok(()) => Ok(newly_enrolled),
             Err(fault) => {
                 self.broken = Some(StopCause::JournalError(RecordFault::by(fault)));
                 Err(ErrorCode::Broken)
@@ -148,7 +148,7 @@ impl<P: Port + Drop, R: Record + Drop> Port for RecordedPort<P, R> {
             let _ = self.port.close(taken.input, taken.output, UNANSWERED);
             return Err(ErrorCode::Memory);
         };
-        match self.journal.keep_request(taken.moment, &received.request) {
+        match self.journal.append_request(taken.moment, &received.request) {
             Ok(()) => Ok(ClientStream {
                 moment: taken.moment,
                 input: Given {
@@ -257,7 +257,7 @@ fn record_and_send<R: Record, W: Write>(
     if lost.is_none() {
         return (None, write_whole(client, connection.sent));
     }
-    journal.lose_answer(connection);
+    journal.note_lost_answer(connection);
     (lost, send_store_error(client))
 }
 
@@ -281,7 +281,7 @@ fn record_answer<R: Record>(
     if !connection.outcome.is_answered {
         return Some(StopCause::NoAnswer);
     }
-    match journal.keep_answer(connection) {
+    match journal.append_answer(connection) {
         Ok(()) => None,
         Err(fault) => Some(StopCause::JournalError(RecordFault::by(fault))),
     }

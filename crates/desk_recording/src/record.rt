@@ -38,11 +38,11 @@ pub trait Record {
     /// # Errors
     ///
     /// What failed.
-    fn keep_news(&mut self, news: &[Enrolment]) -> Result<(), Self::Fault>
-        ensures steps { AddsIf (steps self.old) (steps self.new) (is_ok result) (Enrolled news.now) }
+    fn append_new_enrolments(&mut self, newly_enrolled: &[Enrolment]) -> Result<(), Self::Fault>
+        ensures steps { AddsIf (steps self.old) (steps self.new) (is_ok result) (Enrolled newly_enrolled.now) }
         ensures noted { NotesOnDisk (noted self.old) (noted self.new) (is_ok result)
-            (λ n. with_news n news.now) }
-        ensures named { IfSome (noted self.old) (λ _. OnOk result (AreNamed news.now)) };
+            (λ n. with_news n newly_enrolled.now) }
+        ensures named { IfSome (noted self.old) (λ _. OnOk result (AreNamed newly_enrolled.now)) };
 
     /// Appends a request received at `moment`, and flushes the journal to the disk. If `bytes` is empty, no whole
     /// request came, and no entry is appended.
@@ -50,7 +50,7 @@ pub trait Record {
     /// # Errors
     ///
     /// What failed.
-    fn keep_request(&mut self, moment: Moment, bytes: &[u8]) -> Result<(), Self::Fault>
+    fn append_request(&mut self, moment: Moment, bytes: &[u8]) -> Result<(), Self::Fault>
         ensures steps { AddsIf (steps self.old) (steps self.new) (is_ok result)
             (Asked moment.second bytes.now) }
         ensures noted { NotesOnDisk (noted self.old) (noted self.new) (is_ok result)
@@ -62,14 +62,14 @@ pub trait Record {
     /// # Errors
     ///
     /// What failed.
-    fn keep_answer(&mut self, connection: Exchange<'_>) -> Result<(), Self::Fault>
+    fn append_answer(&mut self, connection: Exchange<'_>) -> Result<(), Self::Fault>
         ensures steps { AddsIf (steps self.old) (steps self.new) (is_ok result)
             (Answered (parting_of connection.entry)) }
         ensures noted { Notes (noted self.old) (noted self.new) (is_ok result)
             (λ n. with_answer n connection.entry.sent.now) };
 
     /// Notes that the answer to the last request isn't appended.
-    fn lose_answer(&mut self, connection: Exchange<'_>)
+    fn note_lost_answer(&mut self, connection: Exchange<'_>)
         ensures steps { AddsStep (steps self.old) (steps self.new) (Lost (parting_of connection.entry)) }
         ensures noted { noted self.new ≡ noted self.old };
 }

@@ -16,7 +16,7 @@ ghost use Rattle.desk_recording.specs.Recovering.{AsksAgain, AsksAgainIfAny, Rec
 ghost use Rattle.desk_recording.specs.Tail.{unanswered_in, unanswered_shown};
 
 use crate::record::{Exchange, Record, RecordFault};
-use crate::tail::Unanswered;
+use crate::tail::PendingRequest;
 use desk_cli::{Enrolment, ErrorCode};
 use desk_program::{ExchangeEnd, set_up};
 use desk_replay::{ReplayFault, answer_one};
@@ -31,7 +31,7 @@ use volume4d::MAX_SECOND;
 
 /// Why a recovery failed; `R` is the journal that is written meanwhile.
 #[derive_where(Clone, Copy)]
-pub enum Unrecovered<R> {
+pub enum RecoveryError<R> {
     /// Memory ran out.
     OutOfMemory,
     /// The desk's store failed.
@@ -42,18 +42,18 @@ pub enum Unrecovered<R> {
     JournalError(RecordFault<R>),
 }
 
-impl<R> From<Unrecovered<R>> for ErrorCode {
+impl<R> From<RecoveryError<R>> for ErrorCode {
     ghost use Rattle.std.specs.Prelude.{◌≡◌};
     ghost use Rattle.desk_recording.specs.Recovering.{failure_of};
 
     ghost from_gives = { λ why failure. failure ≡ failure_of why };
 
-    fn from(why: Unrecovered<R>) -> ErrorCode {
+    fn from(why: RecoveryError<R>) -> ErrorCode {
         match why {
-            Unrecovered::OutOfMemory => ErrorCode::Memory,
-            Unrecovered::Store => ErrorCode::Store,
-            Unrecovered::Clock => ErrorCode::Clock,
-            Unrecovered::JournalError(_) => ErrorCode::Broken,
+            RecoveryError::OutOfMemory => ErrorCode::Memory,
+            RecoveryError::Store => ErrorCode::Store,
+            RecoveryError::Clock => ErrorCode::Clock,
+            RecoveryError::JournalError(_) => ErrorCode::Broken,
         }
     }
 }
@@ -64,12 +64,12 @@ impl<R> From<Unrecovered<R>> for ErrorCode {
 /// # Errors
 ///
 /// `AllocError` if memory runs out.
-pub fn missing_of(
+pub fn missing_enrolments(
     alloc: Global,
     roll: &[Enrolment],
     enrolments: &[Enrolment],
 ) -> Result<Vec<Enrolment>, AllocError>
-    ensures missing { IfOk result (λ missing. missing.items ≡ spec.missing_of roll.now enrolments.now) }
+    ensures missing { IfOk result (λ missing. missing.items ≡ spec.missing_enrolments roll.now enrolments.now) }
     ensures in_range { IfOk result (λ missing. AreEnrolments missing.items) }
 {
     let mut missing = Vec::new(alloc);
@@ -105,16 +105,16 @@ fn is_enrolled(roll: &[Enrolment], operator: &Operator) -> bool
 ///
 /// # Errors
 ///
-/// As `Unrecovered` says. A request that got no answer has changed nothing then.
+/// As `RecoveryError` says. A request that got no answer has changed nothing then.
 #[tactic(auto, using(crate::proofs::RecoveringLemmas::recovers, crate::proofs::RecoveringLemmas::unlisted))]
 pub fn recover<S: PlanStore, R: Record>(
     alloc: Global,
     desk: &mut Desk<S>,
     terms: &Terms,
     missing: &[Enrolment],
-    asked: Option<Unanswered>,
+    asked: Option<PendingRequest>,
     journal: &mut R,
-) -> Result<(), Unrecovered<R>>
+) -> Result<(), RecoveryError<R>>
     requires { AreEnrolments missing.now }
     ensures recovers { Recovers (IsHonest (S.doubt desk.new.store))
         (undone terms.now missing.now (unanswered_in asked))
@@ -132,13 +132,13 @@ pub fn recover<S: PlanStore, R: Record>(
 }
 
 // The error of a recovery at which an operator could not be enrolled.
-fn enrolment_error<R>(fault: DeskFault) -> Unrecovered<R>
+fn enrolment_error<R>(fault: DeskFault) -> RecoveryError<R>
     ensures failure { IsBreakdown fault → spec.failure_of result ≡ enrolment_failure fault }
     ensures cause { IsBreakdown fault → spec.failure_of result ≡ ErrorCode.Store → fault ≡ DeskFault.Store }
 {
     match fault {
-        DeskFault::OutOfMemory => Unrecovered::OutOfMemory,
-        _ => Unrecovered::Store,
+        DeskFault::OutOfMemory => RecoveryError::OutOfMemory,
+        _ => RecoveryError::Store,
     }
 }
 
@@ -146,9 +146,9 @@ fn enrolment_error<R>(fault: DeskFault) -> Unrecovered<R>
 fn redo_if_pending<S: PlanStore, R: Record>(
     alloc: Global,
     desk: &mut Desk<S>,
-    asked: Option<Unanswered>,
+    asked: Option<PendingRequest>,
     journal: &mut R,
-) -> Result<(), Unrecovered<R>>
+) -> Result<(), RecoveryError<R>>
     ensures asks { AsksAgainIfAny (IsHonest (S.doubt desk.new.store)) (unanswered_in asked)
         (course (world_of S.content desk.old) (world_of S.content desk.new))
         (course (R.steps journal.old) (R.steps journal.new)) (ended_as result) }
@@ -168,9 +168,9 @@ fn redo_if_pending<S: PlanStore, R: Record>(
 fn redo_request<S: PlanStore, R: Record>(
     alloc: Global,
     desk: &mut Desk<S>,
-    asked: Unanswered,
+    asked: PendingRequest,
     journal: &mut R,
-) -> Result<(), Unrecovered<R>>
+) -> Result<(), RecoveryError<R>>
     ensures asks { AsksAgain (IsHonest (S.doubt desk.new.store)) (unanswered_shown asked)
         (course (world_of S.content desk.old) (world_of S.content desk.new))
         (course (R.steps journal.old) (R.steps journal.new)) (ended_as result) }
@@ -179,39 +179,39 @@ fn redo_request<S: PlanStore, R: Record>(
     ensures cause { IfErr result (λ why. spec.failure_of why ≡ ErrorCode.Store
         → HasRisen (S.faults desk.old.store) (S.faults desk.new.store)) }
 {
-    let Unanswered { second, request } = asked;
+    let PendingRequest { second, request } = asked;
     if second > MAX_SECOND as u64 {
-        return Err(Unrecovered::Clock);
+        return Err(RecoveryError::Clock);
     }
     let moment = Moment {
         second: second as i64,
     };
     let sent = (moment, request);
-    if let Err(fault) = journal.keep_request(sent.0, &sent.1) {
-        return Err(Unrecovered::JournalError(RecordFault::by(fault)));
+    if let Err(fault) = journal.append_request(sent.0, &sent.1) {
+        return Err(RecoveryError::JournalError(RecordFault::by(fault)));
     }
     match answer_one(alloc, desk, &sent) {
         Ok(answer) => record_redone_answer(journal, &answer),
         Err(fault) => {
-            journal.lose_answer(exchange_without_client(b""));
+            journal.note_lost_answer(exchange_without_client(b""));
             Err(replay_error(fault))
         }
     }
 }
 
 // Writes the answer to the repeated request, which isn't sent to any client, to `journal`.
-fn record_redone_answer<R: Record>(journal: &mut R, answer: &[u8]) -> Result<(), Unrecovered<R>>
+fn record_redone_answer<R: Record>(journal: &mut R, answer: &[u8]) -> Result<(), RecoveryError<R>>
     ensures ok { OnOk result
         (AddsStep (R.steps journal.old) (R.steps journal.new) (Answered (reported_again answer.now))) }
     ensures err { IfErr result (λ why. (spec.failure_of why ≡ ErrorCode.Broken)
         × AddsStep (R.steps journal.old) (R.steps journal.new) (Lost (reported_again answer.now))) }
 {
     let connection = exchange_without_client(answer);
-    match journal.keep_answer(connection) {
+    match journal.append_answer(connection) {
         Ok(()) => Ok(()),
         Err(fault) => {
-            journal.lose_answer(connection);
-            Err(Unrecovered::JournalError(RecordFault::by(fault)))
+            journal.note_lost_answer(connection);
+            Err(RecoveryError::JournalError(RecordFault::by(fault)))
         }
     }
 }
@@ -231,12 +231,12 @@ fn exchange_without_client(answer: &[u8]) -> Exchange<'_>
 }
 
 // The error of a recovery at which a request could not be repeated.
-fn replay_error<R>(fault: ReplayFault) -> Unrecovered<R>
+fn replay_error<R>(fault: ReplayFault) -> RecoveryError<R>
     ensures memory_or_store { (spec.failure_of result ≡ ErrorCode.Memory) ⊎ (spec.failure_of result ≡ ErrorCode.Store) }
     ensures cause { IsOwn fault → spec.failure_of result ≡ ErrorCode.Store → fault ≡ ReplayFault.Store }
 {
     match fault {
-        ReplayFault::OutOfMemory => Unrecovered::OutOfMemory,
-        _ => Unrecovered::Store,
+        ReplayFault::OutOfMemory => RecoveryError::OutOfMemory,
+        _ => RecoveryError::Store,
     }
 }

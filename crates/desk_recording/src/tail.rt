@@ -26,7 +26,7 @@ const OVERHEAD: u64 = 87;
 
 /// A recorded request without an answer, or whose answer is a 500.
 #[derive(Debug, Drop)]
-pub struct Unanswered {
+pub struct PendingRequest {
     /// Its Unix second, at most 253,370,764,800.
     pub second: u64,
     pub request: Vec<u8>,
@@ -44,7 +44,7 @@ pub struct Tail {
     /// The operators that were enrolled after the last request.
     pub operators: Vec<Enrolment>,
     /// The last request, if it has no answer or a 500.
-    pub asked: Option<Unanswered>,
+    pub asked: Option<PendingRequest>,
     /// The length of all whole entries, in bytes.
     pub size: u64,
 }
@@ -270,7 +270,7 @@ fn apply_request(tail: &mut Tail, second: u64, request: Vec<u8>) -> Result<(), T
         return Err(TailFault::NoRecord);
     }
     tail.operators.clear();
-    tail.asked = Some(Unanswered { second, request });
+    tail.asked = Some(PendingRequest { second, request });
     Ok(())
 }
 

@@ -11,7 +11,7 @@ ghost use Rattle.desk_recording.specs.RecordWrites.{Appended, AppendsKnown, Fail
 ghost use Rattle.desk_recording.specs.RecordWrites.{StopsWriting, Synced, answer_writes, appended_writes};
 ghost use Rattle.desk_recording.specs.RecordWrites.{news_writes, noted_in, request_writes};
 
-use crate::journal::{Journal, Unwritten, append_to, sync_to};
+use crate::journal::{AppendError, Journal, append_to, sync_to};
 use crate::record::{Exchange, Record};
 use desk_cli::Enrolment;
 use desk_record::{Kind, write_entry};
@@ -52,7 +52,7 @@ impl<J: Journal + Drop> WrittenRecord<J> {
 
     // Appends an entry.
     #[tactic(auto, using(crate::proofs::WritingLemmas::extends_none))]
-    fn append(&mut self, kind: Kind, number: u64, bytes: &[u8]) -> Result<(), Unwritten<J::Fault>>
+    fn append(&mut self, kind: Kind, number: u64, bytes: &[u8]) -> Result<(), AppendError<J::Fault>>
         ensures done { OnOk result (FollowsWrites (J.writes self.old.journal) (J.writes self.new.journal)
             (appended_writes (record { kind = kind; number = number; bytes = bytes.now }))) }
         ensures stops { OnErr result (IsNotWritten (J.writes self.old.journal) (J.writes self.new.journal)) }
@@ -67,23 +67,26 @@ impl<J: Journal + Drop> WrittenRecord<J> {
 
     // Appends an entry for each new enrolment.
     #[tactic(auto, using(crate::proofs::WritingLemmas::extends_none))]
-    fn append_enrolments(&mut self, news: &[Enrolment]) -> Result<(), Unwritten<J::Fault>>
+    fn append_enrolments(
+        &mut self,
+        newly_enrolled: &[Enrolment],
+    ) -> Result<(), AppendError<J::Fault>>
         ensures done { OnOk result (FollowsWrites (J.writes self.old.journal) (J.writes self.new.journal)
-            (Appended (entries (map operator_entry news.now)) ∷ [])) }
+            (Appended (entries (map operator_entry newly_enrolled.now)) ∷ [])) }
         ensures stops { OnErr result (IsNotWritten (J.writes self.old.journal) (J.writes self.new.journal)) }
         ensures text { AppendsKnown (J.writes self.old.journal) (J.writes self.new.journal) (is_ok result)
-            (entries (map operator_entry news.now)) }
-        ensures named { OnOk result (AreNamed news.now) }
+            (entries (map operator_entry newly_enrolled.now)) }
+        ensures named { OnOk result (AreNamed newly_enrolled.now) }
         ensures second { self.new.second ≡ self.old.second }
     {
-        let text = enrolment_entries(self.alloc, news)?;
+        let text = enrolment_entries(self.alloc, newly_enrolled)?;
         append_text(&mut self.journal, &text)
     }
 }
 
 // Appends `text` to the file.
 #[tactic(auto, using(crate::proofs::WritingLemmas::extends_by))]
-fn append_text<J: Journal>(journal: &mut J, text: &[u8]) -> Result<(), Unwritten<J::Fault>>
+fn append_text<J: Journal>(journal: &mut J, text: &[u8]) -> Result<(), AppendError<J::Fault>>
     ensures done { OnOk result
         (FollowsWrites (J.writes journal.old) (J.writes journal.new) (Appended text.now ∷ [])) }
     ensures stops { OnErr result (FollowsWrites (J.writes journal.old) (J.writes journal.new) (Failed ∷ [])) }
@@ -93,12 +96,12 @@ fn append_text<J: Journal>(journal: &mut J, text: &[u8]) -> Result<(), Unwritten
 }
 
 // The entries for new enrolments, in their order.
-fn enrolment_entries(alloc: Global, news: &[Enrolment]) -> Result<Vec<u8>, AllocError>
-    ensures text { IfOk result (λ text. text.items ≡ entries (map operator_entry news.now)) }
-    ensures named { IfOk result (λ _. AreNamed news.now) }
+fn enrolment_entries(alloc: Global, newly_enrolled: &[Enrolment]) -> Result<Vec<u8>, AllocError>
+    ensures text { IfOk result (λ text. text.items ≡ entries (map operator_entry newly_enrolled.now)) }
+    ensures named { IfOk result (λ _. AreNamed newly_enrolled.now) }
 {
     let mut text = Vec::new(alloc);
-    for enrolment in news {
+    for enrolment in newly_enrolled {
         write_entry(
             &mut text,
             Kind::Operator,
@@ -110,32 +113,35 @@ fn enrolment_entries(alloc: Global, news: &[Enrolment]) -> Result<Vec<u8>, Alloc
 }
 
 impl<J: Journal + Drop> Record for WrittenRecord<J> {
-    type Fault = Unwritten<J::Fault>;
+    type Fault = AppendError<J::Fault>;
 
     ghost noted = { λ s. noted_in s.second (J.writes s.journal) };
 
     // Appends an entry for each new enrolment, and flushes them.
-    fn keep_news(&mut self, news: &[Enrolment]) -> Result<(), Unwritten<J::Fault>>
-        ensures steps { AddsIf None None (is_ok result) (Enrolled news.now) }
+    fn append_new_enrolments(
+        &mut self,
+        newly_enrolled: &[Enrolment],
+    ) -> Result<(), AppendError<J::Fault>>
+        ensures steps { AddsIf None None (is_ok result) (Enrolled newly_enrolled.now) }
         ensures noted { NotesOnDisk (noted_in self.old.second (J.writes self.old.journal))
             (noted_in self.new.second (J.writes self.new.journal)) (is_ok result)
-            (λ n. with_news n news.now) }
+            (λ n. with_news n newly_enrolled.now) }
         ensures named { IfSome (noted_in self.old.second (J.writes self.old.journal))
-            (λ _. OnOk result (AreNamed news.now)) }
+            (λ _. OnOk result (AreNamed newly_enrolled.now)) }
         ensures writes { OnOk result (FollowsWrites (J.writes self.old.journal) (J.writes self.new.journal)
-            (news_writes news.now)) }
+            (news_writes newly_enrolled.now)) }
         ensures stops { OnErr result (StopsWriting (J.writes self.old.journal) (J.writes self.new.journal)
-            (Appended (entries (map operator_entry news.now)))) }
+            (Appended (entries (map operator_entry newly_enrolled.now)))) }
     {
-        if news.is_empty() {
+        if newly_enrolled.is_empty() {
             return Ok(());
         }
-        self.append_enrolments(news)?;
+        self.append_enrolments(newly_enrolled)?;
         sync_to(&mut self.journal)
     }
 
     // Appends the entry of a request, unless it is empty, and flushes it.
-    fn keep_request(&mut self, moment: Moment, bytes: &[u8]) -> Result<(), Unwritten<J::Fault>>
+    fn append_request(&mut self, moment: Moment, bytes: &[u8]) -> Result<(), AppendError<J::Fault>>
         ensures steps { AddsIf None None (is_ok result) (Asked moment.second bytes.now) }
         ensures noted { NotesOnDisk (noted_in self.old.second (J.writes self.old.journal))
             (noted_in self.new.second (J.writes self.new.journal)) (is_ok result)
@@ -154,7 +160,7 @@ impl<J: Journal + Drop> Record for WrittenRecord<J> {
     }
 
     // Appends the entry of the answer to the last request, unless it is empty, without flushing it.
-    fn keep_answer(&mut self, connection: Exchange<'_>) -> Result<(), Unwritten<J::Fault>>
+    fn append_answer(&mut self, connection: Exchange<'_>) -> Result<(), AppendError<J::Fault>>
         ensures steps { AddsIf None None (is_ok result) (Answered (parting_of connection.entry)) }
         ensures noted { Notes (noted_in self.old.second (J.writes self.old.journal))
             (noted_in self.new.second (J.writes self.new.journal)) (is_ok result)
@@ -170,5 +176,5 @@ impl<J: Journal + Drop> Record for WrittenRecord<J> {
     }
 
     // Writes nothing: a journal has no entry for a lost answer.
-    fn lose_answer(&mut self, _connection: Exchange<'_>) {}
+    fn note_lost_answer(&mut self, _connection: Exchange<'_>) {}
 }

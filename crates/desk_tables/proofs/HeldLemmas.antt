@@ -40,7 +40,7 @@ use Rattle.row_codec.specs.Tables.{id_text, row_of_span, AreSpanRowsFrom, ArePla
 use Rattle.desk_store.specs.Content.{IsId, IsPlan, IsContent}
 use Rattle.row_codec.specs.declared.span_bounds.SpanBounds.{SpanBounds}
 use Rattle.row_codec.specs.SpanBounds.{AreWhole, Bounds, HasKnownSpan, IsKnown, IsWithinExtent}
-use Rattle.row_codec.specs.RivalRows.{HaveTaken, HaveTakenAll, IsHeldIn, HasTakenHelds, is_asked, is_asked_if, reach_of}
+use Rattle.row_codec.specs.RivalRows.{HaveTaken, HaveTakenAll, IsHeldIn, HasTakenHelds, is_asked, is_asked_if, span_filter_of}
 use Rattle.row_codec.specs.RivalRows.{AreWanted}
 use Rattle.row_codec.proofs.lemmas.SpanBound.{asked_rival, tables_known}
 use Rattle.row_codec.proofs.lemmas.Order.{after_key}
@@ -335,7 +335,7 @@ module _ (another : Row → Bool) (stays : Filed → Bool)
     → another (Text p.operator ∷ Text (id_text p.row.id) ∷ r) ≡ stays p)
     (least : ℕ) (e : Slab) (x : Point) (here : IsIn e x) where
   abbrev want : Row → Bool
-  want r = sql.is_reached (reach_of e least) r && another r
+  want r = sql.is_reached (span_filter_of e least) r && another r
 
   abbrev position : ℕ
   position = position_of x.leaf

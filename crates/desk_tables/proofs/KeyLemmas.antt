@@ -24,7 +24,7 @@ use Rattle.desk_store.specs.Rivals.{HaveLevel}
 use Rattle.desk_store.proofs.lemmas.Order.{all_append}
 use Rattle.live_index.specs.declared.near.PlanKey.{PlanKey}
 use Rattle.live_index.specs.Near.{is_listed, listed_level, listed_top}
-use Rattle.row_codec.specs.RivalRows.{HasTakenHelds, HaveTaken, HaveTakenAll, is_asked_of_plan, reach_of}
+use Rattle.row_codec.specs.RivalRows.{HasTakenHelds, HaveTaken, HaveTakenAll, is_asked_of_plan, span_filter_of}
 use Rattle.desk_tables.specs.ReadsMade.{spans_shown}
 use Rattle.table_load.specs.Standing.{Stands}
 use Rattle.desk_tables.specs.Store.{HeldWorld}
@@ -66,10 +66,10 @@ module _ (keys : List PlanKey) (least : ℕ) (e : Slab) where
       ∙ sym (top_permuted (λ r. row_has r x) row_priority (flat_map (λ k.
       map held_columns (filter (is_asked_of_plan least e k) tables.spans)) keys) rows alike)
       ∙ top_asked (is_asked_of_plan least e) held_columns (λ r. row_has r x) row_priority tables.spans keys
-      ∙ (λ i. top_by (λ r. each_reached (sql.is_reached (reach_of e least) r)
+      ∙ (λ i. top_by (λ r. each_reached (sql.is_reached (span_filter_of e least) r)
       (λ k. sql.is_of k.operator (id_text k.id) r) keys i && row_has (held_columns r) x)
       (λ r. row_priority (held_columns r)) tables.spans)
-      ∙ sym (top_permuted (λ r. (sql.is_reached (reach_of e least) r && of_one keys r)
+      ∙ sym (top_permuted (λ r. (sql.is_reached (span_filter_of e least) r && of_one keys r)
       && row_has (held_columns r) x) (λ r. row_priority (held_columns r)) all tables.spans moved)
       ∙ on_plans (of_one keys) (is_listed keys) (is_one keys hi) least e x (is_in e x inside)
       (λ p. listed_level keys p x) (λ ps. listed_top keys ps x) (λ p. refl) refl (λ p ps. refl)

@@ -209,7 +209,7 @@ impl<S: Alter> PlanStore for SqliteStore<S> {
         match self.tables.make(&self.known.span_bounds, change) {
             Ok(span_bounds) => {
                 self.tables.settled();
-                self.known.follow(change, span_bounds, &fresh);
+                self.known.update_after(change, span_bounds, &fresh);
                 Ok(())
             }
             Err(e) => count_fault(&mut self.faults, Err(e)),

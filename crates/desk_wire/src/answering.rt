@@ -22,7 +22,7 @@ use desk_store::PlanStore;
 use desk_writing::{error_answer, reply_answer};
 use http::StatusCode;
 use io_ends::Moment;
-use request_parser::{Message, ReadError, WireFault, read_asked, read_message};
+use request_parser::{Message, ReadError, WireFault, parse_message, read_message};
 use std::alloc::{AllocError, Global};
 
 /// How many bytes are reserved before a request is carried out: enough for an answer 500.
@@ -147,7 +147,7 @@ fn answer_message<S: PlanStore>(
         (world_after (world_of S.content desk.old) moment.second (asked_by (message_shown message.now)))
         (failure_of result) }
 {
-    match read_asked(alloc, message) {
+    match parse_message(alloc, message) {
         Ok(asked) => answer_call(alloc, desk, moment, &asked),
         Err(ReadError::Fault(fault)) => refuse(alloc, Refusal::Fault(fault)),
         Err(ReadError::OutOfMemory) => Err(ServerError::OutOfMemory),

@@ -98,7 +98,7 @@ pub trait HostFiles {
         ensures { IfSome (answers self.now) (λ it. result ≡ it.unsummed path.now) };
 
     /// Whether a database has the tables of the schema, but lists them in a non-canonical order.
-    fn is_disordered(&self, path: &str) -> bool
+    fn is_out_of_order(&self, path: &str) -> bool
         ensures { IfSome (answers self.now) (λ it. result ≡ it.disordered path.now) };
 
     /// Whether recovery applies a commit of a file's WAL; also true if that can't be found out. It applies
@@ -185,7 +185,7 @@ impl HostFiles for LocalHost<'_> {
         count_bad_checksums(self.rt, path)
     }
 
-    fn is_disordered(&self, path: &str) -> bool {
+    fn is_out_of_order(&self, path: &str) -> bool {
         has_other_order(self.rt, path)
     }
 

@@ -5,7 +5,7 @@ ghost use Rattle.desk_program.specs.Outside.{bytes_written};
 ghost use Rattle.host_files.specs.Reporting as spec;
 ghost use Rattle.host_files.specs.Reporting.{IsWrittenIfRoom, IsWrittenUpTo, Reports};
 
-use desk_cli::bad_argument;
+use desk_cli::find_malformed_argument;
 use io_ends::{WriteError, write_whole};
 use std::alloc::{AllocError, Global};
 use std::io::Write;
@@ -51,10 +51,10 @@ pub fn report_line<E: Write>(line: &str, errors: &mut E) -> Option<WriteError<E>
 
 /// Reports which argument is malformed: `uss_desk: ARGUMENT: CAUSE`. A failed write is ignored.
 #[tactic(auto, using(crate::proofs::lemmas::Reporting::reports_nothing))]
-pub fn report_malformed<E: Write>(alloc: Global, words: &[String], errors: &mut E)
+pub fn report_malformed_argument<E: Write>(alloc: Global, words: &[String], errors: &mut E)
     ensures { Reports (bytes_written E.Write errors.old errors.new) }
 {
-    if let Some((word, cause)) = bad_argument(alloc, words) {
+    if let Some((word, cause)) = find_malformed_argument(alloc, words) {
         report_of(alloc, word, cause, errors);
     }
 }

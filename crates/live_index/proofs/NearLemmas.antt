@@ -31,11 +31,11 @@ use Rattle.live_index.specs.declared.bbox.BoundingBox.{BoundingBox}
 use Rattle.live_index.specs.declared.near.NearPlans.{NearPlans}
 use Rattle.live_index.specs.declared.near.PlanKey.{PlanKey}
 use Rattle.live_index.specs.declared.near.Wanted.{Wanted}
-use Rattle.slab_regions.specs.declared.sought.Sought.{Sought}
+use Rattle.slab_regions.specs.declared.sought.SearchArea.{SearchArea}
 use Rattle.live_index.specs.declared.volume.LiveVolume.{LiveVolume}
 use Rattle.live_index.specs.Live.{AreLive, AreVolumes, AreVolumesOf, IsInBox, IsLiveVolume, is_volume_of, may_meet, gather}
 use Rattle.live_index.specs.Places.{key_cmp}
-use Rattle.slab_regions.specs.Sought.{meets, sought_has}
+use Rattle.slab_regions.specs.SearchArea.{meets, sought_has}
 use Rattle.live_index.specs.Near.{AddsPlans, AreNearPlans, AreWantedPlans, IsAnothers, LooksOn, TakesPlan, is_among, is_id, is_listed, is_missed_at, is_near_to, is_own_volume, is_wanted_volume, key_of, listed_level, listed_top}
 use Rattle.live_index.proofs.GatherLemmas.{all_at, gathered_more}
 use Rattle.live_index.proofs.lemmas.Live.{and_turned, same_key}
@@ -78,7 +78,7 @@ one_meets slab (p ∷ ps) x has here =
       go false e r ih = ap (λ b. overlap slab p || b) (ih r) ∙ last (overlap slab p)
 
 -- a slab that has a point of what is sought meets it
-meeting : (slab : Slab) (sought : Sought) (x : Point) → slab_has slab x ≡ true → sought_has sought x ≡ true
+meeting : (slab : Slab) (sought : SearchArea) (x : Point) → slab_has slab x ≡ true → sought_has sought x ≡ true
     → meets sought slab ≡ true
 meeting slab sought x has here =
     let parts = and_parts (slab_has sought.whole x) (slabs_have sought.parts.now x) here in
@@ -218,7 +218,7 @@ module _ (s : Wanted) where
   }
 
   -- the volume isn't near
-  pub adds_far : (sought : Sought) (live : LiveVolume) (a : NearPlans) → is_near_to s sought live ≡ false
+  pub adds_far : (sought : SearchArea) (live : LiveVolume) (a : NearPlans) → is_near_to s sought live ≡ false
       → AddsPlans s (sought_has sought) (live ∷ []) a a
   adds_far sought live a far = adds_nothing (sought_has sought) (live ∷ []) a (λ e x here.
       or_false (is_missed_at s a.keys.keys x live)
@@ -241,7 +241,7 @@ module _ (s : Wanted) where
         none false = refl
 
   -- its plan is taken
-  pub adds_taken : (inside : Point → Bool) (sought : Sought) (live : LiveVolume) (a b : NearPlans)
+  pub adds_taken : (inside : Point → Bool) (sought : SearchArea) (live : LiveVolume) (a b : NearPlans)
       → is_near_to s sought live ≡ true → TakesPlan live a b → AddsPlans s inside (live ∷ []) a b
   adds_taken inside sought live a b near t = record {
     kept = t.kept;
@@ -333,7 +333,7 @@ module _ (s : Wanted) where
   -- ---- chunks
 
   -- a volume that is wanted and has a point of what is sought is within a fence that may meet it
-  apart : (sought : Sought) (bbox : BoundingBox) (live : LiveVolume) (ks : List PlanKey) (x : Point)
+  apart : (sought : SearchArea) (bbox : BoundingBox) (live : LiveVolume) (ks : List PlanKey) (x : Point)
       → IsInBox bbox live → may_meet s.least sought bbox ≡ false → sought_has sought x ≡ true
       → is_missed_at s ks x live ≡ false
   apart sought bbox live ks x h far here =
@@ -347,7 +347,7 @@ module _ (s : Wanted) where
             (still_low s.least live.priority bbox.top h.top high)
             (meeting bbox.bounds sought x (within_has live.bounds bbox.bounds x h.within has) here)) ∙ far))
 
-  pub adds_fenced : (sought : Sought) (bbox : BoundingBox) (lives : List LiveVolume) (a : NearPlans)
+  pub adds_fenced : (sought : SearchArea) (bbox : BoundingBox) (lives : List LiveVolume) (a : NearPlans)
       → may_meet s.least sought bbox ≡ false → AllByRecursion (IsInBox bbox) lives
       → AddsPlans s (sought_has sought) lives a a
   adds_fenced sought bbox lives a far h =

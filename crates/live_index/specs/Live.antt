@@ -16,8 +16,8 @@ use Rattle.live_index.specs.declared.chunk.Chunk.{Chunk}
 use Rattle.live_index.specs.declared.group.Group.{Group}
 use Rattle.live_index.specs.declared.places.Places.{Places}
 use Rattle.live_index.specs.Places.{places_at}
-use Rattle.slab_regions.specs.Sought.{meets}
-use Rattle.slab_regions.specs.declared.sought.Sought.{Sought}
+use Rattle.slab_regions.specs.SearchArea.{meets}
+use Rattle.slab_regions.specs.declared.sought.SearchArea.{SearchArea}
 use Rattle.live_index.specs.declared.live.LiveIndexBuilder.{LiveIndexBuilder}
 use Rattle.live_index.specs.declared.live.LiveIndex.{LiveIndex}
 
@@ -169,5 +169,5 @@ pub record HasLeft (stays : LiveVolume → Bool) (old new : LiveIndex) : Type 0 
 -- ---- queries
 
 -- a bounding box has a priority at least, and overlaps what is sought
-abbrev pub may_meet : ℕ → Sought → BoundingBox → Bool
+abbrev pub may_meet : ℕ → SearchArea → BoundingBox → Bool
 may_meet least sought bbox = nat_le least bbox.top && meets sought bbox.bounds

@@ -14,9 +14,9 @@ use Rattle.live_index.specs.declared.volume.LiveVolume.{LiveVolume}
 use Rattle.live_index.specs.declared.near.NearPlans.{NearPlans}
 use Rattle.live_index.specs.declared.near.PlanKey.{PlanKey}
 use Rattle.live_index.specs.declared.near.Wanted.{Wanted}
-use Rattle.slab_regions.specs.declared.sought.Sought.{Sought}
+use Rattle.slab_regions.specs.declared.sought.SearchArea.{SearchArea}
 use Rattle.live_index.specs.Live.{is_volume_of}
-use Rattle.slab_regions.specs.Sought.{meets}
+use Rattle.slab_regions.specs.SearchArea.{meets}
 
 -- ---- what plans that are listed hold
 
@@ -64,7 +64,7 @@ abbrev pub is_wanted_volume : Wanted → LiveVolume → Bool
 is_wanted_volume wanted live = nat_le wanted.least live.priority && not (is_own_volume wanted live)
 
 -- and its bounds meet what is sought
-abbrev pub is_near_to : Wanted → Sought → LiveVolume → Bool
+abbrev pub is_near_to : Wanted → SearchArea → LiveVolume → Bool
 is_near_to wanted sought live = meets sought live.bounds && is_wanted_volume wanted live
 
 -- its plan is listed

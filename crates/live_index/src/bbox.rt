@@ -9,7 +9,7 @@ ghost use Rattle.live_index.specs.Live.{IsInBox};
 ghost use Rattle.live_index.specs.declared.volume.LiveVolume.{LiveVolume as Live};
 
 use crate::volume::LiveVolume;
-use slab_regions::Sought;
+use slab_regions::SearchArea;
 use volume4d::Slab;
 
 /// The bounds of some volumes, and a priority that none of them exceeds.
@@ -83,7 +83,7 @@ impl BoundingBox {
     }
 
     /// Whether a volume inside may be near `sought` and have the priority `least` or a greater one.
-    pub(crate) fn may_meet(&self, least: u32, sought: &Sought) -> bool
+    pub(crate) fn may_meet(&self, least: u32, sought: &SearchArea) -> bool
         ensures { result ≡ spec.may_meet least sought.now self.now }
     {
         if self.top < least {

@@ -7,7 +7,7 @@ ghost use Rattle.live_index.specs.Live.{AreBoundedChunks, IsInBox, IsLeft, IsBou
 ghost use Rattle.live_index.specs.Live.{chunk_has_plan, is_beside, volumes_in};
 ghost use Rattle.live_index.specs.Regions.{chunk_has_theirs};
 ghost use Rattle.live_index.specs.Near.{AddsPlans};
-ghost use Rattle.slab_regions.specs.Sought.{sought_has};
+ghost use Rattle.slab_regions.specs.SearchArea.{sought_has};
 
 use crate::bbox::BoundingBox;
 use crate::changing::{push_all, remove_plan};
@@ -16,7 +16,7 @@ use crate::order::{Rank, put_in_order};
 use crate::volume::LiveVolume;
 use desk_rules::operator::Operator;
 use desk_rules::plan_id::PlanId;
-use slab_regions::Sought;
+use slab_regions::SearchArea;
 use std::alloc::{AllocError, Global};
 use std::slice;
 use volume4d::Slab;
@@ -132,7 +132,7 @@ impl Chunk {
         &self,
         near: &mut NearPlans,
         wanted: &Wanted,
-        sought: &Sought,
+        sought: &SearchArea,
     ) -> Result<(), AllocError>
         ensures { OnOk result (IsBoundedChunk self.now
             → AddsPlans wanted.now (sought_has sought.now) self.now.volumes.items near.old near.new) }
@@ -167,7 +167,7 @@ pub(crate) fn add_near_in(
     near: &mut NearPlans,
     chunks: &[Chunk],
     wanted: &Wanted,
-    sought: &Sought,
+    sought: &SearchArea,
 ) -> Result<(), AllocError>
     ensures { OnOk result (AreBoundedChunks chunks.now
         → AddsPlans wanted.now (sought_has sought.now) (volumes_in chunks.now) near.old near.new) }

@@ -7,7 +7,7 @@ ghost use Rattle.live_index.specs.Live.{AreBoundedChunks, AreBoundedGroups, IsIn
 ghost use Rattle.live_index.specs.Live.{group_has_plan, is_beside, volumes_in, volumes_under};
 ghost use Rattle.live_index.specs.Regions.{group_has_theirs};
 ghost use Rattle.live_index.specs.Near.{AddsPlans};
-ghost use Rattle.slab_regions.specs.Sought.{sought_has};
+ghost use Rattle.slab_regions.specs.SearchArea.{sought_has};
 
 use crate::bbox::BoundingBox;
 use crate::chunk as chunks;
@@ -17,7 +17,7 @@ use crate::order::Rank;
 use crate::volume::LiveVolume;
 use desk_rules::operator::Operator;
 use desk_rules::plan_id::PlanId;
-use slab_regions::Sought;
+use slab_regions::SearchArea;
 use std::alloc::{AllocError, Global};
 use std::slice;
 use volume4d::Slab;
@@ -139,7 +139,7 @@ impl Group {
         &self,
         near: &mut NearPlans,
         wanted: &Wanted,
-        sought: &Sought,
+        sought: &SearchArea,
     ) -> Result<(), AllocError>
         ensures { OnOk result (IsBoundedGroup self.now → AddsPlans wanted.now (sought_has sought.now)
             (volumes_in self.now.chunks.items) near.old near.new) }
@@ -208,7 +208,7 @@ pub(crate) fn add_near_in(
     near: &mut NearPlans,
     groups: &[Group],
     wanted: &Wanted,
-    sought: &Sought,
+    sought: &SearchArea,
 ) -> Result<(), AllocError>
     ensures { OnOk result (AreBoundedGroups groups.now → AddsPlans wanted.now (sought_has sought.now)
         (volumes_under groups.now) near.old near.new) }

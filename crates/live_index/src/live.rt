@@ -12,7 +12,7 @@ ghost use Rattle.live_index.specs.Live.{gathered_in, is_beside, is_of_any, stays
 ghost use Rattle.live_index.specs.Live.{volumes_of, volumes_under};
 ghost use Rattle.live_index.specs.Regions.{HoldNothingBeside, has_theirs};
 ghost use Rattle.live_index.specs.Near.{AddsPlans, AreNearPlans, AreWantedPlans};
-ghost use Rattle.slab_regions.specs.Sought.{sought_has};
+ghost use Rattle.slab_regions.specs.SearchArea.{sought_has};
 ghost use Rattle.volume4d.specs.Slab.{slabs_have};
 
 use crate::changing::{push_all, push_plan, remove_plan, volumes_added_by};
@@ -25,7 +25,7 @@ use desk_rules::operator::Operator;
 use desk_rules::plan::PlanRow;
 use desk_rules::plan_id::PlanId;
 use desk_store::Change;
-use slab_regions::{Sought, at_most, joined, whole_of};
+use slab_regions::{SearchArea, at_most, joined, whole_of};
 use std::alloc::{AllocError, Global};
 use volume4d::Slab;
 
@@ -133,7 +133,7 @@ impl LiveIndex {
     {
         let mut near = NearPlans::new(alloc, room, LOOKS);
         for extent in extents {
-            self.add_near(&mut near, wanted, &Sought::one(extent))?;
+            self.add_near(&mut near, wanted, &SearchArea::one(extent))?;
             if !near.is_complete {
                 return Ok(None);
             }
@@ -157,7 +157,7 @@ impl LiveIndex {
             return Ok(None);
         };
         let parts = at_most(alloc, extents, PARTS)?;
-        let sought = Sought {
+        let sought = SearchArea {
             whole: whole_of(first, others),
             parts: &parts,
         };
@@ -171,7 +171,7 @@ impl LiveIndex {
         &self,
         near: &mut NearPlans,
         wanted: &Wanted,
-        sought: &Sought,
+        sought: &SearchArea,
     ) -> Result<(), AllocError>
         ensures { OnOk result (AreBoundedGroups self.now.groups.items
             → AddsPlans wanted.now (sought_has sought.now) (volumes_of self.now) near.old near.new) }
@@ -185,7 +185,7 @@ impl LiveIndex {
         &self,
         near: &mut NearPlans,
         wanted: &Wanted,
-        sought: &Sought,
+        sought: &SearchArea,
     ) -> Result<(), AllocError>
         ensures { OnOk result (AddsPlans wanted.now (sought_has sought.now) self.now.unindexed.items near.old
             near.new) }
@@ -193,7 +193,7 @@ impl LiveIndex {
         add_each(near, &self.unindexed, wanted, sought)
     }
 
-    /// Prepares for `follow`: moves the unindexed volumes into chunks, and returns the volumes that the
+    /// Prepares for `update_after`: moves the unindexed volumes into chunks, and returns the volumes that the
     /// change adds, with capacity reserved for them.
     ///
     /// # Errors
@@ -213,7 +213,7 @@ impl LiveIndex {
 
     /// Updates the index after a change: removes the volumes of the plans that it names, and adds `fresh`,
     /// those that it adds. It needs no allocation, and so can't fail.
-    pub fn follow(&mut self, change: &Change, fresh: &[LiveVolume])
+    pub fn update_after(&mut self, change: &Change, fresh: &[LiveVolume])
         requires room { HasRoomForVolumes self.old (length fresh.now) }
         requires brought { AreBrought change.now fresh.now }
         ensures same { ArePlaced self.old.places (volumes_under self.old.groups.items) → volumes_of self.new

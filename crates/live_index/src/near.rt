@@ -2,12 +2,12 @@
 
 ghost use Rattle.std.specs.Prelude.{◌≡◌, ◌∷◌, [], true, IfOk, IfSome, OnOk};
 ghost use Rattle.live_index.specs.Near.{AddsPlans, LooksOn, TakesPlan, is_among};
-ghost use Rattle.slab_regions.specs.Sought.{sought_has};
+ghost use Rattle.slab_regions.specs.SearchArea.{sought_has};
 
 use crate::volume::LiveVolume;
 use desk_rules::operator::Operator;
 use desk_rules::plan_id::PlanId;
-use slab_regions::Sought;
+use slab_regions::SearchArea;
 use std::alloc::{AllocError, Global};
 use std::collections::BTreeSet;
 
@@ -30,7 +30,7 @@ pub struct Wanted {
     pub least: u32,
 }
 
-/// The keys of plans that have a volume near a search (its bounds overlap `Sought`), each once, up to a limit
+/// The keys of plans that have a volume near a search (its bounds overlap `SearchArea`), each once, up to a limit
 /// of rows and of chunks searched.
 #[derive(Drop)]
 pub(crate) struct NearPlans {
@@ -73,7 +73,7 @@ impl NearPlans {
         &mut self,
         live: &LiveVolume,
         wanted: &Wanted,
-        sought: &Sought,
+        sought: &SearchArea,
     ) -> Result<(), AllocError>
         ensures { OnOk result (AddsPlans wanted.now (sought_has sought.now) (live.now ∷ []) self.old
             self.new) }
@@ -140,7 +140,7 @@ pub(crate) fn add_each(
     near: &mut NearPlans,
     lives: &[LiveVolume],
     wanted: &Wanted,
-    sought: &Sought,
+    sought: &SearchArea,
 ) -> Result<(), AllocError>
     ensures { OnOk result (AddsPlans wanted.now (sought_has sought.now) lives.now near.old near.new) }
 {

@@ -12,7 +12,7 @@ use crate::order::{Rank, place_of};
 use desk_rules::operator::Operator;
 use desk_rules::plan::PlanRow;
 use desk_rules::plan_id::PlanId;
-use slab_regions::Sought;
+use slab_regions::SearchArea;
 use std::alloc::AllocError;
 use volume4d::{Slab, Volume, bounds_of};
 
@@ -96,7 +96,7 @@ impl LiveVolume {
     }
 
     /// Whether the volume's plan is wanted, and its bounds overlap `sought`.
-    pub(crate) fn is_near_to(&self, wanted: &Wanted, sought: &Sought) -> bool
+    pub(crate) fn is_near_to(&self, wanted: &Wanted, sought: &SearchArea) -> bool
         ensures { result ≡ near.is_near_to wanted.now sought.now self.now }
     {
         if !sought.meets(&self.bounds) {

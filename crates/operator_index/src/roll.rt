@@ -94,7 +94,7 @@ impl OperatorIndex {
         }
     }
 
-    /// Reserves the memory that `follow` needs for this change.
+    /// Reserves the memory that `update_after` needs for this change.
     ///
     /// # Errors
     ///
@@ -109,7 +109,7 @@ impl OperatorIndex {
     }
 
     /// Updates the index after a change. `prepare` has reserved the memory for it, so this can't fail.
-    pub fn follow(&mut self, change: &Change)
+    pub fn update_after(&mut self, change: &Change)
         requires { IsReadyFor change.now self.old }
         ensures { (w : World) → IsRollOf w self.old → IsRollOf (changed_by change.now w) self.new }
     {

@@ -19,6 +19,6 @@ mod wire_fault;
 
 pub use framing::{HEAD_ROOM, is_ended};
 pub use message::{Front, Message, read_front, read_message};
-pub use request::{read_asked, read_request};
+pub use request::{parse_message, read_request};
 pub use resource::{Action, Route};
 pub use wire_fault::{ReadError, WireFault};

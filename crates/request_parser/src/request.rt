@@ -26,7 +26,7 @@ pub fn read_request(alloc: Global, text: &[u8]) -> Result<Asked, ReadError>
     ensures { GivesIfRoom (λ asked. asked) result (asked text.now) }
 {
     let message = read_message(text)?;
-    read_asked(alloc, &message)
+    parse_message(alloc, &message)
 }
 
 /// Parses a request that is split into head and body already.
@@ -35,7 +35,7 @@ pub fn read_request(alloc: Global, text: &[u8]) -> Result<Asked, ReadError>
 ///
 /// `OutOfMemory`, or the first fault: of path, method and operator, then of the plan id, then of the body.
 #[tactic(auto, unfolding(crate::specs::Requests::asked_by))]
-pub fn read_asked(alloc: Global, message: &Message<'_>) -> Result<Asked, ReadError>
+pub fn parse_message(alloc: Global, message: &Message<'_>) -> Result<Asked, ReadError>
     ensures { GivesIfRoom (λ asked. asked) result (asked_by (message_shown message.now)) }
 {
     match read_address(&message.head) {

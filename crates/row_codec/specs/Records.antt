@@ -11,7 +11,7 @@ use Rattle.desk_store.specs.World.{Filed, Listed}
 use Rattle.desk_store.specs.declared.fault.StoreFault.{StoreFault}
 use Rattle.desk_store.specs.declared.fault.StoreFault.TheVariants as store
 use Rattle.row_codec.specs.declared.exact.RowFault.{RowFault}
-use Rattle.row_codec.specs.declared.exact.RowFault.TheVariants.{OutOfMemory, NoDesk}
+use Rattle.row_codec.specs.declared.exact.RowFault.TheVariants.{OutOfMemory, InvalidRows}
 use Rattle.row_codec.specs.Tables.{id_text, usage_number, aircraft_number, row_of_plan, area_rows}
 use Rattle.row_codec.specs.PlanRows.{slab_record}
 use Rattle.desk_store.specs.Content.{IsPlan}
@@ -58,4 +58,4 @@ slab_row p place s = slab_record p.operator (id_text p.row.id) place p.row.prior
 -- what a reading's fault says of rows of which any may come
 abbrev pub row_fault_of : StoreFault → RowFault
 row_fault_of store.OutOfMemory = OutOfMemory
-row_fault_of store.Store = NoDesk
+row_fault_of store.Store = InvalidRows

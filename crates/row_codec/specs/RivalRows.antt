@@ -51,8 +51,8 @@ abbrev pub HasTakenHelds : List Held → List Row → Type 0
 HasTakenHelds helds rows = AllZip IsHeldIn rows helds
 
 -- what spans are asked for that may hold a point of an extent, at a priority at least
-abbrev pub reach_of : Slab → ℕ → SpanFilter
-reach_of extent least = record {
+abbrev pub span_filter_of : Slab → ℕ → SpanFilter
+span_filter_of extent least = record {
   first = pos extent.first;
   last = pos extent.last;
   lower = extent.lower;
@@ -63,8 +63,8 @@ reach_of extent least = record {
 }
 
 -- of these only those that begin at the leaves that a question is for
-abbrev pub reach_from : Span → Slab → ℕ → SpanFilter
-reach_from question extent least = record (reach_of extent least) { last = pos question.last }
+abbrev pub span_filter_from : Span → Slab → ℕ → SpanFilter
+span_filter_from question extent least = record (span_filter_of extent least) { last = pos question.last }
 
 -- a row of `span2` is of another plan than the operator's own one with this id, or, if there is no id, than
 -- all of its own; it is reached, and begins at a leaf position or later
@@ -75,17 +75,17 @@ is_another_from operator (Some id) = is_wanted operator (id_text id)
 -- a question of the spans that are wanted near an extent is for a row of `span2`
 abbrev pub is_asked : Wanted → Slab → Span → Row → Bool
 is_asked wanted extent question =
-    is_another_from wanted.operator wanted.id (reach_from question extent wanted.least) (pos question.first)
+    is_another_from wanted.operator wanted.id (span_filter_from question extent wanted.least) (pos question.first)
 
 -- a question of the spans of a plan is for a row of `span2`
 abbrev pub is_asked_of_plan : ℕ → Slab → PlanKey → Row → Bool
-is_asked_of_plan least extent key = is_plans key.operator (id_text key.id) (reach_of extent least)
+is_asked_of_plan least extent key = is_plans key.operator (id_text key.id) (span_filter_of extent least)
 
 -- so is one of the spans that pass a test
 abbrev pub is_asked_if : (Row → Bool) → ℕ → Slab → Span → Row → Bool
 is_asked_if passes least extent question row =
     is_at_least (column row 3) (pos question.first)
-    && (is_reached (reach_from question extent least) row && passes row)
+    && (is_reached (span_filter_from question extent least) row && passes row)
 
 -- one held slab for each row of these that is wanted, in some order
 abbrev pub HaveTaken : (Row → Bool) → List Row → List Held → Type 0

@@ -93,10 +93,10 @@ impl<T: Drop> From<AllocFailed<T>> for RowFault {
 ///
 /// # Errors
 ///
-/// `OutOfMemory` if memory runs out. `NoDesk` if one isn't the row of an operator within the limits.
+/// `OutOfMemory` if memory runs out. `InvalidRows` if one isn't the row of an operator within the limits.
 pub fn operators_in(alloc: Global, rows: &[Row]) -> Result<Vec<ListedOperator>, RowFault>
     ensures ok { IfOk result (λ operators. AreOperatorRows operators.items rows.now) }
-    ensures none { IfErr result (λ e. e ≡ RowFault.NoDesk →
+    ensures none { IfErr result (λ e. e ≡ RowFault.InvalidRows →
         (ls : List Listed) → ¬ AreOperatorRows ls rows.now) }
 {
     let mut operators = Vec::new(alloc);
@@ -112,14 +112,14 @@ pub fn operators_in(alloc: Global, rows: &[Row]) -> Result<Vec<ListedOperator>, 
 ///
 /// # Errors
 ///
-/// `OutOfMemory` if memory runs out. `NoDesk` if they aren't the rows of plans within the limits.
+/// `OutOfMemory` if memory runs out. `InvalidRows` if they aren't the rows of plans within the limits.
 pub fn plans_in(
     alloc: Global,
     head_rows: &[Row],
     volumes: &[Row],
 ) -> Result<Vec<FiledPlan>, RowFault>
     ensures ok { IfOk result (λ plans. ArePlanRows plans.items head_rows.now volumes.now) }
-    ensures none { IfErr result (λ e. e ≡ RowFault.NoDesk → (ps : List Filed) →
+    ensures none { IfErr result (λ e. e ≡ RowFault.InvalidRows → (ps : List Filed) →
         IsStrictlySortedBy filed_cmp ps → ¬ ArePlanRows ps head_rows.now volumes.now) }
 {
     let mut plans = Vec::new(alloc);
@@ -134,7 +134,7 @@ pub fn plans_in(
     if rest.is_empty() {
         Ok(plans)
     } else {
-        Err(RowFault::NoDesk)
+        Err(RowFault::InvalidRows)
     }
 }
 
@@ -183,7 +183,7 @@ fn is_text(row: &Row, at: usize, text: &[u8]) -> bool
 }
 
 /// Whether the operators are in ascending order of their names, none twice.
-pub fn names_ascend(operators: &[ListedOperator]) -> bool
+pub fn are_names_ascending(operators: &[ListedOperator]) -> bool
     ensures { IsTrue result ↔ IsStrictlySortedBy listed_cmp operators.now }
 {
     let mut left = operators;
@@ -207,7 +207,7 @@ fn name_is_below(one: &ListedOperator, others: &[ListedOperator]) -> bool
 }
 
 /// Whether the plans are in ascending order of operator and id, none twice.
-pub fn keys_ascend(plans: &[FiledPlan]) -> bool
+pub fn are_keys_ascending(plans: &[FiledPlan]) -> bool
     ensures { IsTrue result ↔ IsStrictlySortedBy filed_cmp plans.now }
 {
     let mut left = plans;
@@ -234,7 +234,7 @@ fn key_is_below(one: &FiledPlan, others: &[FiledPlan]) -> bool
 }
 
 /// Whether each plan's operator is among `operators`, and none of these has more than `MAX_PLANS` plans.
-pub fn are_shared(operators: &[ListedOperator], plans: &[FiledPlan]) -> bool
+pub fn have_operators_and_room(operators: &[ListedOperator], plans: &[FiledPlan]) -> bool
     requires names { IsStrictlySortedBy listed_cmp operators.now }
     requires keys { IsStrictlySortedBy filed_cmp plans.now }
     ensures { IsTrue result ↔ AreShared operators.now plans.now }

@@ -41,7 +41,7 @@ pub enum RowFault {
     /// Memory ran out.
     OutOfMemory,
     /// They aren't the rows of a valid database.
-    NoDesk,
+    InvalidRows,
 }
 
 impl From<StoreFault> for RowFault {
@@ -53,7 +53,7 @@ impl From<StoreFault> for RowFault {
     fn from(fault: StoreFault) -> RowFault {
         match fault {
             StoreFault::OutOfMemory => RowFault::OutOfMemory,
-            StoreFault::Store => RowFault::NoDesk,
+            StoreFault::Store => RowFault::InvalidRows,
         }
     }
 }
@@ -77,21 +77,21 @@ impl Model for FiledPlan {
 ///
 /// # Errors
 ///
-/// `OutOfMemory` if memory runs out. `NoDesk` if it isn't the row of an operator within the limits.
+/// `OutOfMemory` if memory runs out. `InvalidRows` if it isn't the row of an operator within the limits.
 pub(crate) fn listed_in(row: &Row) -> Result<ListedOperator, RowFault>
     ensures ok { IfOk result (λ l. IsOperator l × (row.now ≡ row_of_operator l)) }
-    ensures none { IfErr result (λ e. e ≡ RowFault.NoDesk →
+    ensures none { IfErr result (λ e. e ≡ RowFault.InvalidRows →
         (l : Listed) → IsOperator l → row.now ≢ row_of_operator l) }
 {
     let Some(operator) = operator_in(row) else {
-        return Err(RowFault::NoDesk);
+        return Err(RowFault::InvalidRows);
     };
     let ceiling = count_at(row, 1)?;
     if ceiling > MAX_PRIORITY {
-        return Err(RowFault::NoDesk);
+        return Err(RowFault::InvalidRows);
     }
     if row.column_count() != OPERATOR_WIDTH {
-        return Err(RowFault::NoDesk);
+        return Err(RowFault::InvalidRows);
     }
     Ok(ListedOperator { operator, ceiling })
 }
@@ -101,23 +101,23 @@ pub(crate) fn listed_in(row: &Row) -> Result<ListedOperator, RowFault>
 ///
 /// # Errors
 ///
-/// `OutOfMemory` if memory runs out. `NoDesk` if they aren't the rows of a plan within the limits.
+/// `OutOfMemory` if memory runs out. `InvalidRows` if they aren't the rows of a plan within the limits.
 pub(crate) fn filed_in(alloc: Global, head: &Row, volumes: &[Row]) -> Result<FiledPlan, RowFault>
     ensures ok { IfOk result (λ p. IsFiled p × AreRowsOf p head.now volumes.now) }
-    ensures none { IfErr result (λ e. e ≡ RowFault.NoDesk →
+    ensures none { IfErr result (λ e. e ≡ RowFault.InvalidRows →
         (p : Filed) → IsFiled p → ¬ AreRowsOf p head.now volumes.now) }
 {
     let Some(operator) = operator_in(head) else {
-        return Err(RowFault::NoDesk);
+        return Err(RowFault::InvalidRows);
     };
     let area = area_in(alloc, volumes, 3)?;
     let row = plan_in(head, area)?;
     if row.priority > MAX_PRIORITY {
-        return Err(RowFault::NoDesk);
+        return Err(RowFault::InvalidRows);
     }
     let mut plan = FiledPlan { operator, row };
     if !are_rows_of(&plan, head, volumes) {
-        return Err(RowFault::NoDesk);
+        return Err(RowFault::InvalidRows);
     }
     if !plan.row.usage.is_live() {
         plan.row.area.drop_ranges();

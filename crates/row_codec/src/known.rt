@@ -37,7 +37,7 @@ impl MemoryIndex {
         }
     }
 
-    /// Allocates what `follow` needs for `change`, so that it can't fail; returns the live volumes that the
+    /// Allocates what `update_after` needs for `change`, so that it can't fail; returns the live volumes that the
     /// change adds.
     ///
     /// # Errors
@@ -54,7 +54,7 @@ impl MemoryIndex {
     }
 
     /// Applies `change`, for which `prepare` made room and returned `fresh`; `span_bounds` hold after it.
-    pub fn follow(&mut self, change: &Change, span_bounds: SpanBounds, fresh: &[LiveVolume])
+    pub fn update_after(&mut self, change: &Change, span_bounds: SpanBounds, fresh: &[LiveVolume])
         requires room { HasRoomForVolumes self.old.live (length fresh.now) }
         requires brought { AreBrought change.now fresh.now }
         requires ready { IsReadyFor change.now self.old.roll }
@@ -63,8 +63,8 @@ impl MemoryIndex {
         ensures { (w : World) → Knows self.old w → Knows self.new (changed_by change.now w) }
     {
         self.span_bounds = span_bounds;
-        self.live.follow(change, fresh);
-        self.roll.follow(change);
+        self.live.update_after(change, fresh);
+        self.roll.update_after(change);
     }
 }
 
@@ -73,7 +73,7 @@ impl MemoryIndex {
 /// # Errors
 ///
 /// `AllocError` if memory runs out.
-pub fn live_among(alloc: Global, plans: &[FiledPlan]) -> Result<LiveIndex, AllocError>
+pub fn live_index_of(alloc: Global, plans: &[FiledPlan]) -> Result<LiveIndex, AllocError>
     ensures { IfOk result (λ live. (w : World) → IsStrictlySortedBy filed_cmp w.plans
         → w.plans ≡ plans.now → AreKeptOnce live w) }
 {
@@ -89,7 +89,7 @@ pub fn live_among(alloc: Global, plans: &[FiledPlan]) -> Result<LiveIndex, Alloc
 /// # Errors
 ///
 /// `AllocError` if memory runs out.
-pub fn roll_of(
+pub fn operator_index_of(
     alloc: Global,
     operators: &[ListedOperator],
     plans: &[FiledPlan],

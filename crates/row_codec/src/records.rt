@@ -244,7 +244,7 @@ fn slab_row<'a>(
 }
 
 /// Bounds that hold for what `span_bounds` do and for the spans of the rows `spans`.
-pub fn lengths_with(span_bounds: &SpanBounds, spans: &[SpanRecord<'_>]) -> SpanBounds
+pub fn bounds_with_rows(span_bounds: &SpanBounds, spans: &[SpanRecord<'_>]) -> SpanBounds
     ensures kept { Keeps span_bounds.now result }
     ensures known { AllByRecursion (IsKnownRow result) (map span_row_in spans.now) }
 {

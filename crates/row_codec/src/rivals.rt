@@ -65,8 +65,8 @@ impl RowVisitor for SpanCollector {
 }
 
 /// It selects the spans that hold a point of `extent` with at least the priority `least`.
-pub fn reach_of(extent: &Slab, least: u32) -> SpanFilter
-    ensures { result ≡ spec.reach_of extent.now least }
+pub fn span_filter_of(extent: &Slab, least: u32) -> SpanFilter
+    ensures { result ≡ spec.span_filter_of extent.now least }
 {
     SpanFilter {
         first: extent.first as i64,
@@ -79,12 +79,12 @@ pub fn reach_of(extent: &Slab, least: u32) -> SpanFilter
     }
 }
 
-/// As `reach_of`, but only the spans that begin at the last leaf of `question` or before.
-pub fn reach_from(question: &Span, extent: &Slab, least: u32) -> SpanFilter
+/// As `span_filter_of`, but only the spans that begin at the last leaf of `question` or before.
+pub fn span_filter_from(question: &Span, extent: &Slab, least: u32) -> SpanFilter
     requires { question.now.last < 6 * 2 ^ 60 }
-    ensures { result ≡ spec.reach_from question.now extent.now least }
+    ensures { result ≡ spec.span_filter_from question.now extent.now least }
 {
-    let mut reach = reach_of(extent, least);
+    let mut reach = span_filter_of(extent, least);
     reach.last = question.last as i64;
     reach
 }

@@ -1,2 +1,2 @@
 pub mod Regions
-pub mod Sought
+pub mod SearchArea

@@ -5,4 +5,4 @@ mod regions;
 mod sought;
 
 pub use regions::{at_most, joined, push_clipped, whole_of};
-pub use sought::Sought;
+pub use sought::SearchArea;

@@ -3,7 +3,7 @@
 ghost use Rattle.std.specs.Prelude.{◌≡◌, true};
 ghost use Rattle.volume4d.specs.Point.{Point};
 ghost use Rattle.volume4d.specs.Slab.{slab_has};
-ghost use Rattle.slab_regions.specs.Sought as spec;
+ghost use Rattle.slab_regions.specs.SearchArea as spec;
 
 use std::slice;
 use volume4d::Slab;
@@ -11,17 +11,17 @@ use volume4d::Slab;
 /// The slabs of a search (`parts`), and one round them (`whole`): what doesn't overlap `whole` overlaps no
 /// part, and is skipped after one test.
 #[derive(Clone, Copy, Debug)]
-pub struct Sought<'a> {
+pub struct SearchArea<'a> {
     pub whole: Slab,
     pub parts: &'a [Slab],
 }
 
-impl Sought<'_> {
+impl SearchArea<'_> {
     /// A search about one slab.
-    pub fn one(extent: &Slab) -> Sought<'_>
+    pub fn one(extent: &Slab) -> SearchArea<'_>
         ensures { (x : Point) → slab_has extent.now x ≡ true → spec.sought_has result x ≡ true }
     {
-        Sought {
+        SearchArea {
             whole: *extent,
             parts: slice::from_ref(extent),
         }

@@ -38,7 +38,7 @@ use Rattle.row_codec.specs.Tables.{AreSpanRows, row_of_plan}
 
 -- a part, if its rows are invalid; none if memory ran out
 abbrev pub if_no_desk : RowFault → InvalidPart → Option InvalidPart
-if_no_desk row.NoDesk part = Some part
+if_no_desk row.InvalidRows part = Some part
 if_no_desk row.OutOfMemory part = None
 
 -- the row in `plan` of a plan within the limits, whatever its volumes are

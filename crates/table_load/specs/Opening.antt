@@ -48,7 +48,7 @@ open_fault_of error = if is_memory error then OutOfMemory else Store
 -- what rows that are not read make an opening answer
 abbrev pub fault_of_rows : RowFault → OpenFault
 fault_of_rows row.OutOfMemory = OutOfMemory
-fault_of_rows row.NoDesk = NotADesk
+fault_of_rows row.InvalidRows = NotADesk
 
 -- ---- rows in the order of their keys
 

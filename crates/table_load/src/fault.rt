@@ -71,7 +71,7 @@ impl From<RowFault> for OpenFault {
     fn from(rows: RowFault) -> OpenFault {
         match rows {
             RowFault::OutOfMemory => OpenFault::OutOfMemory,
-            RowFault::NoDesk => OpenFault::NotADesk,
+            RowFault::InvalidRows => OpenFault::NotADesk,
         }
     }
 }

@@ -32,11 +32,12 @@ use crate::spans::{SpanCheck, take_spans};
 use desk_sql::{TablesPresent, WholeTable, all_rows, complete_tables, find_tables, has_old_rows};
 use operator_index::ListedOperator;
 use row_codec::content::{
-    Content, TableRows, are_shared, keys_ascend, names_ascend, operators_in, plans_in,
+    Content, TableRows, are_keys_ascending, are_names_ascending, have_operators_and_room,
+    operators_in, plans_in,
 };
 use row_codec::exact::FiledPlan;
 use row_codec::kept::GhostState;
-use row_codec::known::{MemoryIndex, live_among, roll_of};
+use row_codec::known::{MemoryIndex, live_index_of, operator_index_of};
 use row_codec::span_bounds::SpanBounds;
 use s2_cover::laws::one_list_of_ranges;
 use sqlite::{Connection, Row};
@@ -251,13 +252,13 @@ fn parse_covered_heads(
 fn are_in_order(operators: &[ListedOperator], plans: &[FiledPlan]) -> bool
     ensures { IsTrue result ↔ AreListedInOrder operators.now plans.now }
 {
-    if !names_ascend(operators) {
+    if !are_names_ascending(operators) {
         return false;
     }
-    if !keys_ascend(plans) {
+    if !are_keys_ascending(plans) {
         return false;
     }
-    are_shared(operators, plans)
+    have_operators_and_room(operators, plans)
 }
 
 /// The state of `operators` and of the plans in `check`, which was passed all rows of spans, with the indexes
@@ -285,8 +286,8 @@ pub(crate) fn finish_content(
     }
     let known = MemoryIndex {
         span_bounds: check.span_bounds,
-        live: live_among(alloc, &check.plans)?,
-        roll: roll_of(alloc, &operators, &check.plans)?,
+        live: live_index_of(alloc, &check.plans)?,
+        roll: operator_index_of(alloc, &operators, &check.plans)?,
     };
     let content = Content {
         operators,

@@ -51,7 +51,7 @@ pub struct DbStats {
 ///
 /// `OutOfMemory` if memory runs out. `Store` if SQLite fails for another cause. `NotADesk` if there is no
 /// table, if there are other tables than the schema's, or if the rows aren't those of a valid state.
-pub fn look_into<S: Alter>(
+pub fn read_stats<S: Alter>(
     alloc: Global,
     connection: &mut Connection<S>,
 ) -> Result<DbStats, OpenFault>
@@ -65,11 +65,11 @@ pub fn look_into<S: Alter>(
     ensures reads { OnlyReads S.Store connection.old connection.new }
 {
     let (content, _, old) = read_content(alloc, connection)?;
-    Ok(holdings_of(&content, old))
+    Ok(stats_of(&content, old))
 }
 
 /// The statistics of the state `content`. `is_old` says whether it was read in schema 1.
-pub fn holdings_of(content: &Content, is_old: bool) -> DbStats
+pub fn stats_of(content: &Content, is_old: bool) -> DbStats
     requires { IsContent content.now }
     ensures counted { AreHoldingsOf result content.now }
     ensures schema { result.is_old ≡ is_old }
@@ -90,7 +90,7 @@ pub fn holdings_of(content: &Content, is_old: bool) -> DbStats
 ///
 /// # Errors
 ///
-/// Those of `look_into`.
+/// Those of `read_stats`.
 // Long: the value, the indexes, and when each fault is reported, have a clause each.
 pub fn read_content<S: Alter>(
     alloc: Global,

@@ -62,7 +62,7 @@ const OLD_MAX_COVER: usize = 256;
 ///
 /// `OutOfMemory` if memory runs out. `Store` if SQLite fails for another cause. `NotADesk` if there are
 /// other tables, or if the rows aren't those of a valid state in either schema. The rows stay then.
-pub fn moved_world_in<S: Alter>(
+pub fn load_or_migrate<S: Alter>(
     alloc: Global,
     connection: &mut Connection<S>,
 ) -> Result<(GhostState, MemoryIndex, u32), OpenFault>

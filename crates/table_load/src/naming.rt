@@ -25,7 +25,8 @@ use crate::spans::{SpanCheck, take_spans};
 use desk_rules::decide::MAX_PRIORITY;
 use desk_sql::{TablesPresent, WholeTable};
 use row_codec::content::{
-    TableRows, are_shared, keys_ascend, names_ascend, operators_in, plans_in,
+    TableRows, are_keys_ascending, are_names_ascending, have_operators_and_room, operators_in,
+    plans_in,
 };
 use row_codec::exact::{FiledPlan, PLAN_WIDTH, RowFault, is_keyed, operator_in};
 use row_codec::values::{count_at, head_in, id_in};
@@ -259,13 +260,13 @@ fn plans_of(
         Ok(plans) => plans,
         Err(fault) => return Err(if_no_desk(fault, plan_or_volume(volume, &rows.plans))),
     };
-    if !names_ascend(&operators) {
+    if !are_names_ascending(&operators) {
         return Err(Some(InvalidPart::Operator));
     }
-    if !keys_ascend(&plans) {
+    if !are_keys_ascending(&plans) {
         return Err(Some(InvalidPart::Plan));
     }
-    if !are_shared(&operators, &plans) {
+    if !have_operators_and_room(&operators, &plans) {
         return Err(Some(InvalidPart::Plans));
     }
     Ok(plans)
@@ -276,7 +277,7 @@ fn if_no_desk(fault: RowFault, part: InvalidPart) -> Option<InvalidPart>
     ensures { result ≡ spec.if_no_desk fault part }
 {
     match fault {
-        RowFault::NoDesk => Some(part),
+        RowFault::InvalidRows => Some(part),
         RowFault::OutOfMemory => None,
     }
 }
@@ -286,15 +287,15 @@ fn plan_or_volume(volume: InvalidPart, heads: &[Row]) -> InvalidPart
     ensures { (result ≡ volume) ⊎ ((result ≡ InvalidPart.Plan) × (¬ ArePlanHeads heads.now)) }
 {
     match check_plan_rows(heads) {
-        Err(RowFault::NoDesk) => InvalidPart::Plan,
+        Err(RowFault::InvalidRows) => InvalidPart::Plan,
         _ => volume,
     }
 }
 
-// Checks that each row is that of a plan in `plan`, whatever its volumes are; else `NoDesk`.
+// Checks that each row is that of a plan in `plan`, whatever its volumes are; else `InvalidRows`.
 fn check_plan_rows(heads: &[Row]) -> Result<(), RowFault>
     ensures are { OnOk result (ArePlanHeads heads.now) }
-    ensures none { IfErr result (λ e. e ≡ RowFault.NoDesk → ¬ ArePlanHeads heads.now) }
+    ensures none { IfErr result (λ e. e ≡ RowFault.InvalidRows → ¬ ArePlanHeads heads.now) }
 {
     let mut left = heads;
     'head: while let Some((head, later)) = left.split_first() {
@@ -304,23 +305,23 @@ fn check_plan_rows(heads: &[Row]) -> Result<(), RowFault>
     Ok(())
 }
 
-// Checks that `head` is the row of a plan in `plan`, whatever its volumes are; else `NoDesk`.
+// Checks that `head` is the row of a plan in `plan`, whatever its volumes are; else `InvalidRows`.
 fn check_plan_row(head: &Row) -> Result<(), RowFault>
     ensures is { OnOk result (IsPlanHead head.now) }
-    ensures none { IfErr result (λ e. e ≡ RowFault.NoDesk → ¬ IsPlanHead head.now) }
+    ensures none { IfErr result (λ e. e ≡ RowFault.InvalidRows → ¬ IsPlanHead head.now) }
 {
     let Some(operator) = operator_in(head) else {
-        return Err(RowFault::NoDesk);
+        return Err(RowFault::InvalidRows);
     };
     head_in(head)?;
     if count_at(head, 2)? > MAX_PRIORITY {
-        return Err(RowFault::NoDesk);
+        return Err(RowFault::InvalidRows);
     }
     let id = id_in(head)?;
     let mut buffer = [0u8; 36];
     if is_keyed(head, operator.as_str(), id.encode(&mut buffer), PLAN_WIDTH) {
         Ok(())
     } else {
-        Err(RowFault::NoDesk)
+        Err(RowFault::InvalidRows)
     }
 }

@@ -10,7 +10,7 @@ use Rattle.desk_wire.specs.Passage.{course}
 use Rattle.desk_cli.specs.declared.line.Enrolment.{Enrolment}
 use Rattle.desk_cli.specs.declared.failure.ErrorCode.{ErrorCode}
 use Rattle.desk_cli.specs.declared.failure.ErrorCode.TheVariants as failure
-use Rattle.desk_recording.specs.Recovering.{Recovers, Undone, missing_of, undone}
+use Rattle.desk_recording.specs.Recovering.{Recovers, Undone, missing_enrolments, undone}
 use Rattle.desk_recording.specs.Tail.{unanswered_in}
 use Rattle.table_load.specs.Leaving.{MayLeave}
 use Rattle.desk_tables.specs.Store.{Shown}
@@ -29,7 +29,7 @@ operators_in (Some all) = all.items
 -- what a journal leaves pending at a desk that has the operators of the roll
 abbrev pub left_undone : PendingRecovery → NotedOperators → Undone
 left_undone left roll =
-    undone left.tail.terms (missing_of (operators_in roll.operators) left.tail.operators.items)
+    undone left.tail.terms (missing_enrolments (operators_in roll.operators) left.tail.operators.items)
     (unanswered_in left.tail.asked)
 
 -- why it is not done: a file, the desk's store or memory fails; and a request that is to be asked again can't

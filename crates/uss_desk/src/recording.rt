@@ -26,7 +26,8 @@ use desk_host::folders::{
     JournalError, JournalFile, last_record, make_part, move_rest, name_part, tail_of,
 };
 use desk_recording::{
-    Exchange, Journal, Record, Tail, TailEnd, WrittenRecord, begin_record, missing_of, recover,
+    Exchange, Journal, Record, Tail, TailEnd, WrittenRecord, missing_enrolments, recover,
+    write_header,
 };
 use desk_rules::terms::Terms;
 use host_files::files::LocalHost;
@@ -354,7 +355,7 @@ impl<'s> JournalFolder<'s> {
         let Some(operators) = roll.take() else {
             return Err(ErrorCode::Memory);
         };
-        let missing = missing_of(host.alloc(), &operators, &tail.operators)?;
+        let missing = missing_enrolments(host.alloc(), &operators, &tail.operators)?;
         let number = next_number(host, path, self.number)?;
         let mut journal = LocalRecoveryJournal {
             host,
@@ -505,7 +506,7 @@ fn begin_part<'s>(
         file: or_report(host, folder, make_part(host.rt, folder, number))?,
         is_reported: false,
     };
-    match begin_record(host.alloc(), &mut journal, number, terms, operators) {
+    match write_header(host.alloc(), &mut journal, number, terms, operators) {
         Ok(()) => Ok(journal),
         Err(_) => Err(ErrorCode::Write),
     }
@@ -553,7 +554,7 @@ impl<'s> LocalRecoveryJournal<'s> {
             &self.operators,
         )?;
         let mut record = WrittenRecord::new(self.host.alloc(), journal);
-        if record.keep_request(moment, bytes).is_err() {
+        if record.append_request(moment, bytes).is_err() {
             return Err(ErrorCode::Write);
         }
         let second = second_now(self.host)?;
@@ -569,11 +570,11 @@ impl<'s> LocalRecoveryJournal<'s> {
 impl Record for LocalRecoveryJournal<'_> {
     type Fault = RecordError;
 
-    fn keep_news(&mut self, _news: &[Enrolment]) -> Result<(), RecordError> {
+    fn append_new_enrolments(&mut self, _news: &[Enrolment]) -> Result<(), RecordError> {
         Err(RecordError)
     }
 
-    fn keep_request(&mut self, moment: Moment, bytes: &[u8]) -> Result<(), RecordError> {
+    fn append_request(&mut self, moment: Moment, bytes: &[u8]) -> Result<(), RecordError> {
         self.record = self.begin(moment, bytes).ok();
         match self.record {
             Some(_) => Ok(()),
@@ -581,15 +582,15 @@ impl Record for LocalRecoveryJournal<'_> {
         }
     }
 
-    fn keep_answer(&mut self, connection: Exchange<'_>) -> Result<(), RecordError> {
+    fn append_answer(&mut self, connection: Exchange<'_>) -> Result<(), RecordError> {
         let Some(record) = &mut self.record else {
             return Err(RecordError);
         };
-        if record.keep_answer(connection).is_ok() && record.sync().is_ok() {
+        if record.append_answer(connection).is_ok() && record.sync().is_ok() {
             return Ok(());
         }
         Err(RecordError)
     }
 
-    fn lose_answer(&mut self, _connection: Exchange<'_>) {}
+    fn note_lost_answer(&mut self, _connection: Exchange<'_>) {}
 }

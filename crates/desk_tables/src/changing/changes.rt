@@ -24,7 +24,7 @@ use desk_store::{Change, StoreFault};
 use row_codec::canon::canons_of;
 use row_codec::kept::GhostState;
 use row_codec::records::{
-    aircraft_number, asked_of, lengths_with, span_rows, texts_of, usage_number, volume_rows,
+    aircraft_number, asked_of, bounds_with_rows, span_rows, texts_of, usage_number, volume_rows,
 };
 use row_codec::span_bounds::SpanBounds;
 use row_codec::values::{count_at, fault_reported};
@@ -115,7 +115,7 @@ impl<S: Alter> DeskTables<S> {
         one_list_of_ranges();
         covers_are_few();
         let committed = put_plan(&mut self.connection, head, &volumes, &spans);
-        let after = lengths_with(span_bounds, &spans);
+        let after = bounds_with_rows(span_bounds, &spans);
         advance_if_committed(&mut self.kept, committed, next, after, self.reported)
     }
 

@@ -28,7 +28,7 @@ use sqlite_trees::store::Alter;
 use std::alloc::Global;
 use table_load::connecting::{connect, connect_new, connect_there};
 use table_load::fault::OpenFault;
-use table_load::looking::{DbStats, holdings_of, read_content};
+use table_load::looking::{DbStats, read_content, stats_of};
 use table_load::path::NotOpened;
 
 // A connection to files, the state that was read from them, the indexes in memory, and whether the rows are
@@ -186,7 +186,7 @@ pub fn look_at<S: Start>(
     ensures fault { IfErr result (λ e. AreNotRead (image_at S.Start) e.fault e.connection) }
 {
     let (connection, content, _, old) = read_at(rt, path, start)?;
-    Ok((connection, holdings_of(&content, old)))
+    Ok((connection, stats_of(&content, old)))
 }
 
 /// Copies the state of the database in the files at `path` into new files at `to`; returns the connection to
@@ -236,7 +236,7 @@ fn copy_read<D: Disk + Drop, N: Start>(
 {
     let (connection, content, known, old) = found;
     match store_at(rt, to, other, &content, known) {
-        Ok(store) => Ok((connection, (store, holdings_of(&content, old)))),
+        Ok(store) => Ok((connection, (store, stats_of(&content, old)))),
         Err(refused) => Err(CopyFault::Unmade(refused, Source { connection })),
     }
 }

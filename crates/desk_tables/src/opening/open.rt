@@ -18,7 +18,7 @@ use sqlite_trees::store::Alter;
 use std::alloc::{AllocError, Global};
 use table_load::fault::OpenFault;
 use table_load::finding::{create_tables, load_world};
-use table_load::moving::moved_world_in;
+use table_load::moving::load_or_migrate;
 
 // The seed for the salts of a WAL in memory. No other program writes to it, so that any number will do.
 const SEED: u64 = 1;
@@ -136,7 +136,7 @@ impl<S: Alter> SqliteStore<S> {
     {
         committed_and_sound(&connection);
         connection.set_step_limit(None);
-        match moved_world_in(alloc, &mut connection) {
+        match load_or_migrate(alloc, &mut connection) {
             Ok((kept, known, count)) => {
                 let store = SqliteStore::with(
                     alloc,

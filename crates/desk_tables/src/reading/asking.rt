@@ -15,7 +15,7 @@ use crate::tables::DeskTables;
 use desk_sql::{other_spans, rival_spans};
 use desk_store::StoreFault;
 use live_index::Wanted;
-use row_codec::rivals::{SpanCollector, reach_from};
+use row_codec::rivals::{SpanCollector, span_filter_from};
 use row_codec::span_bounds::SpanBounds;
 use s2_cover::Span;
 use sqlite_trees::store::Alter;
@@ -83,7 +83,7 @@ impl<S: Alter> DeskTables<S> {
         ensures open { WasOpen S.Store self.old.held self.new.held result }
     {
         let mut rivals = SpanCollector::new(self.alloc);
-        let span_filter = reach_from(question, extent, wanted.least);
+        let span_filter = span_filter_from(question, extent, wanted.least);
         let low = question.first as i64;
         let operator = wanted.operator.as_str();
         match &wanted.id {

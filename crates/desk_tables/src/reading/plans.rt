@@ -16,7 +16,7 @@ use crate::tables::DeskTables;
 use desk_sql::plan_spans;
 use desk_store::StoreFault;
 use live_index::{PlanKey, whole_of};
-use row_codec::rivals::{SpanCollector, reach_of};
+use row_codec::rivals::{SpanCollector, span_filter_of};
 use s2_cover::Span;
 use sqlite_trees::store::Alter;
 use volume4d::{Held, Slab};
@@ -101,7 +101,7 @@ impl<S: Alter> DeskTables<S> {
         let mut rivals = SpanCollector::new(self.alloc);
         let mut buffer = [0u8; 36];
         let id = key.id.encode(&mut buffer);
-        let span_filter = reach_of(extent, least);
+        let span_filter = span_filter_of(extent, least);
         let handed = plan_spans(
             &mut self.connection,
             key.operator.as_str(),

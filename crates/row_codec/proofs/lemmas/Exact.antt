@@ -14,7 +14,7 @@ use Rattle.desk_store.specs.Content.{IsId, IsBlock}
 use Rattle.volume4d.specs.Volume.{is_area}
 use Rattle.row_codec.specs.RowsRead.{IsVolumeAt, IsHead}
 use Rattle.row_codec.specs.Records.{IsFiled, AreRowsOf, AreNumbersOf, IsKeyed, IsWindowAt, slab_row, row_fault_of}
-use Rattle.row_codec.specs.declared.exact.RowFault.TheVariants.{NoDesk}
+use Rattle.row_codec.specs.declared.exact.RowFault.TheVariants.{InvalidRows}
 use Rattle.desk_store.specs.declared.fault.StoreFault.{StoreFault}
 use Rattle.desk_store.specs.declared.fault.StoreFault.TheVariants.{OutOfMemory, Store}
 use Rattle.desk_rules.specs.declared.plan.PlanRow.{PlanRow}
@@ -169,7 +169,7 @@ slabs_as_spans p place v (s ∷ slabs) h =
     ∷ slabs_as_spans p place v slabs h.1 i
 
 -- rows of a plan, and what is read from them
-pub store_of : (fault : StoreFault) → row_fault_of fault ≡ NoDesk → fault ≡ Store
+pub store_of : (fault : StoreFault) → row_fault_of fault ≡ InvalidRows → fault ≡ Store
 store_of OutOfMemory h = cc
 store_of Store h = refl
 

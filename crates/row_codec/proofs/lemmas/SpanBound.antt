@@ -27,7 +27,7 @@ use Rattle.desk_store.specs.declared.change.Change.{Change}
 use Rattle.desk_store.specs.declared.change.Change.TheVariants.{Enrol, Put, Close, Clear}
 use Rattle.row_codec.specs.Tables.{row_of_span, AreSpanRowsFrom, ArePlanSpanRows, AreSpanRows, AreTables}
 use Rattle.row_codec.specs.declared.span_bounds.SpanBounds.{SpanBounds}
-use Rattle.row_codec.specs.RivalRows.{reach_of, is_asked_if}
+use Rattle.row_codec.specs.RivalRows.{span_filter_of, is_asked_if}
 use Rattle.row_codec.specs.SpanBounds.{AreWhole, IsKnown, IsWithinExtent, Keeps, begins_in, IsKnownBlock, IsKnownPlan, AreKnownPlans, Bounds, BringsKnown, IsKnownRow, HasKnownSpan}
 
 -- ---- all of some elements
@@ -173,7 +173,7 @@ either_and false b d = refl
 
 module _ (another : Row → Bool) (least : ℕ) (extent : Slab) where
   abbrev rival : Row → Bool
-  rival r = sql.is_reached (reach_of extent least) r && another r
+  rival r = sql.is_reached (span_filter_of extent least) r && another r
 
   abbrev asked : Span → Row → Bool
   asked question r = is_asked_if another least extent question r
@@ -209,7 +209,7 @@ module _ (another : Row → Bool) (least : ℕ) (extent : Slab) where
   rival_meets : (r : Row) (span : Span) → column r 3 ≡ Int (pos span.first) → column r 4 ≡ Int (pos span.last)
       → rival r ≡ true → (extent.first ≤ span.last) × (span.first ≤ extent.last)
   rival_meets r span begins ends h =
-      let reached = and_parts (sql.is_reached (reach_of extent least) r) _ h in
+      let reached = and_parts (sql.is_reached (span_filter_of extent least) r) _ h in
       let met = and_parts (is_at_most (column r 3) (pos extent.last)) _ reached.0 in
       let last = (and_parts (is_at_least (column r 4) (pos extent.first)) _ met.1).0 in
       let early : nat_le span.first extent.last ≡ true = sym (at_most_nat span.first extent.last)

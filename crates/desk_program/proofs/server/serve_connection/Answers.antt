@@ -17,9 +17,9 @@ use Rattle.desk_program.proofs.server.serve_connection.Goals as goal
 pub returns-in_err-enrolments-clause-kept : goal.returns-in_err-enrolments-clause-kept
 returns-in_err-enrolments-clause-kept g c =
     none_kept g.S.PlanStore c.from_residual.result 1 (g.P.Port.traffic c.args.port.now)
-    (g.P.Port.traffic c.news.new.self) c.args.desk.now c.in_err-enrolments.ensures.same
+    (g.P.Port.traffic c.newly_enrolled.new.self) c.args.desk.now c.in_err-enrolments.ensures.same
     (λ was. not_ok c.from_residual.result c.in_err-enrolments.field-0.0
-    (IsOpen (g.P.Port.traffic c.news.new.self).recorded) c.from_residual.ensures.1)
+    (IsOpen (g.P.Port.traffic c.newly_enrolled.new.self).recorded) c.from_residual.ensures.1)
     (stops c.from_residual.result c.in_err-enrolments.field-0.0 c.from_residual.ensures.1 1 [] _
     c.in_err-enrolments.ensures.fault)
 
@@ -33,21 +33,21 @@ pub returns-in_err-enrol_new-clause-kept : goal.returns-in_err-enrol_new-clause-
 returns-in_err-enrol_new-clause-kept g c =
     let honest = IsHonest (g.S.PlanStore.doubt c.enrol_new.new.desk.store) in
     let fault = c.in_err-enrol_new.field-0.0 in
-    let news = c.in_ok-enrolments.enrolments.items in
+    let newly_enrolled = c.in_ok-enrolments.enrolments.items in
     let w = world_of g.S.PlanStore.content c.args.desk.now in
     let after = world_of g.S.PlanStore.content c.enrol_new.new.desk in
     let before = g.S.PlanStore.may_leave c.args.desk.now.store in
     let now = g.S.PlanStore.may_leave c.enrol_new.new.desk.store in
-    news_kept g.S.PlanStore c.from_residual-in_err-enrol_new.result (enrolment_failure fault) news
-    (g.P.Port.traffic c.args.port.now) (g.P.Port.traffic c.news.new.self)
-    (g.P.Port.traffic c.news.new.self) c.args.desk.now c.enrol_new.new.desk
+    news_kept g.S.PlanStore c.from_residual-in_err-enrol_new.result (enrolment_failure fault) newly_enrolled
+    (g.P.Port.traffic c.args.port.now) (g.P.Port.traffic c.newly_enrolled.new.self)
+    (g.P.Port.traffic c.newly_enrolled.new.self) c.args.desk.now c.enrol_new.new.desk
     c.from_residual-in_err-enrol_new.ensures.1 c.in_ok-enrolments.ensures.brings
-    (stays (g.P.Port.traffic c.news.new.self))
+    (stays (g.P.Port.traffic c.newly_enrolled.new.self))
     (inl (
       reported_breakdown fault (enrolment_failure fault) refl c.in_err-enrol_new.ensures.fault,
       subst (λ es. AreListedSoFar honest es w after) c.deref.ensures.value c.in_err-enrol_new.ensures.listed,
     ))
-    (λ p found may. unlisted_found c.enrol_new.result news w after before now
+    (λ p found may. unlisted_found c.enrol_new.result newly_enrolled w after before now
     (subst (λ es. FindsNews c.enrol_new.result es w after before now) c.deref.ensures.value
     (c.enrol_new.ensures.found p)) found fault c.in_err-enrol_new.was may)
 
@@ -61,20 +61,20 @@ pub returns-in_err-client-clause-kept : goal.returns-in_err-client-clause-kept
 returns-in_err-client-clause-kept g c =
     let honest = IsHonest (g.S.PlanStore.doubt c.enrol_new.new.desk.store) in
     let f = c.in_err-client.field-0.0 in
-    let news = c.in_ok-enrolments.enrolments.items in
+    let newly_enrolled = c.in_ok-enrolments.enrolments.items in
     let w = world_of g.S.PlanStore.content c.args.desk.now in
     let after = world_of g.S.PlanStore.content c.enrol_new.new.desk in
     let before = g.S.PlanStore.may_leave c.args.desk.now.store in
     let now = g.S.PlanStore.may_leave c.enrol_new.new.desk.store in
-    news_kept g.S.PlanStore c.from_residual-in_err-client.result f news
-    (g.P.Port.traffic c.args.port.now) (g.P.Port.traffic c.news.new.self)
+    news_kept g.S.PlanStore c.from_residual-in_err-client.result f newly_enrolled
+    (g.P.Port.traffic c.args.port.now) (g.P.Port.traffic c.newly_enrolled.new.self)
     (g.P.Port.traffic c.take.new.self) c.args.desk.now c.enrol_new.new.desk
     c.from_residual-in_err-client.ensures.1 c.in_ok-enrolments.ensures.brings c.in_err-client.ensures.same
     (inr (
       c.in_err-client.ensures.fault,
       subst (λ es. AreEnrolled honest es w after) c.deref.ensures.value c.in_ok-enrol_new.ensures.listed,
     ))
-    (λ p found may. untaken_found c.enrol_new.result news w after before now
+    (λ p found may. untaken_found c.enrol_new.result newly_enrolled w after before now
     (subst (λ es. FindsNews c.enrol_new.result es w after before now) c.deref.ensures.value
     (c.enrol_new.ensures.found p)) found c.in_ok-enrol_new.field-0 c.in_ok-enrol_new.was may)
 
@@ -89,7 +89,7 @@ returns-clause-kept g c =
     let honest = IsHonest (g.S.PlanStore.doubt c.serve_one-served.new.desk.store) in
     let was = was_honest c.serve_one-served.ensures.remembered.doubt in
     let client = c.in_ok-client.client in
-    let news = c.in_ok-enrolments.enrolments.items in
+    let newly_enrolled = c.in_ok-enrolments.enrolments.items in
     let bytes = g.P.Input.Read.remaining client.input in
     let unread = g.P.Input.Read.remaining c.serve_one-served.new.input in
     let out = g.P.Output.Write.contents client.output in
@@ -104,7 +104,7 @@ returns-clause-kept g c =
     let closed = (g.P.Port.traffic c.close-closed.new.self).recorded in
     let closes = c.close-closed.ensures.closed in
     one_kept g.S.PlanStore c.exchange_result.result (record {
-      news = news;
+      newly_enrolled = newly_enrolled;
       arrival = arrived client.moment.second bytes;
       out = out;
       served = c.serve_one-served.result;
@@ -113,19 +113,19 @@ returns-clause-kept g c =
     (closes.2 ∙ taken.2 ∙ brings.3)
     (subst (λ v. Grows v (g.P.Port.traffic c.close-closed.new.self).taken
     (arrived client.moment.second bytes ∷ [])) brings.1
-    (subst (λ v. Grows (g.P.Port.traffic c.news.new.self).taken v (arrived client.moment.second bytes ∷ []))
+    (subst (λ v. Grows (g.P.Port.traffic c.newly_enrolled.new.self).taken v (arrived client.moment.second bytes ∷ []))
     (sym closes.1) taken.0))
     (subst (λ v. Grows v (g.P.Port.traffic c.close-closed.new.self).closed
     (parted unread now c.outcome_of.result ∷ [])) (taken.1 ∙ brings.2) closes.0)
     (subst (λ v. IfSome v (λ partings. out ≡ Some [])) brings.2 c.in_ok-client.ensures.unsent.0)
     c.outcome_of.ensures
-    (subst (λ v. Grows (g.P.Port.traffic c.args.port.now).news v (news ∷ []))
+    (subst (λ v. Grows (g.P.Port.traffic c.args.port.now).newly_enrolled v (newly_enrolled ∷ []))
     (sym (closes.3 ∙ taken.3)) brings.0) (
-      (g.P.Port.traffic c.news.new.self).recorded,
+      (g.P.Port.traffic c.newly_enrolled.new.self).recorded,
       asked,
       closed,
       record {
-        news = brings.4;
+        newly_enrolled = brings.4;
         unsent = c.in_ok-client.ensures.unsent.1;
         request = taken.4;
         answer = closes.4;
@@ -133,12 +133,12 @@ returns-clause-kept g c =
       same_noted closed (failure_at c.serve_one-served.result ≢ None),
       stays_noted closed,
     )
-    (enrolled_then _ honest was news w listed
+    (enrolled_then _ honest was newly_enrolled w listed
     (subst (λ es. AreEnrolled (IsHonest (g.S.PlanStore.doubt c.enrol_new.new.desk.store)) es w listed)
     c.deref.ensures.value c.in_ok-enrol_new.ensures.listed))
     c.serve_one-served.ensures.served
     c.exchange_result.ensures c.close-closed.ensures.recorded c.close-closed.ensures.fault
-    (λ p found may. listed_found c.enrol_new.result news w listed before mid
+    (λ p found may. listed_found c.enrol_new.result newly_enrolled w listed before mid
     (subst (λ es. FindsNews c.enrol_new.result es w listed before mid) c.deref.ensures.value
     (c.enrol_new.ensures.found (was p))) found c.in_ok-enrol_new.field-0 c.in_ok-enrol_new.was may)
     c.serve_one-served.ensures.kept.found

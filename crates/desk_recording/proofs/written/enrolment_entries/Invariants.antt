@@ -7,6 +7,6 @@ use Rattle.desk_recording.proofs.written.enrolment_entries.Given as goal
 -- operators, all are
 abbrev pub invariant-loop-enrolment : goal.invariant-loop-enrolment
 invariant-loop-enrolment l =
-    (l.text.items ++ entries (map operator_entry (drop l.enrolment-index l.fn.news))
-    ≡ entries (map operator_entry l.fn.news))
-    × (AreNamed (drop l.enrolment-index l.fn.news) → AreNamed l.fn.news)
+    (l.text.items ++ entries (map operator_entry (drop l.enrolment-index l.fn.newly_enrolled))
+    ≡ entries (map operator_entry l.fn.newly_enrolled))
+    × (AreNamed (drop l.enrolment-index l.fn.newly_enrolled) → AreNamed l.fn.newly_enrolled)

@@ -1,5 +1,5 @@
 use Rattle.std.proofs.Common.{take}
-use Rattle.slab_regions.specs.Sought.{sought_has}
+use Rattle.slab_regions.specs.SearchArea.{sought_has}
 use Rattle.live_index.specs.Near.{AddsPlans}
 use Rattle.live_index.proofs.near.add_each.Given as goal
 

@@ -19,11 +19,11 @@ returns-clause-bounded c order =
     record {
       span_bounds = subst (λ b. Bounds b world) (sym c.agrees.ensures.span_bounds)
           (bounds_of c.one_list_of_ranges.ensures own.span_bounds world rows agree checked.known);
-      live = c.in_ok-live_among.ensures world
+      live = c.in_ok-live_index_of.ensures world
           (subst (IsStrictlySortedBy filed_cmp) (sym c.agrees.ensures.plans) order.keys)
           (sym c.deref.ensures.value);
-      roll = subst (λ ls. AreAccountsOf ls world.plans (accounts_of c.in_ok-roll_of.field-0))
+      roll = subst (λ ls. AreAccountsOf ls world.plans (accounts_of c.in_ok-operator_index_of.field-0))
           c.deref-2.ensures.value
-          (subst (λ ps. AreAccountsOf c.deref-2.result.now ps (accounts_of c.in_ok-roll_of.field-0))
-          c.deref-3.ensures.value c.in_ok-roll_of.ensures);
+          (subst (λ ps. AreAccountsOf c.deref-2.result.now ps (accounts_of c.in_ok-operator_index_of.field-0))
+          c.deref-3.ensures.value c.in_ok-operator_index_of.ensures);
     }

@@ -3,7 +3,7 @@ use Rattle.sqlite_value.specs.Order.{Row}
 use Rattle.desk_sql.specs.Rows.{Tables}
 use Rattle.desk_store.specs.World.{World}
 use Rattle.desk_store.specs.Content.{IsContent}
-use Rattle.row_codec.specs.declared.exact.RowFault.TheVariants.{NoDesk}
+use Rattle.row_codec.specs.declared.exact.RowFault.TheVariants.{InvalidRows}
 use Rattle.table_load.specs.Opening.{AreRows}
 use Rattle.row_codec.specs.contracts.content.TableRows.{the_view}
 use Rattle.table_load.proofs.lemmas.Assembly.{no_plans, none_if}
@@ -11,7 +11,7 @@ use Rattle.table_load.proofs.finding.parse_heads.Goals as goal
 
 pub returns-in_err-plans-clause-none : goal.returns-in_err-plans-clause-none
 returns-in_err-plans-clause-none c =
-    let none : c.in_err-plans.field-0.0 ≡ NoDesk → (w : World) (spans : List Row) → IsContent w
+    let none : c.in_err-plans.field-0.0 ≡ InvalidRows → (w : World) (spans : List Row) → IsContent w
     → AreRows (record c.args.heads.now { spans = spans }) w → ⊥ = λ n w spans h are.
     no_plans (record (the_view c.heads.inside) { spans = spans }) (record c.args.heads.now { spans = spans })
     c.deref-2.result.now c.deref-3.result.now

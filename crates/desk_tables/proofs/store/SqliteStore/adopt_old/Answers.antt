@@ -12,7 +12,7 @@ returns-in-Ok-clause-adopted g c =
     let is = c.set_step_limit.ensures in
     let old = c.args.connection in
     let mid = c.set_step_limit.new.self in
-    let new = c.moved_world_in.new.connection in
+    let new = c.load_or_migrate.new.connection in
     subst (λ s. IsAdopted g.S.Store old s.held s.world) (sym c.with-store.ensures.value) (record {
       live = opened.live;
       left = c.with-store.ensures.left;
@@ -25,7 +25,7 @@ pub returns-in-Ok-clause-begins : goal.returns-in-Ok-clause-begins
 returns-in-Ok-clause-begins g c =
     subst (λ s. BeginsMoved g.S.Store c.args.connection s.held s.world c.in-Ok.count)
     (sym c.with-store.ensures.value)
-    (moves_lifted g.S.Store c.args.connection c.set_step_limit.new.self c.moved_world_in.new.connection
+    (moves_lifted g.S.Store c.args.connection c.set_step_limit.new.self c.load_or_migrate.new.connection
     c.set_step_limit.ensures _ _ c.in-Ok.ensures.opened.begins)
 
 pub returns-in-Err-clause-refused : goal.returns-in-Err-clause-refused
@@ -34,7 +34,7 @@ returns-in-Err-clause-refused g c =
     let is = c.set_step_limit.ensures in
     let old = c.args.connection in
     let mid = c.set_step_limit.new.self in
-    let new = c.moved_world_in.new.connection in
+    let new = c.load_or_migrate.new.connection in
     record {
       none = λ reported. unmoved_lifted g.S.Store old mid new is (opened.none reported);
       older = opened.older;
@@ -48,13 +48,13 @@ pub returns-in-Ok-clause-cut : goal.returns-in-Ok-clause-cut
 returns-in-Ok-clause-cut g c =
     let old = c.args.connection in
     subst (λ s. LeavesShownOr g.S.Store old s.held IsMovedOn) (sym c.with-store.ensures.value)
-    (shown_leaves g.S.Store IsMovedOn old c.set_step_limit.new.self c.moved_world_in.new.connection
+    (shown_leaves g.S.Store IsMovedOn old c.set_step_limit.new.self c.load_or_migrate.new.connection
     c.set_step_limit.ensures (c.committed_and_sound.ensures.settled c.requires.settled)
-    (λ live db may. g.met.S.Store.settled old.store db live may) c.moved_world_in.ensures.crash)
+    (λ live db may. g.met.S.Store.settled old.store db live may) c.load_or_migrate.ensures.crash)
 
 pub returns-in-Err-clause-cut : goal.returns-in-Err-clause-cut
 returns-in-Err-clause-cut g c =
     let old = c.args.connection in
-    shown_leaves g.S.Store IsMovedOn old c.set_step_limit.new.self c.moved_world_in.new.connection
+    shown_leaves g.S.Store IsMovedOn old c.set_step_limit.new.self c.load_or_migrate.new.connection
     c.set_step_limit.ensures (c.committed_and_sound.ensures.settled c.requires.settled)
-    (λ live db may. g.met.S.Store.settled old.store db live may) c.moved_world_in.ensures.crash
+    (λ live db may. g.met.S.Store.settled old.store db live may) c.load_or_migrate.ensures.crash

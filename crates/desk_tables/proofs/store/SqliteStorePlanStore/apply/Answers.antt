@@ -15,8 +15,8 @@ invariant_of-self g c = (
 
 pub invariant_of-self-in-Ok : goal.invariant_of-self-in-Ok
 invariant_of-self-in-Ok g c = (
-  subst (Knows c.follow.new.self) (sym c.in-Ok.ensures.made.ok)
-      (c.follow.ensures c.self.inside.tables.world
+  subst (Knows c.update_after.new.self) (sym c.in-Ok.ensures.made.ok)
+      (c.update_after.ensures c.self.inside.tables.world
       (c.prepare.ensures.kept c.self.inside.tables.world c.self.invariant.0)),
   λ clean. (c.settled.ensures.stands.standing clean (c.in-Ok.ensures.made.is_open clean)).content,
 )

@@ -4,7 +4,7 @@ use Rattle.desk_sql.specs.Rows.{tables_of, held_columns}
 use Rattle.desk_sql.specs.Others.{is_plans}
 use Rattle.desk_store.proofs.lemmas.Parse.{parsed_id}
 use Rattle.desk_tables.specs.Causes.{BlamesSpans}
-use Rattle.row_codec.specs.RivalRows.{HasTakenHelds, reach_of}
+use Rattle.row_codec.specs.RivalRows.{HasTakenHelds, span_filter_of}
 use Rattle.row_codec.proofs.lemmas.Result.{weaker}
 use Rattle.table_load.proofs.lemmas.Store.{still_stands, on_whole}
 use Rattle.desk_tables.proofs.CauseLemmas.{err_weaker, spans_blamed}
@@ -21,9 +21,9 @@ returns-clause-read g c =
           (answers.value clean) (λ handed.
           (let (rows, by_texts, taken) = handed in
           let spans = (tables_of (state g.S.Store old).now.trees).spans in
-          let reach = reach_of c.args.extent.now c.args.least in
+          let reach = span_filter_of c.args.extent.now c.args.least in
           let reached = subst (λ r. IsPermutation (map held_columns (filter (is_plans c.as_str.result.now
-          c.encode-id.result.now r) spans)) rows) c.reach_of-span_filter.ensures by_texts in
+          c.encode-id.result.now r) spans)) rows) c.span_filter_of-span_filter.ensures by_texts in
           let named = subst (λ name. IsPermutation (map held_columns
           (filter (is_plans name c.encode-id.result.now reach) spans)) rows) c.as_str.ensures.value reached in
           let mine = subst (λ id. IsPermutation (map held_columns

@@ -32,7 +32,7 @@ invariant_of-self g c =
     let volumes = map volume_row_in c.deref-3.result.now in
     let covers = map cover_of c.deref-3.result.now in
     let spans = map span_row_in c.deref-4.result.now in
-    (followed g.S.Store old new w c.advance_if_committed.new.kept.world c.args.next.world c.lengths_with-after.result change
+    (followed g.S.Store old new w c.advance_if_committed.new.kept.world c.args.next.world c.bounds_with_rows-after.result change
     c.put_plan-committed.result c.advance_if_committed.result
     (made_put g.S.Store old new w c.self.invariant _ operator row text volumes covers spans
     c.encode-id.ensures.text
@@ -71,7 +71,7 @@ returns-clause-made g c =
     let covers = map cover_of c.deref-3.result.now in
     let spans = map span_row_in c.deref-4.result.now in
     rw (← c.self.view_is) (followed g.S.Store old new w c.advance_if_committed.new.kept.world c.args.next.world
-    c.lengths_with-after.result change c.put_plan-committed.result c.advance_if_committed.result
+    c.bounds_with_rows-after.result change c.put_plan-committed.result c.advance_if_committed.result
     (made_put g.S.Store old new w c.self.invariant _ operator row text volumes covers spans
     c.encode-id.ensures.text
     (ap (map volume_row_in) c.deref-3.ensures.value ∙ c.in_ok-volumes.ensures.volumes
@@ -99,16 +99,16 @@ pub returns-clause-known : goal.returns-clause-known
 returns-clause-known g c =
     let operator = c.args.operator.now in
     let row = c.args.row.now in
-    let after = c.lengths_with-after.result in
+    let after = c.bounds_with_rows-after.result in
     let spans = map span_row_in c.in_ok-spans.spans.items in
     followed_value _ c.self.inside.kept.world c.advance_if_committed.new.kept.world c.args.next.world after
     c.put_plan-committed.result c.advance_if_committed.result c.advance_if_committed.ensures (
-      c.lengths_with-after.ensures.kept,
+      c.bounds_with_rows-after.ensures.kept,
       plan_near c.one_list_of_ranges.ensures after (filed_by operator row) spans
           (subst (λ name. ArePlanSpanRows (filed_by name row) spans) c.as_str-2.ensures.value
           c.in_ok-spans.ensures)
           (subst (λ records. AllByRecursion (IsKnownRow after) (map span_row_in records))
-          c.deref-5.ensures.value c.lengths_with-after.ensures.known),
+          c.deref-5.ensures.value c.bounds_with_rows-after.ensures.known),
     )
 
 pub returns-clause-cause : goal.returns-clause-cause
@@ -126,7 +126,7 @@ returns-clause-cause g c =
     let covers = map cover_of c.deref-3.result.now in
     let spans = map span_row_in c.deref-4.result.now in
     let committed = c.put_plan-committed.ensures.committed in
-    followed_blamed g.S.Store old new w c.advance_if_committed.new.kept.world c.args.next.world c.lengths_with-after.result
+    followed_blamed g.S.Store old new w c.advance_if_committed.new.kept.world c.args.next.world c.bounds_with_rows-after.result
     c.put_plan-committed.result c.advance_if_committed.result c.self.invariant.unlimited c.advance_if_committed.ensures
     (λ clean live. on_refused _ c.put_plan-committed.result committed.kept (λ kept.
     (let early : HasCleanDisk (state g.S.Store old) = omega (arith, committed.over.doubt, clean) in

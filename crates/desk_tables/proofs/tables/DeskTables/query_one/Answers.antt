@@ -6,7 +6,7 @@ use Rattle.sqlite.specs.Held.{state}
 use Rattle.desk_sql.specs.Rows.{tables_of, held_columns, is_wanted}
 use Rattle.desk_sql.specs.Others.{is_others_from}
 use Rattle.desk_tables.specs.Causes.{BlamesSpans}
-use Rattle.row_codec.specs.RivalRows.{HasTakenHelds, HaveTaken, is_another_from, reach_from}
+use Rattle.row_codec.specs.RivalRows.{HasTakenHelds, HaveTaken, is_another_from, span_filter_from}
 use Rattle.row_codec.proofs.lemmas.Result.{weaker}
 use Rattle.table_load.proofs.lemmas.Store.{still_stands, on_whole}
 use Rattle.desk_tables.proofs.CauseLemmas.{err_weaker, spans_blamed}
@@ -20,7 +20,7 @@ returns-in-Some-clause-read g c =
     let question = c.args.question.now in
     let wanted = c.args.wanted.now in
     let spans = (tables_of (state g.S.Store old).now.trees).spans in
-    let reach = reach_from question c.args.extent.now wanted.least in
+    let reach = span_filter_from question c.args.extent.now wanted.least in
     let first = pos question.first in
     rw (← c.self.view_is) (record {
       value = λ clean.
@@ -32,7 +32,7 @@ returns-in-Some-clause-read g c =
           let name = c.as_str-operator.result.now in
           let text = c.encode-text.result.now in
           let reached = subst (λ r. IsPermutation (map held_columns (filter (is_wanted name text r
-          (to_z w64 (of_z w64 first))) spans)) rows) c.reach_from-span_filter.ensures by_texts in
+          (to_z w64 (of_z w64 first))) spans)) rows) c.span_filter_from-span_filter.ensures by_texts in
           let begun = subst (λ l. IsPermutation (map held_columns (filter
           (is_wanted name text reach l) spans)) rows)
           (to_z_pos w64 question.first (omega (arith, c.requires.0))) reached in
@@ -67,7 +67,7 @@ returns-in-None-clause-read g c =
     let question = c.args.question.now in
     let wanted = c.args.wanted.now in
     let spans = (tables_of (state g.S.Store old).now.trees).spans in
-    let reach = reach_from question c.args.extent.now wanted.least in
+    let reach = span_filter_from question c.args.extent.now wanted.least in
     let first = pos question.first in
     rw (← c.self.view_is) (record {
       value = λ clean.
@@ -78,7 +78,7 @@ returns-in-None-clause-read g c =
           (let (rows, by_texts, taken) = handed in
           let name = c.as_str-operator.result.now in
           let reached = subst (λ r. IsPermutation (map held_columns (filter (is_others_from name r
-          (to_z w64 (of_z w64 first))) spans)) rows) c.reach_from-span_filter.ensures by_texts in
+          (to_z w64 (of_z w64 first))) spans)) rows) c.span_filter_from-span_filter.ensures by_texts in
           let begun = subst (λ l. IsPermutation (map held_columns (filter
           (is_others_from name reach l) spans)) rows)
           (to_z_pos w64 question.first (omega (arith, c.requires.0))) reached in

@@ -1,6 +1,6 @@
 use Rattle.std.proofs.Common.{subst, sym, ◌∙◌}
 use Rattle.std.proofs.lemmas.Result.{on_ok_weaker}
-use Rattle.slab_regions.specs.Sought.{sought_has}
+use Rattle.slab_regions.specs.SearchArea.{sought_has}
 use Rattle.live_index.specs.Near.{AddsPlans}
 use Rattle.live_index.proofs.NearLemmas.{adds_fenced, adds_looked}
 use Rattle.live_index.proofs.chunk.Chunk.add_near.Goals as goal

@@ -3,7 +3,7 @@ use Rattle.std.proofs.lemmas.List.{take_all}
 use Rattle.volume4d.specs.Slab.{slab_has, slabs_have}
 use Rattle.live_index.specs.Live.{volumes_of}
 use Rattle.live_index.specs.Near.{AreNearPlans}
-use Rattle.slab_regions.specs.Sought.{sought_has}
+use Rattle.slab_regions.specs.SearchArea.{sought_has}
 use Rattle.live_index.proofs.NearLemmas.{adds_extent, adds_nothing, adds_within, found_weaker, near_plans}
 use Rattle.live_index.proofs.live.LiveIndex.near_one_by_one.Goals as goal
 

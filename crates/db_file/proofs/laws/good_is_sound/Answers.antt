@@ -1,5 +1,0 @@
-use Rattle.db_file.proofs.DamageLemmas.{good}
-use Rattle.db_file.proofs.laws.good_is_sound.Goals as goal
-
-pub returns : goal.returns
-returns c log taken stop commits damaged = good _ log stop commits taken damaged
