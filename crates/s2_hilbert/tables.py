@@ -53,9 +53,9 @@ pub fn place_of_four(key: usize) -> &'static FourPlaces
     &PLACES[key]
 }
 
-/// The point at `place` along four levels of the curve with the orientation `turn`, and the orientation
-/// there. `key` is `turn * 256 + place`.
-pub fn point_of_four(key: usize) -> &'static FourPoints
+/// Follows the curve of orientation `turn` four levels down to its `place` (0 to 255): the coordinates there,
+/// and 256 times the orientation there. `key` is `turn * 256 + place`.
+pub fn point_four_levels_down(key: usize) -> &'static FourPoints
     requires { key < 1024 }
     ensures place { curve.place 4 (key / 256) result.now.i result.now.j ≡ key % 256 }
     ensures row { result.now.row ≡ 256 * curve.turn_at 4 (key / 256) result.now.i result.now.j }

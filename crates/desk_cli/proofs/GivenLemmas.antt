@@ -9,7 +9,7 @@ use Rattle.clap.proofs.WalkLemmas.{one_text-rows}
 use Rattle.clap.specs.Matches.{ReadsOne, TriesOne, one_text}
 use Rattle.clap.specs.Walk.{Text, rows_of}
 use Rattle.clap.specs.declared.parser.matches.Found.{Found}
-use Rattle.desk_cli.specs.Grammar.{IsNumberGiven, IsNumberOrNone, IsSecondGiven, WritesNumber, WritesSecond, enrolment_in, is_given}
+use Rattle.desk_cli.specs.Grammar.{IsNumberGiven, IsNumberOrNone, IsIntegerGiven, WritesNumber, WritesInteger, enrolment_in, is_given}
 use Rattle.desk_cli.specs.declared.line.Enrolment.{Enrolment}
 
 some_none : {A B : Type 0} (x : A) → Some x ≡ None → B
@@ -90,22 +90,22 @@ module _ {E : Type 0} (M N : Text → Result ℤ E → Type 0) (f : Found) (id :
       → ReadsOne (λ s x. ParsesSigned w64 10 s x × M s x × N s x) t r
 
   pub second_read : (r : Option ℤ) → (one_text f id ≡ None → r ≡ None) → ReadsSecond r
-      → IfSome r (IsSecondGiven id (rows_of f))
+      → IfSome r (IsIntegerGiven id (rows_of f))
   second_read None none value = tt
   second_read (Some z) none value = go (one_text f id) refl
     where
-      go : (o : Option Text) → one_text f id ≡ o → IsSecondGiven id (rows_of f) z
+      go : (o : Option Text) → one_text f id ≡ o → IsIntegerGiven id (rows_of f) z
       go None e = some_none z (none e)
-      go (Some t) e = subst (λ o. IsSomeAnd o (WritesSecond z)) (sym e ∙ one_text-rows f id)
+      go (Some t) e = subst (λ o. IsSomeAnd o (WritesInteger z)) (sym e ∙ one_text-rows f id)
           ((value t e).0.0.0, (value t e).0.1)
 
   pub second_none : (r : Option ℤ) → ReadsSecond r → r ≡ None → (z : ℤ) → SFits w64 z
-      → IsSecondGiven id (rows_of f) z → ⊥
+      → IsIntegerGiven id (rows_of f) z → ⊥
   second_none (Some m) value none z fits given = some_none m none
   second_none None value none z fits given =
-      go (one_text f id) refl (subst (λ o. IsSomeAnd o (WritesSecond z)) (sym (one_text-rows f id)) given)
+      go (one_text f id) refl (subst (λ o. IsSomeAnd o (WritesInteger z)) (sym (one_text-rows f id)) given)
     where
-      go : (o : Option Text) → one_text f id ≡ o → IsSomeAnd o (WritesSecond z) → ⊥
+      go : (o : Option Text) → one_text f id ≡ o → IsSomeAnd o (WritesInteger z) → ⊥
       go None e g = g
       go (Some t) e g = (value t e).1.0 (g.0, subst (SFits w64) g.1 fits)
 

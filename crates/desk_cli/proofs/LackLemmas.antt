@@ -12,19 +12,19 @@ use Rattle.clap.specs.declared.error.kind.ErrorKind.TheVariants as kind
 use Rattle.desk_rules.specs.Permission.{permitted_in}
 use Rattle.desk_rules.specs.declared.permission.PermitFault.{PermitFault}
 use Rattle.desk_cli.specs.Equal.{ArePermittedIn, is_comma, priority_in}
-use Rattle.desk_cli.specs.Grammar.{IsUntaken, Lacks, program}
+use Rattle.desk_cli.specs.Grammar.{IsUntaken, RefusesOnlyWithout, program}
 use Rattle.desk_cli.specs.declared.line.WordsFault.{WordsFault}
 use Rattle.desk_cli.specs.declared.line.WordsFault.TheVariants as fault
 
 -- a fault that is handed on: what lacks a part lacks the whole
 pub lacks_part : {A B C D : Type 0} (P : B → Type 0) (Q : D → Type 0) (one : Result A WordsFault)
     (whole : Result C WordsFault) (f : WordsFault) → one ≡ Err f → IsErrAnd whole (λ e. e ≡ f)
-    → ((d : D) → Q d → (b : B) × P b) → Lacks P one → Lacks Q whole
+    → ((d : D) → Q d → (b : B) × P b) → RefusesOnlyWithout P one → RefusesOnlyWithout Q whole
 lacks_part P Q one (Ok value) f was is part lacks = tt
 lacks_part {A} {B} {C} {D} P Q one (Err e) f was is part lacks =
-    subst (λ e. Lacks {A = C} Q (Err e)) (sym is) (by f (subst (Lacks P) was lacks))
+    subst (λ e. RefusesOnlyWithout {A = C} Q (Err e)) (sym is) (by f (subst (RefusesOnlyWithout P) was lacks))
   where
-    by : (f : WordsFault) → Lacks {A = A} P (Err f) → Lacks {A = C} Q (Err f)
+    by : (f : WordsFault) → RefusesOnlyWithout {A = A} P (Err f) → RefusesOnlyWithout {A = C} Q (Err f)
     by fault.OutOfMemory h = tt
     by (fault.Words error) h = h
     by fault.Value h = λ d q. h (part d q).0 (part d q).1
@@ -70,7 +70,7 @@ not_permitted word ps priorities made f is err read h =
 
 -- what lacks one thing lacks each that has it
 pub lacks_same : {A B : Type 0} (P Q : B → Type 0) (r : Result A WordsFault) → ((b : B) → Q b → P b)
-    → Lacks P r → Lacks Q r
+    → RefusesOnlyWithout P r → RefusesOnlyWithout Q r
 lacks_same P Q (Ok value) has h = tt
 lacks_same P Q (Err fault.OutOfMemory) has h = tt
 lacks_same P Q (Err (fault.Words error)) has h = h

@@ -149,15 +149,15 @@ abbrev pub WritesNumber : ℕ → Text → Type 0
 WritesNumber n text =
     IsNumeral 10 (without_leading_plus text) × (n ≡ digits_value 10 (without_leading_plus text))
 
-abbrev pub WritesSecond : ℤ → Text → Type 0
-WritesSecond z text = IsNumeral 10 (without_leading_sign text) × (z ≡ signed_digits_value 10 text)
+abbrev pub WritesInteger : ℤ → Text → Type 0
+WritesInteger z text = IsNumeral 10 (without_leading_sign text) × (z ≡ signed_digits_value 10 text)
 
 -- the number that was given
 abbrev pub IsNumberGiven : Text → List Row → ℕ → Type 0
 IsNumberGiven id rows n = IsSomeAnd (one_of id rows) (WritesNumber n)
 
-abbrev pub IsSecondGiven : Text → List Row → ℤ → Type 0
-IsSecondGiven id rows z = IsSomeAnd (one_of id rows) (WritesSecond z)
+abbrev pub IsIntegerGiven : Text → List Row → ℤ → Type 0
+IsIntegerGiven id rows z = IsSomeAnd (one_of id rows) (WritesInteger z)
 
 -- the number that was given, or none if none was
 abbrev pub IsNumberOrNone : Text → List Row → Option ℕ → Type 0
@@ -234,7 +234,7 @@ pub record IsBareDeskGiven (rows : List Row) (desk : DeskArgs) : Type 0 where
 
 pub record IsPlayGiven (rows : List Row) (play : PlayArgs) : Type 0 where
   pub desk : IsDeskGiven rows None play.desk
-  pub moment : IsSecondGiven (codes "moment") rows play.moment.second
+  pub moment : IsIntegerGiven (codes "moment") rows play.moment.second
 
 pub record IsServeGiven (rows : List Row) (serve : ServeArgs) : Type 0 where
   pub desk : IsDeskGiven rows (first_of (codes "operators") rows) serve.desk
@@ -302,11 +302,11 @@ pub record IsGiven (words : List Text) (it : Line) : Type 0 where
 -- ---- why words are no line
 
 -- a `Value` that is refused: there is none that was given. It is the only fault but want of memory
-abbrev pub Lacks : {A B : Type 0} → (B → Type 0) → Result A WordsFault → Type 0
-Lacks Is (Ok value) = ⊤
-Lacks Is (Err fault.OutOfMemory) = ⊤
-Lacks Is (Err (fault.Words error)) = ⊥
-Lacks {A} {B} Is (Err fault.Value) = (value : B) → Is value → ⊥
+abbrev pub RefusesOnlyWithout : {A B : Type 0} → (B → Type 0) → Result A WordsFault → Type 0
+RefusesOnlyWithout Is (Ok value) = ⊤
+RefusesOnlyWithout Is (Err fault.OutOfMemory) = ⊤
+RefusesOnlyWithout Is (Err (fault.Words error)) = ⊥
+RefusesOnlyWithout {A} {B} Is (Err fault.Value) = (value : B) → Is value → ⊥
 
 -- `clap` doesn't take the words, and memory did not run out
 abbrev pub IsUntaken : List Text → WordsFault → Type 0

@@ -79,12 +79,12 @@ pub record IsCover (cover : CoverArgs) : Type 0 where
   pub level : cover.level ≤ max_small
 
 -- the last second that is played
-abbrev pub IsLastSecond : Option ℕ → Type 0
-IsLastSecond until = IfSome until (λ n. IsMoment (pos n))
+abbrev pub IsMomentIfGiven : Option ℕ → Type 0
+IsMomentIfGiven until = IfSome until (λ n. IsMoment (pos n))
 
 -- the numbers of `replay`
 abbrev pub IsReplay : ReplayWords → Type 0
-IsReplay replay = IsLastSecond replay.until
+IsReplay replay = IsMomentIfGiven replay.until
 
 -- each number of a line is in its range
 abbrev pub IsLine : Line → Type 0

@@ -5,7 +5,7 @@ ghost use Rattle.std.specs.Char.{is_ascii_digit};
 ghost use Rattle.std.specs.List.{list_all, slice_split};
 ghost use Rattle.desk_rules.specs.Limits.{max_priority};
 ghost use Rattle.desk_cli.specs.Equal as spec;
-ghost use Rattle.desk_cli.specs.Grammar.{Lacks};
+ghost use Rattle.desk_cli.specs.Grammar.{RefusesOnlyWithout};
 ghost use Rattle.desk_cli.specs.Equal.{ArePermittedBy, ArePermittedIn, is_comma, priority_in};
 
 use crate::line::WordsFault;
@@ -24,7 +24,7 @@ const PRIORITY_DIGITS: usize = 4;
 /// `OutOfMemory`; `Value` if the list is malformed.
 pub fn parse_permitted_option(alloc: Global, word: Option<&str>) -> Result<Permitted, WordsFault>
     ensures given { IfOk result (ArePermittedBy (option_map (λ word. word.now) word.entry)) }
-    ensures refused { Lacks (ArePermittedBy (option_map (λ word. word.now) word.entry)) result }
+    ensures refused { RefusesOnlyWithout (ArePermittedBy (option_map (λ word. word.now) word.entry)) result }
 {
     match word {
         None => Ok(Permitted::none()),
@@ -32,10 +32,11 @@ pub fn parse_permitted_option(alloc: Global, word: Option<&str>) -> Result<Permi
     }
 }
 
-// Parses a list of priorities with commas between them.
+// Parses the permitted priorities, with commas between them. `Value` if one is malformed or above 1,000, or
+// if they are more than 32 or not ascending.
 fn parse_permitted(alloc: Global, word: &str) -> Result<Permitted, WordsFault>
     ensures given { IfOk result (ArePermittedIn word.now) }
-    ensures refused { Lacks (ArePermittedIn word.now) result }
+    ensures refused { RefusesOnlyWithout (ArePermittedIn word.now) result }
 {
     let priorities = parse_priorities(alloc, &split_at_commas(alloc, word)?)?;
     let Ok(permitted) = Permitted::try_new(&priorities) else {
@@ -56,7 +57,7 @@ fn split_at_commas<'w>(alloc: Global, word: &'w str) -> Result<Vec<&'w str>, All
 fn parse_priorities(alloc: Global, parts: &[&str]) -> Result<Vec<u32>, WordsFault>
     ensures given { IfOk result (λ priorities.
         map Some priorities.items ≡ map priority_in (map (λ part. part.now) parts.now)) }
-    ensures refused { Lacks (λ (priorities : List ℕ).
+    ensures refused { RefusesOnlyWithout (λ (priorities : List ℕ).
         map Some priorities ≡ map priority_in (map (λ part. part.now) parts.now)) result }
 {
     let mut priorities = Vec::new(alloc);

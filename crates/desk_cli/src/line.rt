@@ -17,10 +17,10 @@ ghost use Rattle.desk_cli.specs.Grammar.{AreEnrolmentsGiven, AreMostCells, AreMo
 ghost use Rattle.desk_cli.specs.Grammar.{AreWordsRefused, HasGiven};
 ghost use Rattle.desk_cli.specs.Grammar.{IsBareDeskGiven, IsCopyGiven, IsCoverGiven, IsDeskGiven};
 ghost use Rattle.desk_cli.specs.Grammar.{IsEnrolGiven, IsGiven, IsLineOf, IsMostOf, IsNumberGiven};
-ghost use Rattle.desk_cli.specs.Grammar.{IsNumberOrNone, IsPlayGiven, IsReplayGiven, IsSecondGiven};
+ghost use Rattle.desk_cli.specs.Grammar.{IsNumberOrNone, IsPlayGiven, IsReplayGiven, IsIntegerGiven};
 ghost use Rattle.desk_cli.specs.Grammar.{IsServeGiven, IsTextGiven, IsUntaken};
-ghost use Rattle.desk_cli.specs.Grammar.{Lacks, enrolment_given, enrolment_in, file_given, name_of, program};
-ghost use Rattle.desk_cli.specs.Lines.{AreEnrolments, IsCover, IsEnrol, IsLastSecond, IsLine, IsPlay};
+ghost use Rattle.desk_cli.specs.Grammar.{RefusesOnlyWithout, enrolment_given, enrolment_in, file_given, name_of, program};
+ghost use Rattle.desk_cli.specs.Lines.{AreEnrolments, IsCover, IsEnrol, IsMomentIfGiven, IsLine, IsPlay};
 ghost use Rattle.desk_cli.specs.Lines.{IsReplay, IsServe, desk_of, file_of, max_connections, max_port};
 ghost use Rattle.desk_cli.specs.Lines.{min_connections, min_most, min_port, named_file};
 ghost use Rattle.desk_cli.specs.declared.line.CoverArgs.{CoverArgs};
@@ -307,7 +307,7 @@ fn read_command(alloc: Global, name: &str, given: &ArgMatches<'_>) -> Result<Lin
     ensures valid { IfOk result IsLine }
     ensures name { IfOk result (λ line. name_of line ≡ name.now) }
     ensures given { IfOk result (HasGiven (rows_of (found_of given.now))) }
-    ensures refused { Lacks (IsLineOf name.now (rows_of (found_of given.now))) result }
+    ensures refused { RefusesOnlyWithout (IsLineOf name.now (rows_of (found_of given.now))) result }
 {
     match name {
         "token" => Ok(Line::Token(read_token(alloc, given)?)),
@@ -330,7 +330,7 @@ fn read_command(alloc: Global, name: &str, given: &ArgMatches<'_>) -> Result<Lin
 fn read_play(alloc: Global, given: &ArgMatches<'_>) -> Result<PlayArgs, WordsFault>
     ensures valid { IfOk result IsPlay }
     ensures given { IfOk result (IsPlayGiven (rows_of (found_of given.now))) }
-    ensures refused { Lacks (IsPlayGiven (rows_of (found_of given.now))) result }
+    ensures refused { RefusesOnlyWithout (IsPlayGiven (rows_of (found_of given.now))) result }
 {
     let Some(moment) = read_moment(given) else {
         return Err(WordsFault::Value);
@@ -350,7 +350,7 @@ fn read_desk(
     ensures in_range { IfOk result (λ desk. AreEnrolments desk.enrolments.items) }
     ensures given { IfOk result (IsDeskGiven (rows_of (found_of given.now))
         (option_map (λ path. path.now) operators.entry)) }
-    ensures refused { Lacks (IsDeskGiven (rows_of (found_of given.now))
+    ensures refused { RefusesOnlyWithout (IsDeskGiven (rows_of (found_of given.now))
         (option_map (λ path. path.now) operators.entry)) result }
 {
     Ok(DeskArgs {
@@ -365,18 +365,18 @@ fn read_desk(
 // Reads the moment of all requests. None if it is missing or out of range.
 fn read_moment(given: &ArgMatches<'_>) -> Option<Moment>
     ensures given { IfSome result (λ moment.
-        IsSecondGiven (codes "moment") (rows_of (found_of given.now)) moment.second) }
+        IsIntegerGiven (codes "moment") (rows_of (found_of given.now)) moment.second) }
     ensures none { result ≡ None → (z : ℤ) → IsMoment z
-        → IsSecondGiven (codes "moment") (rows_of (found_of given.now)) z → ⊥ }
+        → IsIntegerGiven (codes "moment") (rows_of (found_of given.now)) z → ⊥ }
 {
     Moment::try_new(read_i64(given, "moment")?)
 }
 
 // Reads the argument `id` as an `i64`. None if it is missing or out of range.
 fn read_i64(given: &ArgMatches<'_>, id: &str) -> Option<i64>
-    ensures given { IfSome result (IsSecondGiven id.now (rows_of (found_of given.now))) }
+    ensures given { IfSome result (IsIntegerGiven id.now (rows_of (found_of given.now))) }
     ensures none { result ≡ None → (z : ℤ) → SFits w64 z
-        → IsSecondGiven id.now (rows_of (found_of given.now)) z → ⊥ }
+        → IsIntegerGiven id.now (rows_of (found_of given.now)) z → ⊥ }
 {
     given.get_one(id)
 }
@@ -384,7 +384,7 @@ fn read_i64(given: &ArgMatches<'_>, id: &str) -> Option<i64>
 // Reads the argument of `token`.
 fn read_token(alloc: Global, given: &ArgMatches<'_>) -> Result<String, WordsFault>
     ensures given { IfOk result (λ token. IsTextGiven (rows_of (found_of given.now)) (string_bytes token)) }
-    ensures refused { Lacks (IsTextGiven (rows_of (found_of given.now))) result }
+    ensures refused { RefusesOnlyWithout (IsTextGiven (rows_of (found_of given.now))) result }
 {
     match argument(given, "token") {
         Some(token) => Ok(String::from_str(alloc, token)?),
@@ -396,7 +396,7 @@ fn read_token(alloc: Global, given: &ArgMatches<'_>) -> Result<String, WordsFaul
 fn read_serve(alloc: Global, given: &ArgMatches<'_>) -> Result<ServeArgs, WordsFault>
     ensures valid { IfOk result IsServe }
     ensures given { IfOk result (IsServeGiven (rows_of (found_of given.now))) }
-    ensures refused { Lacks (λ serve. IsServe serve
+    ensures refused { RefusesOnlyWithout (λ serve. IsServe serve
         × IsServeGiven (rows_of (found_of given.now)) serve) result }
 {
     let Some(port) = read_port(given) else {
@@ -518,7 +518,7 @@ fn is_flag_set(given: &ArgMatches<'_>, id: &str) -> bool
 fn read_enrol(alloc: Global, given: &ArgMatches<'_>) -> Result<EnrolArgs, WordsFault>
     ensures valid { IfOk result IsEnrol }
     ensures given { IfOk result (IsEnrolGiven (rows_of (found_of given.now))) }
-    ensures refused { Lacks (IsEnrolGiven (rows_of (found_of given.now))) result }
+    ensures refused { RefusesOnlyWithout (IsEnrolGiven (rows_of (found_of given.now))) result }
 {
     let Some(enrolment) = read_operator(given) else {
         return Err(WordsFault::Value);
@@ -545,7 +545,7 @@ fn read_bare_desk(alloc: Global, given: &ArgMatches<'_>) -> Result<DeskArgs, All
 // Reads the arguments of `copy`.
 fn read_copy(alloc: Global, given: &ArgMatches<'_>) -> Result<CopyArgs, WordsFault>
     ensures given { IfOk result (IsCopyGiven (rows_of (found_of given.now))) }
-    ensures refused { Lacks (IsCopyGiven (rows_of (found_of given.now))) result }
+    ensures refused { RefusesOnlyWithout (IsCopyGiven (rows_of (found_of given.now))) result }
 {
     let Some(to) = argument(given, "to") else {
         return Err(WordsFault::Value);
@@ -560,7 +560,7 @@ fn read_copy(alloc: Global, given: &ArgMatches<'_>) -> Result<CopyArgs, WordsFau
 fn read_replay(alloc: Global, given: &ArgMatches<'_>) -> Result<ReplayArgs, WordsFault>
     ensures valid { IfOk result IsReplay }
     ensures given { IfOk result (IsReplayGiven (rows_of (found_of given.now))) }
-    ensures refused { Lacks (λ replay. IsReplay replay
+    ensures refused { RefusesOnlyWithout (λ replay. IsReplay replay
         × IsReplayGiven (rows_of (found_of given.now)) replay) result }
 {
     let Some(until) = read_until(given) else {
@@ -574,9 +574,9 @@ fn read_replay(alloc: Global, given: &ArgMatches<'_>) -> Result<ReplayArgs, Word
 
 // Reads the last second to be replayed: `Some(None)` if the option is missing, None if it is out of range.
 fn read_until(given: &ArgMatches<'_>) -> Option<Option<u64>>
-    ensures valid { IfSome result IsLastSecond }
+    ensures valid { IfSome result IsMomentIfGiven }
     ensures given { IfSome result (IsNumberOrNone (codes "until") (rows_of (found_of given.now))) }
-    ensures none { result ≡ None → (found : Option ℕ) → IsLastSecond found
+    ensures none { result ≡ None → (found : Option ℕ) → IsMomentIfGiven found
         → IsNumberOrNone (codes "until") (rows_of (found_of given.now)) found → ⊥ }
 {
     let until = read_u64_if_given(given, "until")?;
@@ -643,7 +643,7 @@ fn parse_database(alloc: Global, word: Option<&str>) -> Result<Database, AllocEr
 // Reads the settings of the desk.
 fn read_terms(alloc: Global, given: &ArgMatches<'_>) -> Result<Terms, WordsFault>
     ensures given { IfOk result (AreTermsOf (rows_of (found_of given.now))) }
-    ensures refused { Lacks (AreTermsOf (rows_of (found_of given.now))) result }
+    ensures refused { RefusesOnlyWithout (AreTermsOf (rows_of (found_of given.now))) result }
 {
     Ok(Terms {
         permitted: read_permitted(alloc, given)?,
@@ -655,7 +655,7 @@ fn read_terms(alloc: Global, given: &ArgMatches<'_>) -> Result<Terms, WordsFault
 // Reads the limit on the spans of an operator's live plans. None if the option is missing.
 fn read_spans(given: &ArgMatches<'_>) -> Result<Option<u32>, WordsFault>
     ensures given { IfOk result (AreMostSpans (rows_of (found_of given.now))) }
-    ensures refused { Lacks (AreMostSpans (rows_of (found_of given.now))) result }
+    ensures refused { RefusesOnlyWithout (AreMostSpans (rows_of (found_of given.now))) result }
 {
     read_limit(given, "spans", MAX_SPANS)
 }
@@ -663,7 +663,7 @@ fn read_spans(given: &ArgMatches<'_>) -> Result<Option<u32>, WordsFault>
 // Reads the limit on the cells of all plans of an operator. None if the option is missing.
 fn read_cells(given: &ArgMatches<'_>) -> Result<Option<u32>, WordsFault>
     ensures given { IfOk result (AreMostCells (rows_of (found_of given.now))) }
-    ensures refused { Lacks (AreMostCells (rows_of (found_of given.now))) result }
+    ensures refused { RefusesOnlyWithout (AreMostCells (rows_of (found_of given.now))) result }
 {
     read_limit(given, "cells", MAX_TOTAL_CELLS)
 }
@@ -671,7 +671,7 @@ fn read_cells(given: &ArgMatches<'_>) -> Result<Option<u32>, WordsFault>
 // Reads the limit `id`, from 1 to `greatest`. None if the option is missing.
 fn read_limit(given: &ArgMatches<'_>, id: &str, greatest: u32) -> Result<Option<u32>, WordsFault>
     ensures given { IfOk result (IsMostOf id.now greatest (rows_of (found_of given.now))) }
-    ensures refused { Lacks (IsMostOf id.now greatest (rows_of (found_of given.now))) result }
+    ensures refused { RefusesOnlyWithout (IsMostOf id.now greatest (rows_of (found_of given.now))) result }
 {
     let Some(most) = read_u32_if_given(given, id) else {
         return Err(WordsFault::Value);
@@ -705,7 +705,7 @@ fn read_u32_if_given(given: &ArgMatches<'_>, id: &str) -> Option<Option<u32>>
 fn read_permitted(alloc: Global, given: &ArgMatches<'_>) -> Result<Permitted, WordsFault>
     ensures given { IfOk result (ArePermittedBy
         (first_of (codes "equal") (rows_of (found_of given.now)))) }
-    ensures refused { Lacks (ArePermittedBy
+    ensures refused { RefusesOnlyWithout (ArePermittedBy
         (first_of (codes "equal") (rows_of (found_of given.now)))) result }
 {
     parse_permitted_option(alloc, argument(given, "equal"))
@@ -716,7 +716,7 @@ fn read_enrolments(alloc: Global, given: &ArgMatches<'_>) -> Result<Vec<Enrolmen
     ensures in_range { IfOk result (λ enrolments. AreEnrolments enrolments.items) }
     ensures given { IfOk result (λ enrolments.
         AreEnrolmentsGiven enrolments.items (rows_of (found_of given.now))) }
-    ensures refused { Lacks (λ enrolments.
+    ensures refused { RefusesOnlyWithout (λ enrolments.
         AreEnrolmentsGiven enrolments (rows_of (found_of given.now))) result }
 {
     parse_enrolments(alloc, given.get_strs("enrolments").unwrap_or(&[]))
@@ -727,7 +727,7 @@ fn parse_enrolments(alloc: Global, words: &[&str]) -> Result<Vec<Enrolment>, Wor
     ensures in_range { IfOk result (λ enrolments. AreEnrolments enrolments.items) }
     ensures given { IfOk result (λ enrolments. map Some enrolments.items
         ≡ map (λ word. enrolment_in word.now) words.now) }
-    ensures refused { Lacks (λ (enrolments : List Enrolment). map Some enrolments
+    ensures refused { RefusesOnlyWithout (λ (enrolments : List Enrolment). map Some enrolments
         ≡ map (λ word. enrolment_in word.now) words.now) result }
 {
     let mut enrolments = Vec::new(alloc);

@@ -2,7 +2,7 @@
 use Rattle.std.proofs.Common.{◌≡◌, ◌≤◌, ◌∙◌, ℕ, List, [], ◌∷◌, ◌++◌, Some, Result, Ok, Err, IfErr, ap, refl, sym}
 use Rattle.std.specs.Result.{IsErrAnd}
 use Rattle.desk_store.specs.StoreFaults.{HasRisen}
-use Rattle.desk_run.specs.CallFaults.{IsStoreCounted}
+use Rattle.desk_run.specs.CallFaults.{IsStoreFaultCounted}
 use Rattle.desk_run.specs.DeskWorld.{DeskWorld, enrolled}
 use Rattle.desk_run.specs.declared.fault.DeskFault.{DeskFault}
 use Rattle.desk_run.specs.declared.fault.DeskFault.TheVariants.{Store}
@@ -20,7 +20,7 @@ one_more (x ∷ xs) w e = one_more xs _ e
 pub counted_since : {V S : Type 0} (faults : S → ℕ) (first old new : S) (r : Result V DeskFault)
     (fault : DeskFault) → IsErrAnd r (λ e. e ≡ fault) → faults first ≤ faults old
     → (Some fault ≡ Some Store → HasRisen (faults old) (faults new))
-    → IfErr r (IsStoreCounted faults first new)
+    → IfErr r (IsStoreFaultCounted faults first new)
 counted_since faults first old new (Ok v) fault handed below cause = tt
 counted_since faults first old new (Err e) fault handed below cause = λ store.
     risen_since _ _ _ below (cause (ap Some (sym handed ∙ store)))

@@ -3,7 +3,7 @@
 ghost use Rattle.std.specs.Prelude.{◌≡◌, ◌≤◌, IfErr, IfOk, string_bytes};
 ghost use Rattle.desk_run.specs.DeskFrames.{FindsOnly};
 ghost use Rattle.desk_run.specs.DeskWorld.{world_of};
-ghost use Rattle.desk_run.specs.CallFaults.{IsBreakdown, IsStoreCounted};
+ghost use Rattle.desk_run.specs.CallFaults.{IsBreakdown, IsStoreFaultCounted};
 ghost use Rattle.desk_store.specs.StoreFrames.{Remembers};
 ghost use Rattle.desk_store.specs.StoreFaults.{IsHonest};
 ghost use Rattle.desk_wire.specs.Passage.{passage};
@@ -138,7 +138,7 @@ pub fn set_up<S: PlanStore>(
         (on_terms (world_of S.content desk.old) terms.now) (world_of S.content desk.new)) }
     ensures fault { IfErr result IsBreakdown }
     ensures remembered { Remembers S.doubt S.faults S.is_shielded desk.old.store desk.new.store }
-    ensures cause { IfErr result (IsStoreCounted S.faults desk.old.store desk.new.store) }
+    ensures cause { IfErr result (IsStoreFaultCounted S.faults desk.old.store desk.new.store) }
 {
     desk.set_terms(*terms);
     enrol_all(desk, enrolments)
@@ -161,7 +161,7 @@ pub fn enrol_new<S: PlanStore>(
         (S.may_leave desk.new.store) }
     ensures fault { IfErr result IsBreakdown }
     ensures remembered { Remembers S.doubt S.faults S.is_shielded desk.old.store desk.new.store }
-    ensures cause { IfErr result (IsStoreCounted S.faults desk.old.store desk.new.store) }
+    ensures cause { IfErr result (IsStoreFaultCounted S.faults desk.old.store desk.new.store) }
 {
     if new_enrolments.is_empty() {
         return Ok(());
@@ -180,7 +180,7 @@ fn enrol_all<S: PlanStore>(desk: &mut Desk<S>, enrolments: &[Enrolment]) -> Resu
         (S.may_leave desk.new.store) }
     ensures fault { IfErr result IsBreakdown }
     ensures remembered { Remembers S.doubt S.faults S.is_shielded desk.old.store desk.new.store }
-    ensures cause { IfErr result (IsStoreCounted S.faults desk.old.store desk.new.store) }
+    ensures cause { IfErr result (IsStoreFaultCounted S.faults desk.old.store desk.new.store) }
 {
     for enrolment in enrolments {
         desk.enrol(&enrolment.operator, enrolment.ceiling)?;

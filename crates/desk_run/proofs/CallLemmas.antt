@@ -35,7 +35,7 @@ use Rattle.desk_rules.specs.declared.reply.PutReply.{PutReply}
 use Rattle.desk_run.specs.declared.pending.Pending.{Pending}
 use Rattle.desk_run.specs.DeskWorld.{DeskWorld, held_in}
 use Rattle.desk_run.specs.Verdicts.{Reported, Ruling, replied, unknown_operator, no_such_plan, ruling_alone, excess_asked, put_outcome, put_ruling, plans_left, delete_ruling, shown_in, list_ruling, show_ruling, clear_ruling, enrolled_ruling, ruling_under, verdict, world_with_plans, ruling_in, makes_change, reported_to, step}
-use Rattle.desk_run.specs.Calls.{HasNoReply, IsPendingAs, Readies, IsPending, Prepares, change_after, world_with, world_committed}
+use Rattle.desk_run.specs.Calls.{HasNoReply, IsPendingAs, IsPreparedFor, IsPending, Prepares, change_after, world_with, world_committed}
 use Rattle.desk_run.proofs.OutcomeLemmas.{outcome_counts}
 use Rattle.desk_run.proofs.PutLemmas.{change_fits}
 
@@ -134,7 +134,7 @@ pending_from w moment asked ceiling p listed h =
 
 pub prepares_from : (w : DeskWorld) (moment : ℤ) (asked : Asked) (ceiling : ℕ)
     (r : Result Pending DeskFault) → ceiling_of asked.operator w.content ≡ Some ceiling
-    → Readies w.content asked.operator (enrolled_ruling w.terms (own w.content asked.operator)
+    → IsPreparedFor w.content asked.operator (enrolled_ruling w.terms (own w.content asked.operator)
     (held_in w asked.operator) ceiling moment asked.call) r → Prepares w moment asked r
 unfolding verdict own
 prepares_from w moment asked ceiling (Ok p) listed h = pending_from w moment asked ceiling p listed h
@@ -217,45 +217,45 @@ delete_ready w o id found e s listed = by_stored (stored_of id (plans_of o w)) r
 pub put_readies : (terms : Terms) (w before : World) (given moment : ℤ) (asked : Asked) (put : PutCall)
     (ceiling : ℕ)
     (r : Result Pending DeskFault) → w ≡ before → given ≡ moment → asked.call ≡ call.Put put
-    → Readies w asked.operator
+    → IsPreparedFor w asked.operator
     (put_ruling (put_outcome terms (own w asked.operator) (held w asked.operator) ceiling given put) put
-    (plans_of asked.operator w)) r → Readies before asked.operator
+    (plans_of asked.operator w)) r → IsPreparedFor before asked.operator
     (enrolled_ruling terms (own before asked.operator) (held before asked.operator) ceiling moment
     asked.call)
     r
 unfolding enrolled_ruling own
 put_readies terms w before given moment asked put ceiling r same m is h =
-    subst (λ v. Readies v asked.operator (enrolled_ruling terms (own v asked.operator)
+    subst (λ v. IsPreparedFor v asked.operator (enrolled_ruling terms (own v asked.operator)
     (held v asked.operator)
     ceiling moment asked.call) r) same
-    (subst (λ t. Readies w asked.operator (enrolled_ruling terms (own w asked.operator)
+    (subst (λ t. IsPreparedFor w asked.operator (enrolled_ruling terms (own w asked.operator)
     (held w asked.operator)
     ceiling t asked.call) r) m
-    (subst (λ c. Readies w asked.operator (enrolled_ruling terms (own w asked.operator)
+    (subst (λ c. IsPreparedFor w asked.operator (enrolled_ruling terms (own w asked.operator)
     (held w asked.operator)
     ceiling given c) r) (sym is) h))
 
 -- what is ready for a call of a kind is ready for the call
 readies_as : (terms : Terms) (w before : World) (moment : ℤ) (asked : Asked) (kind : Call) (ceiling : ℕ)
     (r : Result Pending DeskFault) → w ≡ before → asked.call ≡ kind
-    → Readies w asked.operator (enrolled_ruling terms (own w asked.operator) (held w asked.operator)
+    → IsPreparedFor w asked.operator (enrolled_ruling terms (own w asked.operator) (held w asked.operator)
     ceiling
     moment
-    kind) r → Readies before asked.operator (enrolled_ruling terms (own before asked.operator)
+    kind) r → IsPreparedFor before asked.operator (enrolled_ruling terms (own before asked.operator)
     (held before asked.operator) ceiling moment asked.call) r
 readies_as terms w before moment asked kind ceiling r same is h =
-    subst (λ v. Readies v asked.operator (enrolled_ruling terms (own v asked.operator)
+    subst (λ v. IsPreparedFor v asked.operator (enrolled_ruling terms (own v asked.operator)
     (held v asked.operator)
     ceiling moment asked.call) r) same
-    (subst (λ c. Readies w asked.operator (enrolled_ruling terms (own w asked.operator)
+    (subst (λ c. IsPreparedFor w asked.operator (enrolled_ruling terms (own w asked.operator)
     (held w asked.operator)
     ceiling moment c) r) (sym is) h)
 
 pub list_readies : (terms : Terms) (w before : World) (moment : ℤ) (asked : Asked) (ceiling : ℕ)
     (r : Result Pending DeskFault) → w ≡ before → asked.call ≡ call.List
-    → Readies w asked.operator (list_ruling terms.permitted (plans_of asked.operator w)
+    → IsPreparedFor w asked.operator (list_ruling terms.permitted (plans_of asked.operator w)
     (held w asked.operator)) r
-    → Readies before asked.operator (enrolled_ruling terms (own before asked.operator)
+    → IsPreparedFor before asked.operator (enrolled_ruling terms (own before asked.operator)
     (held before asked.operator)
     ceiling moment asked.call) r
 unfolding enrolled_ruling own
@@ -265,9 +265,9 @@ list_readies terms w before moment asked ceiling r same is h =
 pub show_readies : (terms : Terms) (w before : World) (moment : ℤ) (asked : Asked) (id : List ℕ)
     (ceiling : ℕ)
     (r : Result Pending DeskFault) → w ≡ before → asked.call ≡ call.Show id
-    → Readies w asked.operator (show_ruling terms.permitted (plans_of asked.operator w)
+    → IsPreparedFor w asked.operator (show_ruling terms.permitted (plans_of asked.operator w)
     (held w asked.operator)
-    (stored_of id (plans_of asked.operator w))) r → Readies before asked.operator
+    (stored_of id (plans_of asked.operator w))) r → IsPreparedFor before asked.operator
     (enrolled_ruling terms (own before asked.operator) (held before asked.operator) ceiling moment
     asked.call)
     r
@@ -278,8 +278,8 @@ show_readies terms w before moment asked id ceiling r same is h =
 pub clear_readies : (terms : Terms) (w before : World) (moment : ℤ) (asked : Asked) (extent : Block)
     (ceiling : ℕ)
     (r : Result Pending DeskFault) → w ≡ before → asked.call ≡ call.Clear extent
-    → Readies w asked.operator (clear_ruling (plans_of asked.operator w) extent) r
-    → Readies before asked.operator (enrolled_ruling terms (own before asked.operator)
+    → IsPreparedFor w asked.operator (clear_ruling (plans_of asked.operator w) extent) r
+    → IsPreparedFor before asked.operator (enrolled_ruling terms (own before asked.operator)
     (held before asked.operator)
     ceiling moment asked.call) r
 unfolding enrolled_ruling own
@@ -289,8 +289,8 @@ clear_readies terms w before moment asked extent ceiling r same is h =
 pub delete_readies : (terms : Terms) (w before : World) (moment : ℤ) (asked : Asked) (id : List ℕ)
     (ceiling : ℕ)
     (r : Result Pending DeskFault) → w ≡ before → asked.call ≡ call.Delete id
-    → Readies w asked.operator (delete_ruling (plans_of asked.operator w) id
-    (stored_of id (plans_of asked.operator w))) r → Readies before asked.operator
+    → IsPreparedFor w asked.operator (delete_ruling (plans_of asked.operator w) id
+    (stored_of id (plans_of asked.operator w))) r → IsPreparedFor before asked.operator
     (enrolled_ruling terms (own before asked.operator) (held before asked.operator) ceiling moment
     asked.call)
     r

@@ -16,8 +16,8 @@ abbrev pub IsBreakdown : DeskFault → Type 0
 IsBreakdown fault = (fault ≡ OutOfMemory) ⊎ (fault ≡ Store)
 
 -- if the store failed, it counted a fault of its own
-abbrev pub IsStoreCounted : {S : Type 0} → (S → ℕ) → S → S → DeskFault → Type 0
-IsStoreCounted faults_of old new e = e ≡ Store → HasRisen (faults_of old) (faults_of new)
+abbrev pub IsStoreFaultCounted : {S : Type 0} → (S → ℕ) → S → S → DeskFault → Type 0
+IsStoreFaultCounted faults_of old new e = e ≡ Store → HasRisen (faults_of old) (faults_of new)
 
 -- the fault as a sentence
 abbrev pub desk_fault_text : DeskFault → List ℕ

@@ -77,13 +77,15 @@ pub record IsPendingAs (w : World) (operator : List ℕ) (a : Ruling) (p : Pendi
   pub fits : IsFittingIf w p.change
 
 -- where there is one; that there is no such plan, where the answer says so
-abbrev pub Readies : World → List ℕ → Ruling → Result Pending DeskFault → Type 0
-Readies w operator a (Ok p) = IsPendingAs w operator a p
-Readies w operator a (Err NoSuchPlan) = a ≡ ruling_alone no_such_plan
-Readies w operator a (Err OutOfMemory) = ⊤
-Readies w operator a (Err Store) = ⊤
-Readies w operator a (Err UnknownOperator) = ⊥
-Readies w operator a (Err Ceiling) = ⊥
+-- a call is prepared as a ruling says: what is pending says it, `NoSuchPlan` comes if the ruling says so, no
+-- other fault comes but out of memory and a failed store
+abbrev pub IsPreparedFor : World → List ℕ → Ruling → Result Pending DeskFault → Type 0
+IsPreparedFor w operator a (Ok p) = IsPendingAs w operator a p
+IsPreparedFor w operator a (Err NoSuchPlan) = a ≡ ruling_alone no_such_plan
+IsPreparedFor w operator a (Err OutOfMemory) = ⊤
+IsPreparedFor w operator a (Err Store) = ⊤
+IsPreparedFor w operator a (Err UnknownOperator) = ⊥
+IsPreparedFor w operator a (Err Ceiling) = ⊥
 
 -- the change that an effect is
 abbrev pub change_after : Effect → List ℕ → PutCall → Option Change

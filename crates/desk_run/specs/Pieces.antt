@@ -35,7 +35,7 @@ HavePart passes piece extents =
 
 -- the first point among the slabs that is blocked by what is held at the leaves of a piece, of an operator's
 -- plan of an id with a priority, and the greatest priority that others hold there
-abbrev pub IsFirstAt : List ℕ → World → List ℕ → List ℕ → List Slab → Slab → ℕ → Option Spot → Type 0
-IsFirstAt permitted w operator id slabs piece priority spot =
+abbrev pub IsFirstBlockedAt : List ℕ → World → List ℕ → List ℕ → List Slab → Slab → ℕ → Option Spot → Type 0
+IsFirstBlockedAt permitted w operator id slabs piece priority spot =
     let levels = at_piece piece (held_at (plans_of operator w) (held w operator) id) in
     IsFirst (is_blocked_among permitted slabs levels priority) levels spot

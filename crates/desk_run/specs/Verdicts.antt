@@ -66,8 +66,8 @@ put_outcome terms mine others ceiling moment asked =
     (conflict terms.permitted asked.area (held_at mine.plans others asked.id) asked.priority)
 
 -- that in a world
-abbrev pub put_outcome_in : Terms → World → List ℕ → ℕ → ℤ → PutCall → Verdict
-put_outcome_in terms w operator ceiling moment asked =
+abbrev pub put_verdict_in : Terms → World → List ℕ → ℕ → ℤ → PutCall → Verdict
+put_verdict_in terms w operator ceiling moment asked =
     put_outcome terms (own w operator) (held w operator) ceiling moment asked
 
 -- the conflict of an area with a priority in a world, of an operator's plan of an id
@@ -91,6 +91,7 @@ plans_left effect.Nothing asked rows = None
 plans_left effect.Save asked rows = Some (put_row (row_asked asked) rows)
 plans_left effect.Shut asked rows = Some (close_row asked.id rows)
 
+-- what the operator is answered by a verdict on its request, and the plans that it has then
 abbrev pub put_ruling : Verdict → PutCall → List PlanRow → Ruling
 put_ruling v asked rows =
     record {

@@ -82,7 +82,7 @@ impl<S: PlanStore> Desk<S> {
     ghost use Rattle.desk_store.specs.Crashes.{LeavesNoMore};
     ghost use Rattle.desk_run.specs.DeskFrames.{Leaves, fault_in};
     ghost use Rattle.desk_run.specs.DeskWorld.{IsSettled, enrolled, world_of};
-    ghost use Rattle.desk_run.specs.CallFaults.{IsBreakdown, IsStoreCounted};
+    ghost use Rattle.desk_run.specs.CallFaults.{IsBreakdown, IsStoreFaultCounted};
     ghost use Rattle.desk_run.specs.Verdicts.{step_by};
     ghost use Rattle.desk_run.specs.Calls.{ReportsReply, Prepares, CanCommit, reply_in, world_committed};
 
@@ -131,7 +131,7 @@ impl<S: PlanStore> Desk<S> {
         ensures crash { IsHonest (S.doubt self.new.store) →
             LeavesNoMore (S.may_leave self.old.store) (S.may_leave self.new.store) }
         ensures remembered { Remembers S.doubt S.faults S.is_shielded self.old.store self.new.store }
-        ensures cause { IfErr result (IsStoreCounted S.faults self.old.store self.new.store) }
+        ensures cause { IfErr result (IsStoreFaultCounted S.faults self.old.store self.new.store) }
     {
         prepare_over(alloc, &mut self.store, &self.terms, moment, asked)
     }

@@ -3,7 +3,7 @@
 ghost use Rattle.std.specs.Prelude.{◌≡◌, IfOk, IfErr};
 ghost use Rattle.desk_store.specs.StoreFrames.{OnlyReads};
 ghost use Rattle.desk_store.specs.StoreFaults.{IsHonest};
-ghost use Rattle.desk_run.specs.CallFaults.{IsStoreCounted};
+ghost use Rattle.desk_run.specs.CallFaults.{IsStoreFaultCounted};
 ghost use Rattle.desk_run.specs.DeskWorld.{with_content};
 ghost use Rattle.desk_run.specs.Calls.{IsSamePending, Prepares, has_change, reply_in};
 
@@ -82,7 +82,7 @@ pub fn prepare_over<S: PlanStore>(
     ensures value { IsHonest (S.doubt store.new) →
         Prepares (with_content terms.now (S.content store.old)) moment asked.now result }
     ensures reads { OnlyReads S.content S.doubt S.faults S.may_leave S.is_shielded store.old store.new }
-    ensures cause { IfErr result (IsStoreCounted S.faults store.old store.new) }
+    ensures cause { IfErr result (IsStoreFaultCounted S.faults store.old store.new) }
 {
     let operator = &asked.operator;
     let Some(ceiling) = store.ceiling(operator)? else {

@@ -15,7 +15,7 @@ use Rattle.desk_sql.specs.declared.opening.objects.ReferenceForm.{ReferenceForm}
 use Rattle.desk_sql.specs.declared.opening.objects.TableForm.{TableForm}
 use Rattle.desk_sql.specs.declared.opening.objects.DeskObject.{DeskObject}
 use Rattle.desk_sql.specs.declared.opening.objects.DeskObject.TheVariants as object
-use Rattle.desk_sql.specs.Schema.{column_of, table_of, first_index_of}
+use Rattle.desk_sql.specs.Schema.{column_of, table_of, leaf_index_of}
 
 -- ---- the parts of a table and of an index
 
@@ -71,7 +71,7 @@ tables_from (object.LeafIndex form tree table ∷ others) = tables_from others
 -- an index over leaves, or that of a table's key
 abbrev pub index_from : DeskObject → Index
 index_from (object.KeyedTable form tree) = key_index form.key_index.now tree form.key.now
-index_from (object.LeafIndex form tree table) = record (first_index_of form.name.now table) { tree = tree }
+index_from (object.LeafIndex form tree table) = record (leaf_index_of form.name.now table) { tree = tree }
 
 -- the schema of these objects, and of no others
 abbrev pub schema_from : List DeskObject → Schema

@@ -133,8 +133,8 @@ abbrev pub old_table_schema : Schema
 old_table_schema = created old_volume_schema old_span_table
 
 -- spans by their leaves, with all that the query of rivals reads
-abbrev pub first_index_of : List ℕ → ℕ → Index
-first_index_of name table = record {
+abbrev pub leaf_index_of : List ℕ → ℕ → Index
+leaf_index_of name table = record {
   name = name;
   tree = 0;
   table = table;
@@ -144,7 +144,7 @@ first_index_of name table = record {
 }
 
 abbrev pub old_span_first : Index
-old_span_first = first_index_of (codes "span_first") 6
+old_span_first = leaf_index_of (codes "span_first") 6
 
 -- `span` as it stands among the tables
 abbrev pub old_span_made : Table
@@ -161,7 +161,7 @@ abbrev pub table_schema : Schema
 table_schema = created volume_schema span_table
 
 abbrev pub span_first : Index
-span_first = first_index_of (codes "span2_first") 11
+span_first = leaf_index_of (codes "span2_first") 11
 
 -- `span2` as it stands among the tables
 abbrev pub span_made : Table

@@ -13,7 +13,7 @@ use Rattle.volume4d.specs.Volume.{Block}
 use Rattle.desk_rules.specs.declared.plan.PlanRow.{PlanRow}
 use Rattle.desk_rules.specs.Limits.{max_plans}
 use Rattle.desk_rules.specs.Plan.{is_live, row_cells, row_spans}
-use Rattle.desk_store.specs.Content.{IsBlock, IsPlan, IsContent}
+use Rattle.desk_store.specs.Content.{IsValidVolume, IsPlan, IsContent}
 use Rattle.desk_store.specs.World.{Filed, World, has_id, is_by, cells_beside, count_beside, count_unless, plans_of, rows_by, sizes_beside, spans_beside}
 use Rattle.desk_store.specs.declared.sizes.Sizes.{Sizes}
 use Rattle.desk_store.proofs.lemmas.Content.{own_plans}
@@ -64,7 +64,7 @@ module _ (count : PlanRow → ℕ) (few : (row : PlanRow) → IsPlan row → cou
 -- a plan counts few, where each of its volumes does
 module _ (count : Block → ℕ) (few : (v : Block) → IsTrue (is_footprint v.footprint) → HasValidParts v.footprint
     → count v ≤ max_cover) where
-  area_few : (area : List Block) → AllByRecursion IsBlock area → sum_by count area ≤ length area * max_cover
+  area_few : (area : List Block) → AllByRecursion IsValidVolume area → sum_by count area ≤ length area * max_cover
   area_few [] h = omega arith
   area_few (v ∷ vs) h =
       omega (arith, sum_by-cons count v vs, few v h.0.limits h.0.valid, area_few vs h.1)

@@ -15,7 +15,7 @@ pub record IsId (id : List ℕ) : Type 0 where
   pub are_bytes : All (λ b. b < 256) id
 
 -- a volume within the limits
-pub record IsBlock (v : Block) : Type 0 where
+pub record IsValidVolume (v : Block) : Type 0 where
   pub limits : IsTrue (is_footprint v.footprint)
   pub valid : HasValidParts v.footprint
   pub window : IsTrue (is_window v.window)
@@ -23,7 +23,7 @@ pub record IsBlock (v : Block) : Type 0 where
 pub record IsPlan (row : PlanRow) : Type 0 where
   pub id : IsId row.id
   pub volumes : IsTrue (is_area row.area)
-  pub each : AllByRecursion IsBlock row.area
+  pub each : AllByRecursion IsValidVolume row.area
 
 -- what a store may show, and what the tables of a desk may stand for
 pub record IsContent (w : World) : Type 0 where

@@ -7,7 +7,7 @@ ghost use Rattle.s2_cellid.specs.Cell.{IsCellId};
 ghost use Rattle.volume4d.specs.Footprint.{shape_of};
 ghost use Rattle.volume4d.specs.FootprintBytes.{HasValidParts};
 ghost use Rattle.desk_rules.specs.Name.{is_operator_name};
-ghost use Rattle.desk_store.specs.Content.{IsId, IsBlock, IsPlan};
+ghost use Rattle.desk_store.specs.Content.{IsId, IsValidVolume, IsPlan};
 
 use desk_rules::operator::Operator;
 use desk_rules::plan::PlanRow;
@@ -40,7 +40,7 @@ fn id_is_valid(id: &PlanId)
 
 // Proves that each volume is within the limits.
 fn volumes_are_valid(volumes: &[Volume])
-    ensures { AllByRecursion IsBlock volumes.now }
+    ensures { AllByRecursion IsValidVolume volumes.now }
 {
     for volume in volumes {
         volume_is_valid(volume);
@@ -49,7 +49,7 @@ fn volumes_are_valid(volumes: &[Volume])
 
 // Proves that a volume is within the limits.
 fn volume_is_valid(volume: &Volume)
-    ensures { IsBlock volume.now }
+    ensures { IsValidVolume volume.now }
 {
     let _window = volume.window();
     footprint_is_valid(volume.footprint());

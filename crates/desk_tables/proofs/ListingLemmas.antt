@@ -16,7 +16,7 @@ use Rattle.desk_store.specs.World.{Filed, World, text_cmp, filed_cmp, is_by, has
 use Rattle.desk_store.proofs.lemmas.Order.{is_equal, all_weaker}
 use Rattle.desk_store.specs.OwnRows.{is_own}
 use Rattle.row_codec.specs.Tables.{id_text, row_of_plan, plan_rows, row_of_volume, volume_rows_from, area_rows, volume_rows, AreTables}
-use Rattle.desk_store.specs.Content.{IsId, IsBlock, IsContent}
+use Rattle.desk_store.specs.Content.{IsId, IsValidVolume, IsContent}
 use Rattle.row_codec.specs.RowsRead.{IsVolumeAt, IsHead}
 use Rattle.desk_tables.specs.Lookups.{one_or_none, own_of}
 use Rattle.row_codec.proofs.lemmas.Order.{ArePlans}
@@ -156,7 +156,7 @@ pub plan_stored : (o id : List ℕ) (w : World) (head_rows rows rest : List Row)
     → IsContent w → head_rows ≡ plan_rows (own_of o id w) → rows ≡ volume_rows (own_of o id w) → head_rows
     ≡ head
     ∷ rest
-    → ((p : PlanRow) → IsId p.id → IsHead head p → AllByRecursion IsBlock p.area
+    → ((p : PlanRow) → IsId p.id → IsHead head p → AllByRecursion IsValidVolume p.area
     → AllZip (λ r v. IsVolumeAt r 3 v) rows p.area → plan ≡ p) → Some plan ≡ stored_of id (plans_of o w)
 unfolding stored_of
 plan_stored o id w head_rows rows rest head plan h are volumes some read =

@@ -13,7 +13,7 @@ use Rattle.desk_rules.specs.Plan.{is_live}
 use Rattle.desk_sql.specs.Rows.{Tables, held_columns}
 use Rattle.desk_store.specs.World.{Filed, World}
 use Rattle.desk_store.proofs.lemmas.Order.{all_append, all_filter}
-use Rattle.desk_store.specs.Content.{IsBlock, IsContent}
+use Rattle.desk_store.specs.Content.{IsValidVolume, IsContent}
 use Rattle.row_codec.specs.RivalRows.{FitsColumns, IsHeldIn, IsNoHeld}
 use Rattle.row_codec.specs.Tables.{row_of_span, AreSpanRowsFrom, ArePlanSpanRows, AreSpanRows, AreTables}
 use Rattle.row_codec.proofs.lemmas.Order.{ArePlans}
@@ -25,7 +25,7 @@ IsHeldRow row = (held : Held) × FitsColumns held × IsHeldIn row held
 abbrev IsSpanOfHeld : Row → Type 0
 IsSpanOfHeld row = IsHeldRow (held_columns row)
 
-one_span : (p : Filed) (n : ℕ) (v : Block) (s : Span) → IsBlock v → p.row.priority ≤ max_priority
+one_span : (p : Filed) (n : ℕ) (v : Block) (s : Span) → IsValidVolume v → p.row.priority ≤ max_priority
     → IsSpan s → IsSpanOfHeld (row_of_span p n v s)
 one_span p n v s block low span = (
   record {
@@ -54,7 +54,7 @@ one_span p n v s block low span = (
   },
 )
 
-on_spans : (p : Filed) (n : ℕ) (v : Block) (spans : List Span) → IsBlock v → p.row.priority ≤ max_priority
+on_spans : (p : Filed) (n : ℕ) (v : Block) (spans : List Span) → IsValidVolume v → p.row.priority ≤ max_priority
     → AllByRecursion IsSpan spans → AllByRecursion IsSpanOfHeld (map (row_of_span p n v) spans)
 on_spans p n v [] block low each = tt
 on_spans p n v (s ∷ spans) block low each = (
@@ -62,7 +62,7 @@ on_spans p n v (s ∷ spans) block low each = (
   on_spans p n v spans block low each.1,
 )
 
-on_area : (p : Filed) (n : ℕ) (vs : List Block) (rows : List Row) → AllByRecursion IsBlock vs
+on_area : (p : Filed) (n : ℕ) (vs : List Block) (rows : List Row) → AllByRecursion IsValidVolume vs
     → p.row.priority ≤ max_priority → AreSpanRowsFrom p n vs rows → AllByRecursion IsSpanOfHeld rows
 on_area p n [] rows blocks low are = subst (AllByRecursion IsSpanOfHeld) (sym are) tt
 on_area p n (v ∷ vs) rows blocks low (spans, rest, ranges, are, more) =
@@ -71,7 +71,7 @@ on_area p n (v ∷ vs) rows blocks low (spans, rest, ranges, are, more) =
     (on_spans p n v spans blocks.0 low (recursion_from_All IsSpan spans ranges.each))
     (on_area p (n + 1) vs rest blocks.1 low more))
 
-on_plan : (p : Filed) (rows : List Row) → AllByRecursion IsBlock p.row.area
+on_plan : (p : Filed) (rows : List Row) → AllByRecursion IsValidVolume p.row.area
     → p.row.priority ≤ max_priority → ArePlanSpanRows p rows → AllByRecursion IsSpanOfHeld rows
 on_plan p rows blocks low are = by_live (is_live p.row.usage) are where
   by_live : (b : Bool) → MatchBool b (AreSpanRowsFrom p 0 p.row.area rows) (rows ≡ [])

@@ -4,7 +4,7 @@ use Rattle.std.specs.List.{filter}
 use Rattle.std.proofs.lemmas.List.{length-append}
 use Rattle.std.proofs.lemmas.List.Elements.{filter-append}
 use Rattle.live_index.specs.declared.volume.LiveVolume.{LiveVolume}
-use Rattle.live_index.specs.Live.{IsLeft, count_of, is_beside, is_volume_of}
+use Rattle.live_index.specs.Live.{RemovesPlanVolumes, count_of, is_beside, is_volume_of}
 
 module _ (o id : List ℕ) where
   count-append : (xs ys : List LiveVolume) → count_of o id (xs ++ ys) ≡ count_of o id xs + count_of o id ys
@@ -13,8 +13,8 @@ module _ (o id : List ℕ) where
 
   -- ---- between others
 
-  pub left_behind : (n : ℕ) (us xs ys : List LiveVolume) → IsLeft o id xs ys n
-      → IsLeft o id (us ++ xs) (us ++ ys) n
+  pub left_behind : (n : ℕ) (us xs ys : List LiveVolume) → RemovesPlanVolumes o id xs ys n
+      → RemovesPlanVolumes o id (us ++ xs) (us ++ ys) n
   left_behind n us xs ys h = record {
     others = filter-append (is_beside o id) us ys
         ∙ ap (λ vs. filter (is_beside o id) us ++ vs) h.others
@@ -22,8 +22,8 @@ module _ (o id : List ℕ) where
     fewer = let a = count-append us xs in let b = count-append us ys in omega (arith, a, b, h.fewer);
   }
 
-  pub left_before : (n : ℕ) (us xs ys : List LiveVolume) → IsLeft o id xs ys n
-      → IsLeft o id (xs ++ us) (ys ++ us) n
+  pub left_before : (n : ℕ) (us xs ys : List LiveVolume) → RemovesPlanVolumes o id xs ys n
+      → RemovesPlanVolumes o id (xs ++ us) (ys ++ us) n
   left_before n us xs ys h = record {
     others = filter-append (is_beside o id) ys us
         ∙ ap (λ vs. vs ++ filter (is_beside o id) us) h.others
@@ -61,7 +61,7 @@ module _ (o id : List ℕ) where
       let b = ap length (twice xs) in omega (arith, a, b)
 
   pub left_filtered : (old new : List LiveVolume) (gone : ℕ) → new ≡ filter (is_beside o id) old
-      → gone ≡ length old - length new → IsLeft o id old new gone
+      → gone ≡ length old - length new → RemovesPlanVolumes o id old new gone
   left_filtered old new gone is count = record {
     others = ap (filter (is_beside o id)) is ∙ twice old;
     fewer =
@@ -80,7 +80,7 @@ module _ (o id : List ℕ) where
     go false h e = ap (λ vs. x ∷ vs) (h e)
 
   -- so many as there were
-  pub left_all : (old new : List LiveVolume) (gone : ℕ) → IsLeft o id old new gone → count_of o id old ≤ gone
+  pub left_all : (old new : List LiveVolume) (gone : ℕ) → RemovesPlanVolumes o id old new gone → count_of o id old ≤ gone
       → new ≡ filter (is_beside o id) old
   left_all old new gone h all = sym (none_there new (omega (arith, h.fewer, all))) ∙ h.others
 
@@ -101,5 +101,5 @@ module _ (o id : List ℕ) where
     go false false e h = h
 
   -- the same volumes
-  pub left_as : (xs ys zs : List LiveVolume) (n : ℕ) → IsLeft o id xs ys n → zs ≡ ys → IsLeft o id xs zs n
-  left_as xs ys zs n h is = subst (λ vs. IsLeft o id xs vs n) (sym is) h
+  pub left_as : (xs ys zs : List LiveVolume) (n : ℕ) → RemovesPlanVolumes o id xs ys n → zs ≡ ys → RemovesPlanVolumes o id xs zs n
+  left_as xs ys zs n h is = subst (λ vs. RemovesPlanVolumes o id xs vs n) (sym is) h

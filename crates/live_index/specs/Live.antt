@@ -152,7 +152,7 @@ AreBrought (Close operator id) fresh = fresh ≡ []
 AreBrought (Clear operator ids) fresh = fresh ≡ []
 
 -- volumes of the operator's plan of the id were taken out, so many at least, and no others
-pub record IsLeft (operator id : List ℕ) (old new : List LiveVolume) (gone : ℕ) : Type 0 where
+pub record RemovesPlanVolumes (operator id : List ℕ) (old new : List LiveVolume) (gone : ℕ) : Type 0 where
   pub others : filter (is_beside operator id) new ≡ filter (is_beside operator id) old
   pub fewer : count_of operator id new + gone ≤ count_of operator id old
 

@@ -3,7 +3,7 @@
 ghost use Rattle.std.specs.Prelude.{◌≡◌, ◌+◌, ◌-◌, ◌≤◌, ◌∷◌, ◌++◌, ◌<◌, [], true, length, slice_get, IfOk, OnOk, OnErr, IfSome, IsPermutation};
 ghost use Rattle.std.specs.List.{AllByRecursion, filter};
 ghost use Rattle.live_index.specs.Live as spec;
-ghost use Rattle.live_index.specs.Live.{AreBoundedChunks, IsInBox, IsLeft, IsBoundedChunk};
+ghost use Rattle.live_index.specs.Live.{AreBoundedChunks, IsInBox, RemovesPlanVolumes, IsBoundedChunk};
 ghost use Rattle.live_index.specs.Live.{chunk_has_plan, is_beside, volumes_in};
 ghost use Rattle.live_index.specs.Regions.{chunk_has_theirs};
 ghost use Rattle.live_index.specs.Near.{AddsPlans};
@@ -31,7 +31,7 @@ pub(crate) const PART: usize = 48;
 #[derive(Drop)]
 pub(crate) struct Chunk {
     pub(crate) bbox: BoundingBox,
-    // the least rank of its volumes, which no clause mentions
+    // at most the least rank of its volumes: a removal doesn't raise it; no clause mentions it
     pub(crate) low: Option<Rank>,
     volumes: Vec<LiveVolume>,
 }
@@ -82,7 +82,7 @@ impl Chunk {
 
     // Removes the volumes of the operator's plan with this id, and returns how many.
     fn remove_plan(&mut self, operator: &Operator, id: &PlanId) -> usize
-        ensures left { IsLeft operator.now id.now self.old.volumes.items self.new.volumes.items result }
+        ensures left { RemovesPlanVolumes operator.now id.now self.old.volumes.items self.new.volumes.items result }
         ensures bounded { IsBoundedChunk self.new }
     {
         let before = self.volumes.len();
@@ -271,7 +271,7 @@ fn last_at_or_before(chunks: &[Chunk], rank: &Rank) -> usize
 /// Removes the volumes of the rank's plan from the first chunk that may have the rank and has some. Returns
 /// how many were removed.
 pub(crate) fn remove_at(chunks: &mut Vec<Chunk>, rank: &Rank) -> usize
-    ensures left { IsLeft rank.now.plan.operator rank.now.plan.id (volumes_in chunks.old.items)
+    ensures left { RemovesPlanVolumes rank.now.plan.operator rank.now.plan.id (volumes_in chunks.old.items)
         (volumes_in chunks.new.items) result }
     ensures bounded { AreBoundedChunks chunks.old.items → AreBoundedChunks chunks.new.items }
 {
@@ -305,7 +305,7 @@ pub(crate) fn chunk_with(chunks: &[Chunk], rank: &Rank) -> usize
 // Removes the volumes of the operator's plan from the chunk at `at`, and the chunk if it is empty then.
 fn remove_from_chunk(chunks: &mut Vec<Chunk>, operator: &Operator, id: &PlanId, at: usize) -> usize
     requires { at < length chunks.old.items }
-    ensures left { IsLeft operator.now id.now (volumes_in chunks.old.items)
+    ensures left { RemovesPlanVolumes operator.now id.now (volumes_in chunks.old.items)
         (volumes_in chunks.new.items) result }
     ensures bounded { AreBoundedChunks chunks.old.items → AreBoundedChunks chunks.new.items }
 {

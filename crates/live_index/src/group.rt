@@ -3,7 +3,7 @@
 ghost use Rattle.std.specs.Prelude.{◌≡◌, ◌∷◌, ◌++◌, [], true, ◌<◌, ◌≤◌, ◌+◌, ◌-◌, length, slice_get, IfOk, OnOk, OnErr, IfSome, IsPermutation};
 ghost use Rattle.std.specs.List.{AllByRecursion, filter};
 ghost use Rattle.std.specs.List.{insert as insert_at};
-ghost use Rattle.live_index.specs.Live.{AreBoundedChunks, AreBoundedGroups, IsInBox, IsBoundedGroup, IsLeft, count_of};
+ghost use Rattle.live_index.specs.Live.{AreBoundedChunks, AreBoundedGroups, IsInBox, IsBoundedGroup, RemovesPlanVolumes, count_of};
 ghost use Rattle.live_index.specs.Live.{group_has_plan, is_beside, volumes_in, volumes_under};
 ghost use Rattle.live_index.specs.Regions.{group_has_theirs};
 ghost use Rattle.live_index.specs.Near.{AddsPlans};
@@ -89,7 +89,7 @@ impl Group {
     // Removes the volumes of the rank's plan from the first chunk that may have the rank and has some.
     // Returns how many were removed.
     fn remove_plan(&mut self, rank: &Rank) -> usize
-        ensures left { IsLeft rank.now.plan.operator rank.now.plan.id (volumes_in self.old.chunks.items)
+        ensures left { RemovesPlanVolumes rank.now.plan.operator rank.now.plan.id (volumes_in self.old.chunks.items)
             (volumes_in self.new.chunks.items) result }
         ensures group_bounded { IsBoundedGroup self.old → IsBoundedGroup self.new }
     {
@@ -182,13 +182,13 @@ fn around_chunks(chunks: &[Chunk]) -> BoundingBox
     ensures { AreBoundedChunks chunks.now → AllByRecursion (IsInBox result) (volumes_in chunks.now) }
 {
     match chunks.split_first() {
-        Some((first, others)) => around_from(first, others),
+        Some((first, others)) => join_of_boxes(first, others),
         None => BoundingBox::none(),
     }
 }
 
-// The bounding box of the volumes of `first` and `others`.
-fn around_from(first: &Chunk, others: &[Chunk]) -> BoundingBox
+// A box around the volumes of `first` and `others`: the boxes of these chunks, joined.
+fn join_of_boxes(first: &Chunk, others: &[Chunk]) -> BoundingBox
     ensures { AreBoundedChunks (first.now ∷ others.now)
         → AllByRecursion (IsInBox result) (volumes_in (first.now ∷ others.now)) }
 {
@@ -338,7 +338,7 @@ pub(crate) fn remove_all(groups: &mut Vec<Group>, plan: &PlanKey, places: &[u128
 
 // Removes the volumes of a plan that are found at `places`. Returns how many were removed.
 fn remove_at_places(groups: &mut Vec<Group>, plan: &PlanKey, places: &[u128]) -> usize
-    ensures left { IsLeft plan.now.operator plan.now.id (volumes_under groups.old.items)
+    ensures left { RemovesPlanVolumes plan.now.operator plan.now.id (volumes_under groups.old.items)
         (volumes_under groups.new.items) result }
     ensures group_bounded { AreBoundedGroups groups.old.items → AreBoundedGroups groups.new.items }
 {
@@ -352,7 +352,7 @@ fn remove_at_places(groups: &mut Vec<Group>, plan: &PlanKey, places: &[u128]) ->
 // Removes volumes of the rank's plan from the first group that may have the rank and has some. Returns how
 // many were removed.
 fn remove_at(groups: &mut Vec<Group>, rank: &Rank) -> usize
-    ensures left { IsLeft rank.now.plan.operator rank.now.plan.id (volumes_under groups.old.items)
+    ensures left { RemovesPlanVolumes rank.now.plan.operator rank.now.plan.id (volumes_under groups.old.items)
         (volumes_under groups.new.items) result }
     ensures group_bounded { AreBoundedGroups groups.old.items → AreBoundedGroups groups.new.items }
 {
@@ -386,7 +386,7 @@ fn group_with(groups: &[Group], rank: &Rank) -> usize
 // Removes volumes of the rank's plan from the group at `at`, and the group if it is empty then.
 fn remove_from_group(groups: &mut Vec<Group>, rank: &Rank, at: usize) -> usize
     requires { at < length groups.old.items }
-    ensures left { IsLeft rank.now.plan.operator rank.now.plan.id (volumes_under groups.old.items)
+    ensures left { RemovesPlanVolumes rank.now.plan.operator rank.now.plan.id (volumes_under groups.old.items)
         (volumes_under groups.new.items) result }
     ensures group_bounded { AreBoundedGroups groups.old.items → AreBoundedGroups groups.new.items }
 {

@@ -74,8 +74,8 @@ abbrev pub accounts_of : OperatorIndex → Accounts
 accounts_of roll = roll.accounts.entries
 
 -- an index has what a world has
-abbrev pub IsRollOf : World → OperatorIndex → Type 0
-IsRollOf w roll = AreAccountsOf w.operators w.plans (accounts_of roll)
+abbrev pub IsIndexOf : World → OperatorIndex → Type 0
+IsIndexOf w roll = AreAccountsOf w.operators w.plans (accounts_of roll)
 
 -- a ceiling, or this if there is none
 abbrev pub or_else : Option ℕ → ℕ → Option ℕ

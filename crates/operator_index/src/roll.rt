@@ -8,7 +8,7 @@ ghost use Rattle.desk_store.specs.World.{Filed, Listed, World, ceiling_of, liste
 ghost use Rattle.desk_store.specs.Changes.{filed_by};
 ghost use Rattle.desk_store.specs.StoreChange.{changed_by};
 ghost use Rattle.operator_index.specs.Roll as spec;
-ghost use Rattle.operator_index.specs.Roll.{AreAccountsOf, HasRoomIn, IsReadyFor, IsRollOf, account_in, accounts_of, with_ceiling};
+ghost use Rattle.operator_index.specs.Roll.{AreAccountsOf, HasRoomIn, IsReadyFor, IsIndexOf, account_in, accounts_of, with_ceiling};
 
 use crate::account::OperatorEntry;
 use crate::listed::ListedOperator;
@@ -37,7 +37,7 @@ impl OperatorIndex {
 
     /// The operator's ceiling, or `None` if it is not enrolled.
     pub fn ceiling(&self, operator: &Operator) -> Option<u32>
-        ensures { (w : World) → IsRollOf w self.now → result ≡ ceiling_of operator.now w }
+        ensures { (w : World) → IsIndexOf w self.now → result ≡ ceiling_of operator.now w }
     {
         let account = self.accounts.get(operator)?;
         account.ceiling
@@ -49,7 +49,7 @@ impl OperatorIndex {
     ///
     /// `AllocError` if memory runs out.
     pub fn listed(&self, alloc: Global) -> Result<Vec<ListedOperator>, AllocError>
-        ensures { IfOk result (λ listed. (w : World) → IsRollOf w self.now
+        ensures { IfOk result (λ listed. (w : World) → IsIndexOf w self.now
             → IsStrictlySortedBy listed_cmp w.operators → listed.items ≡ w.operators) }
     {
         let mut listed = Vec::new(alloc);
@@ -61,7 +61,7 @@ impl OperatorIndex {
 
     /// The states of the operator's plan with this id, or `None` if there is none.
     pub fn states(&self, operator: &Operator, id: &PlanId) -> Option<States>
-        ensures { (w : World) → IsRollOf w self.now
+        ensures { (w : World) → IsIndexOf w self.now
             → result ≡ states_of (stored_of id.now (plans_of operator.now w)) }
     {
         let account = self.accounts.get(operator)?;
@@ -70,7 +70,7 @@ impl OperatorIndex {
 
     /// How many plans the operator has, closed ones included; at most `u32::MAX`.
     pub fn count(&self, operator: &Operator) -> u32
-        ensures { (w : World) → IsRollOf w self.now → length (plans_of operator.now w) < 2 ^ 32
+        ensures { (w : World) → IsIndexOf w self.now → length (plans_of operator.now w) < 2 ^ 32
             → result ≡ length (plans_of operator.now w) }
     {
         match self.accounts.get(operator) {
@@ -81,10 +81,10 @@ impl OperatorIndex {
 
     /// The sizes of the operator's plans without the one with this id, each number at most `u32::MAX`.
     pub fn sizes_beside(&self, operator: &Operator, id: &PlanId) -> Sizes
-        ensures spans { (w : World) → IsRollOf w self.now
+        ensures spans { (w : World) → IsIndexOf w self.now
             → spans_beside id.now (plans_of operator.now w) < 2 ^ 32
             → result.spans ≡ spans_beside id.now (plans_of operator.now w) }
-        ensures cells { (w : World) → IsRollOf w self.now
+        ensures cells { (w : World) → IsIndexOf w self.now
             → cells_beside id.now (plans_of operator.now w) < 2 ^ 32
             → result.cells ≡ cells_beside id.now (plans_of operator.now w) }
     {
@@ -100,7 +100,7 @@ impl OperatorIndex {
     ///
     /// `AllocError` if memory runs out.
     pub fn prepare(&mut self, alloc: Global, change: &Change) -> Result<(), AllocError>
-        ensures kept { (w : World) → IsRollOf w self.old → IsRollOf w self.new }
+        ensures kept { (w : World) → IsIndexOf w self.old → IsIndexOf w self.new }
         ensures ready { OnOk result (IsReadyFor change.now self.new) }
     {
         let operator = named_by(change);
@@ -111,7 +111,7 @@ impl OperatorIndex {
     /// Updates the index after a change. `prepare` has reserved the memory for it, so this can't fail.
     pub fn update_after(&mut self, change: &Change)
         requires { IsReadyFor change.now self.old }
-        ensures { (w : World) → IsRollOf w self.old → IsRollOf (changed_by change.now w) self.new }
+        ensures { (w : World) → IsIndexOf w self.old → IsIndexOf (changed_by change.now w) self.new }
     {
         if let Some(account) = self.accounts.get_mut(named_by(change)) {
             account.apply_change(change);

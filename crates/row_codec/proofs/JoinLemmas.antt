@@ -11,7 +11,7 @@ use Rattle.desk_sql.specs.Rows.{joined}
 use Rattle.desk_store.specs.World.{Filed}
 use Rattle.row_codec.specs.declared.values.PlanHead.{PlanHead}
 use Rattle.row_codec.specs.Tables.{row_of_plan, row_of_volume}
-use Rattle.desk_store.specs.Content.{IsId, IsBlock}
+use Rattle.desk_store.specs.Content.{IsId, IsValidVolume}
 use Rattle.row_codec.specs.RowsRead.{IsVolumeAt, IsHead, is_later, joined_from, listing_rows}
 use Rattle.row_codec.specs.Gathering.{plan_with, closed_plans, IsPlanUnderWay, Leads}
 use Rattle.row_codec.proofs.lemmas.Order.{ArePlans}
@@ -71,8 +71,8 @@ no_rows p n [] (q ∷ qs) h e = absurd (by_area q.row.area refl e) where
   by_area (u ∷ us) is f = cc
 no_rows p n (v ∷ vs) ps h e = cc
 
-pub each_at : (xs : List Block) (y : Block) (ys : List Block) → AllByRecursion IsBlock (xs ++ y ∷ ys)
-    → IsBlock y
+pub each_at : (xs : List Block) (y : Block) (ys : List Block) → AllByRecursion IsValidVolume (xs ++ y ∷ ys)
+    → IsValidVolume y
 each_at [] y ys h = h.0
 each_at (x ∷ xs) y ys h = each_at xs y ys h.1
 
@@ -81,7 +81,7 @@ abbrev pub ReadsHead : Row → PlanHead → Type 0
 ReadsHead row head = (p : PlanRow) → IsId p.id → IsHead row p → plan_with head p.area ≡ p
 
 abbrev pub ReadsVolume : Row → Block → Type 0
-ReadsVolume row volume = (v : Block) → IsBlock v → IsVolumeAt row 6 v → volume ≡ v
+ReadsVolume row volume = (v : Block) → IsValidVolume v → IsVolumeAt row 6 v → volume ≡ v
 
 -- a plan's first row begins it
 begins : (plans : List PlanRow) (head : PlanHead) (volume : Block) (row : Row) (left : List Row)
@@ -91,8 +91,8 @@ begins : (plans : List PlanRow) (head : PlanHead) (volume : Block) (row : Row) (
     → plans ++ map (λ p. p.row) ps ≡ all → IsPlanUnderWay plans head (volume ∷ []) left all
 begins plans head volume row left ps all h first reads_head reads_volume e =
     let are : ArePlans (first.plan ∷ first.more) = subst ArePlans first.are h in
-    let blocks : AllByRecursion IsBlock (first.volume ∷ first.rest) =
-    subst (AllByRecursion IsBlock) (sym first.area) are.0.each in
+    let blocks : AllByRecursion IsValidVolume (first.volume ∷ first.rest) =
+    subst (AllByRecursion IsValidVolume) (sym first.area) are.0.each in
     let same : volume ≡ first.volume = reads_volume first.volume blocks.0
     (subst (λ r. IsVolumeAt r 6 first.volume) (sym first.row_is)
     (volume_read first.plan 0 first.volume))
@@ -177,8 +177,8 @@ takes_later plans (Some head) volumes row left ps h way test volume reads = by_r
       let here : row ≡ joined (row_of_plan way.plan) (row_of_volume way.plan n v) = cc in
       let there : left ≡ joined_from way.plan (n + 1) vs ++ listing_rows way.more = cc in
       let area : volumes ++ v ∷ vs ≡ way.plan.row.area = ap (λ us. volumes ++ us) is ∙ way.area in
-      let block : IsBlock v = each_at volumes v vs
-      (subst (AllByRecursion IsBlock) (sym area) way.each.0.each)
+      let block : IsValidVolume v = each_at volumes v vs
+      (subst (AllByRecursion IsValidVolume) (sym area) way.each.0.each)
       in
       let same : volume ≡ v =
       reads v block (subst (λ r. IsVolumeAt r 6 v) (sym here) (volume_read way.plan n v)) in

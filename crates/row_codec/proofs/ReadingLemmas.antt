@@ -15,7 +15,7 @@ use Rattle.uuid.specs.Text.{parsed}
 use Rattle.uuid.proofs.RoundTrips.{parses_hyphenated}
 use Rattle.volume4d.specs.Volume.{is_area}
 use Rattle.row_codec.specs.Tables.{id_text}
-use Rattle.desk_store.specs.Content.{IsId, IsBlock}
+use Rattle.desk_store.specs.Content.{IsId, IsValidVolume}
 use Rattle.row_codec.specs.RowsRead.{IsVolumeAt}
 
 pub window_is : (e w : WindowParts) → ◌≡◌ {A = Result WindowParts WindowFault} (Ok w)
@@ -47,7 +47,7 @@ module _ (one_shape : (one other : Shape) → HasValidParts one → HasValidPart
       → ◌≡◌ {A = Result WindowParts WindowFault} (Ok window)
       (window_or_fault (record { lower = lower; upper = upper; start = start; end = end }))
       → AreBytesOf asked shape → volume ≡ record { footprint = shape; window = window }
-      → (v : Block) → IsBlock v → IsVolumeAt row at v → volume ≡ v
+      → (v : Block) → IsValidVolume v → IsVolumeAt row at v → volume ≡ v
   volume_is row at lower upper start end asked window shape volume l u s e a w bytes is v hv h =
       let same_window = window_is (record { lower = lower; upper = upper; start = start; end = end })
       window w
@@ -64,21 +64,21 @@ module _ (one_shape : (one other : Shape) → HasValidParts one → HasValidPart
       })
 
 abbrev Reads : ℕ → Row → Block → Type 0
-Reads at row volume = (v : Block) → IsBlock v → IsVolumeAt row at v → volume ≡ v
+Reads at row volume = (v : Block) → IsValidVolume v → IsVolumeAt row at v → volume ≡ v
 
 -- volumes read from the first rows, and one more
 pub one_more : (at : ℕ) (rows : List Row) (i : ℕ) (row : Row) (volumes : List Block) (volume : Block)
     (d : Row) → i < length rows → row ≡ get_or rows i d → Reads at row volume
-    → ((vs : List Block) → AllByRecursion IsBlock vs → AllZip (λ r v. IsVolumeAt r at v) rows vs
+    → ((vs : List Block) → AllByRecursion IsValidVolume vs → AllZip (λ r v. IsVolumeAt r at v) rows vs
     → volumes
     ≡ take i vs)
-    → (vs : List Block) → AllByRecursion IsBlock vs → AllZip (λ r v. IsVolumeAt r at v) rows vs
+    → (vs : List Block) → AllByRecursion IsValidVolume vs → AllZip (λ r v. IsVolumeAt r at v) rows vs
     → volumes
     ++ volume ∷ [] ≡ take (i + 1) vs
 one_more at rows i row volumes volume d within is reads before vs hv h =
     ap (λ xs. xs ++ volume ∷ []) (before vs hv h) ∙ next rows vs i within is hv h where
       next : (rows : List Row) (vs : List Block) (i : ℕ) → i < length rows → row ≡ get_or rows i d
-          → AllByRecursion IsBlock vs → AllZip (λ r v. IsVolumeAt r at v) rows vs → take i vs ++ volume
+          → AllByRecursion IsValidVolume vs → AllZip (λ r v. IsVolumeAt r at v) rows vs → take i vs ++ volume
           ∷ []
           ≡ take (i + 1) vs
       next [] vs i w e hb hz = absurd (omega (arith, w))

@@ -6,7 +6,7 @@ use Rattle.volume4d.specs.Volume.{Block, is_area}
 use Rattle.desk_rules.specs.declared.plan.PlanRow.{PlanRow}
 use Rattle.desk_store.specs.World.{Filed}
 use Rattle.row_codec.specs.declared.values.PlanHead.{PlanHead}
-use Rattle.desk_store.specs.Content.{IsBlock, IsId, IsPlan}
+use Rattle.desk_store.specs.Content.{IsValidVolume, IsId, IsPlan}
 use Rattle.row_codec.specs.RowsRead.{IsHead, IsVolumeAt, is_later, joined_from, listing_rows}
 
 -- the plan that is this but for its area
@@ -66,7 +66,7 @@ IsNoHead row = (p : PlanRow) → IsId p.id → p.priority < 2 ^ 32 → ¬ IsHead
 abbrev pub IsUngathered : Option PlanHead → List Block → Row → Type 0
 IsUngathered head volumes row =
     ((is_later row ≡ false) × (HasNoArea head volumes ⊎ IsNoHead row))
-    ⊎ (((is_later row ≡ true) × (head ≡ None)) ⊎ ((v : Block) → IsBlock v → ¬ IsVolumeAt row 6 v))
+    ⊎ (((is_later row ≡ true) × (head ≡ None)) ⊎ ((v : Block) → IsValidVolume v → ¬ IsVolumeAt row 6 v))
 
 -- no listing of plans begins with these rows and this one
 abbrev pub BeginNoListing : List Row → Row → Type 0

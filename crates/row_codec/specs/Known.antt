@@ -1,7 +1,7 @@
 -- What is known of a store's plans without a look into its tables.
 use Rattle.desk_store.specs.World.{World}
 use Rattle.live_index.specs.Live.{AreKeptOnce}
-use Rattle.operator_index.specs.Roll.{IsRollOf}
+use Rattle.operator_index.specs.Roll.{IsIndexOf}
 use Rattle.row_codec.specs.declared.known.MemoryIndex.{MemoryIndex}
 use Rattle.row_codec.specs.SpanBounds.{Bounds}
 
@@ -9,4 +9,4 @@ use Rattle.row_codec.specs.SpanBounds.{Bounds}
 pub record Knows (known : MemoryIndex) (w : World) : Type 0 where
   pub span_bounds : Bounds known.span_bounds w
   pub live : AreKeptOnce known.live w
-  pub roll : IsRollOf w known.roll
+  pub roll : IsIndexOf w known.roll

@@ -9,7 +9,7 @@ ghost use Rattle.desk_changes.specs.Batches.{volume_row_in, cover_of, span_row_i
 ghost use Rattle.desk_store.specs.Changes.{filed_by};
 ghost use Rattle.row_codec.specs.Tables as spec;
 ghost use Rattle.row_codec.specs.Tables.{id_text, area_rows, area_covers, ArePlanSpanRows, AreSpanRowsFrom};
-ghost use Rattle.desk_store.specs.Content.{IsId, IsBlock};
+ghost use Rattle.desk_store.specs.Content.{IsId, IsValidVolume};
 ghost use Rattle.row_codec.specs.SpanBounds.{IsKnownRow, Keeps};
 ghost use Rattle.row_codec.specs.PlanRows.{volume_record, slab_record, AreAskedOf, AreCanonOf};
 
@@ -76,7 +76,7 @@ fn text_of(alloc: Global, id: &PlanId) -> Result<String, AllocError>
 /// `AllocError` if memory runs out.
 pub fn asked_of(alloc: Global, volumes: &[Volume]) -> Result<Vec<Vec<u8>>, AllocError>
     ensures value { IfOk result (λ asked. AreAskedOf volumes.now (map (λ bytes. bytes.items) asked.items)) }
-    ensures valid { IfOk result (λ asked. AllByRecursion IsBlock volumes.now) }
+    ensures valid { IfOk result (λ asked. AllByRecursion IsValidVolume volumes.now) }
 {
     let mut asked = Vec::new(alloc);
     for volume in volumes {
@@ -88,7 +88,7 @@ pub fn asked_of(alloc: Global, volumes: &[Volume]) -> Result<Vec<Vec<u8>>, Alloc
 // The footprint of `volume` as bytes. The contract also says that the volume is within the limits.
 fn asked_bytes(alloc: Global, volume: &Volume) -> Result<Vec<u8>, AllocError>
     ensures value { IfOk result (λ bytes. bytes.items ≡ footprint_bytes volume.now.footprint) }
-    ensures valid { IfOk result (λ bytes. IsBlock volume.now) }
+    ensures valid { IfOk result (λ bytes. IsValidVolume volume.now) }
 {
     // For its contract alone: the window of a volume is valid.
     let _window = volume.window();

@@ -27,7 +27,7 @@ pub struct SpanBounds {
 }
 
 impl SpanBounds {
-    /// Bounds that hold for no spans, or for spans of one leaf.
+    /// The least bounds: they hold for spans of one leaf, and for no longer one.
     pub fn new() -> SpanBounds
         ensures bound { result.bound ≡ 0 }
         ensures long_spans { (span : Range) → ¬ IsAmong result.long_spans span }

@@ -12,7 +12,7 @@ ghost use Rattle.desk_rules.specs.declared.plan.PlanRow.{PlanRow as Plan};
 ghost use Rattle.desk_rules.specs.declared.words.Usage.{Usage as Use};
 ghost use Rattle.desk_rules.specs.declared.words.Aircraft.{Aircraft as State};
 ghost use Rattle.row_codec.specs.Tables.{id_text, usage_number, aircraft_number};
-ghost use Rattle.desk_store.specs.Content.{IsId, IsBlock};
+ghost use Rattle.desk_store.specs.Content.{IsId, IsValidVolume};
 ghost use Rattle.row_codec.specs.RowsRead.{IsVolumeAt, IsHead};
 ghost use Rattle.row_codec.specs.Records.{AreNumbersOf};
 ghost use Rattle.row_codec.specs.Gathering.{plan_with};
@@ -98,11 +98,11 @@ fn blob_at(row: &Row, at: usize) -> Result<Vec<u8>, StoreFault>
 /// `OutOfMemory` if memory runs out. `Store` if they aren't those of a volume.
 pub fn volume_in(alloc: Global, row: &Row, at: usize) -> Result<Volume, StoreFault>
     requires { at ≤ 6 }
-    ensures value { IfOk result (λ volume. (v : Block) → IsBlock v → IsVolumeAt row.now at v
+    ensures value { IfOk result (λ volume. (v : Block) → IsValidVolume v → IsVolumeAt row.now at v
         → volume ≡ v) }
-    ensures is { IfOk result (λ volume. IsBlock volume × IsVolumeAt row.now at volume) }
+    ensures is { IfOk result (λ volume. IsValidVolume volume × IsVolumeAt row.now at volume) }
     ensures none { IfErr result (λ e. e ≡ StoreFault.Store →
-        (v : Block) → IsBlock v → ¬ IsVolumeAt row.now at v) }
+        (v : Block) → IsValidVolume v → ¬ IsVolumeAt row.now at v) }
 {
     one_shape();
     let lower = i32_at(row, at)?;
@@ -139,12 +139,12 @@ fn fault_of_volume(fault: VolumeFault) -> StoreFault
 /// `OutOfMemory` if memory runs out. `Store` if they aren't those of an area.
 pub fn area_in(alloc: Global, rows: &[Row], at: usize) -> Result<Area, StoreFault>
     requires { at ≤ 6 }
-    ensures value { IfOk result (λ area. (vs : List Block) → AllByRecursion IsBlock vs
+    ensures value { IfOk result (λ area. (vs : List Block) → AllByRecursion IsValidVolume vs
         → AllZip (λ row v. IsVolumeAt row at v) rows.now vs → area ≡ vs) }
-    ensures are { IfOk result (λ area. AllByRecursion IsBlock area
+    ensures are { IfOk result (λ area. AllByRecursion IsValidVolume area
         × AllZip (λ row v. IsVolumeAt row at v) rows.now area) }
     ensures none { IfErr result (λ e. e ≡ StoreFault.Store →
-        (vs : List Block) → IsTrue (is_area vs) → AllByRecursion IsBlock vs
+        (vs : List Block) → IsTrue (is_area vs) → AllByRecursion IsValidVolume vs
         → ¬ AllZip (λ row v. IsVolumeAt row at v) rows.now vs) }
 {
     let mut volumes = Vec::new(alloc);

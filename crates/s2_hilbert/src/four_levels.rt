@@ -7,7 +7,7 @@ ghost use Rattle.s2_hilbert.specs.Curve as curve;
 
 use crate::levels::{LEAF_LEVEL, quadrant_of};
 use crate::quadrants::{quadrant_at, step_to, turned};
-use crate::tables::{place_of_four, point_of_four};
+use crate::tables::{place_of_four, point_four_levels_down};
 
 // The number of steps of four levels below the two highest levels.
 const FOURS: u8 = 7;
@@ -54,7 +54,7 @@ pub fn point_on_face(turn: u8, along: u64) -> (u32, u32)
     let mut row = 256 * usize::from(turned(half, second));
     for step in 0..FOURS {
         let place = (along >> (8 * (FOURS - 1 - step)) & 255) as usize;
-        let four = point_of_four(row + place);
+        let four = point_four_levels_down(row + place);
         i = 16 * i + u32::from(four.i);
         j = 16 * j + u32::from(four.j);
         row = usize::from(four.row);

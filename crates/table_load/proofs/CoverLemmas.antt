@@ -8,7 +8,7 @@ use Rattle.volume4d.specs.Volume.{Block}
 use Rattle.volume4d.specs.FootprintBytes.{HasValidParts, footprint_bytes}
 use Rattle.volume4d.specs.Shape.{Shape}
 use Rattle.desk_sql.specs.Volumes.{cover_part, volume_part}
-use Rattle.desk_store.specs.Content.{IsBlock}
+use Rattle.desk_store.specs.Content.{IsValidVolume}
 use Rattle.desk_store.specs.World.{Filed}
 use Rattle.table_load.specs.Covers.{AreCompared, HasCoverOf, HasItsCover}
 use Rattle.row_codec.specs.RowsRead.{IsVolumeAt}
@@ -30,7 +30,7 @@ module _ (row : Row) (p : Filed) (n : ℕ) (v : Block) (is : volume_part row ≡
   cover_is e = λ i.
       ap (λ r. column r 0) is i ∷ ap (λ r. column r 1) is i ∷ ap (λ r. column r 2) is i ∷ e i ∷ []
 
-  has_cover : IsBlock v → cover_part row ≡ row_of_cover p n v → HasItsCover row
+  has_cover : IsValidVolume v → cover_part row ≡ row_of_cover p n v → HasItsCover row
   has_cover block e = record {
     volume = v;
     within = block;
@@ -38,7 +38,7 @@ module _ (row : Row) (p : Filed) (n : ℕ) (v : Block) (is : volume_part row ≡
     cover = ap (λ r. column r 3) e;
   }
 
-area_has : (p : Filed) (n : ℕ) (vs : List Block) → AllByRecursion IsBlock vs → (volumes covers : List Row)
+area_has : (p : Filed) (n : ℕ) (vs : List Block) → AllByRecursion IsValidVolume vs → (volumes covers : List Row)
     → ((rest : List Row) → map volume_part rest ≡ volumes → map cover_part rest ≡ covers
     → AllByRecursion HasItsCover rest)
     → (rows : List Row) → map volume_part rows ≡ volume_rows_from p n vs ++ volumes
@@ -65,7 +65,7 @@ have_covers (p ∷ ps) h rows e f =
 
 module _ (one_shape : (one other : Shape) → HasValidParts one → HasValidParts other
     → footprint_bytes one ≡ footprint_bytes other → one ≡ other) where
-  one_cover : (row : Row) (p : Filed) (n : ℕ) (v : Block) → IsBlock v → volume_part row ≡ row_of_volume p n v
+  one_cover : (row : Row) (p : Filed) (n : ℕ) (v : Block) → IsValidVolume v → volume_part row ≡ row_of_volume p n v
       → HasItsCover row → cover_part row ≡ row_of_cover p n v
   one_cover row p n v block is has =
       let asked : Blob (footprint_bytes has.volume.footprint) ≡ Blob (footprint_bytes v.footprint) =
@@ -74,7 +74,7 @@ module _ (one_shape : (one other : Shape) → HasValidParts one → HasValidPart
       cover_is row p n v is (has.cover ∙ ap (λ s. Blob (canon_bytes s))
       (one_shape has.volume.footprint v.footprint has.within.valid block.valid same))
 
-  area_covered : (p : Filed) (n : ℕ) (vs : List Block) → AllByRecursion IsBlock vs
+  area_covered : (p : Filed) (n : ℕ) (vs : List Block) → AllByRecursion IsValidVolume vs
       → (volumes covers : List Row)
       → ((rest : List Row) → map volume_part rest ≡ volumes → AllByRecursion HasItsCover rest
       → map cover_part rest ≡ covers)

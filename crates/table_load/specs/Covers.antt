@@ -5,7 +5,7 @@ use Rattle.sqlite_value.specs.declared.value.Value.TheVariants.{Blob}
 use Rattle.sqlite_value.specs.Order.{Row, column}
 use Rattle.volume4d.specs.Volume.{Block}
 use Rattle.desk_sql.specs.Volumes.{volume_part}
-use Rattle.desk_store.specs.Content.{IsBlock}
+use Rattle.desk_store.specs.Content.{IsValidVolume}
 use Rattle.row_codec.specs.RowsRead.{IsVolumeAt}
 use Rattle.row_codec.specs.Tables.{canon_bytes}
 
@@ -16,7 +16,7 @@ HasCoverOf v row = column row 8 ≡ Blob (canon_bytes v.footprint)
 -- a row has a volume, and the cover of that
 pub record HasItsCover (row : Row) : Type 0 where
   pub volume : Block
-  pub within : IsBlock volume
+  pub within : IsValidVolume volume
   pub there : IsVolumeAt row 3 volume
   pub cover : HasCoverOf volume row
 

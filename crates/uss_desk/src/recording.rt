@@ -512,7 +512,7 @@ fn begin_part<'s>(
     }
 }
 
-// The Unix second of the clock; the error `Clock` if there is none.
+// The Unix second of the clock; the error `Clock` if the clock can't be read or is before 1970.
 fn second_now(host: LocalHost<'_>) -> Result<u64, ErrorCode>
     ensures { IfErr result (λ f. f ≡ ErrorCode.Clock) }
 {

@@ -58,10 +58,10 @@ pub(crate) fn least_corner(mine: &Slab, theirs: &Slab) -> Option<Corner>
     if !has_leaf(theirs, &corner) {
         return None;
     }
-    if !has_time(mine, &corner) {
+    if !has_altitude_and_second(mine, &corner) {
         return None;
     }
-    if !has_time(theirs, &corner) {
+    if !has_altitude_and_second(theirs, &corner) {
         return None;
     }
     Some(corner)
@@ -83,7 +83,7 @@ fn corner_of(mine: &Slab, theirs: &Slab) -> Corner
 pub(crate) fn has(slab: &Slab, x: &Corner) -> bool
     ensures { result ≡ slab_has slab.now x.now }
 {
-    has_leaf(slab, x) && has_time(slab, x)
+    has_leaf(slab, x) && has_altitude_and_second(slab, x)
 }
 
 // Whether a slab has a point's leaf.
@@ -95,7 +95,7 @@ fn has_leaf(slab: &Slab, x: &Corner) -> bool
 }
 
 // Whether a slab has a point's altitude and second.
-fn has_time(slab: &Slab, x: &Corner) -> bool
+fn has_altitude_and_second(slab: &Slab, x: &Corner) -> bool
     ensures { result ≡ ((int_le slab.now.lower x.now.altitude && int_lt x.now.altitude slab.now.upper)
         && (int_le slab.now.start x.now.second && int_lt x.now.second slab.now.end)) }
 {

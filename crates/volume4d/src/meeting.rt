@@ -137,7 +137,7 @@ fn top_at(theirs: &[Held], x: &Corner) -> Option<u32>
     top
 }
 
-// The greater of a priority that may be missing and of what a held slab has at a point.
+// The greater of `top` and the priority of `held`, if that holds the point `x`.
 fn raised(top: Option<u32>, held: &Held, x: &Corner) -> Option<u32>
     ensures { result
         ≡ greater top (level_where (slab_has held.now.slab x.now) held.now.priority) }

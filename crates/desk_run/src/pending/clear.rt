@@ -1,13 +1,13 @@
 //! Clears: the removal of an operator's plans.
 
 ghost use Rattle.std.specs.Prelude.{◌≡◌, ◌≤◌, ◌<◌, ◌^◌, ◌∷◌, [], length, IsSome, IfOk, IfErr};
-ghost use Rattle.desk_run.specs.CallFaults.{IsStoreCounted};
+ghost use Rattle.desk_run.specs.CallFaults.{IsStoreFaultCounted};
 ghost use Rattle.desk_store.specs.StoreFrames.{OnlyReads};
 ghost use Rattle.desk_store.specs.StoreFaults.{IsHonest};
 ghost use Rattle.desk_store.specs.World.{ceiling_of, plans_of};
 ghost use Rattle.desk_rules.specs.Bridge.{AreSlabsOf};
 ghost use Rattle.volume4d.specs.Volume.{Block};
-ghost use Rattle.desk_run.specs.Calls.{IsClearing, Readies, ids_in};
+ghost use Rattle.desk_run.specs.Calls.{IsClearing, IsPreparedFor, ids_in};
 ghost use Rattle.desk_run.specs.Verdicts.{clear_ruling, is_in};
 
 use super::Pending;
@@ -30,10 +30,10 @@ pub fn prepare_clear<S: PlanStore>(
 ) -> Result<Pending, DeskFault>
     requires { IsHonest (S.doubt store.old) →
         IsSome (ceiling_of operator.now (S.content store.old)) }
-    ensures value { IsHonest (S.doubt store.new) → Readies (S.content store.old) operator.now
+    ensures value { IsHonest (S.doubt store.new) → IsPreparedFor (S.content store.old) operator.now
         (clear_ruling (plans_of operator.now (S.content store.old)) extent.now) result }
     ensures reads { OnlyReads S.content S.doubt S.faults S.may_leave S.is_shielded store.old store.new }
-    ensures cause { IfErr result (IsStoreCounted S.faults store.old store.new) }
+    ensures cause { IfErr result (IsStoreFaultCounted S.faults store.old store.new) }
 {
     let rows = store.own_plans(operator)?;
     Ok(pending_clear(alloc, operator, &extent.slabs()?, &rows)?)

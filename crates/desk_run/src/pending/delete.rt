@@ -1,11 +1,11 @@
 //! Deletes, which close a plan.
 
 ghost use Rattle.std.specs.Prelude.{◌≡◌, ◌≤◌, IsSome, IfErr};
-ghost use Rattle.desk_run.specs.CallFaults.{IsStoreCounted};
+ghost use Rattle.desk_run.specs.CallFaults.{IsStoreFaultCounted};
 ghost use Rattle.desk_store.specs.StoreFrames.{OnlyReads};
 ghost use Rattle.desk_store.specs.StoreFaults.{IsHonest};
 ghost use Rattle.desk_store.specs.World.{ceiling_of, plans_of, stored_of};
-ghost use Rattle.desk_run.specs.Calls.{Readies};
+ghost use Rattle.desk_run.specs.Calls.{IsPreparedFor};
 ghost use Rattle.desk_run.specs.Verdicts.{delete_ruling};
 
 use super::Pending;
@@ -24,11 +24,11 @@ pub fn prepare_delete<S: PlanStore>(
 ) -> Result<Pending, DeskFault>
     requires { IsHonest (S.doubt store.old) →
         IsSome (ceiling_of operator.now (S.content store.old)) }
-    ensures value { IsHonest (S.doubt store.new) → Readies (S.content store.old) operator.now
+    ensures value { IsHonest (S.doubt store.new) → IsPreparedFor (S.content store.old) operator.now
         (delete_ruling (plans_of operator.now (S.content store.old)) id.now
         (stored_of id.now (plans_of operator.now (S.content store.old)))) result }
     ensures reads { OnlyReads S.content S.doubt S.faults S.may_leave S.is_shielded store.old store.new }
-    ensures cause { IfErr result (IsStoreCounted S.faults store.old store.new) }
+    ensures cause { IfErr result (IsStoreFaultCounted S.faults store.old store.new) }
 {
     if store.states(operator, id)?.is_none() {
         return Err(DeskFault::NoSuchPlan);

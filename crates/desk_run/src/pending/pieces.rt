@@ -6,7 +6,7 @@ ghost use Rattle.desk_store.specs.StoreFrames.{OnlyReads};
 ghost use Rattle.desk_store.specs.StoreFaults.{IsHonest, IsCounted};
 ghost use Rattle.volume4d.specs.Bounds.{AreFilled};
 ghost use Rattle.desk_run.specs.ConflictParts.{IsFirstAmong};
-ghost use Rattle.desk_run.specs.Pieces.{AreCut, IsCutTo, IsFirstAt, IsPiece};
+ghost use Rattle.desk_run.specs.Pieces.{AreCut, IsCutTo, IsFirstBlockedAt, IsPiece};
 
 use super::conflict::least_of;
 use super::windows::extents_in;
@@ -84,8 +84,8 @@ fn piece_from(whole: &Slab, position: u64, length: u64) -> Slab
     }
 }
 
-// The first blocked point of `slabs` at the leaves of `piece`. The store's slabs may extend beyond the piece,
-// where they mean nothing, so they are cut to it.
+// The first point of `slabs` at the leaves of `piece` where a stored plan blocks the operator's plan `id` with
+// this priority. The slabs that the store returns may extend beyond the piece, so they are cut to it.
 fn first_at<S: PlanStore>(
     alloc: Global,
     store: &mut S,
@@ -96,7 +96,7 @@ fn first_at<S: PlanStore>(
     priority: u32,
     piece: &Slab,
 ) -> Result<Option<Meeting>, StoreFault>
-    ensures value { IsHonest (S.doubt store.new) → IfOk result (IsFirstAt permitted.now
+    ensures value { IsHonest (S.doubt store.new) → IfOk result (IsFirstBlockedAt permitted.now
         (S.content store.old) operator.now id.now slabs.now piece.now priority) }
     ensures reads { OnlyReads S.content S.doubt S.faults S.may_leave S.is_shielded store.old store.new }
     ensures cause { IfErr result (IsCounted S.faults store.old store.new) }

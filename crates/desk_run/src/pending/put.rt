@@ -1,16 +1,16 @@
 //! Requests to plan, decided over a store.
 
 ghost use Rattle.std.specs.Prelude.{◌≡◌, ◌+◌, ◌≤◌, length, Option, Some, None, true, false, cond, IfOk, IfErr};
-ghost use Rattle.desk_run.specs.CallFaults.{IsStoreCounted};
+ghost use Rattle.desk_run.specs.CallFaults.{IsStoreFaultCounted};
 ghost use Rattle.desk_store.specs.StoreFrames.{OnlyReads};
 ghost use Rattle.desk_store.specs.StoreFaults.{IsHonest, IsCounted};
 ghost use Rattle.desk_rules.specs.Limits.{max_priority};
 ghost use Rattle.desk_store.specs.World.{own, ceiling_of, plans_of, stored_of, held};
-ghost use Rattle.desk_run.specs.Calls.{Readies, change_after};
+ghost use Rattle.desk_run.specs.Calls.{IsPreparedFor, change_after};
 ghost use Rattle.desk_rules.specs.Outcome.{outcome_under, is_check};
 ghost use Rattle.desk_rules.specs.States.{states_of, step_from};
 ghost use Rattle.volume4d.specs.Meeting.{Spot};
-ghost use Rattle.desk_run.specs.Verdicts.{put_ruling, put_outcome_in, excess_asked, row_asked, conflict_in};
+ghost use Rattle.desk_run.specs.Verdicts.{put_ruling, put_verdict_in, excess_asked, row_asked, conflict_in};
 
 use super::Pending;
 use super::conflict::conflict_of;
@@ -40,12 +40,12 @@ pub fn prepare_put<S: PlanStore>(
     requires listed { IsHonest (S.doubt store.old) →
         ceiling_of operator.now (S.content store.old) ≡ Some ceiling }
     requires low { IsHonest (S.doubt store.old) → ceiling ≤ max_priority }
-    ensures value { IsHonest (S.doubt store.new) → Readies (S.content store.old) operator.now
+    ensures value { IsHonest (S.doubt store.new) → IsPreparedFor (S.content store.old) operator.now
         (put_ruling
-        (put_outcome_in terms.now (S.content store.old) operator.now ceiling moment put.now)
+        (put_verdict_in terms.now (S.content store.old) operator.now ceiling moment put.now)
         put.now (plans_of operator.now (S.content store.old))) result }
     ensures reads { OnlyReads S.content S.doubt S.faults S.may_leave S.is_shielded store.old store.new }
-    ensures cause { IfErr result (IsStoreCounted S.faults store.old store.new) }
+    ensures cause { IfErr result (IsStoreFaultCounted S.faults store.old store.new) }
 {
     let verdict = verdict_on(alloc, store, terms, moment, operator, put, ceiling)?;
     let change = change_for(verdict.effect, operator, put)?;
@@ -81,7 +81,7 @@ fn verdict_on<S: PlanStore>(
     ceiling: u32,
 ) -> Result<Verdict, StoreFault>
     ensures verdict { IsHonest (S.doubt store.new) → IfOk result (λ v.
-        v ≡ put_outcome_in terms.now (S.content store.old) operator.now ceiling moment
+        v ≡ put_verdict_in terms.now (S.content store.old) operator.now ceiling moment
         put.now) }
     ensures reads { OnlyReads S.content S.doubt S.faults S.may_leave S.is_shielded store.old store.new }
     ensures cause { IfErr result (IsCounted S.faults store.old store.new) }
@@ -93,15 +93,20 @@ fn verdict_on<S: PlanStore>(
         ceiling,
         excess,
     };
-    let needed = needs_conflict(put, moment, stored, &standing);
+    let needed = depends_on_conflict(put, moment, stored, &standing);
     let meeting = conflict_if(alloc, needed, store, &terms.permitted, operator, put)?;
     Ok(decide_under(put, moment, stored, &standing, meeting))
 }
 
-// Whether a conflict may change the verdict on a request: no other rule refuses it, and the state table says
-// that it is checked for conflicts.
+// Whether the verdict on a request depends on a conflict: nothing else refuses it (it has no note), and the
+// state table has it checked for conflicts.
 #[tactic(auto, using(crate::proofs::OutcomeLemmas::settled))]
-fn needs_conflict(put: &PutCall, moment: i64, stored: Option<States>, standing: &Standing) -> bool
+fn depends_on_conflict(
+    put: &PutCall,
+    moment: i64,
+    stored: Option<States>,
+    standing: &Standing,
+) -> bool
     ensures settled { result ≡ false → (conflict : Option Spot) →
         outcome_under put.now moment stored standing.now conflict
         ≡ outcome_under put.now moment stored standing.now None }

@@ -1,11 +1,11 @@
 //! Plans as they are shown to their operator.
 
 ghost use Rattle.std.specs.Prelude.{◌≡◌, ◌≤◌, map, IfOk, IfErr};
-ghost use Rattle.desk_run.specs.CallFaults.{IsStoreCounted};
+ghost use Rattle.desk_run.specs.CallFaults.{IsStoreFaultCounted};
 ghost use Rattle.desk_store.specs.StoreFrames.{OnlyReads};
 ghost use Rattle.desk_store.specs.StoreFaults.{IsHonest, IsCounted};
 ghost use Rattle.desk_store.specs.World.{held, plans_of, stored_of};
-ghost use Rattle.desk_run.specs.Calls.{Readies};
+ghost use Rattle.desk_run.specs.Calls.{IsPreparedFor};
 ghost use Rattle.desk_run.specs.Verdicts.{conflict_shown_in, list_ruling, show_ruling, shown_in};
 
 use super::Pending;
@@ -30,11 +30,11 @@ pub fn prepare_list<S: PlanStore>(
     permitted: &Permitted,
     operator: &Operator,
 ) -> Result<Pending, DeskFault>
-    ensures value { IsHonest (S.doubt store.new) → Readies (S.content store.old) operator.now
+    ensures value { IsHonest (S.doubt store.new) → IsPreparedFor (S.content store.old) operator.now
         (list_ruling permitted.now (plans_of operator.now (S.content store.old))
         (held (S.content store.old) operator.now)) result }
     ensures reads { OnlyReads S.content S.doubt S.faults S.may_leave S.is_shielded store.old store.new }
-    ensures cause { IfErr result (IsStoreCounted S.faults store.old store.new) }
+    ensures cause { IfErr result (IsStoreFaultCounted S.faults store.old store.new) }
 {
     let plans = own_shown(alloc, store, permitted, operator)?;
     Ok(Pending {
@@ -84,12 +84,12 @@ pub fn prepare_show<S: PlanStore>(
     operator: &Operator,
     id: &PlanId,
 ) -> Result<Pending, DeskFault>
-    ensures value { IsHonest (S.doubt store.new) → Readies (S.content store.old) operator.now
+    ensures value { IsHonest (S.doubt store.new) → IsPreparedFor (S.content store.old) operator.now
         (show_ruling permitted.now (plans_of operator.now (S.content store.old))
         (held (S.content store.old) operator.now)
         (stored_of id.now (plans_of operator.now (S.content store.old)))) result }
     ensures reads { OnlyReads S.content S.doubt S.faults S.may_leave S.is_shielded store.old store.new }
-    ensures cause { IfErr result (IsStoreCounted S.faults store.old store.new) }
+    ensures cause { IfErr result (IsStoreFaultCounted S.faults store.old store.new) }
 {
     let Some(row) = store.plan(operator, id)? else {
         return Err(DeskFault::NoSuchPlan);

@@ -2,7 +2,7 @@
 
 ghost use Rattle.std.specs.Prelude.{◌≡◌, ◌≢◌, ◌↔◌, ◌<◌, ◌-◌, ◌^◌, [], ◌∷◌, IsTrue, MatchOption, map};
 ghost use Rattle.sqlite_value.specs.Keys.{plain};
-ghost use Rattle.desk_sql.specs.Schema.{column_of, first_index_of, schema_of};
+ghost use Rattle.desk_sql.specs.Schema.{column_of, leaf_index_of, schema_of};
 ghost use Rattle.desk_sql.specs.Objects.{no_stamps, without_extras, plain_table, key_index, column_from, name_from};
 ghost use Rattle.desk_sql.specs.Objects.{reference_from, table_from, tables_from, index_from, schema_from};
 
@@ -183,9 +183,10 @@ fn is_key_index(index: &Index, form: &TableForm, table: u32) -> bool
         && index.is_unique
 }
 
-/// Whether `index` is the index over the leaves of the spans in the b-tree `table`, itself in `tree`.
+/// Whether `index`, in the b-tree `tree`, is the leaf index called `name` of the span table in the b-tree
+/// `table`: over `first`, `last`, `lower`, `upper`, `start`, `stop`, `priority`, `operator` and `id`.
 fn is_leaf_index(index: &Index, name: &[u8], tree: u32, table: u32) -> bool
-    ensures { IsTrue result ↔ (index.now ≡ record (first_index_of name.now table) { tree = tree }) }
+    ensures { IsTrue result ↔ (index.now ≡ record (leaf_index_of name.now table) { tree = tree }) }
 {
     is_name(&index.name, name)
         && index.tree == tree

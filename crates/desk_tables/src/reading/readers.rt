@@ -6,7 +6,7 @@ ghost use Rattle.std.specs.Result.{IsErrAnd};
 ghost use Rattle.desk_rules.specs.declared.plan.PlanRow.{PlanRow as Plan};
 ghost use Rattle.desk_store.specs.World.{Filed, plans_of, stored_of};
 ghost use Rattle.row_codec.specs.Tables.{plan_rows, volume_rows};
-ghost use Rattle.desk_store.specs.Content.{IsBlock, IsContent, IsId, IsPlan};
+ghost use Rattle.desk_store.specs.Content.{IsValidVolume, IsContent, IsId, IsPlan};
 ghost use Rattle.row_codec.specs.RowsRead.{IsHead, IsVolumeAt, listing_rows};
 ghost use Rattle.row_codec.specs.Gathering.{HasCollected, HasNoArea};
 ghost use Rattle.desk_tables.specs.Lookups.{own_of};
@@ -135,10 +135,11 @@ impl<S: Alter> DeskTables<S> {
     }
 }
 
-// The plan whose row of `plan` is `head` and whose rows of `volume2` are `rows`.
+// The plan whose row of `plan` is `head` and whose rows of `volume2`, from the column `lower` on, are in `rows`.
+// `Store` if they are not those of a valid plan.
 fn plan_of_rows(alloc: Global, head: &Row, rows: &[Row]) -> Result<PlanRow, StoreFault>
     ensures value { IfOk result (λ plan. (p : Plan) → IsId p.id → IsHead head.now p
-        → AllByRecursion IsBlock p.area → AllZip (λ row v. IsVolumeAt row 3 v) rows.now p.area
+        → AllByRecursion IsValidVolume p.area → AllZip (λ row v. IsVolumeAt row 3 v) rows.now p.area
         → plan ≡ p) }
     ensures none { IfErr result (λ e. e ≡ StoreFault.Store → (p : Plan) → IsPlan p
         → p.priority < 2 ^ 32 → IsHead head.now p

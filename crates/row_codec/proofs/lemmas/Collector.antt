@@ -11,7 +11,7 @@ use Rattle.desk_store.specs.World.{Filed}
 use Rattle.desk_sql.specs.Rows.{joined}
 use Rattle.row_codec.specs.declared.values.PlanHead.{PlanHead}
 use Rattle.row_codec.specs.Tables.{area_rows, row_of_plan, row_of_volume, volume_rows_from}
-use Rattle.desk_store.specs.Content.{IsBlock}
+use Rattle.desk_store.specs.Content.{IsValidVolume}
 use Rattle.row_codec.specs.RowsRead.{IsVolumeAt, IsHead, joined_from, joined_rows, listing_rows}
 use Rattle.row_codec.specs.Gathering.{HasNoArea, IsNoHead, IsUngathered, IsPlanUnderWay, Leads}
 use Rattle.row_codec.proofs.lemmas.Order.{ArePlans}
@@ -51,12 +51,12 @@ whole_area plans head volumes left all way none off =
 
 -- the first row of some plans is a plan's and a volume's
 first_reads : (row : Row) (left : List Row) (ps : List Filed) → ArePlans ps → AreLow ps
-    → IsFirst row left ps → (¬ IsNoHead row) × ¬ ((v : Block) → IsBlock v → ¬ IsVolumeAt row 6 v)
+    → IsFirst row left ps → (¬ IsNoHead row) × ¬ ((v : Block) → IsValidVolume v → ¬ IsVolumeAt row 6 v)
 first_reads row left ps h low first =
     let are : ArePlans (first.plan ∷ first.more) = subst ArePlans first.are h in
     let lows : AreLow (first.plan ∷ first.more) = subst AreLow first.are low in
-    let blocks : AllByRecursion IsBlock (first.volume ∷ first.rest) =
-    subst (AllByRecursion IsBlock) (sym first.area) are.0.each in (
+    let blocks : AllByRecursion IsValidVolume (first.volume ∷ first.rest) =
+    subst (AllByRecursion IsValidVolume) (sym first.area) are.0.each in (
       λ none. none first.plan.row are.0.id lows.0 (subst (λ r. IsHead r first.plan.row) (sym first.row_is)
           (head_read first.plan 0 first.volume)),
       λ none. none first.volume blocks.0 (subst (λ r. IsVolumeAt r 6 first.volume) (sym first.row_is)
@@ -97,8 +97,8 @@ never_ungathered plans (Some head) volumes row left ps h low way why = by_rest w
       ∙ ap (λ us. joined_from way.plan n us ++ listing_rows way.more) (sym is) in
       let here : row ≡ joined (row_of_plan way.plan) (row_of_volume way.plan n v) = cc in
       let area : volumes ++ v ∷ vs ≡ way.plan.row.area = ap (λ us. volumes ++ us) is ∙ way.area in
-      let block : IsBlock v = each_at volumes v vs
-      (subst (AllByRecursion IsBlock) (sym area) way.each.0.each) in
+      let block : IsValidVolume v = each_at volumes v vs
+      (subst (AllByRecursion IsValidVolume) (sym area) way.each.0.each) in
       elim why [
         | inl (test, other) ↦ true≢false (sym (stays_later row way.plan n v way.begun here) ∙ test)
         | inr (inl (later, none)) ↦ (let no : Some head ≡ None = none in cc)

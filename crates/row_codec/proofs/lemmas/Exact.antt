@@ -10,7 +10,7 @@ use Rattle.desk_rules.specs.declared.words.Usage.TheVariants as usage
 use Rattle.volume4d.specs.Volume.{Block}
 use Rattle.desk_store.specs.World.{Filed}
 use Rattle.row_codec.specs.Tables.{id_text, row_of_plan, row_of_volume, volume_rows_from, area_rows, row_of_span}
-use Rattle.desk_store.specs.Content.{IsId, IsBlock}
+use Rattle.desk_store.specs.Content.{IsId, IsValidVolume}
 use Rattle.volume4d.specs.Volume.{is_area}
 use Rattle.row_codec.specs.RowsRead.{IsVolumeAt, IsHead}
 use Rattle.row_codec.specs.Records.{IsFiled, AreRowsOf, AreNumbersOf, IsKeyed, IsWindowAt, slab_row, row_fault_of}
@@ -188,7 +188,7 @@ area_stands p volumes e = subst (λ rs. AllZip (λ r v. IsVolumeAt r 3 v) rs p.r
     (rows_stand p 0 p.row.area)
 
 pub no_area : (head : Row) (volumes : List Row) → ((vs : List Block) → IsTrue (is_area vs)
-    → AllByRecursion IsBlock vs → AllZip (λ r v. IsVolumeAt r 3 v) volumes vs → ⊥)
+    → AllByRecursion IsValidVolume vs → AllZip (λ r v. IsVolumeAt r 3 v) volumes vs → ⊥)
     → (p : Filed) → IsFiled p → AreRowsOf p head volumes → ⊥
 no_area head volumes none p is rows = none p.row.area is.row.volumes is.row.each
     (area_stands p volumes rows.area)
@@ -202,7 +202,7 @@ one_text a b v h k = cc
 
 pub no_other : (head : Row) (volumes : List Row) (operator : List ℕ) (row : PlanRow) (area : List Block)
     → column head 0 ≡ Text operator
-    → ((vs : List Block) → AllByRecursion IsBlock vs → AllZip (λ r v. IsVolumeAt r 3 v) volumes vs
+    → ((vs : List Block) → AllByRecursion IsValidVolume vs → AllZip (λ r v. IsVolumeAt r 3 v) volumes vs
     → area
     ≡ vs)
     → ((q : PlanRow) → IsId q.id → IsHead head q → area ≡ q.area → row ≡ q)

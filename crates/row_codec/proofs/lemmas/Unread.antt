@@ -26,7 +26,7 @@ use Rattle.sqlite.specs.declared.error.ErrorCode.TheVariants as code
 use Rattle.desk_store.specs.declared.fault.StoreFault.{StoreFault}
 use Rattle.desk_store.specs.declared.fault.StoreFault.TheVariants as store
 use Rattle.row_codec.specs.Tables.{id_text}
-use Rattle.desk_store.specs.Content.{IsId, IsBlock}
+use Rattle.desk_store.specs.Content.{IsId, IsValidVolume}
 use Rattle.row_codec.specs.RowsRead.{IsVolumeAt}
 use Rattle.row_codec.proofs.ReadingLemmas.{window_is, one_int, one_blob, one_more}
 
@@ -93,11 +93,11 @@ no_window e fault h is = refused (within_altitudes e.lower e.upper) (within_time
 
 -- volumes
 module _ (row : Row) (at : ℕ) where
-  pub no_lower : ((n : ℤ) → SFits w32 n → column row at ≡ Int n → ⊥) → (v : Block) → IsBlock v
+  pub no_lower : ((n : ℤ) → SFits w32 n → column row at ≡ Int n → ⊥) → (v : Block) → IsValidVolume v
       → IsVolumeAt row at v → ⊥
   no_lower none v is h = none v.window.lower (window_fits v.window is.window).0 h.lower
 
-  pub no_upper : ((n : ℤ) → SFits w32 n → column row (at + 1) ≡ Int n → ⊥) → (v : Block) → IsBlock v
+  pub no_upper : ((n : ℤ) → SFits w32 n → column row (at + 1) ≡ Int n → ⊥) → (v : Block) → IsValidVolume v
       → IsVolumeAt row at v → ⊥
   no_upper none v is h = none v.window.upper (window_fits v.window is.window).1 h.upper
 
@@ -105,7 +105,7 @@ module _ (row : Row) (at : ℕ) where
       → column row (at + 1) ≡ Int e.upper → column row (at + 2) ≡ Int e.start → column row (at + 3)
       ≡ Int e.end
       → ◌≡◌ {A = Result WindowParts WindowFault} (Err fault) (window_or_fault e) → (v : Block)
-      → IsBlock v
+      → IsValidVolume v
       → IsVolumeAt row at v → ⊥
   no_volume_window e fault l u s n refused v is h =
       let same : v.window ≡ e = λ i. record {
@@ -121,7 +121,7 @@ module _ (row : Row) (at : ℕ) where
   counted (rectangle r) h = refl
 
   pub no_footprint : (asked : List ℕ) → column row (at + 4) ≡ Blob asked
-      → ((shape : Shape) → AreBytesOf asked shape → ⊥) → (v : Block) → IsBlock v → IsVolumeAt row at v
+      → ((shape : Shape) → AreBytesOf asked shape → ⊥) → (v : Block) → IsValidVolume v → IsVolumeAt row at v
       → ⊥
   no_footprint asked a none v is h =
       none v.footprint (record {
@@ -133,7 +133,7 @@ module _ (row : Row) (at : ℕ) where
   pub no_cover : (one_shape : (one other : Shape) → HasValidParts one → HasValidParts other
       → footprint_bytes one ≡ footprint_bytes other → one ≡ other)
       (asked : List ℕ) (shape : Shape) → column row (at + 4) ≡ Blob asked → AreBytesOf asked shape
-      → is_footprint shape ≡ false → (v : Block) → IsBlock v → IsVolumeAt row at v → ⊥
+      → is_footprint shape ≡ false → (v : Block) → IsValidVolume v → IsVolumeAt row at v → ⊥
   no_cover one_shape asked shape a bytes off v is h =
       let same = one_shape v.footprint shape is.valid bytes.valid
       (one_blob (footprint_bytes v.footprint) asked (column row (at + 4)) h.asked a ∙ sym bytes.written)
@@ -154,10 +154,10 @@ module _ (row : Row) (at : ℕ) where
       → ◌≡◌ {A = Result WindowParts WindowFault} (Ok window) (window_or_fault e)
       → AreBytesOf asked shape
       → is_footprint shape ≡ true → volume ≡ record { footprint = shape; window = window }
-      → IsBlock volume × IsVolumeAt row at volume
+      → IsValidVolume volume × IsVolumeAt row at volume
   volume_stands e window asked shape volume l u s n a taken bytes limits is =
       let same = window_is e window taken in
-      subst (λ v. IsBlock v × IsVolumeAt row at v)
+      subst (λ v. IsValidVolume v × IsVolumeAt row at v)
       (sym (is ∙ ap (λ w. record { footprint = shape; window = w }) same)) (
         record { limits = limits; valid = bytes.valid; window = window_taken e window taken },
         record { lower = l; upper = u; start = s; end = n; asked = a ∙ ap Blob (sym bytes.written) },
@@ -168,8 +168,8 @@ abbrev Stand : ℕ → List Row → List Block → Type 0
 Stand at rows vs = AllZip (λ r v. IsVolumeAt r at v) rows vs
 
 pub no_row : (at : ℕ) (rows : List Row) (i : ℕ) (row d : Row) → i < length rows → row ≡ get_or rows i d
-    → ((v : Block) → IsBlock v → IsVolumeAt row at v → ⊥)
-    → (vs : List Block) → AllByRecursion IsBlock vs → Stand at rows vs → ⊥
+    → ((v : Block) → IsValidVolume v → IsVolumeAt row at v → ⊥)
+    → (vs : List Block) → AllByRecursion IsValidVolume vs → Stand at rows vs → ⊥
 no_row at [] i row d w e none vs hv h = absurd (omega (arith, w))
 no_row at (r ∷ rs) i row d w e none [] hv h = absurd h
 no_row at (r ∷ rs) zero row d w e none (v ∷ vs) hv h =
@@ -192,9 +192,9 @@ placed_more at (r ∷ rs) (suc i) row d (v ∷ vs) volume w e is h =
           (placed_more at rs i row d vs volume (omega (arith, w)) e is h.1),
     )
 
-pub blocks_more : (volumes : List Block) (volume : Block) → AllByRecursion IsBlock volumes
-    → IsBlock volume
-    → AllByRecursion IsBlock (volumes ++ volume ∷ [])
+pub blocks_more : (volumes : List Block) (volume : Block) → AllByRecursion IsValidVolume volumes
+    → IsValidVolume volume
+    → AllByRecursion IsValidVolume (volumes ++ volume ∷ [])
 blocks_more [] volume h is = (is, tt)
 blocks_more (v ∷ vs) volume h is = (h.0, blocks_more vs volume h.1 is)
 
@@ -204,23 +204,23 @@ take_all (r ∷ rs) = ap (λ xs. r ∷ xs) (take_all rs)
 
 -- the volumes of the first rows, of which those read are the first of any that stand there
 pub record HaveRead (at : ℕ) (rows : List Row) (i : ℕ) (volumes : List Block) : Type 0 where
-  pub read : (vs : List Block) → AllByRecursion IsBlock vs
+  pub read : (vs : List Block) → AllByRecursion IsValidVolume vs
       → AllZip (λ row v. IsVolumeAt row at v) rows vs
       → volumes ≡ take i vs
-  pub are : AllByRecursion IsBlock volumes
+  pub are : AllByRecursion IsValidVolume volumes
   pub stand : AllZip (λ row v. IsVolumeAt row at v) (take i rows) volumes
 
 pub reads_more : (at : ℕ) (rows : List Row) (i : ℕ) (row : Row) (volumes now : List Block)
     (volume : Block)
     → i < length rows → row ≡ get_or rows i row
-    → ((v : Block) → IsBlock v → IsVolumeAt row at v → volume ≡ v) → IsBlock volume
+    → ((v : Block) → IsValidVolume v → IsVolumeAt row at v → volume ≡ v) → IsValidVolume volume
     × IsVolumeAt row at volume
     → now ≡ volumes ++ volume ∷ []
     → HaveRead at rows i volumes → HaveRead at rows (i + 1) now
 reads_more at rows i row volumes now volume within e value is pushed before = record {
   read = λ vs hv h. pushed ∙ one_more at rows i row volumes volume row within e value before.read vs hv
       h;
-  are = subst (λ vs. AllByRecursion IsBlock vs) (sym pushed)
+  are = subst (λ vs. AllByRecursion IsValidVolume vs) (sym pushed)
       (blocks_more volumes volume before.are is.0);
   stand = subst (λ vs. AllZip (λ r v. IsVolumeAt r at v) (take (i + 1) rows) vs) (sym pushed)
       (placed_more at rows i row row volumes volume within e is.1 before.stand);
@@ -228,9 +228,9 @@ reads_more at rows i row volumes now volume within e value is pushed before = re
 
 pub all_stand : (at : ℕ) (rows : List Row) (i : ℕ) (volumes area : List Block) → i ≡ length rows → area
     ≡ volumes → HaveRead at rows i volumes
-    → AllByRecursion IsBlock area × AllZip (λ r v. IsVolumeAt r at v) rows area
+    → AllByRecursion IsValidVolume area × AllZip (λ r v. IsVolumeAt r at v) rows area
 all_stand at rows i volumes area end is h =
-    subst (λ vs. AllByRecursion IsBlock vs × AllZip (λ r v. IsVolumeAt r at v) rows vs) (sym is) (
+    subst (λ vs. AllByRecursion IsValidVolume vs × AllZip (λ r v. IsVolumeAt r at v) rows vs) (sym is) (
       h.are,
       subst (λ rs. AllZip (λ r v. IsVolumeAt r at v) rs volumes)
           (ap (λ n. take n rows) end ∙ take_all rows) h.stand,

@@ -17,7 +17,7 @@ use Rattle.desk_rules.specs.declared.words.Aircraft.{Aircraft}
 use Rattle.desk_rules.specs.declared.words.Aircraft.TheVariants as aircraft
 use Rattle.desk_store.specs.World.{Filed, Listed, World, text_cmp}
 use Rattle.row_codec.specs.Tables.{id_text, usage_number, aircraft_number, row_of_operator, operator_rows, row_of_plan, plan_rows, row_of_volume, volume_rows_from, volume_rows, AreTables}
-use Rattle.desk_store.specs.Content.{IsId, IsBlock, IsPlan, IsContent}
+use Rattle.desk_store.specs.Content.{IsId, IsValidVolume, IsPlan, IsContent}
 use Rattle.row_codec.proofs.lemmas.Id.{text_order}
 use Rattle.table_load.proofs.RowLemmas.{operators_ascend, plans_ascend, volumes_ascend, one_order}
 
@@ -101,7 +101,7 @@ HaveRows operators plans volumes w = IsPermutation (operator_rows w) operators
 module _ (one_shape : (one other : Shape) → HasValidParts one → HasValidParts other
     → footprint_bytes one
     ≡ footprint_bytes other → one ≡ other) where
-  one_block : (p q : Filed) (n : ℕ) (v u : Block) → IsBlock v → IsBlock u → row_of_volume p n v
+  one_block : (p q : Filed) (n : ℕ) (v u : Block) → IsValidVolume v → IsValidVolume u → row_of_volume p n v
       ≡ row_of_volume q n u → v ≡ u
   one_block p q n v u hv hu e =
       let lower : v.window.lower ≡ u.window.lower = cc in
@@ -116,7 +116,7 @@ module _ (one_shape : (one other : Shape) → HasValidParts one → HasValidPart
 
   -- after the first place, the volumes of two plans end at the same place
   cut : (p q : Filed) (ps qs : List Filed) → ArePlans ps → ArePlans qs → (n : ℕ) (vs us : List Block)
-      → AllByRecursion IsBlock vs → AllByRecursion IsBlock us
+      → AllByRecursion IsValidVolume vs → AllByRecursion IsValidVolume us
       → volume_rows_from p (n + 1) vs ++ volume_rows ps ≡ volume_rows_from q (n + 1) us
       ++ volume_rows qs
       → (vs ≡ us) × (volume_rows ps ≡ volume_rows qs)
@@ -132,7 +132,7 @@ module _ (one_shape : (one other : Shape) → HasValidParts one → HasValidPart
 
   cut_first : (p q : Filed) (ps qs : List Filed) → ArePlans ps → ArePlans qs → (vs us : List Block)
       → (vs ≡ [] → ⊥) → (us ≡ [] → ⊥)
-      → AllByRecursion IsBlock vs → AllByRecursion IsBlock us
+      → AllByRecursion IsValidVolume vs → AllByRecursion IsValidVolume us
       → volume_rows_from p 0 vs ++ volume_rows ps ≡ volume_rows_from q 0 us ++ volume_rows qs
       → (vs ≡ us)
       × (volume_rows ps ≡ volume_rows qs)

@@ -25,7 +25,7 @@ use Rattle.desk_changes.specs.Putting.{AreShort, HaveOwnKeys}
 use Rattle.desk_store.specs.World.{Filed}
 use Rattle.desk_store.proofs.lemmas.Order.{all_append}
 use Rattle.row_codec.specs.Tables.{id_text, rows_from, volume_rows_from, row_of_cover, row_of_span, AreSpanRowsFrom, ArePlanSpanRows}
-use Rattle.desk_store.specs.Content.{IsBlock}
+use Rattle.desk_store.specs.Content.{IsValidVolume}
 
 -- a name is short
 pub name_short : (name : List ℕ) → IsTrue (is_operator_name name) → IsShort name
@@ -71,7 +71,7 @@ shape_short (cells ids) h =
 shape_short (rectangle r) h = omega arith
 
 module _ (p : Filed) (name : IsShort p.operator) (text : IsShort (id_text p.row.id)) where
-  pub volumes_short : (n : ℕ) (vs : List Block) → AllByRecursion IsBlock vs
+  pub volumes_short : (n : ℕ) (vs : List Block) → AllByRecursion IsValidVolume vs
       → AreShort (volume_rows_from p n vs)
   volumes_short n [] h = tt
   volumes_short n (v ∷ vs) h = (
@@ -100,7 +100,7 @@ module _ (p : Filed) (name : IsShort p.operator) (text : IsShort (id_text p.row.
   -- where a cover has at most so many cells
   pub covers_short : ((shape : Shape) → IsTrue (is_footprint shape) → HasValidParts shape
       → length (canonical_list (shape_positions shape)) ≤ max_cover)
-      → (n : ℕ) (vs : List Block) → AllByRecursion IsBlock vs → AreShort (rows_from row_of_cover p n vs)
+      → (n : ℕ) (vs : List Block) → AllByRecursion IsValidVolume vs → AreShort (rows_from row_of_cover p n vs)
   covers_short few n [] h = tt
   covers_short few n (v ∷ vs) h =
       let count = few v.footprint h.0.limits h.0.valid in

@@ -1,9 +1,9 @@
 use Rattle.std.proofs.Common.{subst}
 use Rattle.desk_cli.specs.Equal.{ArePermittedBy}
-use Rattle.desk_cli.specs.Grammar.{Lacks}
+use Rattle.desk_cli.specs.Grammar.{RefusesOnlyWithout}
 use Rattle.desk_cli.proofs.line.read_permitted.Goals as goal
 
 pub returns-clause-refused : goal.returns-clause-refused
 returns-clause-refused c =
-    subst (λ word. Lacks (ArePermittedBy word) c.parse_permitted_option.result) c.argument.ensures
+    subst (λ word. RefusesOnlyWithout (ArePermittedBy word) c.parse_permitted_option.result) c.argument.ensures
     c.parse_permitted_option.ensures.refused

@@ -1,10 +1,10 @@
 use Rattle.std.proofs.Common.{map, take}
 use Rattle.std.specs.List.{AllByRecursion}
 use Rattle.row_codec.specs.PlanRows.{AreAskedOf}
-use Rattle.desk_store.specs.Content.{IsBlock}
+use Rattle.desk_store.specs.Content.{IsValidVolume}
 use Rattle.row_codec.proofs.records.asked_of.Given as goal
 
 -- the bytes of the volumes so far
 abbrev pub invariant-loop-volume : goal.invariant-loop-volume
 invariant-loop-volume l = AreAskedOf (take l.volume-index l.volumes)
-    (map (λ bytes. bytes.items) l.asked.items) × AllByRecursion IsBlock (take l.volume-index l.volumes)
+    (map (λ bytes. bytes.items) l.asked.items) × AllByRecursion IsValidVolume (take l.volume-index l.volumes)

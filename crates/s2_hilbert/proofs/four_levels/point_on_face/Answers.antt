@@ -49,7 +49,7 @@ overflow_add-j-in-loop-step c =
 pub loop-step-preserved : goal.loop-step-preserved
 loop-step-preserved c =
     let low = 7 - 1 - c.loop-step.step in
-    let four = c.point_of_four-four in
+    let four = c.point_four_levels_down-four in
     let pair = bit_and (c.args.along / 2 ^ (8 * low)) 255 in
     rw (c.from-in-loop-step.ensures, c.from-in-loop-step-2.ensures, c.from-row-in-loop-step.ensures)
     (found_go_on c.args.turn c.args.along c.loop-step.step c.loop-step.row c.loop-step.i c.loop-step.j low

@@ -1,7 +1,7 @@
 use Rattle.std.proofs.Common.{refl, sym, ◌∙◌, subst, arith}
 use Rattle.std.proofs.lemmas.Result.{IfOk-weaker}
 use Rattle.desk_store.specs.World.{plans_of, held, held_at}
-use Rattle.desk_run.specs.Pieces.{IsFirstAt}
+use Rattle.desk_run.specs.Pieces.{IsFirstBlockedAt}
 use Rattle.desk_run.specs.ConflictParts.{IsFirstAmong}
 use Rattle.desk_run.proofs.PieceLemmas.{NoneBlockedBefore, begins, met, passed, ended}
 use Rattle.desk_run.proofs.pending.pieces.first_among.Goals as goal
@@ -39,7 +39,7 @@ returns-then-is_some-clause-value g c = λ honest.
     met permitted levels priority slabs c.bounds_of-whole.result piece c.bounds_of-whole.ensures.has
     (so_far.before (omega (arith, honest, c.in_ok-meeting.ensures.reads.doubt))) meeting
     (sym c.if-is_some.ensures)
-    (subst (λ v. IsFirstAt permitted v operator id slabs piece priority meeting) so_far.same
+    (subst (λ v. IsFirstBlockedAt permitted v operator id slabs piece priority meeting) so_far.same
     (c.in_ok-meeting.ensures.value honest))
 
 pub loop-piece-preserved : goal.loop-piece-preserved
@@ -61,7 +61,7 @@ loop-piece-preserved g c =
           c.bounds_of-whole.ensures.has
           (so_far.before (omega (arith, honest, c.in_ok-meeting.ensures.reads.doubt))) meeting
           (sym c.if-is_some.ensures)
-          (subst (λ v. IsFirstAt permitted v operator id slabs piece priority meeting) so_far.same
+          (subst (λ v. IsFirstBlockedAt permitted v operator id slabs piece priority meeting) so_far.same
           (c.in_ok-meeting.ensures.value honest)));
       same = c.in_ok-meeting.ensures.reads.same ∙ so_far.same;
       crash = λ honest found may.
@@ -84,10 +84,10 @@ returns-clause-value g c = λ honest.
     let so_far = c.loop-piece.invariant in
     let piece = c.loop-piece.piece in
     IfOk-weaker c.first_at-2.result
-    (IsFirstAt permitted (g.S.PlanStore.content c.loop-piece.store) operator id slabs piece priority)
+    (IsFirstBlockedAt permitted (g.S.PlanStore.content c.loop-piece.store) operator id slabs piece priority)
     (IsFirstAmong permitted w operator id slabs priority)
     (λ meeting first. ended permitted levels priority slabs c.bounds_of-whole.result piece
     c.bounds_of-whole.ensures.has
     (so_far.before (omega (arith, honest, c.first_at-2.ensures.reads.doubt))) c.loop-piece-test.false meeting
-    (subst (λ v. IsFirstAt permitted v operator id slabs piece priority meeting) so_far.same first))
+    (subst (λ v. IsFirstBlockedAt permitted v operator id slabs piece priority meeting) so_far.same first))
     (c.first_at-2.ensures.value honest)

@@ -15,7 +15,7 @@ returns-clause-verdict g c = λ honest.
     let before = g.S.PlanStore.content c.args.store.now in
     let own = c.in_ok-stored in
     let second = to_z w64 (of_z w64 c.args.moment) in
-    let needed = c.needs_conflict-needed.result in
+    let needed = c.depends_on_conflict-needed.result in
     let terms = c.args.terms.now in
     let conflict = conflict_in terms.permitted before o put.id put.area put.priority in
     let summing = was_honest c.conflict_if.ensures.reads.doubt honest in
@@ -25,7 +25,7 @@ returns-clause-verdict g c = λ honest.
     verdict_is terms before o put second c.args.moment own.stored standing conflict c.decide_under.result
     (c.decide_under.ensures
     ∙ outcome_if_needed put second own.stored standing needed conflict
-    c.in_ok-meeting.meeting c.needs_conflict-needed.ensures.settled
+    c.in_ok-meeting.meeting c.depends_on_conflict-needed.ensures.settled
     (c.in_ok-meeting.ensures.value honest
     ∙ ap (λ w. cond needed (conflict_in terms.permitted w o put.id put.area put.priority) None)
     (c.excess_with.ensures.reads.same ∙ c.states_and_count.ensures.reads.same)))

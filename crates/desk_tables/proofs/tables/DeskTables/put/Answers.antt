@@ -8,7 +8,7 @@ use Rattle.desk_store.specs.Changes.{filed_by}
 use Rattle.desk_store.specs.declared.change.Change.TheVariants.{Put}
 use Rattle.desk_tables.specs.ChangesMade.{IsNext}
 use Rattle.row_codec.specs.Tables.{usage_number, aircraft_number, area_rows, area_covers, ArePlanSpanRows}
-use Rattle.desk_store.specs.Content.{IsBlock}
+use Rattle.desk_store.specs.Content.{IsValidVolume}
 use Rattle.row_codec.specs.SpanBounds.{IsKnownRow}
 use Rattle.desk_store.proofs.lemmas.Parse.{parsed_id}
 use Rattle.desk_tables.proofs.ParseLemmas.{parsed_short}
@@ -46,7 +46,7 @@ invariant_of-self g c =
     (record {
       id = parsed_id text row.id c.encode-id.ensures.parsed;
       volumes = c.volumes.ensures.limits;
-      each = subst (AllByRecursion IsBlock) c.volumes.ensures.value c.in_ok-asked.ensures.valid;
+      each = subst (AllByRecursion IsValidVolume) c.volumes.ensures.value c.in_ok-asked.ensures.valid;
     })
     (committed_as (λ name. PutsPlan (put_as name text row.priority (usage_number row.usage)
     (aircraft_number row.aircraft) volumes covers spans)) c.as_str-3.ensures.value
@@ -84,7 +84,7 @@ returns-clause-made g c =
     (record {
       id = parsed_id text row.id c.encode-id.ensures.parsed;
       volumes = c.volumes.ensures.limits;
-      each = subst (AllByRecursion IsBlock) c.volumes.ensures.value c.in_ok-asked.ensures.valid;
+      each = subst (AllByRecursion IsValidVolume) c.volumes.ensures.value c.in_ok-asked.ensures.valid;
     })
     (committed_as (λ name. PutsPlan (put_as name text row.priority (usage_number row.usage)
     (aircraft_number row.aircraft) volumes covers spans)) c.as_str-3.ensures.value
@@ -144,7 +144,7 @@ returns-clause-cause g c =
     (record {
       id = parsed_id text row.id c.encode-id.ensures.parsed;
       volumes = c.volumes.ensures.limits;
-      each = subst (AllByRecursion IsBlock) c.volumes.ensures.value c.in_ok-asked.ensures.valid;
+      each = subst (AllByRecursion IsValidVolume) c.volumes.ensures.value c.in_ok-asked.ensures.valid;
     })
     c.as_str.ensures.valid
     (let short = parsed_short text row.id c.encode-id.ensures.parsed in omega (arith, short))

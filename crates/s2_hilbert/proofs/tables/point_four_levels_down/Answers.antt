@@ -1,5 +1,5 @@
 use Rattle.s2_hilbert.proofs.FourTables.{point_entry}
-use Rattle.s2_hilbert.proofs.tables.point_of_four.Goals as goal
+use Rattle.s2_hilbert.proofs.tables.point_four_levels_down.Goals as goal
 
 pub returns-clause-place : goal.returns-clause-place
 returns-clause-place c = (point_entry c.args.key _ c.requires).place_is

@@ -1,5 +1,5 @@
 use Rattle.live_index.proofs.HedgeLemmas.{round_begins, round_more}
-use Rattle.live_index.proofs.group.around_from.Goals as goal
+use Rattle.live_index.proofs.group.join_of_boxes.Goals as goal
 
 pub loop-chunk-init : goal.loop-chunk-init
 loop-chunk-init c = round_begins c.args.first.now c.args.others.now
