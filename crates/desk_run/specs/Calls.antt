@@ -76,7 +76,6 @@ pub record IsPendingAs (w : World) (operator : List ℕ) (a : Ruling) (p : Pendi
   pub left : world_with w p.change ≡ world_with_plans w operator a.plans
   pub fits : IsFittingIf w p.change
 
--- where there is one; that there is no such plan, where the answer says so
 -- a call is prepared as a ruling says: what is pending says it, `NoSuchPlan` comes if the ruling says so, no
 -- other fault comes but out of memory and a failed store
 abbrev pub IsPreparedFor : World → List ℕ → Ruling → Result Pending DeskFault → Type 0
