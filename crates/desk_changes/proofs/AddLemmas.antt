@@ -154,7 +154,7 @@ module _ (table : Table) (listed : Has desk_schema.tables table) (db : Trees) (c
 
     pub passes_added : IsGood table db cells → IsLone → Keeps Unique desk_schema db
         → list_all (is_key_of desk_schema) table.references ≡ true
-        → Passes db (record { table = table; gone = []; newly_enrolled = added ∷ [] })
+        → Passes db (record { table = table; gone = []; news = added ∷ [] })
     passes_added good lone keeps refers = record {
       typed = and_from _ _ (good.typed (next_rowid rows)) refl;
       present = and_from _ _ (good.present (next_rowid rows)) refl;

@@ -89,32 +89,32 @@ module _ (limit : Option ℕ) (params : Row) (name : List ℕ) (cols : List Colu
     pub low : AreLow (db tree)
     pub obeys : Obeys desk_schema db
     pub quiet : (found : List Row)
-        → works desk_schema Enforced 0 tree (taken_by db (edit found)) (edit found).newly_enrolled ≡ []
+        → works desk_schema Enforced 0 tree (taken_by db (edit found)) (edit found).news ≡ []
     pub sure : (e : Error) → RefusesQuery limit (record { schema = desk_schema; trees = db }) program params e
         → (e ≡ SqliteFailure code.OperationInterrupted) × IsSome limit
 
   module _ (it : IsInPlace) where
-    abbrev newly_enrolled : List Row → List Row
-    newly_enrolled found = news_of limit params name cols key refs tree db found
+    abbrev news : List Row → List Row
+    news found = news_of limit params name cols key refs tree db found
 
-    news_are : (found : List Row) → (edit found).newly_enrolled ≡ newly_enrolled found
-    news_are found = given_stay (without_all (db tree) (ids_of found)) (newly_enrolled found)
+    news_are : (found : List Row) → (edit found).news ≡ news found
+    news_are found = given_stay (without_all (db tree) (ids_of found)) (news found)
 
     module _ (found : List Row) (are : IsPermutation (map source (filter wanted (db tree))) found) where
       leaves : without_all (db tree) (ids_of found) ≡ filter (λ r. not (wanted r)) (db tree)
       leaves = left_is limit params name cols key refs tree db wanted source found are it.num it.keeps
 
-      makes : IsPermutation (map made (filter wanted (db tree))) (newly_enrolled found)
+      makes : IsPermutation (map made (filter wanted (db tree))) (news found)
       makes = made_is limit params name cols key refs tree db wanted source found are
 
       pass : Passes db (edit found)
-      pass = subst (λ ns. Passes db (record { table = table; gone = ids_of found; newly_enrolled = ns }))
+      pass = subst (λ ns. Passes db (record { table = table; gone = ids_of found; news = ns }))
           (sym (news_are found))
-          (passes_all table it.listed it.referred db (newly_enrolled found) wanted made cells it.num it.sets makes
+          (passes_all table it.listed it.referred db (news found) wanted made cells it.num it.sets makes
           (ids_of found) leaves it.low it.good it.refers (it.obeys.rules Unique))
 
       twins : (next : Trees) → next tree ≡ edited db (edit found) → AreTwins desk_schema table db next
-      twins next is = twins_of table it.listed it.referred db (newly_enrolled found) wanted made cells it.num it.sets
+      twins next is = twins_of table it.listed it.referred db (news found) wanted made cells it.num it.sets
           makes next (is ∙ ap₂ put_all leaves (news_are found))
 
     pub never_stops : (at : ℕ) (stop : Option Error)

@@ -73,19 +73,19 @@ module _ (limit : Option ℕ) (params : Row) (name : List ℕ) (cols : List Colu
     pub obeys : Obeys desk_schema db
 
   module _ (it : IsAdded) where
-    news_are : (edit (source ∷ [])).newly_enrolled ≡ added table it.listed db cells ∷ []
+    news_are : (edit (source ∷ [])).news ≡ added table it.listed db cells ∷ []
     news_are = ap (λ v. cond (is_null v) (Int (next_rowid (db tree)) ∷ cast_all cols params)
         (v ∷ cast_all cols params) ∷ []) cast_null
         ∙ ap (λ cs. (Int (next_rowid (db tree)) ∷ cs) ∷ []) it.casts
 
     pass : Passes db (edit (source ∷ []))
-    pass = subst (λ ns. Passes db (record { table = table; gone = []; newly_enrolled = ns })) (sym news_are)
+    pass = subst (λ ns. Passes db (record { table = table; gone = []; news = ns })) (sym news_are)
         (passes_added table it.listed db cells it.room it.whole it.good it.lone (it.obeys.rules Unique)
         it.refers)
 
     never_made : (why : Option Refusal) → ¬ Writes desk_schema Enforced db (edit (source ∷ [])) (Err why)
     never_made = passed db (edit (source ∷ [])) pass
-        (no_works desk_schema Enforced 0 tree (edit (source ∷ [])).newly_enrolled)
+        (no_works desk_schema Enforced 0 tree (edit (source ∷ [])).news)
 
     sourced : (stop : Option Error) → Sourced limit (record { schema = desk_schema; trees = db })
         (params ++ []) (Values terms width) (Err stop) → IsAtLimit limit stop

@@ -25,15 +25,15 @@ use Rattle.desk_changes.proofs.DeleteStops.{never_ends}
 
 -- the rows that an edit puts in pass each test of a desk's schema but the foreign keys, and can be stored
 pub record Passes (db : Trees) (edit : Edit) : Type 0 where
-  pub typed : list_all (passes Datatype desk_schema db edit.table) edit.newly_enrolled ≡ true
-  pub present : list_all (passes NotNull desk_schema db edit.table) edit.newly_enrolled ≡ true
-  pub checked : list_all (passes Check desk_schema db edit.table) edit.newly_enrolled ≡ true
-  pub fresh : are_fresh (left_by db edit) edit.newly_enrolled ≡ true
+  pub typed : list_all (passes Datatype desk_schema db edit.table) edit.news ≡ true
+  pub present : list_all (passes NotNull desk_schema db edit.table) edit.news ≡ true
+  pub checked : list_all (passes Check desk_schema db edit.table) edit.news ≡ true
+  pub fresh : are_fresh (left_by db edit) edit.news ≡ true
   pub unique : Keeps Unique desk_schema (with_tree db edit.table.tree (edited db edit))
-  pub keyed : have_rowids edit.newly_enrolled ≡ true
-  pub low : list_all (λ r. fits_i64 (id_in (rowid r))) edit.newly_enrolled ≡ true
+  pub keyed : have_rowids edit.news ≡ true
+  pub low : list_all (λ r. fits_i64 (id_in (rowid r))) edit.news ≡ true
   pub referred : is_referred desk_schema Enforced edit ≡ true
-  pub stored : (row : Row) → Has edit.newly_enrolled row → ¬ IsOversized desk_schema edit.table row
+  pub stored : (row : Row) → Has edit.news row → ¬ IsOversized desk_schema edit.table row
 
 module _ (db : Trees) (edit : Edit) (pass : Passes db edit) where
   not_refused : (why : Refusal) → ¬ IsRefused desk_schema Enforced db edit why
@@ -49,7 +49,7 @@ module _ (db : Trees) (edit : Edit) (pass : Passes db edit) where
   not_refused TooDeep h = h
 
   -- where no action follows
-  pub passed : works desk_schema Enforced 0 edit.table.tree (taken_by db edit) edit.newly_enrolled ≡ []
+  pub passed : works desk_schema Enforced 0 edit.table.tree (taken_by db edit) edit.news ≡ []
       → (why : Option Refusal) → ¬ Writes desk_schema Enforced db edit (Err why)
   passed quiet why (inl (reason, refused, is)) = absurd (not_refused reason refused)
   passed quiet why (inr (inl (row, there, big, is))) = absurd (pass.stored row there big)

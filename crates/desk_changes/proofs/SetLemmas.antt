@@ -75,7 +75,7 @@ module _ (name : List ℕ) (ceiling : ℕ) (limit : Option ℕ) (old new : Datab
       (then (cast_int (pos ceiling)) refl)) (λ found.
       let edit = update_edit limit ceiling_params operator_table.name operator_table.columns
       operator_table.primary operator_table.references 0 db found in
-      operator_quiet (taken_by db edit) edit.newly_enrolled) s in
+      operator_quiet (taken_by db edit) edit.news) s in
       let now : new.trees ≡ it.0.trees = ap (λ (d : Database). d.trees) it.2 in
       let e2 : new.trees 2 ≡ db 2 = ap (λ (t : Trees). t 2) now ∙ c.others.1.0 (unequal _ _ refl) in
       let e4 : new.trees 4 ≡ db 4 = ap (λ (t : Trees). t 4) now ∙ c.others.1.1.0 (unequal _ _ refl) in
@@ -209,7 +209,7 @@ set_ceiling_room name ceiling = record {
       (λ found.
       let edit = update_edit limit params operator_table.name operator_table.columns
       operator_table.primary operator_table.references 0 db found in
-      operator_quiet (taken_by db edit) edit.newly_enrolled) s;
+      operator_quiet (taken_by db edit) edit.news) s;
 }
 
 pub set_closed_changes : (operator id : List ℕ) (priority aircraft : ℕ)

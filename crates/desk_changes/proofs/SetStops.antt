@@ -132,7 +132,7 @@ module _ (name : List ℕ) (ceiling : ℕ) (limit : Option ℕ) (old : Database)
             let edit = update_edit limit (operator_row name ceiling) operator_table.name
             operator_table.columns
             operator_table.primary operator_table.references 0 old.trees found in
-            operator_quiet (taken_by old.trees edit) edit.newly_enrolled;
+            operator_quiet (taken_by old.trees edit) edit.news;
         sure = λ e. never set_ceiling_query [] (operator_row name ceiling) (ceiling_fits name ceiling)
             (λ trees h. elim h [ inl none ↦ absurd none | inr fold ↦ absurd fold.4 ]) limit
             (record { schema = desk_schema; trees = old.trees }) e refl;

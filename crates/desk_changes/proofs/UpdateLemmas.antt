@@ -39,25 +39,25 @@ not_true : (a : Bool) → not a ≡ true → a ≡ false
 not_true true h = cc
 not_true false h = refl
 
-pub all_put : (newly_enrolled rows : List Row) → have_rowids newly_enrolled ≡ true → are_fresh rows newly_enrolled ≡ true
+pub all_put : (news rows : List Row) → have_rowids news ≡ true → are_fresh rows news ≡ true
     → AreNumbered rows
-    → AreNumbered (put_all rows newly_enrolled) × IsPermutation (newly_enrolled ++ rows) (put_all rows newly_enrolled)
+    → AreNumbered (put_all rows news) × IsPermutation (news ++ rows) (put_all rows news)
 all_put [] rows whole fresh num = (num, IsPermutation-refl rows)
-all_put (r ∷ newly_enrolled) rows whole fresh num =
+all_put (r ∷ news) rows whole fresh num =
     let ints = and_parts _ _ whole in
     let frees = and_parts _ _ fresh in
     let free = not_true _ frees.0 in
-    let more = all_put newly_enrolled (put_row r rows) ints.1 frees.1 (numbered_put r rows ints.0 free num) in (
+    let more = all_put news (put_row r rows) ints.1 frees.1 (numbered_put r rows ints.0 free num) in (
       more.0,
-      IsPermutation-trans _ _ _ (IsPermutation-sym _ _ (IsPermutation-middle newly_enrolled r rows))
-          (IsPermutation-trans _ _ _ (IsPermutation-append_right newly_enrolled _ _ (put_adds r rows free))
+      IsPermutation-trans _ _ _ (IsPermutation-sym _ _ (IsPermutation-middle news r rows))
+          (IsPermutation-trans _ _ _ (IsPermutation-append_right news _ _ (put_adds r rows free))
           more.1),
     )
 
 -- given rowids stay
-pub given_stay : (rows newly_enrolled : List Row) → numbered Given rows newly_enrolled ≡ newly_enrolled
+pub given_stay : (rows news : List Row) → numbered Given rows news ≡ news
 given_stay rows [] = refl
-given_stay rows (r ∷ newly_enrolled) = ap (λ rs. r ∷ rs) (given_stay (put_row r rows) newly_enrolled)
+given_stay rows (r ∷ news) = ap (λ rs. r ∷ rs) (given_stay (put_row r rows) news)
 
 -- ---- rows that change in their places
 
@@ -188,13 +188,13 @@ module _ (limit : Option ℕ) (params : Row) (name : List ℕ) (cols : List Colu
   -- where none is wanted, the tree stays
   pub update_stays : (wanted : Row → Bool) (source : Row → Row) (next : Trees) → filter wanted (db tree) ≡ []
       → ((found : List Row) → works desk_schema Enforced 0 tree (taken_by db (update_edit found))
-      (update_edit found).newly_enrolled ≡ []) → Sets wanted source next → next tree ≡ db tree
+      (update_edit found).news ≡ []) → Sets wanted source next → next tree ≡ db tree
   update_stays wanted source next none quiet s =
       let empty : s.found ≡ [] = no_rows s.found
       (subst (λ rows. IsPermutation (map source rows) s.found) none s.are) in
       let step = one_step desk_schema Enforced db next (update_edit s.found) (quiet s.found) s.writes in
       step.rows
-      ∙ ap (λ found. put_all (without_all (db tree) (ids_of found)) (update_edit found).newly_enrolled) empty
+      ∙ ap (λ found. put_all (without_all (db tree) (ids_of found)) (update_edit found).news) empty
 
   -- what they leave, and what is made of them
   module _ (wanted : Row → Bool) (source : Row → Row) (found : List Row)
@@ -244,23 +244,23 @@ module _ (limit : Option ℕ) (params : Row) (name : List ℕ) (cols : List Colu
       → ((r : Row) → wanted r ≡ true
       → show (cast_row (table_at limit params name cols key refs tree) (drop 1 (source r))) ≡ cells)
       → ((found : List Row) → works desk_schema Enforced 0 tree (taken_by db (update_edit found))
-      (update_edit found).newly_enrolled ≡ []) → Sets wanted source next → Changed wanted passes show cells next
+      (update_edit found).news ≡ []) → Sets wanted source next → Changed wanted passes show cells next
   changes wanted passes show source cells next num same keeps fixed quiet s =
       let edit = update_edit s.found in
       let g = λ (r : Row). cast_row (table_at limit params name cols key refs tree) (drop 1 (source r))
       in
       let step = one_step desk_schema Enforced db next edit (quiet s.found) s.writes in
-      let newly_enrolled : edit.newly_enrolled ≡ news_of s.found = given_stay (without_all (db tree) (ids_of s.found))
+      let news : edit.news ≡ news_of s.found = given_stay (without_all (db tree) (ids_of s.found))
       (news_of s.found) in
       let left = left_is wanted source s.found s.are num keeps in
       let put = all_put (news_of s.found) (filter (λ r. not (wanted r)) (db tree))
-      (subst (λ rs. have_rowids rs ≡ true) newly_enrolled step.keyed)
+      (subst (λ rs. have_rowids rs ≡ true) news step.keyed)
       (subst (λ rs. are_fresh rs (news_of s.found) ≡ true) left
-      (subst (λ rs. are_fresh (without_all (db tree) (ids_of s.found)) rs ≡ true) newly_enrolled step.fresh))
+      (subst (λ rs. are_fresh (without_all (db tree) (ids_of s.found)) rs ≡ true) news step.fresh))
       (numbered_kept (λ r. not (wanted r)) (db tree) num) in
       let is : next tree ≡ put_all (filter (λ r. not (wanted r)) (db tree)) (news_of s.found) =
       step.rows
-      ∙ ap₂ put_all left newly_enrolled in
+      ∙ ap₂ put_all left news in
       let made : IsPermutation (map g (filter wanted (db tree))) (news_of s.found) =
       made_is wanted source s.found s.are in
       record {
@@ -279,32 +279,32 @@ module _ (limit : Option ℕ) (params : Row) (name : List ℕ) (cols : List Colu
 
 -- ---- no action follows
 
-operator_works : (olds newly_enrolled : List Row) (b : Bool) → (length newly_enrolled == 0) ≡ b
-    → works desk_schema Enforced 0 0 olds newly_enrolled ≡ []
+operator_works : (olds news : List Row) (b : Bool) → (length news == 0) ≡ b
+    → works desk_schema Enforced 0 0 olds news ≡ []
 unfolding everything
-operator_works olds newly_enrolled true is = rw is
-operator_works olds newly_enrolled false is = rw is
+operator_works olds news true is = rw is
+operator_works olds news false is = rw is
 
-pub operator_quiet : (olds newly_enrolled : List Row) → works desk_schema Enforced 0 0 olds newly_enrolled ≡ []
-operator_quiet olds newly_enrolled = operator_works olds newly_enrolled (length newly_enrolled == 0) refl
+pub operator_quiet : (olds news : List Row) → works desk_schema Enforced 0 0 olds news ≡ []
+operator_quiet olds news = operator_works olds news (length news == 0) refl
 
 nonempty : (x : Row) (xs : List Row) → (length (x ∷ xs) == 0) ≡ false
 nonempty x xs = grind (arith, nat_tests)
 
-plan_works : (olds newly_enrolled : List Row) → (length newly_enrolled == 0) ≡ false
-    → works desk_schema Enforced 0 2 olds newly_enrolled
+plan_works : (olds news : List Row) → (length news == 0) ≡ false
+    → works desk_schema Enforced 0 2 olds news
     ≡ []
 unfolding everything
-plan_works olds newly_enrolled is = rw is
+plan_works olds news is = rw is
 
 pub plan_quiet : (limit : Option ℕ) (params : Row) (name : List ℕ) (cols : List Column) (key : List ℕ)
     (refs : List Reference) (db : Trees) (found : List Row)
     → works desk_schema Enforced 0 2 (taken_by db
     (update_edit limit params name cols key refs 2 db found))
-    (update_edit limit params name cols key refs 2 db found).newly_enrolled ≡ []
+    (update_edit limit params name cols key refs 2 db found).news ≡ []
 plan_quiet limit params name cols key refs db [] = no_works desk_schema Enforced 0 2 []
 plan_quiet limit params name cols key refs db (x ∷ found) =
     plan_works (taken_by db (update_edit limit params name cols key refs 2 db (x ∷ found)))
-    (update_edit limit params name cols key refs 2 db (x ∷ found)).newly_enrolled
+    (update_edit limit params name cols key refs 2 db (x ∷ found)).news
     (nonempty (with_rowid Given (without_all (db 2) (ids_of (x ∷ found)))
     (cast_row (table_at limit params name cols key refs 2) (drop 1 x))) _)

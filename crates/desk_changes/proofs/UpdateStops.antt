@@ -60,13 +60,13 @@ taken_put n x rows far free = false_from_ne_true _ (λ taken.
           both_ways _ free (some_from (λ r. is_eq (value_cmp (rowid r) (rowid x))) rows r.0 was r.2)
     ])
 
-pub fresh_news : (newly_enrolled rows : List Row) → IsAscending IsApart newly_enrolled
-    → AllByRecursion (λ n. is_taken rows n ≡ false) newly_enrolled → are_fresh rows newly_enrolled ≡ true
+pub fresh_news : (news rows : List Row) → IsAscending IsApart news
+    → AllByRecursion (λ n. is_taken rows n ≡ false) news → are_fresh rows news ≡ true
 fresh_news [] rows far free = refl
-fresh_news (n ∷ newly_enrolled) rows far free = and_from _ _ (not_from_false _ free.0)
-    (fresh_news newly_enrolled (put_row n rows) far.1
+fresh_news (n ∷ news) rows far free = and_from _ _ (not_from_false _ free.0)
+    (fresh_news news (put_row n rows) far.1
     (all_both (IsApart n) (λ x. is_taken rows x ≡ false) (λ x. is_taken (put_row n rows) x ≡ false)
-    (λ x a f. taken_put n x rows a f) newly_enrolled far.0 free.1))
+    (λ x a f. taken_put n x rows a f) news far.0 free.1))
 
 -- ---- an edit of rows in their places
 
@@ -95,9 +95,9 @@ pub record IsGood (table : Table) (db : Trees) (cells : Row) : Type 0 where
   pub stored : (n : ℤ) → ¬ IsOversized desk_schema table (Int n ∷ cells)
 
 module _ (table : Table) (listed : Has desk_schema.tables table) (fit : IsReferredTo table)
-    (db : Trees) (newly_enrolled : List Row) (wanted : Row → Bool) (g : Row → Row) (cells : Row)
+    (db : Trees) (news : List Row) (wanted : Row → Bool) (g : Row → Row) (cells : Row)
     (num : AreNumbered (db table.tree)) (sets : Sets table wanted g cells)
-    (made : IsPermutation (map g (filter wanted (db table.tree))) newly_enrolled) where
+    (made : IsPermutation (map g (filter wanted (db table.tree))) news) where
   abbrev rows : List Row
   rows = db table.tree
 
@@ -108,32 +108,32 @@ module _ (table : Table) (listed : Has desk_schema.tables table) (fit : IsReferr
   abbrev Comes : Row → Type 0
   Comes n = (r : Row) × Has rows r × (wanted r ≡ true) × (is_int (rowid r) ≡ true) × (n ≡ g r)
 
-  come : AllByRecursion Comes newly_enrolled
-  come = all-permutation Comes _ newly_enrolled made (all_map Comes g (filter wanted rows)
+  come : AllByRecursion Comes news
+  come = all-permutation Comes _ news made (all_map Comes g (filter wanted rows)
       (all_from (λ r. Comes (g r)) (filter wanted rows) (λ r there.
       let it = has_filtered wanted rows r there in
       (r, it.0, it.1, all_has (λ r. is_int (rowid r) ≡ true) rows r num.whole it.0, refl))))
 
-  went_in : (r : Row) → Has rows r → wanted r ≡ true → Has newly_enrolled (g r)
+  went_in : (r : Row) → Has rows r → wanted r ≡ true → Has news (g r)
   went_in r there is =
-      all_has (λ r. Has newly_enrolled (g r)) (filter wanted rows) r (all_unmap (Has newly_enrolled) g (filter wanted rows)
-      (all-permutation (Has newly_enrolled) newly_enrolled (map g (filter wanted rows)) (IsPermutation-sym _ newly_enrolled made)
-      (all_from (Has newly_enrolled) newly_enrolled (λ n h. h)))) (has_kept wanted rows r there is)
+      all_has (λ r. Has news (g r)) (filter wanted rows) r (all_unmap (Has news) g (filter wanted rows)
+      (all-permutation (Has news) news (map g (filter wanted rows)) (IsPermutation-sym _ news made)
+      (all_from (Has news) news (λ n h. h)))) (has_kept wanted rows r there is)
 
   same_id : (r : Row) → is_int (rowid r) ≡ true → wanted r ≡ true → rowid (g r) ≡ rowid r
   same_id r whole is = ap rowid (sets.row r whole is)
 
-  pub apart_news : IsAscending IsApart newly_enrolled
+  pub apart_news : IsAscending IsApart news
   apart_news =
       let kept = numbered_kept wanted rows num in
-      permuted_apart (map g (filter wanted rows)) newly_enrolled made (ascend_as g (filter wanted rows)
+      permuted_apart (map g (filter wanted rows)) news made (ascend_as g (filter wanted rows)
       (all_from (λ r. rowid (g r) ≡ rowid r) (filter wanted rows) (λ r there.
       let it = has_filtered wanted rows r there in
       same_id r (all_has (λ r. is_int (rowid r) ≡ true) rows r num.whole it.0) it.1)) kept.distinct)
 
-  free : AllByRecursion (λ n. is_taken left n ≡ false) newly_enrolled
-  free = all_from (λ n. is_taken left n ≡ false) newly_enrolled (λ n there.
-      let (r, was, is, whole, same) = all_has Comes newly_enrolled n come there in
+  free : AllByRecursion (λ n. is_taken left n ≡ false) news
+  free = all_from (λ n. is_taken left n ≡ false) news (λ n there.
+      let (r, was, is, whole, same) = all_has Comes news n come there in
       false_from_ne_true _ (λ taken.
       let x = some_has (λ x. is_eq (value_cmp (rowid x) (rowid n))) left taken in
       let kept = has_filtered (λ r. not (wanted r)) rows x.0 x.1 in
@@ -141,14 +141,14 @@ module _ (table : Table) (listed : Has desk_schema.tables table) (fit : IsReferr
       (subst (λ v. is_eq (value_cmp (rowid x.0) v) ≡ true) (ap rowid same ∙ same_id r whole is) x.2) in
       both_ways _ (not-true _ kept.1) (subst (λ y. wanted y ≡ true) (sym one) is)))
 
-  pub fresh : are_fresh left newly_enrolled ≡ true
-  fresh = fresh_news newly_enrolled left apart_news free
+  pub fresh : are_fresh left news ≡ true
+  fresh = fresh_news news left apart_news free
 
-  pub twins_of : (new : Trees) → new table.tree ≡ put_all left newly_enrolled → AreTwins desk_schema table db new
+  pub twins_of : (new : Trees) → new table.tree ≡ put_all left news → AreTwins desk_schema table db new
   twins_of new now = record {
-    before = λ n there. elim (put_all_has newly_enrolled left n (subst (λ l. Has l n) now there)) [
+    before = λ n there. elim (put_all_has news left n (subst (λ l. Has l n) now there)) [
       | inl fresh ↦
-          (let (r, had, is, whole, same) = all_has Comes newly_enrolled n come fresh in (
+          (let (r, had, is, whole, same) = all_has Comes news n come fresh in (
             r,
             had,
             subst (Twins desk_schema table r) (sym same)
@@ -162,12 +162,12 @@ module _ (table : Table) (listed : Has desk_schema.tables table) (fit : IsReferr
           | inl is ↦
               (let whole = all_has (λ r. is_int (rowid r) ≡ true) rows o num.whole there in (
                 g o,
-                subst (λ l. Has l (g o)) (sym now) (put_all_adds newly_enrolled left (g o) fresh (went_in o there is)),
+                subst (λ l. Has l (g o)) (sym now) (put_all_adds news left (g o) fresh (went_in o there is)),
                 record { id = sym (same_id o whole is); keys = sets.keys o whole is },
               ))
           | inr other ↦ (
             o,
-            subst (λ l. Has l o) (sym now) (put_all_keeps newly_enrolled left o fresh
+            subst (λ l. Has l o) (sym now) (put_all_keeps news left o fresh
                 (has_kept (λ r. not (wanted r)) rows o there (not_from_false _ other))),
             itself table o,
           )
@@ -175,10 +175,10 @@ module _ (table : Table) (listed : Has desk_schema.tables table) (fit : IsReferr
     keys = fit;
   }
 
-  shape : (n : Row) → Has newly_enrolled n → (id : ℤ) × (n ≡ Int id ∷ cells) × (r : Row) × Has rows r
+  shape : (n : Row) → Has news n → (id : ℤ) × (n ≡ Int id ∷ cells) × (r : Row) × Has rows r
       × (id ≡ id_in (rowid r))
   shape n there =
-      let (r, had, is, whole, same) = all_has Comes newly_enrolled n come there in (
+      let (r, had, is, whole, same) = all_has Comes news n come there in (
         id_in (rowid r),
         same ∙ sets.row r whole is ∙ ap (λ v. v ∷ cells) (int_is (rowid r) whole),
         r,
@@ -188,23 +188,23 @@ module _ (table : Table) (listed : Has desk_schema.tables table) (fit : IsReferr
 
   pub passes_all : (gone : List ℤ) → without_all rows gone ≡ left → AreLow rows → IsGood table db cells
       → list_all (is_key_of desk_schema) table.references ≡ true → Keeps Unique desk_schema db
-      → Passes db (record { table = table; gone = gone; newly_enrolled = newly_enrolled })
+      → Passes db (record { table = table; gone = gone; news = news })
   passes_all gone leaves low good refers keeps =
-      let edit : Edit = record { table = table; gone = gone; newly_enrolled = newly_enrolled } in
+      let edit : Edit = record { table = table; gone = gone; news = news } in
       record {
-        typed = test_from _ newly_enrolled (λ n there. let it = shape n there in
+        typed = test_from _ news (λ n there. let it = shape n there in
             subst (λ r. passes Datatype desk_schema db table r ≡ true) (sym it.1) (good.typed it.0));
-        present = test_from _ newly_enrolled (λ n there. let it = shape n there in
+        present = test_from _ news (λ n there. let it = shape n there in
             subst (λ r. passes NotNull desk_schema db table r ≡ true) (sym it.1) (good.present it.0));
-        checked = test_from _ newly_enrolled (λ n there. let it = shape n there in
+        checked = test_from _ news (λ n there. let it = shape n there in
             subst (λ r. passes Check desk_schema db table r ≡ true) (sym it.1) (good.checked it.0));
-        fresh = subst (λ l. are_fresh l newly_enrolled ≡ true) (sym leaves) fresh;
+        fresh = subst (λ l. are_fresh l news ≡ true) (sym leaves) fresh;
         unique = unique_twins db table (edited db edit) listed
             (twins_of (with_tree db table.tree (edited db edit))
-            (with_here db table.tree (edited db edit) ∙ ap (λ l. put_all l newly_enrolled) leaves)) keeps;
-        keyed = test_from (λ r. is_int (rowid r)) newly_enrolled (λ n there. let it = shape n there in
+            (with_here db table.tree (edited db edit) ∙ ap (λ l. put_all l news) leaves)) keeps;
+        keyed = test_from (λ r. is_int (rowid r)) news (λ n there. let it = shape n there in
             subst (λ r. is_int (rowid r) ≡ true) (sym it.1) refl);
-        low = test_from (λ r. fits_i64 (id_in (rowid r))) newly_enrolled (λ n there. let it = shape n there in
+        low = test_from (λ r. fits_i64 (id_in (rowid r))) news (λ n there. let it = shape n there in
             subst (λ r. fits_i64 (id_in (rowid r)) ≡ true) (sym it.1)
             (ap fits_i64 it.4 ∙ all_has (λ r. fits_i64 (id_in (rowid r)) ≡ true) rows it.2 low it.3));
         referred = and_from _ _ (or_right _ _ refers) (or_right _ _ fit);

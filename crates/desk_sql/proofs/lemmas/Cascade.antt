@@ -329,7 +329,7 @@ pub record Took (tree : ℕ) (child : Row → Bool) (db next : Trees) : Type 0 w
 pub stepped : (Later : Trees → List Work → End → Type 0) (db : Trees) (edit : Edit) (depth : ℕ)
     (below : List Work) (next : Trees) → Goes desk_schema Enforced Later db edit depth below (Ok next)
     → (mid : Trees) × Applies desk_schema Enforced db edit mid
-    × Later mid (below ++ works desk_schema Enforced depth edit.table.tree (taken_by db edit) edit.newly_enrolled)
+    × Later mid (below ++ works desk_schema Enforced depth edit.table.tree (taken_by db edit) edit.news)
     (Ok next)
 stepped Later db edit depth below next (inl refused) = absurd (let e = refused.2 in cc)
 stepped Later db edit depth below next (inr (inl big)) = absurd (let e = big.3 in cc)

@@ -253,7 +253,7 @@ module _ (limit : Option ℕ) (params : Row) (name : List ℕ) (cols : List Colu
       let counted = went written.2 in
       let rows : given.0 ≡ source ∷ [] = given.1.1 ∙ one in
       let step = one_step desk_schema Enforced db written.0 (edit_of db table_at [] Chosen 0 given.0)
-      (no_works desk_schema Enforced 0 tree (edit_of db table_at [] Chosen 0 given.0).newly_enrolled) written.1 in
+      (no_works desk_schema Enforced 0 tree (edit_of db table_at [] Chosen 0 given.0).news) written.1 in
       let trees : w.trees ≡ written.0 = ap (λ (it : Written). it.trees) (same_value counted.2)
       ∙ same_value counted.1 in
       subst (λ rs. Applies desk_schema Enforced db (edit_of db table_at [] Chosen 0 rs) w.trees) rows
