@@ -35,7 +35,7 @@ use Rattle.sqlite_wal.proofs.LogLemmas.{SeenMayStay}
 use Rattle.sqlite_store.specs.Laws.{stays_at}
 use Rattle.sqlite.specs.Closing.{IsCopied}
 use Rattle.table_load.specs.Files.{FindsFirst}
-use Rattle.table_load.specs.HeldContent.{HoldsContent}
+use Rattle.table_load.specs.HeldContent.{HoldsContent as HasRowsOf}
 use Rattle.table_load.specs.CutShort.{IsCutShort, IsMovedOn}
 use Rattle.table_load.proofs.lemmas.Opening.{desk_made, made_desk, old_rows_none}
 
@@ -242,7 +242,7 @@ module _ {D E : Type 0} {g : disk.Ghosts D} {k : disk.Ghosts E} (last : Held (Fi
 
     -- their database has no row of schema 1, and what it holds in schema 2 stands
     never_old_rows : (found : Held (FileStore E k)) → IsFoundAfter last found → (v : World)
-        → HoldsContent true v (file_state found).now → ⊥
+        → HasRowsOf true v (file_state found).now → ⊥
     never_old_rows found it v holds = never_untaken found it (inr (inr (inr (record {
       made = holds.made;
       desk = holds.desk;
@@ -250,7 +250,7 @@ module _ {D E : Type 0} {g : disk.Ghosts D} {k : disk.Ghosts E} (last : Held (Fi
     }))))
 
     holds_whole : (found : Held (FileStore E k)) → IsFoundAfter last found → (v : World)
-        → HoldsContent false v (file_state found).now → HoldsContent over_files found v
+        → HasRowsOf false v (file_state found).now → HoldsContent over_files found v
     holds_whole found it v holds =
         let whole = all_or holds.made (λ missing. never_untaken found it (inl (
           holds.made,
