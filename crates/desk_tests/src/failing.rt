@@ -168,6 +168,31 @@ fn usage_in(list: &mut ListStore) -> Result<Option<Usage>, Fail> {
     }
 }
 
+/// What came of a run over a store that failed: how many requests were answered, why the run stopped, how many
+/// faults the store counted, how many plans were read whole, and how the plan is used after.
+#[derive(Clone, Copy)]
+struct FailedRun {
+    outcomes: usize,
+    stopped: Option<DeskFault>,
+    faults: u64,
+    whole_plans: u32,
+    usage: Option<Usage>,
+}
+
+/// Runs the requests at a desk whose store fails once so many calls are made.
+fn run_until(alloc: Global, calls: &[(i64, Asked)], calls_left: u32) -> Result<FailedRun, Fail> {
+    let mut desk = desk_over(desk_of_alfa(alloc)?.into_store(), calls_left);
+    let ran = desk.run(alloc, calls)?.copy()?;
+    let mut store = desk.into_store();
+    Ok(FailedRun {
+        outcomes: ran.outcomes.len(),
+        stopped: ran.stopped,
+        faults: store.fault_count,
+        whole_plans: store.whole_plans,
+        usage: usage_in(&mut store.list)?,
+    })
+}
+
 /// Runs the requests at a desk whose store fails once so many calls are made, and compares how many of
 /// them are answered and how the plan is used after.
 fn check_run(
@@ -177,15 +202,13 @@ fn check_run(
     row: (u32, usize, Option<Usage>),
 ) -> Result<(), Fail> {
     let (calls_left, answered, usage) = row;
-    let mut desk = desk_over(desk_of_alfa(alloc)?.into_store(), calls_left);
-    let ran = desk.run(alloc, calls)?.copy()?;
-    assert_eq!(rt; ran.outcomes.len(), answered, "{calls_left}");
+    let ran = run_until(alloc, calls, calls_left)?;
+    assert_eq!(rt; ran.outcomes, answered, "{calls_left}");
     assert_eq!(rt; ran.stopped.is_some(), answered < 3, "{calls_left}");
     assert!(rt; matches!(ran.stopped, None | Some(DeskFault::Store)));
-    let mut store = desk.into_store();
-    assert_eq!(rt; store.fault_count, u64::from(answered < 3));
-    assert_eq!(rt; store.whole_plans, 0);
-    assert_eq!(rt; usage_in(&mut store.list)?, usage, "{calls_left}");
+    assert_eq!(rt; ran.faults, u64::from(answered < 3));
+    assert_eq!(rt; ran.whole_plans, 0);
+    assert_eq!(rt; ran.usage, usage, "{calls_left}");
     Ok(())
 }
 
@@ -228,11 +251,30 @@ fn request_for(alloc: Global, states: (Style, Usage, Aircraft)) -> Result<Asked,
 
 /// A list in which `alfa` is enrolled and, if so asked, has the plan.
 fn list_of_alfa(alloc: Global, has_plan: bool) -> Result<ListStore, Fail> {
+    let request = read_request(alloc, FIRST_PUT)?;
     let mut desk = desk_of_alfa(alloc)?;
-    if has_plan {
-        desk.call(alloc, MOMENT.second, &read_request(alloc, FIRST_PUT)?)?;
+    let is_made = !has_plan || desk.call(alloc, MOMENT.second, &request).is_ok();
+    let list = desk.into_store();
+    if is_made {
+        Ok(list)
+    } else {
+        Err("the plan isn't put".into())
     }
-    Ok(desk.into_store())
+}
+
+/// Makes a request at a desk whose store fails once so many calls are made: whether it is answered, how many
+/// calls are left, and how many plans were read whole.
+fn call_at(
+    alloc: Global,
+    has_plan: bool,
+    states: (Style, Usage, Aircraft),
+    calls: u32,
+) -> Result<(bool, u32, u32), Fail> {
+    let asked = request_for(alloc, states)?;
+    let mut desk = desk_over(list_of_alfa(alloc, has_plan)?, calls);
+    let is_answered = desk.call(alloc, MOMENT.second, &asked).is_ok();
+    let store = desk.into_store();
+    Ok((is_answered, store.calls_left, store.whole_plans))
 }
 
 /// Makes a request at a desk whose store fails once so many calls are made: it is answered, no call is left,
@@ -243,12 +285,10 @@ fn check_calls(
     row: (bool, (Style, Usage, Aircraft), u32),
 ) -> Result<(), Fail> {
     let (has_plan, states, calls) = row;
-    let mut desk = desk_over(list_of_alfa(alloc, has_plan)?, calls);
-    let asked = request_for(alloc, states)?;
-    assert!(rt; desk.call(alloc, MOMENT.second, &asked).is_ok());
-    let store = desk.into_store();
-    assert_eq!(rt; store.calls_left, 0);
-    assert_eq!(rt; store.whole_plans, 0);
+    let (is_answered, calls_left, whole_plans) = call_at(alloc, has_plan, states, calls)?;
+    assert!(rt; is_answered);
+    assert_eq!(rt; calls_left, 0);
+    assert_eq!(rt; whole_plans, 0);
     Ok(())
 }
 

@@ -133,7 +133,33 @@ fn enrol_line(alloc: Global) -> Result<Line, Fail>
     }))
 }
 
-// Enrols `alfa` with a writer that takes so many bytes, and compares the exit status and what is printed to
+// What came of enrolling `alfa` with a writer that takes `room` bytes: the exit status, what was written to
+// it, how many bytes it has left, what was written to the errors, and the ceiling of `alfa`.
+fn enrol_with(
+    alloc: Global,
+    room: usize,
+) -> Result<(u8, [u8; 20], usize, Vec<u8>, Option<u32>), Fail> {
+    let line = enrol_line(alloc)?;
+    let alfa = Operator::try_new(b"alfa").ok_or("a name")?;
+    let mut bytes = [0; 20];
+    let mut output = bytes.get_mut(..room).ok_or("too much room")?;
+    let mut errors = Vec::new(alloc);
+    let mut input = b"".as_slice();
+    let mut desk = Desk::new(ListStore::new(alloc));
+    let status = with_desk(
+        alloc,
+        &line,
+        &mut desk,
+        &mut input,
+        &mut output,
+        &mut errors,
+    );
+    let left = output.len();
+    let ceiling = desk.into_store().ceiling(&alfa)?;
+    Ok((status, bytes, left, errors, ceiling))
+}
+
+// Enrols `alfa` with a writer that takes `room` bytes, and compares the exit status and what is printed to
 // the two writers. The operator is enrolled in any case.
 fn check_enrolment(
     rt: &impl Abort,
@@ -143,26 +169,12 @@ fn check_enrolment(
     text: &str,
     word: &str,
 ) -> Result<(), Fail> {
-    let mut desk = Desk::new(ListStore::new(alloc));
-    let mut bytes = [0; 20];
-    let mut output = bytes.get_mut(..room).ok_or("too much room")?;
-    let mut errors = Vec::new(alloc);
-    let mut input = b"".as_slice();
-    let status = with_desk(
-        alloc,
-        &enrol_line(alloc)?,
-        &mut desk,
-        &mut input,
-        &mut output,
-        &mut errors,
-    );
+    let (status, bytes, left, errors, ceiling) = enrol_with(alloc, room)?;
     assert_eq!(rt; status, wanted);
-    let left = output.len();
     assert_eq!(rt; room.checked_sub(left), Some(text.len()));
     assert!(rt; bytes.starts_with(text.as_bytes()));
     assert_eq!(rt; errors.as_slice(), word.as_bytes());
-    let alfa = Operator::try_new(b"alfa").ok_or("a name")?;
-    assert_eq!(rt; desk.into_store().ceiling(&alfa)?, Some(100));
+    assert_eq!(rt; ceiling, Some(100));
     Ok(())
 }
 

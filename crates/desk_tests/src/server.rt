@@ -109,6 +109,27 @@ impl EnrolmentSource for AtLook {
     }
 }
 
+// The exit status, the output and the errors of a `serve` of so many connections of a port at a moment, with
+// `alfa` from the connection of a number on.
+fn served(
+    alloc: Global,
+    net: Listened<'_>,
+    connections: u32,
+    alfa: u32,
+    second: u64,
+) -> (u8, Vec<u8>, Vec<u8>)
+    requires { IsInRange 1 1000000 connections }
+{
+    let line = serve_line(alloc, connections);
+    let mut desk = Desk::new(ListStore::new(alloc));
+    let mut output = Vec::new(alloc);
+    let mut errors = Vec::new(alloc);
+    let clock = Standing(second);
+    let mut port = LocalPort::new(&net, &clock, alfa_at(alfa), alloc, Vec::new(alloc));
+    let exit = serve(alloc, &mut port, &line, &mut desk, &mut output, &mut errors);
+    (exit.status, output, errors)
+}
+
 // Serves so many connections of a port at a moment, with `alfa` from the connection of a number on, and
 // compares the word of the failure, if there is one.
 fn check_served(
@@ -122,18 +143,8 @@ fn check_served(
     requires { IsInRange 1 1000000 connections }
 {
     let (second, word) = row;
-    let line = serve_line(alloc, connections);
-    let mut desk = Desk::new(ListStore::new(alloc));
-    let mut output = Vec::new(alloc);
-    let mut errors = Vec::new(alloc);
-    let clock = Standing(second);
-    let mut port = LocalPort::new(&net, &clock, alfa_at(alfa), alloc, Vec::new(alloc));
-    let exit = serve(alloc, &mut port, &line, &mut desk, &mut output, &mut errors);
-    assert_eq!(rt;
-        exit.status,
-        if word.is_empty() { 0 } else { 4 },
-        "{second}"
-    );
+    let (status, output, errors) = served(alloc, net, connections, alfa, second);
+    assert_eq!(rt; status, if word.is_empty() { 0 } else { 4 }, "{second}");
     assert_eq!(rt; output.as_slice(), b"listening 127.0.0.1:1\n".as_slice());
     assert_eq!(rt; errors.as_slice(), word.as_bytes());
     Ok(())
