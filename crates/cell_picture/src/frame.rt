@@ -36,8 +36,8 @@ pub(crate) struct GridSquare {
 }
 
 impl Frame {
-    /// The part of the face around `rect`: a margin of a quarter of its longer side, or of one square of the grid
-    /// if that is more, but nothing beyond the face.
+    /// The part of the face around `rect`: a margin of a quarter of its longer side, or of one square of the
+    /// grid if that is more, but nothing beyond the face.
     pub(crate) fn around(rect: &Rect) -> Frame
         ensures frame { IsFrame rect.now result }
         ensures step { 0 < result.step }
@@ -123,8 +123,8 @@ fn round_down(number: u64, step: u64) -> u64
     number.saturating_sub(number % step)
 }
 
-// The least coordinate that is shown, and how many are: `least` to `greatest` with a margin on both sides, widened
-// to whole squares of the grid and cut at the edge of the face.
+// The least coordinate that is shown, and how many are: `least` to `greatest` with a margin on both sides,
+// widened to whole squares of the grid and cut at the edge of the face.
 fn visible_range(least: u32, greatest: u32, margin: u64, step: u64) -> (u64, u64)
     requires { 0 < step }
     ensures from { result.0 ≡ shown_from least margin step }

@@ -53,7 +53,8 @@ pub fn picture_of(alloc: Global, rect: &Rect, cells: &[CellId]) -> Result<String
     Ok(text)
 }
 
-// The text before the grid: the start of the SVG, its title and style, and the start and background of the face.
+// The text before the grid: the start of the SVG, its title and style, and the start and background of the
+// face.
 fn picture_start(alloc: Global, frame: &Frame, rect: &Rect) -> Result<String, AllocError>
     ensures { IfOk result (λ text. string_bytes text ≡ spec.head_text frame.now rect.now) }
 {
@@ -110,8 +111,8 @@ fn title(alloc: Global, rect: &Rect) -> Result<String, AllocError>
     )
 }
 
-// The text after the curve: the end of the face, and the legend. The legend is outside of the face since browsers
-// don't draw text at the scale of leaves.
+// The text after the curve: the end of the face, and the legend. The legend is outside of the face since
+// browsers don't draw text at the scale of leaves.
 fn picture_end(alloc: Global, frame: &Frame) -> Result<String, AllocError>
     ensures { IfOk result (λ text. string_bytes text ≡ spec.tail_text frame.now) }
 {
@@ -237,7 +238,8 @@ fn curve_lines(alloc: Global, frame: &Frame, cells: &[CellId]) -> Result<String,
     Ok(text)
 }
 
-// The lines between successive cells that are adjacent on the curve, or, if not `adjacent`, between the others.
+// The lines between successive cells that are adjacent on the curve, or, if not `adjacent`, between the
+// others.
 fn lines_along(
     alloc: Global,
     frame: &Frame,

@@ -16,8 +16,8 @@ use std::alloc::{AllocError, Global};
 /// The maximum number of digits of a priority.
 const PRIORITY_DIGITS: usize = 4;
 
-/// Parses the value of `--equal`: the permitted priorities, with commas between them. Without the option none is
-/// permitted.
+/// Parses the value of `--equal`: the permitted priorities, with commas between them. Without the option none
+/// is permitted.
 ///
 /// # Errors
 ///

@@ -57,8 +57,8 @@ pub enum ErrorCode {
 }
 
 impl ErrorCode {
-    /// The exit status: 2 for the arguments, 3 for the input, 4 for memory, the database, the output, the network
-    /// and the clock.
+    /// The exit status: 2 for the arguments, 3 for the input, 4 for memory, the database, the output, the
+    /// network and the clock.
     pub fn status(self) -> u8
         ensures { result ≡ spec.failure_status self }
     {
@@ -221,8 +221,8 @@ impl<E> ExitReport<E> {
     }
 }
 
-/// The exit of a command: status 0 if `done` is Ok; else the error's status, and its code is printed to `errors` as
-/// `uss_desk: WORD`. A write error there doesn't change the status.
+/// The exit of a command: status 0 if `done` is Ok; else the error's status, and its code is printed to
+/// `errors` as `uss_desk: WORD`. A write error there doesn't change the status.
 pub fn report_exit<E: Write>(errors: &mut E, done: Result<(), ErrorCode>) -> ExitReport<E>
     ensures status { result.status ≡ spec.exit_status done }
     ensures reported { spec.IsConcluded done (is_some result.cut) (E.contents errors.old)

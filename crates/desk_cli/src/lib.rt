@@ -1,5 +1,5 @@
-//! The command line of the program: its parser, the error codes and exit statuses, and the commands that need no
-//! database.
+//! The command line of the program: its parser, the error codes and exit statuses, and the commands that need
+//! no database.
 #![tactic(auto)]
 
 mod command;

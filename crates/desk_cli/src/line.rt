@@ -116,8 +116,8 @@ impl Database {
 pub struct DeskArgs {
     /// Where operators and plans are stored.
     pub database: Database,
-    /// The settings of the desk: the permitted priorities, and the limits on the spans of an operator's live plans
-    /// and on the cells of all its plans, 1 to 5,000,000 each. `enrol` has none.
+    /// The settings of the desk: the permitted priorities, and the limits on the spans of an operator's live
+    /// plans and on the cells of all its plans, 1 to 5,000,000 each. `enrol` has none.
     pub terms: Terms,
     /// The operators to be enrolled, in the order given; a name may occur twice. `enrol` has none.
     pub enrolments: Vec<Enrolment>,
@@ -266,8 +266,8 @@ impl From<clap::Error> for WordsFault {
 ///
 /// # Errors
 ///
-/// `OutOfMemory` if memory runs out; else `Words` if `clap` refuses the arguments, for example because a number is
-/// out of range; else `Value` if an argument that `clap` doesn't check is malformed.
+/// `OutOfMemory` if memory runs out; else `Words` if `clap` refuses the arguments, for example because a
+/// number is out of range; else `Value` if an argument that `clap` doesn't check is malformed.
 pub fn read_words(alloc: Global, words: Vec<String>) -> Result<Line, WordsFault>
     ensures valid { IfOk result IsLine }
     ensures given { IfOk result (IsGiven (map string_bytes words.items)) }

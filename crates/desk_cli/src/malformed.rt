@@ -24,8 +24,8 @@ const NO_CEILING: &str = "no ceiling: a number from 0 to 1000, of at most 4 digi
 const NO_LIST: &str =
     "no list of priorities: at most 32 from 0 to 1000, ascending, with commas between";
 
-/// The first malformed argument, and what it should have been. None if no argument is malformed, or if memory runs
-/// out.
+/// The first malformed argument, and what it should have been. None if no argument is malformed, or if memory
+/// runs out.
 pub fn find_malformed_argument<'w>(
     alloc: Global,
     words: &'w [String],

@@ -25,8 +25,8 @@ use std::alloc::{AllocError, Global};
 use std::io::Write;
 use volume4d::MAX_COVER;
 
-/// Carries out `token` or `cover`: prints the result to `output`, or the error code to `errors`. A write error at
-/// `errors` doesn't change the exit status.
+/// Carries out `token` or `cover`: prints the result to `output`, or the error code to `errors`. A write
+/// error at `errors` doesn't change the exit status.
 pub fn print_line<W: Write, E: Write>(
     alloc: Global,
     line: &Line,

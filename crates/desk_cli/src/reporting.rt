@@ -9,7 +9,8 @@ use io_ends::write_whole;
 use std::alloc::{AllocError, Global};
 use std::io::Write;
 
-/// Prints `uss_desk: PLACE: TEXT` to `errors`. Write errors are ignored; if memory runs out, nothing is printed.
+/// Prints `uss_desk: PLACE: TEXT` to `errors`. Write errors are ignored; if memory runs out, nothing is
+/// printed.
 #[tactic(auto, using(crate::proofs::ReportLemmas::nothing_reported))]
 pub fn report<E: Write>(alloc: Global, place: &str, text: &str, errors: &mut E)
     ensures { IsReported place.now text.now (E.contents errors.old) (E.contents errors.new) }
@@ -35,8 +36,8 @@ fn report_line(alloc: Global, place: &str, text: &str) -> Result<String, AllocEr
     format!(in alloc; "uss_desk: {place}: {text}\n")
 }
 
-/// Prints the first malformed argument and why it is so: `uss_desk: WORD: CAUSE`. Write errors are ignored; if no
-/// argument is malformed, or memory runs out, nothing is printed.
+/// Prints the first malformed argument and why it is so: `uss_desk: WORD: CAUSE`. Write errors are ignored;
+/// if no argument is malformed, or memory runs out, nothing is printed.
 #[tactic(auto, using(crate::proofs::ReportLemmas::nothing_malformed))]
 pub fn report_malformed_argument<E: Write>(alloc: Global, words: &[String], errors: &mut E)
     ensures { IsMalformedReported (map string_bytes words.now) (E.contents errors.old)

@@ -208,8 +208,9 @@ impl<F: TextFiles + Drop> EnrolmentSource for EnrolmentFile<'_, F> {
     fn look(&mut self, alloc: Global) -> Result<Vec<Enrolment>, ErrorCode>
         ensures small { IfOk result (λ newly_enrolled. AreEnrolments newly_enrolled.items) }
         ensures fault { IfErr result (λ f. f ≡ ErrorCode.Memory) }
-        ensures newly_enrolled { IfOk result (λ newly_enrolled. AreNews (option_map (λ path. path.now) self.old.path)
-            (course self.old.seen self.new.seen) (course (F.asked self.old.files) (F.asked self.new.files))
+        ensures newly_enrolled { IfOk result (λ newly_enrolled.
+            AreNews (option_map (λ path. path.now) self.old.path) (course self.old.seen self.new.seen)
+            (course (F.asked self.old.files) (F.asked self.new.files))
             newly_enrolled.items) }
     {
         let Some(path) = self.path else {

@@ -72,7 +72,8 @@ pub trait Port {
     /// `Network` if no connection can be accepted, `Memory`; `Broken` if the journal can't be written.
     fn newly_enrolled(&mut self, alloc: Global) -> Result<Vec<Enrolment>, ErrorCode>
         ensures small { IfOk result (λ newly_enrolled. AreEnrolments newly_enrolled.items) }
-        ensures brings { IfOk result (λ newly_enrolled. BringsNews (traffic self.old) (traffic self.new) newly_enrolled.items) }
+        ensures brings { IfOk result (λ newly_enrolled.
+            BringsNews (traffic self.old) (traffic self.new) newly_enrolled.items) }
         ensures same { OnErr result (Denies (traffic self.old) (traffic self.new)) }
         ensures fault { IfErr result IsDenied };
 

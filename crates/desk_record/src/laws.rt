@@ -5,8 +5,8 @@ ghost use Rattle.std.specs.List.{AllByRecursion};
 ghost use Rattle.desk_record.specs.Reading.{IsTooShort};
 ghost use Rattle.desk_record.specs.Record.{EntryParts, Fits, entries, entry};
 
-/// The format is unambiguous: a text begins with at most one entry. So `read_entry` reads back just the entry that
-/// `write_entry` wrote, and leaves what follows it.
+/// The format is unambiguous: a text begins with at most one entry. So `read_entry` reads back just the entry
+/// that `write_entry` wrote, and leaves what follows it.
 pub fn one_entry()
     ensures { (e other : EntryParts) (rest left : List ℕ) → Fits e → Fits other →
         entry e ++ rest ≡ entry other ++ left → (e ≡ other) × (rest ≡ left) }
@@ -18,15 +18,15 @@ pub fn one_record()
         entries es ≡ entries others → es ≡ others }
 {}
 
-/// A truncated entry is recognised: each proper, non-empty prefix of an entry is reported as too short, not as the
-/// end of the journal or as damage.
+/// A truncated entry is recognised: each proper, non-empty prefix of an entry is reported as too short, not
+/// as the end of the journal or as damage.
 pub fn beginnings_are_short()
     ensures { (e : EntryParts) (n : ℕ) → Fits e → 0 < n → n < length (entry e) →
         IsTooShort (take n (entry e)) }
 {}
 
-/// A text that begins with a whole entry isn't too short. So exactly one holds of what is left to be read: it is
-/// empty, begins with an entry, is too short, or is damaged.
+/// A text that begins with a whole entry isn't too short. So exactly one holds of what is left to be read: it
+/// is empty, begins with an entry, is too short, or is damaged.
 pub fn an_entry_is_not_short()
     ensures { (e : EntryParts) (rest : List ℕ) → Fits e → IsTooShort (entry e ++ rest) → ⊥ }
 {}

@@ -18,8 +18,8 @@ use std::alloc::{AllocError, Global};
 /// The version of the format.
 const VERSION: &[u8] = b"1";
 
-/// Writes the first entries of the journal file `number` of its folder: the version, the settings of the desk and its
-/// operators. They are flushed to the disk.
+/// Writes the first entries of the journal file `number` of its folder: the version, the settings of the desk
+/// and its operators. They are flushed to the disk.
 ///
 /// # Errors
 ///

@@ -1,5 +1,5 @@
-//! The command `play` with a journal: the requests of its input become connections of a port, so that they are
-//! recorded as those of `serve` are.
+//! The command `play` with a journal: the requests of its input become connections of a port, so that they
+//! are recorded as those of `serve` are.
 
 ghost use Rattle.std.specs.Prelude.{◌≡◌, [], false, Err, IfErr, IfOk, IfSome, IsOkAnd, IsSome, None, Ok, OnErr, OnOk, Some, not};
 ghost use Rattle.std.specs.Option.{IsSomeAnd, option_map};
@@ -90,7 +90,8 @@ impl<R: Read + Drop, W: Write + Drop> InputPort<R, W> {
 
     // The result of `play`: why the input ended; else the error of `done`; else `Unframed` or `Limit`.
     fn final_result(&self, done: Result<(), ErrorCode>) -> Result<(), ErrorCode>
-        ensures { result ≡ spec.ended_by (option_map spec.reported_as self.now.ended) self.now.is_unframed done }
+        ensures { result
+            ≡ spec.ended_by (option_map spec.reported_as self.now.ended) self.now.is_unframed done }
     {
         match (self.ended, done) {
             (Some(ended), _) => ended.exit_result(),
@@ -119,7 +120,8 @@ impl<R: Read + Drop, W: Write + Drop> Port for InputPort<R, W> {
     // There are no new enrolments while `play` runs.
     fn newly_enrolled(&mut self, alloc: Global) -> Result<Vec<Enrolment>, ErrorCode>
         ensures small { IfOk result (λ newly_enrolled. AreEnrolments newly_enrolled.items) }
-        ensures brings { IfOk result (λ newly_enrolled. BringsNews unreported unreported newly_enrolled.items) }
+        ensures brings { IfOk result (λ newly_enrolled.
+            BringsNews unreported unreported newly_enrolled.items) }
         ensures same { OnErr result (Denies unreported unreported) }
         ensures fault { IfErr result IsDenied }
         ensures none { IsOkAnd result (λ newly_enrolled. newly_enrolled.items ≡ []) }
@@ -210,9 +212,9 @@ fn next_request<R: Read, W>(
     }
 }
 
-/// Carries out `play` with a journal at the desk `opened`: each request is recorded before it is carried out, and its
-/// answer before it is written. Returns the exit status and the desk. An error code goes to `errors`; a write error
-/// there doesn't change the status.
+/// Carries out `play` with a journal at the desk `opened`: each request is recorded before it is carried out,
+/// and its answer before it is written. Returns the exit status and the desk. An error code goes to `errors`;
+/// a write error there doesn't change the status.
 pub fn play_opened<S, R, W, K, E>(
     alloc: Global,
     play: &PlayArgs,

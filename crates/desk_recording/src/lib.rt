@@ -1,5 +1,5 @@
-//! The request journal: a port that writes each request before it is carried out, and each answer before it is sent;
-//! and the recovery from a journal at the next start.
+//! The request journal: a port that writes each request before it is carried out, and each answer before it
+//! is sent; and the recovery from a journal at the next start.
 #![tactic(auto)]
 
 mod header;

@@ -43,8 +43,8 @@ pub(crate) enum StopCause<R> {
     NoAnswer,
 }
 
-/// A port that flushes each request to its journal before the desk reads it, and appends each answer before it is
-/// sent. Once an entry can't be written, it accepts no more connections.
+/// A port that flushes each request to its journal before the desk reads it, and appends each answer before
+/// it is sent. Once an entry can't be written, it accepts no more connections.
 #[derive(Drop)]
 pub struct RecordedPort<P: Drop, R: Drop> {
     pub(crate) port: P,
@@ -123,9 +123,11 @@ impl<P: Port + Drop, R: Record + Drop> Port for RecordedPort<P, R> {
         &mut self,
         alloc: Global,
     ) -> Result<ClientStream<Given<P::Input>, Held<P::Output>>, ErrorCode>
-        ensures taken { IfOk result (λ c. TakesArrival (reported_of R.Record self.old) (reported_of R.Record self.new)
+        ensures taken { IfOk result (λ c.
+            TakesArrival (reported_of R.Record self.old) (reported_of R.Record self.new)
             (arrived c.moment.second (cursor_remaining (λ v. Some v.items) c.input.request))) }
-        ensures unsent { IfOk result (λ c. IsFresh (reported_of R.Record self.old) (Some c.output.answer.items)) }
+        ensures unsent { IfOk result (λ c.
+            IsFresh (reported_of R.Record self.old) (Some c.output.answer.items)) }
         ensures same { OnErr result (Denies (reported_of R.Record self.old) (reported_of R.Record self.new)) }
         ensures fault { IfErr result IsDenied }
         ensures client { IfOk result (λ c. IsTakenFrom c.moment.second (cursor_inner c.input.request).items
@@ -212,7 +214,8 @@ impl<P: Port + Drop, R: Record + Drop> Port for RecordedPort<P, R> {
     }
 }
 
-// The error that is reported for an error of the port below. `Broken` is reserved for this port's own journal.
+// The error that is reported for an error of the port below. `Broken` is reserved for this port's own
+// journal.
 fn port_error(failure: ErrorCode) -> ErrorCode
     ensures { result ≡ spec.failure_below failure }
 {
@@ -235,8 +238,8 @@ fn close_result(is_lost: bool, closed: Result<(), ErrorCode>) -> Result<(), Erro
     }
 }
 
-// Appends the answer to the journal and then sends it. If the answer isn't whole or the journal is broken, sends a
-// 500 instead. Returns why the journal is broken, if it is, and whether all was sent.
+// Appends the answer to the journal and then sends it. If the answer isn't whole or the journal is broken,
+// sends a 500 instead. Returns why the journal is broken, if it is, and whether all was sent.
 fn record_and_send<R: Record, W: Write>(
     journal: &mut R,
     broken: Option<StopCause<R>>,
@@ -261,7 +264,8 @@ fn record_and_send<R: Record, W: Write>(
     (lost, send_store_error(client))
 }
 
-// Appends the answer to the journal, if it is whole and the journal isn't broken. Returns why it is broken, if it is.
+// Appends the answer to the journal, if it is whole and the journal isn't broken. Returns why it is broken,
+// if it is.
 fn record_answer<R: Record>(
     journal: &mut R,
     broken: Option<StopCause<R>>,

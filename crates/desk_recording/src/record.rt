@@ -44,8 +44,8 @@ pub trait Record {
             (λ n. with_news n newly_enrolled.now) }
         ensures named { IfSome (noted self.old) (λ _. OnOk result (AreNamed newly_enrolled.now)) };
 
-    /// Appends a request received at `moment`, and flushes the journal to the disk. If `bytes` is empty, no whole
-    /// request came, and no entry is appended.
+    /// Appends a request received at `moment`, and flushes the journal to the disk. If `bytes` is empty, no
+    /// whole request came, and no entry is appended.
     ///
     /// # Errors
     ///
@@ -56,8 +56,8 @@ pub trait Record {
         ensures noted { NotesOnDisk (noted self.old) (noted self.new) (is_ok result)
             (λ n. with_request n moment.second bytes.now) };
 
-    /// Appends the answer to the last request, without flushing it: it is on the disk with the next request, and a
-    /// lost answer is made again by the recovery.
+    /// Appends the answer to the last request, without flushing it: it is on the disk with the next request,
+    /// and a lost answer is made again by the recovery.
     ///
     /// # Errors
     ///

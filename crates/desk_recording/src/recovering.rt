@@ -58,8 +58,8 @@ impl<R> From<RecoveryError<R>> for ErrorCode {
     }
 }
 
-/// Those of `enrolments` whose operators aren't among `roll`, the enrolled ones, in their order. A ceiling above
-/// 1,000 is left out.
+/// Those of `enrolments` whose operators aren't among `roll`, the enrolled ones, in their order. A ceiling
+/// above 1,000 is left out.
 ///
 /// # Errors
 ///
@@ -69,7 +69,8 @@ pub fn missing_enrolments(
     roll: &[Enrolment],
     enrolments: &[Enrolment],
 ) -> Result<Vec<Enrolment>, AllocError>
-    ensures missing { IfOk result (λ missing. missing.items ≡ spec.missing_enrolments roll.now enrolments.now) }
+    ensures missing { IfOk result (λ missing.
+        missing.items ≡ spec.missing_enrolments roll.now enrolments.now) }
     ensures in_range { IfOk result (λ missing. AreEnrolments missing.items) }
 {
     let mut missing = Vec::new(alloc);
@@ -99,9 +100,9 @@ fn is_enrolled(roll: &[Enrolment], operator: &Operator) -> bool
     roll.iter().any(|enrolment| enrolment.operator == *operator)
 }
 
-/// Sets the terms of the last journal at the desk, enrols the operators that are `missing`, and repeats the request
-/// `asked` that has no answer there, at its second. The request is written to the new `journal` before it is carried
-/// out, and its answer after that.
+/// Sets the terms of the last journal at the desk, enrols the operators that are `missing`, and repeats the
+/// request `asked` that has no answer there, at its second. The request is written to the new `journal`
+/// before it is carried out, and its answer after that.
 ///
 /// # Errors
 ///
@@ -232,7 +233,8 @@ fn exchange_without_client(answer: &[u8]) -> Exchange<'_>
 
 // The error of a recovery at which a request could not be repeated.
 fn replay_error<R>(fault: ReplayFault) -> RecoveryError<R>
-    ensures memory_or_store { (spec.failure_of result ≡ ErrorCode.Memory) ⊎ (spec.failure_of result ≡ ErrorCode.Store) }
+    ensures memory_or_store { (spec.failure_of result ≡ ErrorCode.Memory)
+        ⊎ (spec.failure_of result ≡ ErrorCode.Store) }
     ensures cause { IsOwn fault → spec.failure_of result ≡ ErrorCode.Store → fault ≡ ReplayFault.Store }
 {
     match fault {

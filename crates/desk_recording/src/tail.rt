@@ -98,8 +98,8 @@ impl Tail {
     }
 }
 
-/// Reads a journal file up to its end or to the first bytes that are no whole entry, and returns what the entries
-/// say and what follows them.
+/// Reads a journal file up to its end or to the first bytes that are no whole entry, and returns what the
+/// entries say and what follows them.
 ///
 /// # Errors
 ///

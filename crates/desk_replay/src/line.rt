@@ -21,10 +21,10 @@ use io_ends::{WriteError, write_whole};
 use std::alloc::{AllocError, Global};
 use std::io::{Read, Write};
 
-/// Replays the journal `input` at the desk `opened`, up to the first request whose Unix second is greater than
-/// `until`, if that is given. Prints how many requests were replayed and how many of them changed the database, and
-/// returns the exit status and the desk. If an entry can't be replayed, where and why goes to `errors`, and then the
-/// error code; if no desk could be opened, only the error code.
+/// Replays the journal `input` at the desk `opened`, up to the first request whose Unix second is greater
+/// than `until`, if that is given. Prints how many requests were replayed and how many of them changed the
+/// database, and returns the exit status and the desk. If an entry can't be replayed, where and why goes to
+/// `errors`, and then the error code; if no desk could be opened, only the error code.
 pub fn replay_opened<S: PlanStore + Drop, R: Read, W: Write, E: Write>(
     alloc: Global,
     until: Option<u64>,

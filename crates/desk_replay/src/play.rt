@@ -29,8 +29,8 @@ use volume4d::MAX_SECOND;
 ///
 /// # Errors
 ///
-/// `NoRecord`, `NotNext` or `Differs` because of the entry, `OutOfMemory` or `Store` because of the desk. Database
-/// and `progress` are unchanged then.
+/// `NoRecord`, `NotNext` or `Differs` because of the entry, `OutOfMemory` or `Store` because of the desk.
+/// Database and `progress` are unchanged then.
 #[tactic(auto, unfolding(crate::specs::Replaying::taken))]
 pub(crate) fn play_entry<S: PlanStore>(
     alloc: Global,
@@ -84,8 +84,8 @@ fn play_entry_after_header<S: PlanStore>(
     }
 }
 
-// Carries out a recorded request at its `second`, if a request may come here, and notes that its recorded answer is
-// to follow.
+// Carries out a recorded request at its `second`, if a request may come here, and notes that its recorded
+// answer is to follow.
 #[tactic(auto, unfolding(crate::specs::Replaying::requested))]
 fn replay_request<S: PlanStore>(
     alloc: Global,
@@ -146,8 +146,8 @@ fn count_change(before: bool, now: bool, changes: u64) -> u64
     }
 }
 
-// The first answer to this request if it repeats the unanswered one of the file before; None if it is new. An error
-// if another request is still unanswered.
+// The first answer to this request if it repeats the unanswered one of the file before; None if it is new. An
+// error if another request is still unanswered.
 fn first_answer_if_repeated(
     alloc: Global,
     asking: &Option<Asking>,
@@ -227,8 +227,8 @@ fn answer_in_full<S: PlanStore>(
     }
 }
 
-// Compares a recorded answer with the desk's. If the recorded one is a 500, another answer is accepted, but the
-// request stays unanswered: the next file has to repeat it.
+// Compares a recorded answer with the desk's. If the recorded one is a 500, another answer is accepted, but
+// the request stays unanswered: the next file has to repeat it.
 #[tactic(auto, unfolding(crate::specs::Replaying::taken_answer))]
 fn compare_answer(progress: &mut Progress, second: u64, answer: &[u8]) -> Result<(), ReplayFault>
     ensures { (w : DeskWorld)

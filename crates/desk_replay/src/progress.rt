@@ -16,8 +16,8 @@ pub struct Asking {
     pub request: Vec<u8>,
     /// The desk's answer.
     pub answer: Vec<u8>,
-    /// The desk's first answer, if the request is repeated. Either may be recorded: before the repetition, the desk
-    /// that wrote the journal may or may not have made the change.
+    /// The desk's first answer, if the request is repeated. Either may be recorded: before the repetition,
+    /// the desk that wrote the journal may or may not have made the change.
     pub before: Option<Vec<u8>>,
     /// Whether a journal file has begun since, which has to repeat the request.
     pub reopened: bool,
@@ -57,7 +57,8 @@ impl Progress {
     }
 }
 
-/// Whether the journal file `number` may follow the file `last`: it is the next one, or the first that is replayed.
+/// Whether the journal file `number` may follow the file `last`: it is the next one, or the first that is
+/// replayed.
 pub(crate) fn may_follow(last: Option<u64>, number: u64) -> bool
     ensures { result ≡ follows last number }
 {

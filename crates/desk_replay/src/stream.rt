@@ -40,13 +40,14 @@ pub enum ReplayEnd {
 #[derive(Debug, Drop)]
 pub struct Replayed {
     pub progress: Progress,
-    /// The length of the entries that were replayed, in bytes, at most `u64::MAX`: the offset of the next entry.
+    /// The length of the entries that were replayed, in bytes, at most `u64::MAX`: the offset of the next
+    /// entry.
     pub place: u64,
     pub ended: ReplayEnd,
 }
 
-/// Replays a journal at a desk, entry by entry, up to the first request whose Unix second is greater than `until`,
-/// if that is given.
+/// Replays a journal at a desk, entry by entry, up to the first request whose Unix second is greater than
+/// `until`, if that is given.
 pub fn replay<S: PlanStore, R: Read>(
     alloc: Global,
     desk: &mut Desk<S>,

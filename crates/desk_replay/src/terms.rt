@@ -19,8 +19,8 @@ use std::alloc::Global;
 /// The version of the format.
 const VERSION: &[u8] = b"1";
 
-/// Begins a journal file: removes all settings, and has an unanswered request repeated. An error if the version or
-/// the file's `number` isn't the expected one.
+/// Begins a journal file: removes all settings, and has an unanswered request repeated. An error if the
+/// version or the file's `number` isn't the expected one.
 #[tactic(auto, unfolding(crate::specs::Replaying::begun))]
 pub(crate) fn begin_journal<S: PlanStore>(
     alloc: Global,

@@ -91,8 +91,8 @@ fn from_use(usage: Usage, aircraft: Aircraft) -> Step
     }
 }
 
-// The step to the requested states `usage` and `aircraft` if the stored plan is in use and its aircraft needs a
-// contingency procedure.
+// The step to the requested states `usage` and `aircraft` if the stored plan is in use and its aircraft needs
+// a contingency procedure.
 fn from_contingency(usage: Usage, aircraft: Aircraft) -> Step
     ensures { result ≡ step_from_contingency usage aircraft }
 {

@@ -28,7 +28,7 @@ use Rattle.table_load.specs.Files.{FindsFirst}
 use Rattle.table_load.specs.Opening.{BeginsWith}
 use Rattle.table_load.specs.Moving.{BeginsMoved}
 use Rattle.table_load.specs.HeldContent.{IsContentIn}
-use Rattle.table_load.specs.Standing.{HoldsContent}
+use Rattle.table_load.specs.Standing.{IsDatabaseOf}
 use Rattle.table_load.specs.Leaving.{HasWorld, IsFoundAfter}
 use Rattle.table_load.specs.CutShort.{HasContent, HasOldWorld, IsCutShort, IsMovedOn, ShowContent}
 use Rattle.table_load.proofs.lemmas.Content.{of_rows}
@@ -91,7 +91,7 @@ module _ (one_shape : (one other : Shape) → HasValidParts one → HasValidPart
 
 -- ---- what is there as a whole
 
-standing_holds : {S : Type 0} (g : Ghosts S) (h : Held S) (w : World) → HoldsContent g h w
+standing_holds : {S : Type 0} (g : Ghosts S) (h : Held S) (w : World) → IsDatabaseOf g h w
     → HasContent w (state g h).now
 standing_holds g h w it = (
   false,

@@ -25,7 +25,7 @@ use Rattle.table_load.specs.declared.fault.OpenFault.{OpenFault}
 use Rattle.table_load.specs.declared.fault.OpenFault.TheVariants.{OutOfMemory, Store, NotADesk, OldSchema}
 use Rattle.row_codec.specs.Tables.{AreTables}
 use Rattle.desk_store.specs.Content.{IsContent}
-use Rattle.table_load.specs.Standing.{HoldsContent, Stands}
+use Rattle.table_load.specs.Standing.{IsDatabaseOf, Stands}
 use Rattle.table_load.specs.Files.{AreRefused, IsUnread}
 use Rattle.table_load.specs.Opening.{IsPart, AreNoContent}
 use Rattle.table_load.specs.Leaving.{HasWorld, ReadsAs, MayLeave, MayHave, IsNotTakenAsIs, IsFoundAfter, BeginsAfter, IsImageLeft, IsLegible, IsRefusedAfter, IsRefusedAtRest}
@@ -35,7 +35,7 @@ use Rattle.sqlite_wal.proofs.LogLemmas.{SeenMayStay}
 use Rattle.sqlite_store.specs.Laws.{stays_at}
 use Rattle.sqlite.specs.Closing.{IsCopied}
 use Rattle.table_load.specs.Files.{FindsFirst}
-use Rattle.table_load.specs.HeldContent.{HoldsContent as HasRowsOf}
+use Rattle.table_load.specs.HeldContent.{HoldsContent}
 use Rattle.table_load.specs.CutShort.{IsCutShort, IsMovedOn}
 use Rattle.table_load.proofs.lemmas.Opening.{desk_made, made_desk, old_rows_none}
 
@@ -45,7 +45,7 @@ HaveOneContent = (tables : Tables) (one other : World) → IsContent one → IsC
     → AreTables tables one → AreTables tables other → one ≡ other
 
 -- what stands is read as its content
-reads_standing : {S : Type 0} (g : Ghosts S) (h : Held S) (w : World) (db : Trees) → HoldsContent g h w
+reads_standing : {S : Type 0} (g : Ghosts S) (h : Held S) (w : World) (db : Trees) → IsDatabaseOf g h w
     → IsDatabase (state g h).now → (state g h).now.trees ≡ db → HasWorld db w
 reads_standing g h w db it sound is = record {
   content = it.content;
@@ -181,7 +181,7 @@ module _ {D E : Type 0} {g : disk.Ghosts D} {k : disk.Ghosts E} (last : Held (Fi
   same_trees found it = ap (λ d. d.trees) it.first.0.0.clean
 
   pub found_again : (found : Held (FileStore E k)) (w : World) → IsFoundAfter last found
-      → HoldsContent over_files found w → ∥ MayLeave over_files last (Some w) ∥₁
+      → IsDatabaseOf over_files found w → ∥ MayLeave over_files last (Some w) ∥₁
   found_again found w it standing =
       found_as found (Some w) it (reads_standing over_files found w (file_state found).committed.trees
       standing (now_sound found it) (same_trees found it))
@@ -242,7 +242,7 @@ module _ {D E : Type 0} {g : disk.Ghosts D} {k : disk.Ghosts E} (last : Held (Fi
 
     -- their database has no row of schema 1, and what it holds in schema 2 stands
     never_old_rows : (found : Held (FileStore E k)) → IsFoundAfter last found → (v : World)
-        → HasRowsOf true v (file_state found).now → ⊥
+        → HoldsContent true v (file_state found).now → ⊥
     never_old_rows found it v holds = never_untaken found it (inr (inr (inr (record {
       made = holds.made;
       desk = holds.desk;
@@ -250,7 +250,7 @@ module _ {D E : Type 0} {g : disk.Ghosts D} {k : disk.Ghosts E} (last : Held (Fi
     }))))
 
     holds_whole : (found : Held (FileStore E k)) → IsFoundAfter last found → (v : World)
-        → HasRowsOf false v (file_state found).now → HoldsContent over_files found v
+        → HoldsContent false v (file_state found).now → IsDatabaseOf over_files found v
     holds_whole found it v holds =
         let whole = all_or holds.made (λ missing. never_untaken found it (inl (
           holds.made,
@@ -286,7 +286,7 @@ module _ {D E : Type 0} {g : disk.Ghosts D} {k : disk.Ghosts E} (last : Held (Fi
   -- a start over files that were closed finds what the store could have left
   pub found_closed : SeenMayStay g → (files : Files D) (image : Image) (found : Held (FileStore E k))
       (w other : World) → LeavesOnly w (MayLeave over_files last) → IsCopied last files
-      → outcomes g files.log files.db image → FindsFirst image found → HoldsContent over_files found other
+      → outcomes g files.log files.db image → FindsFirst image found → IsDatabaseOf over_files found other
       → other ≡ w
   found_closed stays files image found w other only copied outcome first stands =
       let may = stays_at last.store stays copied.was_open in

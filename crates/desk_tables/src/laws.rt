@@ -21,7 +21,7 @@ ghost use Rattle.desk_store.specs.Content.{IsId, IsPlan, IsContent};
 ghost use Rattle.desk_tables.specs.Lookups.{own_of};
 ghost use Rattle.desk_tables.specs.TableChanges.{ChangesRows, EnrolsRows, PutsRows};
 ghost use Rattle.desk_tables.specs.TableChanges.{ClosesRows, ClearsRows, IsWithinLimits};
-ghost use Rattle.table_load.specs.Standing.{HoldsContent};
+ghost use Rattle.table_load.specs.Standing.{IsDatabaseOf};
 ghost use Rattle.sqlite_disk.specs.Modelled.{calls_of, start_of};
 ghost use Rattle.desk_tables.specs.Copying.{IsMadeIn, IsUnreadIn, LooksIn};
 ghost use Rattle.table_load.specs.CutShort.{HasContent, IsCompletedAs, IsCutShort, IsMovedOn};
@@ -115,7 +115,7 @@ pub fn an_operator_put_changes_rows()
 /// wrote them.
 pub fn a_start_finds_what_may_be_left<D: Disk, E: Disk>()
     ensures { (last : Held (FileStore D D.Disk)) (found : Held (FileStore E E.Disk)) (w : World)
-        → IsFoundAfter last found → HoldsContent over_files found w
+        → IsFoundAfter last found → IsDatabaseOf over_files found w
         → ∥ MayLeave over_files last (Some w) ∥₁ }
 {}
 
@@ -199,7 +199,7 @@ pub fn a_close_leaves_the_content<D: Disk, E: Disk>()
         (found : Held (FileStore E E.Disk)) (w other : World)
         → LeavesOnly w (MayLeave over_files last) → IsCopied last files
         → outcomes D.Disk files.log files.db image → FindsFirst image found
-        → HoldsContent over_files found other → other ≡ w }
+        → IsDatabaseOf over_files found other → other ≡ w }
 {}
 
 /// Files of a connection with one crash state alone are never refused as an invalid database or as one of

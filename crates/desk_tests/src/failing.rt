@@ -168,8 +168,8 @@ fn usage_in(list: &mut ListStore) -> Result<Option<Usage>, Fail> {
     }
 }
 
-/// What came of a run over a store that failed: how many requests were answered, why the run stopped, how many
-/// faults the store counted, how many plans were read whole, and how the plan is used after.
+/// What came of a run over a store that failed: how many requests were answered, why the run stopped, how
+/// many faults the store counted, how many plans were read whole, and how the plan is used after.
 #[derive(Clone, Copy)]
 struct FailedRun {
     outcomes: usize,

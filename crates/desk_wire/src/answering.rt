@@ -68,8 +68,8 @@ pub fn answer_with_status<S: PlanStore>(
     moment: Moment,
     text: &[u8],
 ) -> Result<Answer, AllocError>
-    ensures reported { IfOk result (IsAnswerReported (IsHonest (S.doubt desk.new.store)) (world_of S.content desk.old)
-        moment.second (asked_in text.now) (world_of S.content desk.new)) }
+    ensures reported { IfOk result (IsAnswerReported (IsHonest (S.doubt desk.new.store))
+        (world_of S.content desk.old) moment.second (asked_in text.now) (world_of S.content desk.new)) }
     ensures leaves { Leaves S.PlanStore desk.old desk.new
         (world_after (world_of S.content desk.old) moment.second (asked_in text.now)) (failure_reported result) }
     ensures err { OnErr result (desk.new ≡ desk.old) }
@@ -88,8 +88,9 @@ pub fn answer_request<S: PlanStore>(
     moment: Moment,
     request: &Result<Message<'_>, WireFault>,
 ) -> Result<Answer, AllocError>
-    ensures reported { IfOk result (IsAnswerReported (IsHonest (S.doubt desk.new.store)) (world_of S.content desk.old)
-        moment.second (or_met (message_read request.now) asked_by) (world_of S.content desk.new)) }
+    ensures reported { IfOk result (IsAnswerReported (IsHonest (S.doubt desk.new.store))
+        (world_of S.content desk.old) moment.second (or_met (message_read request.now) asked_by)
+        (world_of S.content desk.new)) }
     ensures leaves { Leaves S.PlanStore desk.old desk.new
         (world_after (world_of S.content desk.old) moment.second (or_met (message_read request.now) asked_by))
         (failure_reported result) }

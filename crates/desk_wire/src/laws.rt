@@ -35,8 +35,8 @@ pub fn two_runs()
         IsSameFor operator v requests w others }
 {}
 
-/// The two laws above, for the answers that a desk gave to a list of requests (by the clause of `answer_all`).
-/// `specs/GivenLaws.antt` says this part by part.
+/// The two laws above, for the answers that a desk gave to a list of requests (by the clause of
+/// `answer_all`). `specs/GivenLaws.antt` says this part by part.
 pub fn answers_given()
     ensures { AnswersGiven }
 {}
@@ -47,9 +47,9 @@ pub fn stream_given()
     ensures { StreamGiven }
 {}
 
-/// Kept: a start after a stream, however that ended, finds the state after the first `n` requests of the stream,
-/// or after the first `n` and the next one. Here `n` requests were answered, none with a 500, and the state before
-/// was durable (by the clause `kept` of `play_all`).
+/// Kept: a start after a stream, however that ended, finds the state after the first `n` requests of the
+/// stream, or after the first `n` and the next one. Here `n` requests were answered, none with a 500, and the
+/// state before was durable (by the clause `kept` of `play_all`).
 pub fn kept()
     ensures { (ended : PlayEnd) (n : ℕ) (passage : Passage) (stream : List ℕ) (w : DeskWorld)
         (moment : ℤ) (after : DeskWorld) (found : Option World) →
@@ -57,16 +57,16 @@ pub fn kept()
         IsFoundInStream w moment stream n found }
 {}
 
-/// Repeated: requests are idempotent. The same request twice in a row, at the same moment, results in the same
-/// state as once.
+/// Repeated: requests are idempotent. The same request twice in a row, at the same moment, results in the
+/// same state as once.
 pub fn repeated()
     ensures { (w : DeskWorld) (moment : ℤ) (request : List ℕ) →
         world_after (world_after w moment (asked request)) moment (asked request)
         ≡ world_after w moment (asked request) }
 {}
 
-/// The framing is unambiguous: if a stream begins with a request, its first request is that one, whatever follows.
-/// So there is one way to split a stream into requests.
+/// The framing is unambiguous: if a stream begins with a request, its first request is that one, whatever
+/// follows. So there is one way to split a stream into requests.
 pub fn request_ends()
     ensures { (request rest : List ℕ) → IsRequest request →
         request_len (request ++ rest) ≡ Some (length request) }

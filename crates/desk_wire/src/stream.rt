@@ -30,8 +30,9 @@ const MAX_READS: u32 = 200_000;
 /// The maximum number of bytes of a body that are read at once.
 const CHUNK: usize = 4_096;
 
-/// Reads one request from `input`, carries it out at `moment`, and writes the answer to `output`. The head is read
-/// byte by byte, so that nothing after the request is consumed. Interrupted reads and writes are retried.
+/// Reads one request from `input`, carries it out at `moment`, and writes the answer to `output`. The head is
+/// read byte by byte, so that nothing after the request is consumed. Interrupted reads and writes are
+/// retried.
 ///
 /// # Errors
 ///
@@ -65,8 +66,8 @@ pub fn serve_one<S: PlanStore, R: Read, W: Write>(
     Ok(served(answer.status, &request))
 }
 
-/// Reads the bytes of one request; they are empty if the input has ended. The head is read byte by byte, so that
-/// nothing after the request is consumed. Interrupted reads are retried.
+/// Reads the bytes of one request; they are empty if the input has ended. The head is read byte by byte, so
+/// that nothing after the request is consumed. Interrupted reads are retried.
 ///
 /// # Errors
 ///

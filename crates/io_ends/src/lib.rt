@@ -1,4 +1,5 @@
-//! Results of writing bytes, of serving one request of a stream, and of serving a whole stream; and timestamps.
+//! Results of writing bytes, of serving one request of a stream, and of serving a whole stream; and
+//! timestamps.
 #![tactic(auto)]
 
 mod interruption;

@@ -56,8 +56,8 @@ impl PartialWrite {
     }
 }
 
-/// That a writer of type `W` failed part-way. Only `write_whole` makes one: so a function that is generic in `W`
-/// and returns one has called the writer that it was given.
+/// That a writer of type `W` failed part-way. Only `write_whole` makes one: so a function that is generic in
+/// `W` and returns one has called the writer that it was given.
 #[derive_where(Clone, Copy, Debug, PartialEq, Eq)]
 pub struct WriteError<W> {
     fault: PartialWrite,

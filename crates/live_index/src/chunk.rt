@@ -82,7 +82,8 @@ impl Chunk {
 
     // Removes the volumes of the operator's plan with this id, and returns how many.
     fn remove_plan(&mut self, operator: &Operator, id: &PlanId) -> usize
-        ensures left { RemovesPlanVolumes operator.now id.now self.old.volumes.items self.new.volumes.items result }
+        ensures left { RemovesPlanVolumes operator.now id.now self.old.volumes.items
+            self.new.volumes.items result }
         ensures bounded { IsBoundedChunk self.new }
     {
         let before = self.volumes.len();

@@ -89,8 +89,8 @@ impl Group {
     // Removes the volumes of the rank's plan from the first chunk that may have the rank and has some.
     // Returns how many were removed.
     fn remove_plan(&mut self, rank: &Rank) -> usize
-        ensures left { RemovesPlanVolumes rank.now.plan.operator rank.now.plan.id (volumes_in self.old.chunks.items)
-            (volumes_in self.new.chunks.items) result }
+        ensures left { RemovesPlanVolumes rank.now.plan.operator rank.now.plan.id
+            (volumes_in self.old.chunks.items) (volumes_in self.new.chunks.items) result }
         ensures group_bounded { IsBoundedGroup self.old → IsBoundedGroup self.new }
     {
         let gone = chunks::remove_at(&mut self.chunks, rank);

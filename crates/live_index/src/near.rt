@@ -30,8 +30,8 @@ pub struct Wanted {
     pub least: u32,
 }
 
-/// The keys of plans that have a volume near a search (its bounds overlap `SearchArea`), each once, up to a limit
-/// of rows and of chunks searched.
+/// The keys of plans that have a volume near a search (its bounds overlap `SearchArea`), each once, up to a
+/// limit of rows and of chunks searched.
 #[derive(Drop)]
 pub(crate) struct NearPlans {
     keys: BTreeSet<PlanKey>,

@@ -1,4 +1,5 @@
-//! The parser of requests: from the bytes of one whole request to the operator and its call, or the first fault.
+//! The parser of requests: from the bytes of one whole request to the operator and its call, or the first
+//! fault.
 #![tactic(auto)]
 
 mod address;

@@ -37,8 +37,8 @@ impl MemoryIndex {
         }
     }
 
-    /// Allocates what `update_after` needs for `change`, so that it can't fail; returns the live volumes that the
-    /// change adds.
+    /// Allocates what `update_after` needs for `change`, so that it can't fail; returns the live volumes that
+    /// the change adds.
     ///
     /// # Errors
     ///

@@ -16,7 +16,7 @@ use Rattle.desk_sql.specs.Finding.{HasOthers}
 use Rattle.desk_store.specs.World.{Filed, Listed, World}
 use Rattle.row_codec.specs.Tables.{operator_rows, plan_rows, area_rows, volume_rows, area_covers, cover_rows, ArePlanSpanRows, AreSpanRows}
 use Rattle.desk_store.specs.Content.{IsContent}
-use Rattle.table_load.specs.Standing.{HoldsContent}
+use Rattle.table_load.specs.Standing.{IsDatabaseOf}
 use Rattle.table_load.specs.Opening.{AreParts, BeginsWith, HasNoContent}
 
 -- ---- schema 1
@@ -137,7 +137,7 @@ pub record WasMoved {S : Type 0} (g : Ghosts S) (old new : Held S) (w : World) :
   pub desk : IsMadeTo made (state g old).now
   pub old_rows : has_old_rows (tables_at made (state g old).now.trees) ≡ true
   pub rows : IsOldContentOf (tables_at made (state g old).now.trees) w
-  pub standing : HoldsContent g new w
+  pub standing : IsDatabaseOf g new w
 
 -- the tables that are made, with a row of schema 1, and rows of no valid state of schema 1
 pub record HasNoOldContent (db : Database) : Type 0 where

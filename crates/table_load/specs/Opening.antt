@@ -27,7 +27,7 @@ use Rattle.row_codec.specs.declared.exact.RowFault.TheVariants as row
 use Rattle.table_load.specs.declared.fault.OpenFault.{OpenFault}
 use Rattle.table_load.specs.declared.fault.OpenFault.TheVariants.{OutOfMemory, Store, NotADesk, OldSchema}
 use Rattle.table_load.specs.Covers.{AreCompared}
-use Rattle.table_load.specs.Standing.{HoldsContent}
+use Rattle.table_load.specs.Standing.{IsDatabaseOf}
 use Rattle.row_codec.specs.ContentRows.{AreOperatorRows, ArePlanRows, AreShared}
 
 -- why a store cannot be opened
@@ -119,7 +119,7 @@ pub record BeganBlank (db : Database) (w : World) : Type 0 where
 
 -- what the database showed is still shown, and is the schema's tables with the rows of the world
 pub record WasFound {S : Type 0} (g : Ghosts S) (old new : Held S) (w : World) : Type 0 where
-  pub standing : HoldsContent g old w
+  pub standing : IsDatabaseOf g old w
   pub kept : ShowsAsBefore g old new
 
 -- the schema's tables and indexes and nothing else, but not all of them in its own order
@@ -140,7 +140,7 @@ pub record WasCompleted {S : Type 0} (g : Ghosts S) (old new : Held S) (w : Worl
 pub record WasOrdered {S : Type 0} (g : Ghosts S) (old new : Held S) (w : World) : Type 0 where
   pub part : IsMadeTo Packed (state g old).now
   pub rows : IsContentOf (tables_at Packed (state g old).now.trees) w
-  pub standing : HoldsContent g new w
+  pub standing : IsDatabaseOf g new w
 
 -- the schema's tables, so far as they are made, with no row of schema 1, and rows of no valid state
 pub record HasNoContent (db : Database) : Type 0 where

@@ -9,7 +9,7 @@ use Rattle.row_codec.specs.Tables.{AreTables}
 use Rattle.desk_store.specs.Content.{IsContent}
 
 -- the database has the desk's tables, and their rows are those of the world
-pub record HoldsContent {S : Type 0} (g : Ghosts S) (h : Held S) (w : World) : Type 0 where
+pub record IsDatabaseOf {S : Type 0} (g : Ghosts S) (h : Held S) (w : World) : Type 0 where
   pub content : IsContent w
   pub desk : IsDesk (state g h).now
   pub tables : AreTables (tables_of (state g h).now.trees) w
@@ -19,4 +19,4 @@ pub record HoldsContent {S : Type 0} (g : Ghosts S) (h : Held S) (w : World) : T
 pub record Stands {S : Type 0} (g : Ghosts S) (h : Held S) (w : World) : Type 0 where
   pub settled : h.in_transaction ≡ false
   pub unlimited : h.step_limit ≡ None
-  pub standing : HasCleanDisk (state g h) → IsTrue (state g h).is_open → HoldsContent g h w
+  pub standing : HasCleanDisk (state g h) → IsTrue (state g h).is_open → IsDatabaseOf g h w

@@ -59,8 +59,8 @@ impl NotedOperators {
         self.is_empty
     }
 
-    /// Takes the operators noted last, in the order of the store; the empty list if `note` was never called. `None`
-    /// if they weren't wanted, if memory ran out for them, or if they are taken already.
+    /// Takes the operators noted last, in the order of the store; the empty list if `note` was never called.
+    /// `None` if they weren't wanted, if memory ran out for them, or if they are taken already.
     pub fn take(&mut self) -> Option<Vec<Enrolment>>
         ensures taken { result ≡ self.old.operators }
         ensures rest { self.new ≡ record self.old { operators = None } }

@@ -84,8 +84,8 @@ fn piece_from(whole: &Slab, position: u64, length: u64) -> Slab
     }
 }
 
-// The first point of `slabs` at the leaves of `piece` where a stored plan blocks the operator's plan `id` with
-// this priority. The slabs that the store returns may extend beyond the piece, so they are cut to it.
+// The first point of `slabs` at the leaves of `piece` where a stored plan blocks the operator's plan `id`
+// with this priority. The slabs that the store returns may extend beyond the piece, so they are cut to it.
 fn first_at<S: PlanStore>(
     alloc: Global,
     store: &mut S,

@@ -135,8 +135,8 @@ impl<S: Alter> DeskTables<S> {
     }
 }
 
-// The plan whose row of `plan` is `head` and whose rows of `volume2`, from the column `lower` on, are in `rows`.
-// `Store` if they are not those of a valid plan.
+// The plan whose row of `plan` is `head` and whose rows of `volume2`, from the column `lower` on, are in
+// `rows`. `Store` if they are not those of a valid plan.
 fn plan_of_rows(alloc: Global, head: &Row, rows: &[Row]) -> Result<PlanRow, StoreFault>
     ensures value { IfOk result (λ plan. (p : Plan) → IsId p.id → IsHead head.now p
         → AllByRecursion IsValidVolume p.area → AllZip (λ row v. IsVolumeAt row 3 v) rows.now p.area

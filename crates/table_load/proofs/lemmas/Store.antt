@@ -16,7 +16,7 @@ use Rattle.desk_sql.specs.declared.opening.finding.TablesPresent.TheVariants.{No
 use Rattle.desk_store.specs.World.{World}
 use Rattle.row_codec.specs.Tables.{AreTables}
 use Rattle.desk_store.specs.Content.{IsContent}
-use Rattle.table_load.specs.Standing.{HoldsContent, Stands}
+use Rattle.table_load.specs.Standing.{IsDatabaseOf, Stands}
 use Rattle.table_load.specs.Opening.{IsContentOf}
 
 module _ {S : Type 0} (g : Ghosts S) (old new : Held S) (w : World) (stood : Stands g old w) where
@@ -28,7 +28,7 @@ module _ {S : Type 0} (g : Ghosts S) (old new : Held S) (w : World) (stood : Sta
     standing = λ clean live. standing clean live;
   }
     where
-      standing : HasCleanDisk (state g new) → IsTrue (state g new).is_open → HoldsContent g new w
+      standing : HasCleanDisk (state g new) → IsTrue (state g new).is_open → IsDatabaseOf g new w
       standing clean live =
           let shows = reads.kept clean live in
           let before = stood.standing (omega (arith, reads.doubt, clean)) shows.was_open in
