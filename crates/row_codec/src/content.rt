@@ -96,7 +96,7 @@ impl<T: Drop> From<AllocFailed<T>> for RowFault {
 /// `OutOfMemory` if memory runs out. `InvalidRows` if one isn't the row of an operator within the limits.
 pub fn operators_in(alloc: Global, rows: &[Row]) -> Result<Vec<ListedOperator>, RowFault>
     ensures ok { IfOk result (λ operators. AreOperatorRows operators.items rows.now) }
-    ensures none { IfErr result (λ e. e ≡ RowFault.InvalidRows →
+    ensures refused { IfErr result (λ e. e ≡ RowFault.InvalidRows →
         (ls : List Listed) → ¬ AreOperatorRows ls rows.now) }
 {
     let mut operators = Vec::new(alloc);
@@ -119,7 +119,7 @@ pub fn plans_in(
     volumes: &[Row],
 ) -> Result<Vec<FiledPlan>, RowFault>
     ensures ok { IfOk result (λ plans. ArePlanRows plans.items head_rows.now volumes.now) }
-    ensures none { IfErr result (λ e. e ≡ RowFault.InvalidRows → (ps : List Filed) →
+    ensures refused { IfErr result (λ e. e ≡ RowFault.InvalidRows → (ps : List Filed) →
         IsStrictlySortedBy filed_cmp ps → ¬ ArePlanRows ps head_rows.now volumes.now) }
 {
     let mut plans = Vec::new(alloc);

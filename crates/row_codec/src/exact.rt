@@ -80,7 +80,7 @@ impl Model for FiledPlan {
 /// `OutOfMemory` if memory runs out. `InvalidRows` if it isn't the row of an operator within the limits.
 pub(crate) fn listed_in(row: &Row) -> Result<ListedOperator, RowFault>
     ensures ok { IfOk result (λ l. IsOperator l × (row.now ≡ row_of_operator l)) }
-    ensures none { IfErr result (λ e. e ≡ RowFault.InvalidRows →
+    ensures refused { IfErr result (λ e. e ≡ RowFault.InvalidRows →
         (l : Listed) → IsOperator l → row.now ≢ row_of_operator l) }
 {
     let Some(operator) = operator_in(row) else {
@@ -104,7 +104,7 @@ pub(crate) fn listed_in(row: &Row) -> Result<ListedOperator, RowFault>
 /// `OutOfMemory` if memory runs out. `InvalidRows` if they aren't the rows of a plan within the limits.
 pub(crate) fn filed_in(alloc: Global, head: &Row, volumes: &[Row]) -> Result<FiledPlan, RowFault>
     ensures ok { IfOk result (λ p. IsFiled p × AreRowsOf p head.now volumes.now) }
-    ensures none { IfErr result (λ e. e ≡ RowFault.InvalidRows →
+    ensures refused { IfErr result (λ e. e ≡ RowFault.InvalidRows →
         (p : Filed) → IsFiled p → ¬ AreRowsOf p head.now volumes.now) }
 {
     let Some(operator) = operator_in(head) else {

@@ -50,7 +50,7 @@ impl PlanCollector {
         ensures plans { OnOk result (self.new.plans.items
             ≡ closed_plans self.old.plans.items self.old.head self.old.volumes.items) }
         ensures volumes { self.new.volumes.items ≡ [] }
-        ensures none { IfErr result (λ e. e ≡ StoreFault.Store →
+        ensures refused { IfErr result (λ e. e ≡ StoreFault.Store →
             HasNoArea self.old.head self.old.volumes.items) }
     {
         let volumes = mem::replace(&mut self.volumes, Vec::new(self.alloc));
@@ -70,7 +70,7 @@ impl PlanCollector {
         ensures head { OnOk result (IsSomeAnd self.new.head (λ head.
             (p : Plan) → IsId p.id → IsHead row.now p → plan_with head p.area ≡ p)) }
         ensures volumes { OnOk result (self.new.volumes.items ≡ []) }
-        ensures none { IfErr result (λ e. e ≡ StoreFault.Store →
+        ensures refused { IfErr result (λ e. e ≡ StoreFault.Store →
             HasNoArea self.old.head self.old.volumes.items ⊎ IsNoHead row.now) }
     {
         self.finish_plan()?;
@@ -84,7 +84,7 @@ impl PlanCollector {
             → AllByRecursion (λ p. IsPlan p.row) ps
             → Leads self.old.plans.items self.old.head self.old.volumes.items (row.now ∷ left) ps
             → Leads self.new.plans.items self.new.head self.new.volumes.items left ps) }
-        ensures none { IfErr result (λ e. e ≡ StoreFault.Store →
+        ensures refused { IfErr result (λ e. e ≡ StoreFault.Store →
             IsUngathered self.old.head self.old.volumes.items row.now) }
     {
         if !is_later(row) {
@@ -106,7 +106,7 @@ impl PlanCollector {
             → AllByRecursion (λ p. IsPlan p.row) ps
             → HasCollected self.plans.items self.head self.volumes.items (listing_rows ps)
             → plans.items ≡ map (λ p. p.row) ps) }
-        ensures none { IfErr result (λ e. e ≡ StoreFault.Store →
+        ensures refused { IfErr result (λ e. e ≡ StoreFault.Store →
             HasNoArea self.head self.volumes.items) }
     {
         self.finish_plan()?;

@@ -92,7 +92,7 @@ pub fn span_filter_from(question: &Span, extent: &Slab, least: u32) -> SpanFilte
 // The slab in the columns of `span2` from `first` on, with its plan's priority.
 fn held_in(row: &Row) -> Result<Held, StoreFault>
     ensures value { IfOk result (λ held. IsHeldIn row.now held) }
-    ensures none { IfErr result (λ e. e ≡ StoreFault.Store → IsNoHeld row.now) }
+    ensures refused { IfErr result (λ e. e ≡ StoreFault.Store → IsNoHeld row.now) }
 {
     Ok(Held {
         slab: slab_in(row)?,
@@ -103,7 +103,7 @@ fn held_in(row: &Row) -> Result<Held, StoreFault>
 // The slab in the columns `first` to `stop` of `span2`, which are the first six of `row`.
 fn slab_in(row: &Row) -> Result<Slab, StoreFault>
     ensures value { IfOk result (λ slab. IsSlabIn row.now slab) }
-    ensures none { IfErr result (λ e. e ≡ StoreFault.Store → (shown : One) → FitsColumns shown
+    ensures refused { IfErr result (λ e. e ≡ StoreFault.Store → (shown : One) → FitsColumns shown
         → ¬ IsSlabIn row.now shown.slab) }
 {
     Ok(Slab {
@@ -120,7 +120,7 @@ fn slab_in(row: &Row) -> Result<Slab, StoreFault>
 fn position_at(row: &Row, at: usize) -> Result<u64, StoreFault>
     ensures value { IfOk result (λ position. column row.now at ≡ Int (pos position)) }
     ensures leaf { IfOk result (λ position. position < 6 * 2 ^ 60) }
-    ensures none { IfErr result (λ e. e ≡ StoreFault.Store →
+    ensures refused { IfErr result (λ e. e ≡ StoreFault.Store →
         (n : ℕ) → n < 6 * 2 ^ 60 → column row.now at ≢ Int (pos n)) }
 {
     let position = i64_at(row, at)?;

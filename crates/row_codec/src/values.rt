@@ -59,7 +59,7 @@ pub fn or_fault<T>(answer: Result<T, Error>, reported: StoreFault) -> Result<T, 
 // The integer of 32 bits in the column `at`; `Store` if it isn't one.
 pub(crate) fn i32_at(row: &Row, at: usize) -> Result<i32, StoreFault>
     ensures value { IfOk result (λ n. column row.now at ≡ Int n) }
-    ensures none { IfErr result (λ e. e ≡ StoreFault.Store →
+    ensures refused { IfErr result (λ e. e ≡ StoreFault.Store →
         (n : ℤ) → FitsSigned w32 n → column row.now at ≢ Int n) }
 {
     match row.get(at) {
@@ -71,7 +71,7 @@ pub(crate) fn i32_at(row: &Row, at: usize) -> Result<i32, StoreFault>
 // The integer in the column `at`; `Store` if it isn't one.
 pub(crate) fn i64_at(row: &Row, at: usize) -> Result<i64, StoreFault>
     ensures value { IfOk result (λ n. column row.now at ≡ Int n) }
-    ensures none { IfErr result (λ e. e ≡ StoreFault.Store → (n : ℤ) → column row.now at ≢ Int n) }
+    ensures refused { IfErr result (λ e. e ≡ StoreFault.Store → (n : ℤ) → column row.now at ≢ Int n) }
 {
     match row.get(at) {
         Ok(n) => Ok(n),
@@ -82,7 +82,7 @@ pub(crate) fn i64_at(row: &Row, at: usize) -> Result<i64, StoreFault>
 // The bytes in the column `at`; `Store` if it isn't a blob.
 fn blob_at(row: &Row, at: usize) -> Result<Vec<u8>, StoreFault>
     ensures value { IfOk result (λ bytes. column row.now at ≡ Blob bytes.items) }
-    ensures none { IfErr result (λ e. e ≡ StoreFault.Store →
+    ensures refused { IfErr result (λ e. e ≡ StoreFault.Store →
         (bytes : List ℕ) → column row.now at ≢ Blob bytes) }
 {
     match row.get(at) {
@@ -101,7 +101,7 @@ pub fn volume_in(alloc: Global, row: &Row, at: usize) -> Result<Volume, StoreFau
     ensures value { IfOk result (λ volume. (v : Block) → IsValidVolume v → IsVolumeAt row.now at v
         → volume ≡ v) }
     ensures is { IfOk result (λ volume. IsValidVolume volume × IsVolumeAt row.now at volume) }
-    ensures none { IfErr result (λ e. e ≡ StoreFault.Store →
+    ensures refused { IfErr result (λ e. e ≡ StoreFault.Store →
         (v : Block) → IsValidVolume v → ¬ IsVolumeAt row.now at v) }
 {
     one_shape();
@@ -143,7 +143,7 @@ pub fn area_in(alloc: Global, rows: &[Row], at: usize) -> Result<Area, StoreFaul
         → AllZip (λ row v. IsVolumeAt row at v) rows.now vs → area ≡ vs) }
     ensures are { IfOk result (λ area. AllByRecursion IsValidVolume area
         × AllZip (λ row v. IsVolumeAt row at v) rows.now area) }
-    ensures none { IfErr result (λ e. e ≡ StoreFault.Store →
+    ensures refused { IfErr result (λ e. e ≡ StoreFault.Store →
         (vs : List Block) → IsTrue (is_area vs) → AllByRecursion IsValidVolume vs
         → ¬ AllZip (λ row v. IsVolumeAt row at v) rows.now vs) }
 {
@@ -164,7 +164,7 @@ pub fn area_in(alloc: Global, rows: &[Row], at: usize) -> Result<Area, StoreFaul
 /// `OutOfMemory` if memory runs out. `Store` if the column isn't such a number.
 pub fn count_at(row: &Row, at: usize) -> Result<u32, StoreFault>
     ensures value { IfOk result (λ n. column row.now at ≡ Int (pos n)) }
-    ensures none { IfErr result (λ e. e ≡ StoreFault.Store →
+    ensures refused { IfErr result (λ e. e ≡ StoreFault.Store →
         (n : ℕ) → n < 2 ^ 32 → column row.now at ≢ Int (pos n)) }
 {
     match row.get(at) {
@@ -176,7 +176,7 @@ pub fn count_at(row: &Row, at: usize) -> Result<u32, StoreFault>
 // The text in the column `at`; `Store` if it isn't one.
 fn text_at(row: &Row, at: usize) -> Result<String, StoreFault>
     ensures value { IfOk result (λ text. column row.now at ≡ Text (string_bytes text)) }
-    ensures none { IfErr result (λ e. e ≡ StoreFault.Store →
+    ensures refused { IfErr result (λ e. e ≡ StoreFault.Store →
         (text : List ℕ) → IsUtf8 text → column row.now at ≢ Text text) }
 {
     match row.get(at) {
@@ -194,7 +194,7 @@ pub fn id_in(row: &Row) -> Result<PlanId, StoreFault>
     ensures value { IfOk result (λ found. (id : List ℕ) → IsId id
         → column row.now 1 ≡ Text (id_text id) → found ≡ id) }
     ensures is { IfOk result (λ found. IsId found) }
-    ensures none { IfErr result (λ e. e ≡ StoreFault.Store →
+    ensures refused { IfErr result (λ e. e ≡ StoreFault.Store →
         (id : List ℕ) → IsId id → column row.now 1 ≢ Text (id_text id)) }
 {
     let text = text_at(row, 1)?;
@@ -207,7 +207,7 @@ pub fn id_in(row: &Row) -> Result<PlanId, StoreFault>
 // The usage in the fourth column of a row of `plan`.
 fn usage_in(row: &Row) -> Result<Usage, StoreFault>
     ensures value { IfOk result (λ usage. column row.now 3 ≡ Int (pos (usage_number usage))) }
-    ensures none { IfErr result (λ e. e ≡ StoreFault.Store →
+    ensures refused { IfErr result (λ e. e ≡ StoreFault.Store →
         (usage : Use) → column row.now 3 ≢ Int (pos (usage_number usage))) }
 {
     match count_at(row, 3)? {
@@ -221,7 +221,7 @@ fn usage_in(row: &Row) -> Result<Usage, StoreFault>
 // The state of the aircraft in the fifth column of a row of `plan`.
 fn aircraft_in(row: &Row) -> Result<Aircraft, StoreFault>
     ensures value { IfOk result (λ aircraft. column row.now 4 ≡ Int (pos (aircraft_number aircraft))) }
-    ensures none { IfErr result (λ e. e ≡ StoreFault.Store →
+    ensures refused { IfErr result (λ e. e ≡ StoreFault.Store →
         (aircraft : State) → column row.now 4 ≢ Int (pos (aircraft_number aircraft))) }
 {
     match count_at(row, 4)? {
@@ -265,7 +265,7 @@ pub fn head_in(row: &Row) -> Result<PlanHead, StoreFault>
     ensures value { IfOk result (λ head. (p : Plan) → IsId p.id → IsHead row.now p
         → plan_with head p.area ≡ p) }
     ensures is { IfOk result (λ head. IsId head.id × AreNumbersOf row.now (plan_with head [])) }
-    ensures none { IfErr result (λ e. e ≡ StoreFault.Store →
+    ensures refused { IfErr result (λ e. e ≡ StoreFault.Store →
         (p : Plan) → IsId p.id → p.priority < 2 ^ 32 → ¬ IsHead row.now p) }
 {
     Ok(PlanHead {
@@ -286,7 +286,7 @@ pub fn plan_in(row: &Row, area: Area) -> Result<PlanRow, StoreFault>
         → area ≡ p.area → plan ≡ p) }
     ensures is { IfOk result (λ plan. IsId plan.id × (plan.area ≡ area)
         × AreNumbersOf row.now plan) }
-    ensures none { IfErr result (λ e. e ≡ StoreFault.Store →
+    ensures refused { IfErr result (λ e. e ≡ StoreFault.Store →
         (p : Plan) → IsId p.id → p.priority < 2 ^ 32 → ¬ IsHead row.now p) }
 {
     let head = head_in(row)?;

@@ -85,7 +85,7 @@ pub(crate) fn find_desk_tables<S: Alter>(
     ensures rows { IfOk result (λ found.
         Holds S.Store connection.new (HasRowsOld found.0 found.1)) }
     ensures some { IfOk result (λ found. found.1 ≡ true → found.0 ≢ TablesPresent.Nothing) }
-    ensures none { IfErr result (λ e. e ≡ OpenFault.NotADesk →
+    ensures refused { IfErr result (λ e. e ≡ OpenFault.NotADesk →
         ShowsNoDesk S.Store connection.old connection.new) }
     ensures newer { IfErr result (λ e. e ≢ OpenFault.OldSchema) }
     ensures cause { IfErr result (BlamesDatabase S.Store connection.old connection.new) }
@@ -214,7 +214,7 @@ pub(crate) fn parse_heads(
 ) -> Result<(Vec<ListedOperator>, Vec<FiledPlan>), OpenFault>
     ensures value { IfOk result (λ found. AreParts heads.now found.0.items found.1.items) }
     ensures few { IfOk result (λ found. length (volume_rows found.1.items) < 2 ^ 63) }
-    ensures none { IfErr result (λ e. e ≡ OpenFault.NotADesk → (w : World) (spans : List Values)
+    ensures refused { IfErr result (λ e. e ≡ OpenFault.NotADesk → (w : World) (spans : List Values)
         → IsContent w → ¬ AreRows (record heads.now { spans = spans }) w) }
     ensures fault { IfErr result (λ e. (e ≢ OpenFault.Store) × (e ≢ OpenFault.OldSchema)) }
 {
@@ -236,7 +236,7 @@ fn parse_covered_heads(
     ensures value { IfOk result (λ found. AreParts heads.now found.0.items found.1.items) }
     ensures agree { OnOk result (IsTrue covered) }
     ensures few { IfOk result (λ found. length (volume_rows found.1.items) < 2 ^ 63) }
-    ensures none { IfErr result (λ e. e ≡ OpenFault.NotADesk → (w : World) (spans : List Values)
+    ensures refused { IfErr result (λ e. e ≡ OpenFault.NotADesk → (w : World) (spans : List Values)
         → IsContent w → AreRows (record heads.now { spans = spans }) w → ¬ IsTrue covered) }
     ensures fault { IfErr result (λ e. (e ≢ OpenFault.Store) × (e ≢ OpenFault.OldSchema)) }
 {
@@ -275,7 +275,7 @@ pub(crate) fn finish_content(
         → OnOk result (AreSpanRows check.plans.items rows) }
     ensures bounded { AreListedInOrder operators.items check.plans.items
         → IfOk result (λ found. Knows found.1 found.0) }
-    ensures none { IfErr result (λ e. e ≡ OpenFault.NotADesk → (rows : List Values)
+    ensures refused { IfErr result (λ e. e ≡ OpenFault.NotADesk → (rows : List Values)
         → AreHeld check rows → ¬ AreSpanRows check.plans.items rows) }
     ensures fault { IfErr result (λ e. (e ≢ OpenFault.Store) × (e ≢ OpenFault.OldSchema)) }
 {

@@ -58,7 +58,7 @@ pub fn read_stats<S: Alter>(
     requires settled { connection.old.in_transaction ≡ false }
     ensures value { IfOk result (λ holdings. (w : World) × AreHoldingsOf holdings w
         × ShowsContent S.Store connection.old connection.new holdings.is_old w) }
-    ensures none { IfErr result (λ e. e ≡ OpenFault.NotADesk →
+    ensures refused { IfErr result (λ e. e ≡ OpenFault.NotADesk →
         ShowsNone S.Store connection.old connection.new) }
     ensures newer { IfErr result (λ e. e ≢ OpenFault.OldSchema) }
     ensures cause { IfErr result (BlamesDatabase S.Store connection.old connection.new) }
@@ -102,7 +102,7 @@ pub fn read_content<S: Alter>(
     ensures content { IfOk result (λ found. IsContent found.0) }
     ensures few { IfOk result (λ found. HaveFewRows found.0.plans) }
     ensures bounded { IfOk result (λ found. Knows found.1 found.0) }
-    ensures none { IfErr result (λ e. e ≡ OpenFault.NotADesk →
+    ensures refused { IfErr result (λ e. e ≡ OpenFault.NotADesk →
         ShowsNone S.Store connection.old connection.new) }
     ensures newer { IfErr result (λ e. e ≢ OpenFault.OldSchema) }
     ensures cause { IfErr result (BlamesDatabase S.Store connection.old connection.new) }

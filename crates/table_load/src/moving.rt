@@ -254,7 +254,7 @@ fn read_old_heads_alone<S: Alter>(
         × AreSortedOld (tables_at made (state S.Store connection.old).now.trees) heads) }
     ensures open { WasOpen S.Store connection.old connection.new result }
     ensures live { OnOk result (IsOpenIfClean S.Store connection.new) }
-    ensures none { IfErr result (λ e. e ≡ OpenFault.NotADesk → HasCleanDisk (state S.Store connection.new)
+    ensures refused { IfErr result (λ e. e ≡ OpenFault.NotADesk → HasCleanDisk (state S.Store connection.new)
         → ¬ HasNoNewRows (tables_at made (state S.Store connection.old).now.trees)) }
     ensures newer { IfErr result (λ e. e ≢ OpenFault.OldSchema) }
     ensures cause { IfErr result (BlamesReading S.Store connection.old connection.new) }
@@ -320,7 +320,7 @@ fn parse_old_heads(
 ) -> Result<(Vec<ListedOperator>, Vec<FiledPlan>), OpenFault>
     ensures value { IfOk result (λ found. AreOldParts heads.now found.0.items found.1.items) }
     ensures few { IfOk result (λ found. length (tables.volume_rows found.1.items) < 2 ^ 63) }
-    ensures none { IfErr result (λ e. e ≡ OpenFault.NotADesk → (w : World) (spans : List Values)
+    ensures refused { IfErr result (λ e. e ≡ OpenFault.NotADesk → (w : World) (spans : List Values)
         → IsOldContent w → ¬ AreRows (record heads.now { spans = spans }) w) }
     ensures fault { IfErr result (λ e. (e ≢ OpenFault.Store) × (e ≢ OpenFault.OldSchema)) }
 {

@@ -295,7 +295,7 @@ fn plan_or_volume(volume: InvalidPart, heads: &[Row]) -> InvalidPart
 // Checks that each row is that of a plan in `plan`, whatever its volumes are; else `InvalidRows`.
 fn check_plan_rows(heads: &[Row]) -> Result<(), RowFault>
     ensures are { OnOk result (ArePlanHeads heads.now) }
-    ensures none { IfErr result (λ e. e ≡ RowFault.InvalidRows → ¬ ArePlanHeads heads.now) }
+    ensures refused { IfErr result (λ e. e ≡ RowFault.InvalidRows → ¬ ArePlanHeads heads.now) }
 {
     let mut left = heads;
     'head: while let Some((head, later)) = left.split_first() {
@@ -308,7 +308,7 @@ fn check_plan_rows(heads: &[Row]) -> Result<(), RowFault>
 // Checks that `head` is the row of a plan in `plan`, whatever its volumes are; else `InvalidRows`.
 fn check_plan_row(head: &Row) -> Result<(), RowFault>
     ensures is { OnOk result (IsPlanHead head.now) }
-    ensures none { IfErr result (λ e. e ≡ RowFault.InvalidRows → ¬ IsPlanHead head.now) }
+    ensures refused { IfErr result (λ e. e ≡ RowFault.InvalidRows → ¬ IsPlanHead head.now) }
 {
     let Some(operator) = operator_in(head) else {
         return Err(RowFault::InvalidRows);

@@ -170,7 +170,7 @@ impl<S: Alter> DeskTables<S> {
 fn numbers_in(head: &Row) -> Result<(u32, u32), StoreFault>
     ensures priority { IfOk result (λ found. column head.now 2 ≡ Int (pos found.0)) }
     ensures aircraft { IfOk result (λ found. column head.now 4 ≡ Int (pos found.1)) }
-    ensures none { IfErr result (λ e. e ≡ StoreFault.Store → (p : Plan) → p.priority < 2 ^ 32
+    ensures refused { IfErr result (λ e. e ≡ StoreFault.Store → (p : Plan) → p.priority < 2 ^ 32
         → ¬ IsHead head.now p) }
 {
     let priority = count_at(head, 2)?;

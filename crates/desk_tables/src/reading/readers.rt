@@ -141,7 +141,7 @@ fn plan_of_rows(alloc: Global, head: &Row, rows: &[Row]) -> Result<PlanRow, Stor
     ensures value { IfOk result (λ plan. (p : Plan) → IsId p.id → IsHead head.now p
         → AllByRecursion IsValidVolume p.area → AllZip (λ row v. IsVolumeAt row 3 v) rows.now p.area
         → plan ≡ p) }
-    ensures none { IfErr result (λ e. e ≡ StoreFault.Store → (p : Plan) → IsPlan p
+    ensures refused { IfErr result (λ e. e ≡ StoreFault.Store → (p : Plan) → IsPlan p
         → p.priority < 2 ^ 32 → IsHead head.now p
         → ¬ AllZip (λ row v. IsVolumeAt row 3 v) rows.now p.area) }
 {
@@ -161,7 +161,7 @@ fn plans_if_read(
         → AllByRecursion (λ p. IsPlan p.row) ps
         → HasCollected collector.plans.items collector.head collector.volumes.items (listing_rows ps)
         → plans.items ≡ map (λ p. p.row) ps) }
-    ensures none { IfErr result (λ e. e ≡ StoreFault.Store →
+    ensures refused { IfErr result (λ e. e ≡ StoreFault.Store →
         IfErr taken (λ error. error ≢ Error.SqliteFailure ErrorCode.OutOfMemory)
         × OnOk taken (HasNoArea collector.head collector.volumes.items)) }
 {
@@ -180,7 +180,7 @@ pub(crate) fn slabs_if_read(
 ) -> Result<Vec<Held>, StoreFault>
     ensures whole { OnOk result (IsOk handed) }
     ensures value { IfOk result (λ helds. helds.items ≡ rivals.helds.items) }
-    ensures none { IfErr result (λ e. e ≡ StoreFault.Store →
+    ensures refused { IfErr result (λ e. e ≡ StoreFault.Store →
         IsErrAnd handed (λ error. error ≢ Error.SqliteFailure ErrorCode.OutOfMemory)) }
 {
     match handed {

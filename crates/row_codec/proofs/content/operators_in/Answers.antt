@@ -2,11 +2,11 @@ use Rattle.std.proofs.Common.{subst, sym, rules}
 use Rattle.row_codec.proofs.OperatorLemmas.{AreListed, goes_on, refused}
 use Rattle.row_codec.proofs.content.operators_in.Goals as goal
 
-pub returns-in_err-listed_in-clause-none : goal.returns-in_err-listed_in-clause-none
-returns-in_err-listed_in-clause-none c =
+pub returns-in_err-listed_in-clause-refused : goal.returns-in_err-listed_in-clause-refused
+returns-in_err-listed_in-clause-refused c =
     let none = refused c.args.rows.now c.loop-row.operators.items c.loop-row.left.now c.in-Some.later.now
     c.in-Some.row.now c.loop-row.invariant c.in-Some.ensures.cases.0 in
-    search (rules, none, c.in_err-listed_in.ensures.none)
+    search (rules, none, c.in_err-listed_in.ensures.refused)
 
 pub loop-row-preserved : goal.loop-row-preserved
 loop-row-preserved c =

@@ -25,8 +25,8 @@ returns-in-Some-clause-are c =
     (ended c.loop-row-test.false c.loop-row.auto.row-index-end)
     (area_is c.loop-row.volumes.items c.in-Some.area c.in-Some.ensures) c.loop-row.invariant
 
-pub returns-in_err-volume_in-clause-none : goal.returns-in_err-volume_in-clause-none
-returns-in_err-volume_in-clause-none c =
+pub returns-in_err-volume_in-clause-refused : goal.returns-in_err-volume_in-clause-refused
+returns-in_err-volume_in-clause-refused c =
     on_err c.from_residual.result c.in_err-volume_in.field-0.0 _ c.from_residual.ensures.1
     (λ e vs limits. no_row c.args.at c.args.rows.now c.loop-row.row-index c.row-item.result c.row-item.result
-    c.loop-row-test.true c.row-item.is (c.in_err-volume_in.ensures.none e) vs)
+    c.loop-row-test.true c.row-item.is (c.in_err-volume_in.ensures.refused e) vs)

@@ -12,15 +12,15 @@ returns-in-Some-clause-value c =
     λ id is h. id_is c.deref.result.now c.in-Some.id id (column c.args.row.now 1) c.in-Some.ensures
     (c.in_ok-text.ensures.value ∙ ap Text (sym c.deref.ensures)) is h
 
-pub returns-in_err-text-clause-none : goal.returns-in_err-text-clause-none
-returns-in_err-text-clause-none c =
+pub returns-in_err-text-clause-refused : goal.returns-in_err-text-clause-refused
+returns-in_err-text-clause-refused c =
     on_err c.from_residual.result c.in_err-text.field-0.0 _ c.from_residual.ensures.1
-    (λ e id is. c.in_err-text.ensures.none e (id_text id) (id_is_text id))
+    (λ e id is. c.in_err-text.ensures.refused e (id_text id) (id_is_text id))
 
 pub returns-in-Some-clause-is : goal.returns-in-Some-clause-is
 returns-in-Some-clause-is c = parsed_id c.deref.result.now c.in-Some.id c.in-Some.ensures
 
-pub returns-clause-none : goal.returns-clause-none
-returns-clause-none c =
+pub returns-clause-refused : goal.returns-clause-refused
+returns-clause-refused c =
     λ _. no_id c.deref.result.now (column c.args.row.now 1) c.in-None.ensures
     (c.in_ok-text.ensures.value ∙ ap Text (sym c.deref.ensures))

@@ -22,19 +22,19 @@ returns-in-Ok-try_new-clause-value c =
     window (subst (λ bytes. AreBytesOf bytes (shape_of c.in-Some.footprint)) c.deref.ensures.value
     (rw c.in-Some.is at c.in_ok-footprint.ensures)) c.in-Ok-try_new.ensures.value
 
-pub returns-in_err-lower-clause-none : goal.returns-in_err-lower-clause-none
-returns-in_err-lower-clause-none c =
+pub returns-in_err-lower-clause-refused : goal.returns-in_err-lower-clause-refused
+returns-in_err-lower-clause-refused c =
     on_err c.from_residual.result c.in_err-lower.field-0.0 _ c.from_residual.ensures.1
-    (λ e. no_lower c.args.row.now c.args.at (c.in_err-lower.ensures.none e))
+    (λ e. no_lower c.args.row.now c.args.at (c.in_err-lower.ensures.refused e))
 
-pub returns-in_err-upper-clause-none : goal.returns-in_err-upper-clause-none
-returns-in_err-upper-clause-none c =
+pub returns-in_err-upper-clause-refused : goal.returns-in_err-upper-clause-refused
+returns-in_err-upper-clause-refused c =
     on_err c.from_residual-in_err-upper.result c.in_err-upper.field-0.0 _
     c.from_residual-in_err-upper.ensures.1
-    (λ e. no_upper c.args.row.now c.args.at (c.in_err-upper.ensures.none e))
+    (λ e. no_upper c.args.row.now c.args.at (c.in_err-upper.ensures.refused e))
 
-pub returns-in_default-clause-none : goal.returns-in_default-clause-none
-returns-in_default-clause-none c =
+pub returns-in_default-clause-refused : goal.returns-in_default-clause-refused
+returns-in_default-clause-refused c =
     let lower : SFits w32 c.in_ok-lower.lower = search rules in
     let upper : SFits w32 c.in_ok-upper.upper = search rules in
     let start : SFits w64 c.in_ok-start.start = search rules in
@@ -50,8 +50,8 @@ returns-in_default-clause-none c =
     c.in_ok-lower.ensures.value c.in_ok-upper.ensures.value c.in_ok-start.ensures.value
     c.in_ok-end.ensures.value refused
 
-pub returns-in_default-2-clause-none : goal.returns-in_default-2-clause-none
-returns-in_default-2-clause-none c =
+pub returns-in_default-2-clause-refused : goal.returns-in_default-2-clause-refused
+returns-in_default-2-clause-refused c =
     λ _. no_footprint c.args.row.now c.args.at c.in_ok-asked.asked.items c.in_ok-asked.ensures.value
     (subst (λ bytes. (shape : Shape) → AreBytesOf bytes shape → ⊥) c.deref.ensures.value
     (rw c.in_default-2.is at c.in_ok-footprint.ensures))
@@ -76,8 +76,8 @@ returns-in-Ok-try_new-clause-is c =
     (rw c.in-Some.is at c.in_ok-footprint.ensures)) c.in-Ok-try_new.ensures.limits
     c.in-Ok-try_new.ensures.value
 
-pub returns-clause-none : goal.returns-clause-none
-returns-clause-none c =
+pub returns-clause-refused : goal.returns-clause-refused
+returns-clause-refused c =
     let bytes = subst (λ bytes. AreBytesOf bytes (shape_of c.in-Some.footprint)) c.deref.ensures.value
     (rw c.in-Some.is at c.in_ok-footprint.ensures) in
     let shape = shape_of c.in-Some.footprint in

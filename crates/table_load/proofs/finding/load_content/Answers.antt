@@ -14,7 +14,7 @@ returns-in_err-operators-clause-read g c =
     refused_in_hand g.S.Store c.args.made c.args.connection.now c.read_heads.new.connection
     c.from_residual-in_err-operators.result _ c.from_residual-in_err-operators.ensures.1 heads.reads
     (λ reported clean. none_of_heads (tables_at c.args.made (state g.S.Store c.args.connection.now).now.trees)
-    c.in_ok-heads.heads c.in_ok-heads.covered (heads.value clean) (c.in_err-operators.ensures.none reported))
+    c.in_ok-heads.heads c.in_ok-heads.covered (heads.value clean) (c.in_err-operators.ensures.refused reported))
     c.in_err-operators.ensures.fault
 
 pub returns-clause-read : goal.returns-clause-read
@@ -39,7 +39,7 @@ returns-clause-read g c =
     (reads_then g.S.Store a m b heads.reads taken.reads)
     (listed_since g.S.Store c.args.made (λ t. t.spans) a m b Checked heads.reads taken.reads heads.live
     taken.value)
-    c.finish_content.ensures.value c.finish_content.ensures.agree c.finish_content.ensures.none
+    c.finish_content.ensures.value c.finish_content.ensures.agree c.finish_content.ensures.refused
     c.finish_content.ensures.fault
 
 pub returns-clause-content : goal.returns-clause-content

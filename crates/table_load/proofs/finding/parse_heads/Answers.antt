@@ -9,18 +9,18 @@ use Rattle.row_codec.specs.contracts.content.TableRows.{the_view}
 use Rattle.table_load.proofs.lemmas.Assembly.{no_plans, none_if}
 use Rattle.table_load.proofs.finding.parse_heads.Goals as goal
 
-pub returns-in_err-plans-clause-none : goal.returns-in_err-plans-clause-none
-returns-in_err-plans-clause-none c =
+pub returns-in_err-plans-clause-refused : goal.returns-in_err-plans-clause-refused
+returns-in_err-plans-clause-refused c =
     let none : c.in_err-plans.field-0.0 ≡ InvalidRows → (w : World) (spans : List Row) → IsContent w
     → AreRows (record c.args.heads.now { spans = spans }) w → ⊥ = λ n w spans h are.
     no_plans (record (the_view c.heads.inside) { spans = spans }) (record c.args.heads.now { spans = spans })
     c.deref-2.result.now c.deref-3.result.now
     (ap (λ (t : Tables). record t { spans = spans }) c.heads.view_is) c.deref-2.ensures.value
-    c.deref-3.ensures.value (c.in_err-plans.ensures.none n) w h are in
+    c.deref-3.ensures.value (c.in_err-plans.ensures.refused n) w h are in
     search (rules, none)
 
-pub returns-then-not-are_in_order-clause-none : goal.returns-then-not-are_in_order-clause-none
-returns-then-not-are_in_order-clause-none c = λ _ w spans h are.
+pub returns-then-not-are_in_order-clause-refused : goal.returns-then-not-are_in_order-clause-refused
+returns-then-not-are_in_order-clause-refused c = λ _ w spans h are.
     none_if c.one_shape.ensures (record (the_view c.heads.inside) { spans = spans })
     (record c.args.heads.now { spans = spans }) c.deref.result.now c.deref-2.result.now c.deref-3.result.now
     spans c.in_ok-operators.operators.items c.deref-4.result.now c.in_ok-plans.plans.items

@@ -5,16 +5,16 @@ use Rattle.table_load.proofs.NoneShownLemmas.{none_later_shown, none_shown}
 use Rattle.table_load.proofs.lemmas.Opening.{reported_as}
 use Rattle.table_load.proofs.looking.read_content.Goals as goal
 
-pub returns-in_err-made-clause-none : goal.returns-in_err-made-clause-none
-returns-in_err-made-clause-none g c =
+pub returns-in_err-made-clause-refused : goal.returns-in_err-made-clause-refused
+returns-in_err-made-clause-refused g c =
     let old = c.args.connection.now in
     let new = c.find_desk_tables.new.connection in
     reported_as (λ e. e ≡ NotADesk → ShowsNone g.S.Store old new) c.from_residual.result _
     c.from_residual.ensures.1
-    (λ n. none_shown g.S.Store old new (c.in_err-made.ensures.none n))
+    (λ n. none_shown g.S.Store old new (c.in_err-made.ensures.refused n))
 
-pub returns-in_err-content-clause-none : goal.returns-in_err-content-clause-none
-returns-in_err-content-clause-none g c =
+pub returns-in_err-content-clause-refused : goal.returns-in_err-content-clause-refused
+returns-in_err-content-clause-refused g c =
     let a = c.args.connection.now in
     let b = c.find_desk_tables.new.connection in
     let d = c.load_content_in_schema.new.connection in

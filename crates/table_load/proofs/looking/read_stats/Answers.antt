@@ -4,7 +4,7 @@ use Rattle.table_load.specs.HeldContent.{ShowsNone}
 use Rattle.table_load.proofs.lemmas.Opening.{reported_as}
 use Rattle.table_load.proofs.looking.read_stats.Goals as goal
 
-pub returns-in_err-content-clause-none : goal.returns-in_err-content-clause-none
-returns-in_err-content-clause-none g c =
+pub returns-in_err-content-clause-refused : goal.returns-in_err-content-clause-refused
+returns-in_err-content-clause-refused g c =
     reported_as (λ e. e ≡ NotADesk → ShowsNone g.S.Store c.args.connection.now c.read_content.new.connection)
-    c.from_residual.result _ c.from_residual.ensures.1 c.in_err-content.ensures.none
+    c.from_residual.result _ c.from_residual.ensures.1 c.in_err-content.ensures.refused

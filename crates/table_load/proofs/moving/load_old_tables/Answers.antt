@@ -13,7 +13,7 @@ returns-in_err-heads-clause-read g c =
     let heads = c.in_err-heads.ensures in
     refused_on g.S.Store c.args.made c.args.connection.now c.read_old_heads_alone.new.connection
     c.from_residual.result _ c.from_residual.ensures.1 heads.reads
-    (λ reported clean w old are. heads.none reported clean are.new) heads.newer heads.cause
+    (λ reported clean w old are. heads.refused reported clean are.new) heads.newer heads.cause
 
 pub returns-in_err-operators-clause-read : goal.returns-in_err-operators-clause-read
 returns-in_err-operators-clause-read g c =
@@ -21,7 +21,7 @@ returns-in_err-operators-clause-read g c =
     refused_in_hand g.S.Store c.args.made c.args.connection.now c.read_old_heads_alone.new.connection
     c.from_residual-in_err-operators.result _ c.from_residual-in_err-operators.ensures.1 heads.reads
     (λ reported clean. none_of_old_heads (tables_at c.args.made (state g.S.Store c.args.connection.now).now.trees)
-    c.in_ok-heads.heads (heads.value clean).1 (c.in_err-operators.ensures.none reported))
+    c.in_ok-heads.heads (heads.value clean).1 (c.in_err-operators.ensures.refused reported))
     c.in_err-operators.ensures.fault
 
 pub returns-clause-read : goal.returns-clause-read
@@ -45,7 +45,7 @@ returns-clause-read g c =
     (reads_then g.S.Store a m b heads.reads taken.reads)
     (listed_since g.S.Store c.args.made (λ t. t.old_spans) a m b Checked heads.reads taken.reads heads.live
     taken.value)
-    c.finish_content.ensures.value c.finish_content.ensures.agree c.finish_content.ensures.none
+    c.finish_content.ensures.value c.finish_content.ensures.agree c.finish_content.ensures.refused
     c.finish_content.ensures.fault
 
 pub returns-clause-content : goal.returns-clause-content

@@ -10,15 +10,15 @@ use Rattle.table_load.proofs.lemmas.Assembly.{agreed, assembled, world_of}
 use Rattle.table_load.proofs.lemmas.Moving.{no_old_areas}
 use Rattle.table_load.proofs.moving.parse_old_heads.Goals as goal
 
-pub returns-in_err-operators-clause-none : goal.returns-in_err-operators-clause-none
-returns-in_err-operators-clause-none c =
+pub returns-in_err-operators-clause-refused : goal.returns-in_err-operators-clause-refused
+returns-in_err-operators-clause-refused c =
     let none : c.in_err-operators.field-0.0 ≡ NotADesk → (w : World) (spans : List Row) → IsOldContent w
     → AreRows (record c.args.heads.now { spans = spans }) w → ⊥ = λ n w spans old are.
-    c.in_err-operators.ensures.none n w spans old.content are in
+    c.in_err-operators.ensures.refused n w spans old.content are in
     search (rules, none)
 
-pub returns-then-not-branch-clause-none : goal.returns-then-not-branch-clause-none
-returns-then-not-branch-clause-none c = λ _ w spans old are.
+pub returns-then-not-branch-clause-refused : goal.returns-then-not-branch-clause-refused
+returns-then-not-branch-clause-refused c = λ _ w spans old are.
     let t : Tables = record c.args.heads.now { spans = spans } in
     let ls = c.in_ok-operators.operators.items in
     let ps = c.in_ok-operators.plans.items in

@@ -12,7 +12,7 @@ returns-then-is_keyed-clause-is c =
     c.as_str.ensures.value c.encode.ensures.text (plan_with c.in_ok-head_in.field-0 []) c.in-Some.ensures.0
     c.in_ok-id.ensures.is few numbers (c.if-is_keyed.ensures.0 refl)
 
-pub returns-else-is_keyed-clause-none : goal.returns-else-is_keyed-clause-none
-returns-else-is_keyed-clause-none c = λ _. not_keyed c.args.head.now c.in-Some.operator c.as_str.result.now
+pub returns-else-is_keyed-clause-refused : goal.returns-else-is_keyed-clause-refused
+returns-else-is_keyed-clause-refused c = λ _. not_keyed c.args.head.now c.in-Some.operator c.as_str.result.now
     c.in_ok-id.id c.encode.result.now c.as_str.ensures.value c.encode.ensures.text c.in-Some.ensures.1
     c.in_ok-id.ensures.value (λ keyed. true≢false (sym (c.if-is_keyed.ensures.1 keyed)))

@@ -12,7 +12,7 @@ returns-in-Err-clause-fault g c =
       found = c.args.connection;
       opened = λ clean. finds.first (was clean);
       fresh = c.requires.fresh;
-      none = c.in-Err.ensures.none;
+      none = c.in-Err.ensures.refused;
       newer = c.in-Err.ensures.newer;
       cause = disk_blamed over_files c.args.connection c.read_content.new.connection _
           c.requires.fresh.unlimited c.in-Err.ensures.cause;

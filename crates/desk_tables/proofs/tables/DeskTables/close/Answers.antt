@@ -109,7 +109,7 @@ returns-in_err-priority-clause-cause g c low =
     let it = head_reads c.args.operator.now c.args.id.now c.args.self.now.world
     c.in_ok-head_rows.head_rows.items
     first.0 c.in-Some.head.now head_rows.0 head_rows.1 (sym c.deref.ensures.value ∙ first.1) in
-    absurd (c.in_err-priority.ensures.none is it.0 it.1 it.2)))
+    absurd (c.in_err-priority.ensures.refused is it.0 it.1 it.2)))
 
 pub returns-clause-cause : goal.returns-clause-cause
 returns-clause-cause g c low =

@@ -32,7 +32,7 @@ returns-clause-read g c =
           (λ helds are. (rows, mine, subst (λ hs. HasTakenHelds hs rows) (sym are) taken))
           c.slabs_if_read.ensures.value));
       -- the rows of spans are read
-      cause = err_weaker c.slabs_if_read.result (BlamesSpans g.S.Store old new) c.slabs_if_read.ensures.none
+      cause = err_weaker c.slabs_if_read.result (BlamesSpans g.S.Store old new) c.slabs_if_read.ensures.refused
           (λ e why clean live is.
           (let standing = c.self.invariant.standing (omega (arith, answers.reads.doubt, clean))
           (answers.reads.kept clean live).was_open in

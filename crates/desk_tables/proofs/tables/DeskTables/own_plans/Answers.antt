@@ -39,7 +39,7 @@ returns g c =
           (subst (HasCollected collector.plans.items collector.head collector.volumes.items) listing taken))
           c.plans_if_read.ensures.value)));
       -- the rows of an operator's plans are gathered
-      cause = err_weaker c.plans_if_read.result (BlamesStore g.S.Store old new) c.plans_if_read.ensures.none
+      cause = err_weaker c.plans_if_read.result (BlamesStore g.S.Store old new) c.plans_if_read.ensures.refused
           (λ e why clean live is.
           (let before = answers.reads.kept clean live in
           let standing = c.self.invariant.standing (omega (arith, answers.reads.doubt, clean))

@@ -64,7 +64,7 @@ returns-in_err-plan_of_rows g c =
           absurd (plan_reads operator id w c.in_ok-head_rows.head_rows.items c.deref-2.result.now first.0
           c.in-Some.head.now head_rows.0 head_rows.1 (c.deref-2.ensures.value
           ∙ subst (λ v. c.in_ok-rows.rows.items ≡ volume_rows (own_of operator id v)) read.same rows.1)
-          (sym c.deref.ensures.value ∙ first.1) (c.in_err-plan_of_rows.ensures.none is))));
+          (sym c.deref.ensures.value ∙ first.1) (c.in_err-plan_of_rows.ensures.refused is))));
       same = also.same ∙ read.same;
       reads = reads_then g.S.Store _ _ _ read.reads also.reads;
     }

@@ -43,7 +43,7 @@ returns-in-Some-clause-read g c =
           weaker c.slabs_if_read.result
           (λ helds are. (rows, mine, subst (λ hs. HasTakenHelds hs rows) (sym are) taken))
           c.slabs_if_read.ensures.value)));
-      cause = err_weaker c.slabs_if_read.result (BlamesSpans g.S.Store old new) c.slabs_if_read.ensures.none
+      cause = err_weaker c.slabs_if_read.result (BlamesSpans g.S.Store old new) c.slabs_if_read.ensures.refused
           (λ e why clean live is.
           (let standing = c.self.invariant.standing (omega (arith, answers.reads.doubt, clean))
           (answers.reads.kept clean live).was_open in
@@ -88,7 +88,7 @@ returns-in-None-clause-read g c =
           (λ helds are. (rows, mine, subst (λ hs. HasTakenHelds hs rows) (sym are) taken))
           c.slabs_if_read-in-None.ensures.value)));
       cause = err_weaker c.slabs_if_read-in-None.result (BlamesSpans g.S.Store old new)
-          c.slabs_if_read-in-None.ensures.none
+          c.slabs_if_read-in-None.ensures.refused
           (λ e why clean live is.
           (let standing = c.self.invariant.standing (omega (arith, answers.reads.doubt, clean))
           (answers.reads.kept clean live).was_open in

@@ -10,4 +10,4 @@ returns-in-Err-clause-refused c = λ rows collected.
     (λ store ps left h low same.
     never_ungathered c.args.self.now.plans.items c.args.self.now.head c.args.self.now.volumes.items
     c.args.row.now left ps h low (collected ps (c.args.row.now ∷ left) h same)
-    (c.in-Err.ensures.none store))
+    (c.in-Err.ensures.refused store))
