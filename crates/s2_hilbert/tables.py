@@ -13,14 +13,14 @@ HEAD = """//! What four levels of the curve give, for each orientation, at each 
 ghost use Rattle.std.specs.Prelude.{◌≡◌, ◌*◌, ◌/◌, ◌%◌, ◌<◌};
 ghost use Rattle.s2_hilbert.specs.Curve as curve;
 
-/// Four levels down to a point: its place, and 256 times the orientation there, where the part of the
-/// table for the next four levels begins.
+/// Four levels down to a point: its place along the curve, and 256 times the orientation there (`row`), the
+/// index at which the table's entries for the next four levels begin.
 pub struct FourPlaces {
     pub place: u8,
     pub row: u16,
 }
 
-/// Four levels down to a place: the coordinates of its point, and 256 times the orientation there.
+/// Four levels down to a place: the coordinates of its point, and 256 times the orientation there (`row`).
 pub struct FourPoints {
     pub i: u8,
     pub j: u8,
@@ -41,9 +41,9 @@ macro_rules! points {
     };
 }
 
-/// The place of the point (`i`, `j`) along four levels of the curve with the orientation `turn`, and the
-/// orientation there. `key` is `turn * 256 + i * 16 + j`.
-pub fn place_of_four(key: usize) -> &'static FourPlaces
+/// Follows the curve of orientation `turn` four levels down to the point (`i`, `j`): the place of the point,
+/// and 256 times the orientation there. `key` is `turn * 256 + i * 16 + j`.
+pub fn place_four_levels_down(key: usize) -> &'static FourPlaces
     requires { key < 1024 }
     ensures place { result.now.place ≡ curve.place 4 (key / 256) (key / 16 % 16) (key % 16) }
     ensures row { result.now.row
@@ -53,8 +53,8 @@ pub fn place_of_four(key: usize) -> &'static FourPlaces
     &PLACES[key]
 }
 
-/// Follows the curve of orientation `turn` four levels down to its `place` (0 to 255): the coordinates there,
-/// and 256 times the orientation there. `key` is `turn * 256 + place`.
+/// Follows the curve of orientation `turn` four levels down to `place` (0 to 255): the coordinates of the
+/// point there, and 256 times the orientation there. `key` is `turn * 256 + place`.
 pub fn point_four_levels_down(key: usize) -> &'static FourPoints
     requires { key < 1024 }
     ensures place { curve.place 4 (key / 256) result.now.i result.now.j ≡ key % 256 }

@@ -1,4 +1,4 @@
--- What lies within a fence.
+-- What lies within a bounding box.
 use Rattle.std.proofs.Common.{◌≡◌, ℕ, ◌+◌, ◌≤◌, ◌<◌, List, [], ◌∷◌, ◌++◌, take, length, get_or, sym, ap, subst, ◌∙◌, arith}
 use Rattle.std.specs.List.{AllByRecursion}
 use Rattle.std.proofs.lemmas.List.{take_more}
@@ -13,7 +13,7 @@ use Rattle.live_index.specs.Live.{IsInBox}
 pub fenced_alone : (live : LiveVolume) → IsInBox (record { bounds = live.bounds; top = live.priority }) live
 fenced_alone live = record { within = within_itself live.bounds; top = omega arith }
 
--- a fence that is widened by one more goes round those before and that one
+-- a bounding box that is widened by one more volume encloses those before and that one
 pub fenced_more : (first : LiveVolume) (more : List LiveVolume) (i : ℕ) (live : LiveVolume) (old new : BoundingBox)
     → i < length more → live ≡ get_or more i live
     → AllByRecursion (IsInBox old) (first ∷ take i more) → IsInBox new live
@@ -27,7 +27,7 @@ fenced_more first more i live old new below is before one kept =
           (all_weaker (IsInBox old) (IsInBox new) kept (take i more) before.1) (one, tt),
     )
 
--- what lay within a fence lies within one that is joined with another
+-- what lay within a bounding box lies within its join with another
 pub fenced_still : (old : BoundingBox) (right slab : Slab) (top : ℕ) (live : LiveVolume)
     → IsJoin old.bounds right slab → old.top ≤ top → IsInBox old live
     → IsInBox (record { bounds = slab; top = top }) live
@@ -44,14 +44,14 @@ fenced_right left old slab top live join above h = record {
   top = omega (arith, h.top, above);
 }
 
--- those within a fence, and one more
+-- volumes within a bounding box, and one more
 pub fenced_with : (old new : BoundingBox) (live : LiveVolume) (xs ys : List LiveVolume) → ys ≡ xs ++ live ∷ []
     → IsInBox new live → ((other : LiveVolume) → IsInBox old other → IsInBox new other)
     → AllByRecursion (IsInBox old) xs → AllByRecursion (IsInBox new) ys
 fenced_with old new live xs ys is one kept h = subst (AllByRecursion (IsInBox new)) (sym is)
     (all_append (IsInBox new) xs (live ∷ []) (all_weaker (IsInBox old) (IsInBox new) kept xs h) (one, tt))
 
--- those within two fences, which were joined
+-- volumes within two bounding boxes, which were joined
 pub fenced_both : (old next new : BoundingBox) (xs ys zs : List LiveVolume) → zs ≡ xs ++ ys
     → ((live : LiveVolume) → IsInBox old live → IsInBox new live)
     → ((live : LiveVolume) → IsInBox next live → IsInBox new live)

@@ -1,4 +1,4 @@
--- Fences of groups.
+-- Bounding boxes of groups.
 use Rattle.std.proofs.Common.{◌≡◌, ℕ, zero, suc, ◌+◌, ◌<◌, List, [], ◌∷◌, ◌++◌, take, drop, length, get_or, refl, sym, ap, subst, ◌∙◌, IsPermutation}
 use Rattle.std.specs.List.{AllByRecursion}
 use Rattle.desk_store.proofs.lemmas.Order.{all_append, all_weaker}
@@ -14,7 +14,7 @@ pub round_begins : (first : Chunk) (others : List Chunk) → AreBoundedChunks (f
     → AllByRecursion (IsInBox first.bbox) (volumes_in (first ∷ []))
 round_begins first others whole = all_append (IsInBox first.bbox) first.volumes.items [] whole.0 tt
 
--- a fence round the chunks so far, joined with that of one more
+-- the bounding box of the chunks so far, joined with that of one more
 pub round_more : (first : Chunk) (others : List Chunk) (i : ℕ) (one : Chunk) (old new : BoundingBox)
     → i < length others → one ≡ get_or others i one
     → ((live : LiveVolume) → IsInBox old live → IsInBox new live)
@@ -35,7 +35,7 @@ round_more first others i one old new below is left right before whole =
       append_there [] ys zs = refl
       append_there (x ∷ xs) ys zs = ap (λ vs. x ∷ vs) (append_there xs ys zs)
 
--- one more volume, for which the fence was widened
+-- one more volume, for which the bounding box was widened
 pub hedged_with : (old new : Group) (live : LiveVolume)
     → (AreBoundedChunks old.chunks.items → AreBoundedChunks new.chunks.items)
     → IsPermutation (live ∷ volumes_in old.chunks.items) (volumes_in new.chunks.items)

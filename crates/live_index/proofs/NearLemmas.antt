@@ -332,7 +332,7 @@ module _ (s : Wanted) where
 
   -- ---- chunks
 
-  -- a volume that is wanted and has a point of what is sought is within a fence that may meet it
+  -- a volume that is wanted and has a point of what is sought is within a bounding box that may meet it
   apart : (sought : SearchArea) (bbox : BoundingBox) (live : LiveVolume) (ks : List PlanKey) (x : Point)
       → IsInBox bbox live → may_meet s.least sought bbox ≡ false → sought_has sought x ≡ true
       → is_missed_at s ks x live ≡ false

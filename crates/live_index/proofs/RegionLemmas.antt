@@ -48,7 +48,7 @@ module _ (o : List ℕ) (extent : Slab) (x : Point) (here : slab_has extent x �
       let parts = either (is_theirs o extent l) (list_any (is_theirs o extent) lives) far in
       λ i. beside l parts.0 i || none_beside lives parts.1 i
 
-  -- volumes within a fence that doesn't meet it
+  -- volumes within a bounding box that doesn't overlap it
   none_within : (bbox : BoundingBox) (lives : List LiveVolume) → overlap bbox.bounds extent ≡ false
       → AllByRecursion (IsInBox bbox) lives → list_any (is_theirs_at o x) lives ≡ false
   none_within bbox [] far h = refl

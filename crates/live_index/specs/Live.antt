@@ -21,55 +21,58 @@ use Rattle.slab_regions.specs.declared.sought.SearchArea.{SearchArea}
 use Rattle.live_index.specs.declared.live.LiveIndexBuilder.{LiveIndexBuilder}
 use Rattle.live_index.specs.declared.live.LiveIndex.{LiveIndex}
 
--- a volume of a plan: whose it is, the plan's priority, and the smallest slab that has all its points
+-- `live` is the entry for the volume `v` of the plan `p`: whose it is, the plan's priority, and the smallest
+-- slab that has all points of the volume
 pub record IsLiveVolume (p : Filed) (v : Block) (live : LiveVolume) : Type 0 where
   pub operator : live.operator ≡ p.operator
   pub id : live.id ≡ p.row.id
   pub priority : live.priority ≡ p.row.priority
   pub bounds : IsBounds (block_has v) live.bounds
 
--- one for each volume of a plan that is live, in their order; none of one that is closed
+-- `lives` has one entry for each volume of a plan that is live, in their order; none for one that is closed
 abbrev pub AreVolumesOf : Filed → List LiveVolume → Type 0
 AreVolumesOf p lives = MatchBool (is_live p.row.usage) (AllZip (IsLiveVolume p) p.row.area lives) (lives ≡ [])
 
--- those of plans, one plan after the other
+-- `lives` has the entries for the plans, one plan after the other
 abbrev pub AreVolumes : List Filed → List LiveVolume → Type 0
 AreVolumes [] lives = lives ≡ []
 AreVolumes (p ∷ ps) lives =
     (front rest : List LiveVolume) × (lives ≡ front ++ rest) × AreVolumesOf p front × AreVolumes ps rest
 
--- each live volume of a world is among these once, and nothing else is
+-- each volume of a live plan of a world has one entry among `lives`, and nothing else has one
 pub record AreLive (w : World) (lives : List LiveVolume) : Type 0 where
   pub order : IsStrictlySortedBy filed_cmp w.plans
   pub listed : List LiveVolume
   pub volumes : AreVolumes w.plans listed
   pub same : IsPermutation listed lives
 
--- the volumes of some of a plan's area are added, or those of a plan
+-- the entries for the volumes of a plan's area are appended, whether the plan is live or not
 abbrev pub AddsLiveVolumes : Filed → List Block → List LiveVolume → List LiveVolume → Type 0
 AddsLiveVolumes p area old new =
     (more : List LiveVolume) × (new ≡ old ++ more) × AllZip (IsLiveVolume p) area more
 
+-- the entries for a plan are appended: none if it isn't live
 abbrev pub AddsLivePlan : Filed → List LiveVolume → List LiveVolume → Type 0
 AddsLivePlan p old new = (more : List LiveVolume) × (new ≡ old ++ more) × AreVolumesOf p more
 
--- it is of the operator's plan of the id
+-- whether a volume is of the operator's plan with the id
 abbrev pub is_volume_of : List ℕ → List ℕ → LiveVolume → Bool
 is_volume_of operator id live = is_eq (text_cmp id live.id) && is_eq (text_cmp operator live.operator)
 
+-- whether a volume is of another plan than the operator's with the id
 abbrev pub is_beside : List ℕ → List ℕ → LiveVolume → Bool
 is_beside operator id live = not (is_volume_of operator id live)
 
 -- ---- what is kept
 
--- a chunk, or one of a group's, has a volume of the operator's plan of the id
+-- whether a chunk, or one of the chunks of a group, has a volume of the operator's plan with the id
 abbrev pub chunk_has_plan : List ℕ → List ℕ → Chunk → Bool
 chunk_has_plan operator id c = list_any (is_volume_of operator id) c.volumes.items
 
 abbrev pub group_has_plan : List ℕ → List ℕ → Group → Bool
 group_has_plan operator id g = list_any (chunk_has_plan operator id) g.chunks.items
 
--- a volume lies within a bounding box, and has no greater priority
+-- the bounds of a volume lie within those of a bounding box, and its priority is at most that of the box
 pub record IsInBox (bbox : BoundingBox) (live : LiveVolume) : Type 0 where
   pub within : IsWithin live.bounds bbox.bounds
   pub top : live.priority ≤ bbox.top
@@ -104,11 +107,11 @@ pub record IsBoundedGroup (group : Group) : Type 0 where
 abbrev pub AreBoundedGroups : List Group → Type 0
 AreBoundedGroups groups = AllByRecursion IsBoundedGroup groups
 
--- how many volumes of the operator's plan of the id there are
+-- how many volumes of the operator's plan with the id there are
 abbrev pub count_of : List ℕ → List ℕ → List LiveVolume → ℕ
 count_of operator id lives = length (filter (is_volume_of operator id) lives)
 
--- of each plan so many places are known as it has volumes in groups
+-- each plan has at least as many places as it has volumes among `lives`
 abbrev pub ArePlaced : Places → List LiveVolume → Type 0
 ArePlaced places lives =
     (operator id : List ℕ) → count_of operator id lives ≤ places_at operator id places
@@ -120,11 +123,11 @@ pub record AreKeptOnce (kept : LiveIndex) (w : World) : Type 0 where
   pub group_bounded : AreBoundedGroups kept.groups.items
   pub placed : ArePlaced kept.places (volumes_under kept.groups.items)
 
--- the volumes of plans that were gathered
+-- the volumes that a builder has collected
 abbrev pub gathered_in : LiveIndexBuilder → List LiveVolume
 gathered_in gathering = gathering.volumes.items
 
--- there is room for so many more
+-- the index has capacity for so many more unindexed volumes
 abbrev pub HasRoomForVolumes : LiveIndex → ℕ → Type 0
 HasRoomForVolumes kept count = length kept.unindexed.items + count ≤ kept.unindexed.cap
 
@@ -134,29 +137,30 @@ AreSettled kept = length kept.unindexed.items ≡ 0
 
 -- ---- changes
 
+-- whether a volume is of one of the operator's plans with the ids
 abbrev pub is_of_any : List ℕ → List (List ℕ) → LiveVolume → Bool
 is_of_any operator ids live = list_any (λ id. is_volume_of operator id live) ids
 
--- a change takes out the volumes of the plans that it names
+-- whether a volume stays when a change is made, which takes out the volumes of the plans that it names
 abbrev pub stays_at : Change → LiveVolume → Bool
 stays_at (Enrol operator ceiling) live = true
 stays_at (Put operator row) live = is_beside operator row.id live
 stays_at (Close operator id) live = is_beside operator id live
 stays_at (Clear operator ids) live = not (is_of_any operator ids.items live)
 
--- and a put brings those of its plan
+-- `fresh` has the volumes that a change adds: a put adds those of its plan
 abbrev pub AreBrought : Change → List LiveVolume → Type 0
 AreBrought (Enrol operator ceiling) fresh = fresh ≡ []
 AreBrought (Put operator row) fresh = AreVolumesOf (filed_by operator row) fresh
 AreBrought (Close operator id) fresh = fresh ≡ []
 AreBrought (Clear operator ids) fresh = fresh ≡ []
 
--- volumes of the operator's plan of the id were taken out, so many at least, and no others
+-- only volumes of the operator's plan with the id were removed, at least `gone` of them
 pub record RemovesPlanVolumes (operator id : List ℕ) (old new : List LiveVolume) (gone : ℕ) : Type 0 where
   pub others : filter (is_beside operator id) new ≡ filter (is_beside operator id) old
   pub fewer : count_of operator id new + gone ≤ count_of operator id old
 
--- of all that are kept those stay that pass a test
+-- of all volumes of an index those are left that pass the test `stays`
 pub record HasLeft (stays : LiveVolume → Bool) (old new : LiveIndex) : Type 0 where
   pub same : ArePlaced old.places (volumes_under old.groups.items)
       → volumes_of new ≡ filter stays (volumes_of old)
@@ -168,6 +172,6 @@ pub record HasLeft (stays : LiveVolume → Bool) (old new : LiveIndex) : Type 0 
 
 -- ---- queries
 
--- a bounding box has a priority at least, and overlaps what is sought
+-- whether a bounding box has a priority of at least `least`, and overlaps what is sought
 abbrev pub may_meet : ℕ → SearchArea → BoundingBox → Bool
 may_meet least sought bbox = nat_le least bbox.top && meets sought bbox.bounds

@@ -24,7 +24,7 @@ use Rattle.slab_regions.specs.SearchArea.{meets}
 abbrev pub is_listed : List PlanKey → Filed → Bool
 is_listed keys p = list_any (λ k. rows.is_own k.operator k.id p) keys
 
--- the priority that a plan holds at a point, if it is listed, and the greatest of some plans
+-- the priority that a plan holds at a point, if it is listed; and the greatest that some plans hold there
 abbrev pub listed_level : List PlanKey → Filed → Point → Option ℕ
 listed_level keys p x = level_where (is_listed keys p && row_holds p.row x) p.row.priority
 
@@ -38,8 +38,8 @@ abbrev pub held_but : World → List ℕ → Option (List ℕ) → Point → Opt
 held_but w operator None x = held w operator x
 held_but w operator (Some id) x = held_at (plans_of operator w) (held w operator) id x
 
--- at each point of some extents they hold what the plans that are wanted hold, where that is at least the
--- least
+-- at each point of the extents, the greatest priority that the listed plans hold is the greatest that the
+-- wanted plans hold; priorities below the least don't count
 abbrev pub AreWantedPlans : World → Wanted → List Slab → List PlanKey → Type 0
 AreWantedPlans w wanted extents keys = (x : Point) → slabs_have extents x ≡ true
     → at_least wanted.least (listed_top keys w.plans x)
@@ -50,37 +50,38 @@ AreWantedPlans w wanted extents keys = (x : Point) → slabs_have extents x ≡ 
 abbrev pub key_of : LiveVolume → PlanKey
 key_of live = record { operator = live.operator; id = live.id }
 
--- it is that of the id, or of any
+-- whether the id is the one that is given; any id is, if none is given
 abbrev pub is_id : Option (List ℕ) → List ℕ → Bool
 is_id None id = true
 is_id (Some own) id = is_eq (text_cmp own id)
 
--- it is of the operator's plan of the id, or of any of its plans
+-- whether a volume is of the plan that `wanted` leaves out: the operator's with the id, or any of its plans
 abbrev pub is_own_volume : Wanted → LiveVolume → Bool
 is_own_volume wanted live = is_id wanted.id live.id && is_eq (text_cmp wanted.operator live.operator)
 
--- it is another's, of a priority at least
+-- whether a volume is of a plan that is wanted: of at least the least priority, and not left out
 abbrev pub is_wanted_volume : Wanted → LiveVolume → Bool
 is_wanted_volume wanted live = nat_le wanted.least live.priority && not (is_own_volume wanted live)
 
--- and its bounds meet what is sought
+-- whether a volume is wanted, and its bounds overlap what is sought
 abbrev pub is_near_to : Wanted → SearchArea → LiveVolume → Bool
 is_near_to wanted sought live = meets sought live.bounds && is_wanted_volume wanted live
 
--- its plan is listed
+-- whether the plan of a volume is listed
 abbrev pub is_among : List PlanKey → LiveVolume → Bool
 is_among keys live = list_any (λ k. is_volume_of k.operator k.id live) keys
 
--- it is wanted, its bounds have a point, and its plan isn't listed
+-- whether a volume is wanted and its bounds have the point, but its plan isn't listed
 abbrev pub is_missed_at : Wanted → List PlanKey → Point → LiveVolume → Bool
 is_missed_at wanted keys x live =
     (slab_has live.bounds x && is_wanted_volume wanted live) && not (is_among keys live)
 
--- a plan is none of the operator's own
+-- a plan is none that `wanted` leaves out
 abbrev pub IsAnothers : Wanted → PlanKey → Type 0
 IsAnothers wanted k = (is_id wanted.id k.id && is_eq (text_cmp wanted.operator k.operator)) ≡ false
 
--- plans are added, and none is dropped; if all are listed, no volume is missed at the points inside
+-- plans were added for the volumes `lives`, and none was dropped; if `new` is complete, no volume is missed
+-- at the points that pass the test `inside`
 pub record AddsPlans (wanted : Wanted) (inside : Point → Bool) (lives : List LiveVolume)
     (old new : NearPlans) : Type 0
   where
@@ -91,12 +92,12 @@ pub record AddsPlans (wanted : Wanted) (inside : Point → Bool) (lives : List L
     pub another : AllByRecursion (IsAnothers wanted) old.keys.keys
         → AllByRecursion (IsAnothers wanted) new.keys.keys
 
--- the same plans are listed, and all only if all were
+-- the same plans are listed; `new` is complete only if `old` was
 pub record LooksOn (old new : NearPlans) : Type 0 where
   pub same : new.keys.keys ≡ old.keys.keys
   pub still : new.is_complete ≡ true → old.is_complete ≡ true
 
--- a volume's plan is added, or not all are listed
+-- a volume's plan was added, or `new` isn't complete; no plan was dropped
 pub record TakesPlan (live : LiveVolume) (old new : NearPlans) : Type 0 where
   pub kept : (other : LiveVolume) → is_among old.keys.keys other ≡ true → is_among new.keys.keys other ≡ true
   pub still : new.is_complete ≡ true → old.is_complete ≡ true
@@ -104,8 +105,8 @@ pub record TakesPlan (live : LiveVolume) (old new : NearPlans) : Type 0 where
   pub another : (wanted : Wanted) → is_own_volume wanted live ≡ false
       → AllByRecursion (IsAnothers wanted) old.keys.keys → AllByRecursion (IsAnothers wanted) new.keys.keys
 
--- all volumes that are wanted and have a point inside are of plans that are listed, none of which is an own
--- one
+-- all wanted volumes that have a point that passes the test `inside` are of plans that are listed, and none
+-- of these is left out by `wanted`
 pub record AreNearPlans (wanted : Wanted) (inside : Point → Bool) (lives : List LiveVolume)
     (keys : List PlanKey) : Type 0
   where

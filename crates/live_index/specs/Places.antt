@@ -16,14 +16,16 @@ Lists = List (PlanKey × Vec ℕ)
 abbrev pub key_cmp : PlanKey → PlanKey → Ordering
 key_cmp one other = ordering_then (text_cmp one.operator other.operator) (text_cmp one.id other.id)
 
+-- the list of a plan's places, if it has one
 abbrev pub list_of : PlanKey → Lists → Option (Vec ℕ)
 list_of key lists = lookup (is_at (key_cmp key)) lists
 
--- how many there are of a plan
+-- how many places a list has; 0 if there is no list
 abbrev pub length_or_none : Option (Vec ℕ) → ℕ
 length_or_none None = 0
 length_or_none (Some places) = length places.items
 
+-- how many places a plan has
 abbrev pub places_in : PlanKey → Lists → ℕ
 places_in key lists = length_or_none (list_of key lists)
 
@@ -32,15 +34,15 @@ places_at operator id places = places_in (record { operator = operator; id = id 
 
 -- ---- changes
 
--- of each plan there are as many, or more
+-- each plan has as many places in `new` as in `old`, or more
 abbrev pub AreNoFewer : Lists → Lists → Type 0
 AreNoFewer old new = (key : PlanKey) → places_in key old ≤ places_in key new
 
--- there is one more of a plan
+-- the plan has at least one place more in `new` than in `old`
 abbrev pub IsOneMore : PlanKey → Lists → Lists → Type 0
 IsOneMore key old new = places_in key old + 1 ≤ places_in key new
 
--- of all other plans there are as many, or more
+-- each other plan than this one has as many places in `new` as in `old`, or more
 abbrev pub AreOthers : PlanKey → Lists → Lists → Type 0
 AreOthers key old new = (other : PlanKey) → is_eq (key_cmp key other) ≡ false
     → places_in other old ≤ places_in other new

@@ -12,32 +12,32 @@ use Rattle.live_index.specs.declared.chunk.Chunk.{Chunk}
 use Rattle.live_index.specs.declared.group.Group.{Group}
 use Rattle.live_index.specs.declared.live.LiveIndex.{LiveIndex}
 
--- at no point of some extents others hold anything, but where a region lies
+-- at a point of the extents that is in no region, the plans of other operators hold nothing
 abbrev pub HoldNothingBeside : World → List ℕ → List Slab → List Slab → Type 0
 HoldNothingBeside w operator extents regions =
     (x : Point) → slabs_have extents x ≡ true → slabs_have regions x ≡ false → held w operator x ≡ None
 
--- it is another operator's
+-- whether a volume is another operator's
 abbrev pub is_another : List ℕ → LiveVolume → Bool
 is_another operator live = not (is_eq (text_cmp operator live.operator))
 
--- and its bounds meet a slab
+-- whether it is another operator's, and its bounds overlap an extent
 abbrev pub is_theirs : List ℕ → Slab → LiveVolume → Bool
-is_theirs operator whole live = is_another operator live && overlap live.bounds whole
+is_theirs operator extent live = is_another operator live && overlap live.bounds extent
 
--- and its bounds have a point
+-- whether it is another operator's, and its bounds have a point
 abbrev pub is_theirs_at : List ℕ → Point → LiveVolume → Bool
 is_theirs_at operator x live = is_another operator live && slab_has live.bounds x
 
--- such a volume is in a chunk, in a group, or among all that are kept
+-- whether a chunk, a group or an index has another operator's volume whose bounds overlap the extent
 abbrev pub chunk_has_theirs : List ℕ → Slab → Chunk → Bool
-chunk_has_theirs operator whole c =
-    overlap c.bbox.bounds whole && list_any (is_theirs operator whole) c.volumes.items
+chunk_has_theirs operator extent c =
+    overlap c.bbox.bounds extent && list_any (is_theirs operator extent) c.volumes.items
 
 abbrev pub group_has_theirs : List ℕ → Slab → Group → Bool
-group_has_theirs operator whole g =
-    overlap g.bbox.bounds whole && list_any (chunk_has_theirs operator whole) g.chunks.items
+group_has_theirs operator extent g =
+    overlap g.bbox.bounds extent && list_any (chunk_has_theirs operator extent) g.chunks.items
 
 abbrev pub has_theirs : List ℕ → LiveIndex → Slab → Bool
-has_theirs operator kept whole = list_any (group_has_theirs operator whole) kept.groups.items
-    || list_any (is_theirs operator whole) kept.unindexed.items
+has_theirs operator kept extent = list_any (group_has_theirs operator extent) kept.groups.items
+    || list_any (is_theirs operator extent) kept.unindexed.items

@@ -12,7 +12,7 @@ use crate::volume::LiveVolume;
 use slab_regions::SearchArea;
 use volume4d::Slab;
 
-/// The bounds of some volumes, and a priority that none of them exceeds.
+/// A slab that has the bounds of some volumes (`bounds`), and a priority that none of them exceeds (`top`).
 #[derive(Clone, Copy, Debug)]
 pub(crate) struct BoundingBox {
     pub(crate) bounds: Slab,
@@ -31,7 +31,7 @@ impl BoundingBox {
         bbox
     }
 
-    /// The bounding box of `lives`, of none of which it is empty.
+    /// The bounding box of `lives`; the empty one if there are none.
     pub(crate) fn around_all(lives: &[LiveVolume]) -> BoundingBox
         ensures { AllByRecursion (IsInBox result) lives.now }
     {
@@ -63,7 +63,7 @@ impl BoundingBox {
         }
     }
 
-    /// The bounding box, widened so that it encloses `live`, too.
+    /// This bounding box, widened so that it encloses `live`, too.
     pub(crate) fn widened(&self, live: &LiveVolume) -> BoundingBox
         ensures one { IsInBox result live.now }
         ensures kept { (other : Live) → IsInBox self.now other → IsInBox result other }
@@ -82,7 +82,7 @@ impl BoundingBox {
         }
     }
 
-    /// Whether a volume inside may be near `sought` and have the priority `least` or a greater one.
+    /// Whether a volume in this box may be near `sought` and have the priority `least` or a greater one.
     pub(crate) fn may_meet(&self, least: u32, sought: &SearchArea) -> bool
         ensures { result ≡ spec.may_meet least sought.now self.now }
     {

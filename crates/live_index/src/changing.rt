@@ -13,11 +13,11 @@ use desk_rules::plan_id::PlanId;
 use desk_store::Change;
 use std::alloc::{AllocError, Global};
 
-/// Appends the volumes of an operator's plan, if it is live.
+/// Appends the volumes of the operator's plan `row`, if it is live; else nothing.
 ///
 /// # Errors
 ///
-/// `AllocError` if memory runs out.
+/// `AllocError` if memory runs out; some of the volumes may have been appended then.
 pub(crate) fn push_plan(
     volumes: &mut Vec<LiveVolume>,
     operator: &Operator,
@@ -33,7 +33,8 @@ pub(crate) fn push_plan(
     }
 }
 
-// Appends the volumes of an operator's plan.
+// Appends the volumes of the operator's plan `row`, whether it is live or not. If memory runs out, some may
+// have been appended.
 fn push_area(
     volumes: &mut Vec<LiveVolume>,
     operator: &Operator,
@@ -48,7 +49,7 @@ fn push_area(
     Ok(())
 }
 
-/// The volumes that a change adds: those of a live plan that it stores.
+/// The volumes that a change adds: those of the plan that it puts, if that is live. Other changes add none.
 ///
 /// # Errors
 ///
@@ -66,8 +67,8 @@ pub(crate) fn volumes_added_by(
     Ok(fresh)
 }
 
-/// Removes the volumes of the operator's plan with this id.
-pub(crate) fn remove_plan(volumes: &mut Vec<LiveVolume>, operator: &Operator, id: &PlanId)
+/// Removes the volumes of the operator's plan with this id from a list. The capacity stays as it is.
+pub(crate) fn remove_plan_volumes(volumes: &mut Vec<LiveVolume>, operator: &Operator, id: &PlanId)
     ensures items { volumes.new.items ≡ filter (is_beside operator.now id.now) volumes.old.items }
     ensures room { volumes.new.cap ≡ volumes.old.cap }
     ensures fewer { length volumes.new.items ≤ length volumes.old.items }
@@ -75,7 +76,7 @@ pub(crate) fn remove_plan(volumes: &mut Vec<LiveVolume>, operator: &Operator, id
     volumes.retain(|live| !live.is_of(operator, id));
 }
 
-/// Appends volumes, for which capacity is reserved.
+/// Appends the volumes `fresh`, for which capacity is reserved, so that it can't fail.
 pub(crate) fn push_all(volumes: &mut Vec<LiveVolume>, fresh: &[LiveVolume])
     requires { length volumes.old.items + length fresh.now ≤ volumes.old.cap }
     ensures { volumes.new.items ≡ volumes.old.items ++ fresh.now }

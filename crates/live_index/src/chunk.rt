@@ -10,7 +10,7 @@ ghost use Rattle.live_index.specs.Near.{AddsPlans};
 ghost use Rattle.slab_regions.specs.SearchArea.{sought_has};
 
 use crate::bbox::BoundingBox;
-use crate::changing::{push_all, remove_plan};
+use crate::changing::{push_all, remove_plan_volumes};
 use crate::near::{NearPlans, PlanKey, Wanted, add_each};
 use crate::order::{Rank, put_in_order};
 use crate::volume::LiveVolume;
@@ -24,7 +24,7 @@ use volume4d::Slab;
 /// The most volumes of a chunk, and the most chunks of a group.
 pub(crate) const FULL: usize = 64;
 
-/// How many of them a chunk or a group gets when an index is built, so that it has room for more.
+/// How many volumes a chunk, or chunks a group, gets when an index is built, so that it has room for more.
 pub(crate) const PART: usize = 48;
 
 /// Volumes that are close to each other, within a bounding box.
@@ -37,7 +37,7 @@ pub(crate) struct Chunk {
 }
 
 impl Chunk {
-    // A chunk of these volumes, with capacity for `FULL` volumes.
+    // A chunk of these volumes, which ascend by rank, with capacity for `FULL` volumes.
     fn from_all(alloc: Global, lives: &[LiveVolume]) -> Result<Chunk, AllocError>
         ensures same { IfOk result (λ chunk. chunk.volumes.items ≡ lives.now) }
         ensures bounded { IfOk result IsBoundedChunk }
@@ -52,12 +52,12 @@ impl Chunk {
         })
     }
 
-    // Adds a volume, and widens the bounding box.
+    // Adds a volume, and widens the bounding box. If memory runs out, the chunk stays as it is.
     fn push(&mut self, live: &LiveVolume) -> Result<(), AllocError>
         ensures same { OnOk result (self.new.volumes.items ≡ self.old.volumes.items ++ live.now ∷ []) }
         ensures bounded { OnOk result (IsBoundedChunk self.old → IsBoundedChunk self.new) }
-        ensures err { OnErr result (self.new.volumes.items ≡ self.old.volumes.items) }
-        ensures still { OnErr result (self.new.bbox ≡ self.old.bbox) }
+        ensures volumes_unchanged { OnErr result (self.new.volumes.items ≡ self.old.volumes.items) }
+        ensures box_unchanged { OnErr result (self.new.bbox ≡ self.old.bbox) }
     {
         self.volumes.push(*live)?;
         self.bbox = self.bbox.widened(live);
@@ -65,7 +65,7 @@ impl Chunk {
         Ok(())
     }
 
-    // Splits the chunk by rank: the first half of its volumes, and the others.
+    // Two new chunks with the volumes of this one by rank: the first half of them, and the others.
     fn halves(&self, alloc: Global) -> Result<(Chunk, Chunk), AllocError>
         ensures same { IfOk result (λ halves. IsPermutation self.now.volumes.items
             (halves.0.volumes.items ++ halves.1.volumes.items)) }
@@ -80,14 +80,15 @@ impl Chunk {
         ))
     }
 
-    // Removes the volumes of the operator's plan with this id, and returns how many.
+    // Removes the volumes of the operator's plan with this id, and makes the bounding box anew. Returns how
+    // many were removed.
     fn remove_plan(&mut self, operator: &Operator, id: &PlanId) -> usize
-        ensures left { RemovesPlanVolumes operator.now id.now self.old.volumes.items
+        ensures removed { RemovesPlanVolumes operator.now id.now self.old.volumes.items
             self.new.volumes.items result }
         ensures bounded { IsBoundedChunk self.new }
     {
         let before = self.volumes.len();
-        remove_plan(&mut self.volumes, operator, id);
+        remove_plan_volumes(&mut self.volumes, operator, id);
         self.bbox = BoundingBox::around_all(&self.volumes);
         before.saturating_sub(self.volumes.len())
     }
@@ -101,7 +102,7 @@ impl Chunk {
         sum <= FULL / 2 && sum <= self.volumes.capacity()
     }
 
-    // Adds the volumes of `next`, for which there is capacity.
+    // Adds the volumes of `next`, the chunk that follows by rank, for which there is capacity.
     fn absorb(&mut self, next: &Chunk)
         requires { length self.old.volumes.items + length next.now.volumes.items ≤ self.old.volumes.cap }
         ensures same { self.new.volumes.items ≡ self.old.volumes.items ++ next.now.volumes.items }
@@ -118,7 +119,7 @@ impl Chunk {
         self.volumes.is_empty()
     }
 
-    // Whether the chunk has a volume of a plan.
+    // Whether the chunk has a volume of the plan with this key.
     fn has_plan(&self, plan: &PlanKey) -> bool
         ensures { result ≡ chunk_has_plan plan.now.operator plan.now.id self.now }
     {
@@ -127,8 +128,8 @@ impl Chunk {
             .any(|live| live.is_of(&plan.operator, &plan.id))
     }
 
-    // Adds the wanted plans that have a volume near `sought`. Skips the volumes if the bounding box isn't
-    // near.
+    // Adds the wanted plans that have a volume near `sought` to `near`. Skips the volumes if the bounding box
+    // isn't near; else the chunk counts as searched.
     fn add_near(
         &self,
         near: &mut NearPlans,
@@ -159,7 +160,7 @@ impl Chunk {
     }
 }
 
-/// Adds the wanted plans that have a volume near `sought` in one of the chunks.
+/// Adds the wanted plans that have a volume near `sought` in one of the chunks to `near`.
 ///
 /// # Errors
 ///
@@ -181,7 +182,7 @@ pub(crate) fn add_near_in(
 
 // ---- making and filling
 
-/// Divides volumes into chunks, in their order.
+/// Divides volumes, which ascend by rank, into chunks of up to `INITIAL_LEN` volumes, in their order.
 ///
 /// # Errors
 ///
@@ -204,7 +205,7 @@ pub(crate) fn chunked(alloc: Global, lives: &[LiveVolume]) -> Result<Vec<Chunk>,
 ///
 /// # Errors
 ///
-/// `AllocError` if memory runs out.
+/// `AllocError` if memory runs out; the chunks have the same volumes as before then.
 pub(crate) fn insert(
     alloc: Global,
     chunks: &mut Vec<Chunk>,
@@ -231,7 +232,7 @@ fn make_room(alloc: Global, chunks: &mut Vec<Chunk>, rank: &Rank) -> Result<(), 
     Ok(())
 }
 
-// Adds a volume to its chunk by rank, or to a new one if there is none.
+// Adds a volume to its chunk by rank, or to a new one if there are no chunks.
 fn add(alloc: Global, chunks: &mut Vec<Chunk>, live: &LiveVolume) -> Result<(), AllocError>
     ensures added { OnOk result (IsPermutation (live.now ∷ volumes_in chunks.old.items)
         (volumes_in chunks.new.items)) }
@@ -246,7 +247,8 @@ fn add(alloc: Global, chunks: &mut Vec<Chunk>, live: &LiveVolume) -> Result<(), 
     Ok(())
 }
 
-// Splits the chunk at `at` into two halves.
+// Splits the chunk at the index `at` into two halves. The second is inserted before the first takes the place
+// of the whole, so no volume is lost if memory runs out.
 fn cut(alloc: Global, chunks: &mut Vec<Chunk>, at: usize) -> Result<(), AllocError>
     requires { at < length chunks.old.items }
     ensures same { IsPermutation (volumes_in chunks.old.items) (volumes_in chunks.new.items) }
@@ -269,10 +271,10 @@ fn last_at_or_before(chunks: &[Chunk], rank: &Rank) -> usize
 
 // ---- removing
 
-/// Removes the volumes of the rank's plan from the first chunk that may have the rank and has some. Returns
-/// how many were removed.
+/// Removes the volumes of the rank's plan from the first chunk that may have the rank and has volumes of that
+/// plan. Returns how many were removed.
 pub(crate) fn remove_at(chunks: &mut Vec<Chunk>, rank: &Rank) -> usize
-    ensures left { RemovesPlanVolumes rank.now.plan.operator rank.now.plan.id (volumes_in chunks.old.items)
+    ensures removed { RemovesPlanVolumes rank.now.plan.operator rank.now.plan.id (volumes_in chunks.old.items)
         (volumes_in chunks.new.items) result }
     ensures bounded { AreBoundedChunks chunks.old.items → AreBoundedChunks chunks.new.items }
 {
@@ -304,9 +306,10 @@ pub(crate) fn chunk_with(chunks: &[Chunk], rank: &Rank) -> usize
 }
 
 // Removes the volumes of the operator's plan from the chunk at `at`, and the chunk if it is empty then.
+// Merges the chunks there with their neighbours where they are small. Returns how many volumes were removed.
 fn remove_from_chunk(chunks: &mut Vec<Chunk>, operator: &Operator, id: &PlanId, at: usize) -> usize
     requires { at < length chunks.old.items }
-    ensures left { RemovesPlanVolumes operator.now id.now (volumes_in chunks.old.items)
+    ensures removed { RemovesPlanVolumes operator.now id.now (volumes_in chunks.old.items)
         (volumes_in chunks.new.items) result }
     ensures bounded { AreBoundedChunks chunks.old.items → AreBoundedChunks chunks.new.items }
 {
@@ -317,7 +320,7 @@ fn remove_from_chunk(chunks: &mut Vec<Chunk>, operator: &Operator, id: &PlanId, 
     gone
 }
 
-// Merges the chunk at `at` with the next one, if both together are at most half full.
+// Merges the chunk at `at` with the next one, if both together are at most half full and there is capacity.
 fn merge(chunks: &mut Vec<Chunk>, at: usize)
     ensures same { volumes_in chunks.new.items ≡ volumes_in chunks.old.items }
     ensures bounded { AreBoundedChunks chunks.old.items → AreBoundedChunks chunks.new.items }
@@ -341,7 +344,8 @@ fn drop_if_empty(chunks: &mut Vec<Chunk>, at: usize)
     }
 }
 
-/// Removes the volumes of the operator's plan with this id from all chunks.
+/// Removes the volumes of the operator's plan with this id from all chunks. Their bounding boxes stay as they
+/// are, and so do empty chunks.
 pub(crate) fn remove_from_all(chunks: &mut Vec<Chunk>, operator: &Operator, id: &PlanId)
     ensures same { volumes_in chunks.new.items
         ≡ filter (is_beside operator.now id.now) (volumes_in chunks.old.items) }
@@ -349,7 +353,7 @@ pub(crate) fn remove_from_all(chunks: &mut Vec<Chunk>, operator: &Operator, id: 
 {
     let mut at = 0;
     while at < chunks.len() {
-        remove_plan(&mut chunks[at].volumes, operator, id);
+        remove_plan_volumes(&mut chunks[at].volumes, operator, id);
         at += 1;
     }
 }

@@ -29,13 +29,13 @@ const MANY: usize = PART * PART;
 #[derive(Drop)]
 pub(crate) struct Group {
     bbox: BoundingBox,
-    // the least rank of its volumes, which no clause mentions
+    // at most the least rank of its volumes: a removal doesn't raise it; no clause mentions it
     low: Option<Rank>,
     chunks: Vec<Chunk>,
 }
 
 impl Group {
-    // A group of these volumes, in chunks.
+    // A group of these volumes, which ascend by rank, in chunks.
     fn try_new(alloc: Global, lives: &[LiveVolume]) -> Result<Group, AllocError>
         ensures same { IfOk result (λ group. volumes_in group.chunks.items ≡ lives.now) }
         ensures group_bounded { IfOk result IsBoundedGroup }
@@ -47,7 +47,7 @@ impl Group {
         })
     }
 
-    // A group of these chunks.
+    // A group of these chunks, which follow each other by rank.
     fn of(chunks: Vec<Chunk>) -> Group
         ensures same { result.chunks.items ≡ chunks.items }
         ensures group_bounded { AreBoundedChunks chunks.items → IsBoundedGroup result }
@@ -59,7 +59,8 @@ impl Group {
         }
     }
 
-    // Adds a volume to its chunk by rank, and widens the bounding box.
+    // Adds a volume to its chunk by rank, and widens the bounding box. If memory runs out, the group has the
+    // same volumes as before.
     fn insert(&mut self, alloc: Global, live: &LiveVolume) -> Result<(), AllocError>
         ensures added { OnOk result (IsPermutation (live.now ∷ volumes_in self.old.chunks.items)
             (volumes_in self.new.chunks.items)) }
@@ -73,23 +74,24 @@ impl Group {
         Ok(())
     }
 
-    // Splits the group: it keeps the first half of its chunks, and a group of the others is returned.
+    // Splits the group: it keeps the first half of its chunks, and a group of the others is returned. If
+    // memory runs out, it stays as it is.
     fn halve(&mut self) -> Result<Group, AllocError>
         ensures same { IfOk result (λ later. volumes_in self.old.chunks.items
             ≡ volumes_in self.new.chunks.items ++ volumes_in later.chunks.items) }
         ensures group_bounded { IfOk result (λ later.
             IsBoundedGroup self.old → IsBoundedGroup self.new × IsBoundedGroup later) }
-        ensures err { OnErr result (self.new ≡ self.old) }
+        ensures unchanged { OnErr result (self.new ≡ self.old) }
     {
         let later = self.chunks.split_off(self.chunks.len() / 2)?;
         self.bbox = around_chunks(&self.chunks);
         Ok(Group::of(later))
     }
 
-    // Removes the volumes of the rank's plan from the first chunk that may have the rank and has some.
-    // Returns how many were removed.
+    // Removes the volumes of the rank's plan from the first chunk that may have the rank and has volumes of
+    // that plan. Returns how many were removed.
     fn remove_plan(&mut self, rank: &Rank) -> usize
-        ensures left { RemovesPlanVolumes rank.now.plan.operator rank.now.plan.id
+        ensures removed { RemovesPlanVolumes rank.now.plan.operator rank.now.plan.id
             (volumes_in self.old.chunks.items) (volumes_in self.new.chunks.items) result }
         ensures group_bounded { IsBoundedGroup self.old → IsBoundedGroup self.new }
     {
@@ -107,7 +109,7 @@ impl Group {
         sum <= FULL / 2 && sum <= self.chunks.capacity()
     }
 
-    // Adds the chunks of `next`, for which there is capacity.
+    // Adds the chunks of `next`, the group that follows by rank, for which there is capacity.
     fn absorb(&mut self, next: Group)
         requires { length self.old.chunks.items + length next.chunks.items ≤ self.old.chunks.cap }
         ensures same { volumes_in self.new.chunks.items
@@ -133,8 +135,8 @@ impl Group {
         chunk_with(&self.chunks, rank) < self.chunks.len()
     }
 
-    // Adds the wanted plans that have a volume near `sought`. Skips the chunks if the bounding box isn't
-    // near, or if plans were left out already.
+    // Adds the wanted plans that have a volume near `sought` to `near`. Skips the chunks if the bounding box
+    // isn't near, or if a limit was exceeded already.
     fn add_near(
         &self,
         near: &mut NearPlans,
@@ -167,7 +169,7 @@ impl Group {
     }
 }
 
-// Appends the chunks `more`, for which there is capacity, so that `append` can't fail.
+// Appends the chunks `more` to `chunks`. There is capacity for them, so `append` can't fail.
 fn move_all(chunks: &mut Vec<Chunk>, mut more: Vec<Chunk>)
     requires { length chunks.old.items + length more.items ≤ chunks.old.cap }
     ensures { chunks.new.items ≡ chunks.old.items ++ more.items }
@@ -177,7 +179,7 @@ fn move_all(chunks: &mut Vec<Chunk>, mut more: Vec<Chunk>)
     }
 }
 
-// The bounding box of the volumes of all chunks.
+// The bounding box of the volumes of all chunks; the empty one if there are none.
 fn around_chunks(chunks: &[Chunk]) -> BoundingBox
     ensures { AreBoundedChunks chunks.now → AllByRecursion (IsInBox result) (volumes_in chunks.now) }
 {
@@ -199,7 +201,7 @@ fn join_of_boxes(first: &Chunk, others: &[Chunk]) -> BoundingBox
     bbox
 }
 
-/// Adds the wanted plans that have a volume near `sought` in one of the groups.
+/// Adds the wanted plans that have a volume near `sought` in one of the groups to `near`.
 ///
 /// # Errors
 ///
@@ -221,7 +223,8 @@ pub(crate) fn add_near_in(
 
 // ---- making and filling
 
-/// Divides volumes into groups of chunks, in their order.
+/// Divides volumes, which ascend by rank, into groups of up to `INITIAL_VOLUMES` volumes in chunks, in their
+/// order.
 ///
 /// # Errors
 ///
@@ -244,7 +247,7 @@ pub(crate) fn grouped(alloc: Global, lives: &[LiveVolume]) -> Result<Vec<Group>,
 ///
 /// # Errors
 ///
-/// `AllocError` if memory runs out.
+/// `AllocError` if memory runs out; the groups have the same volumes as before then.
 pub(crate) fn insert(
     alloc: Global,
     groups: &mut Vec<Group>,
@@ -272,7 +275,7 @@ fn make_room(groups: &mut Vec<Group>, rank: &Rank) -> Result<(), AllocError>
     Ok(())
 }
 
-// Adds a volume to its group by rank, or to a new one if there is none.
+// Adds a volume to its group by rank, or to a new one if there are no groups.
 fn add(alloc: Global, groups: &mut Vec<Group>, live: &LiveVolume) -> Result<(), AllocError>
     ensures added { OnOk result (IsPermutation (live.now ∷ volumes_under groups.old.items)
         (volumes_under groups.new.items)) }
@@ -288,7 +291,8 @@ fn add(alloc: Global, groups: &mut Vec<Group>, live: &LiveVolume) -> Result<(), 
     Ok(())
 }
 
-// Splits the group at `at` into two halves.
+// Splits the group at the index `at` into two halves. Capacity for the second is reserved first, so no chunk
+// is lost if memory runs out.
 fn cut(groups: &mut Vec<Group>, at: usize) -> Result<(), AllocError>
     requires { at < length groups.old.items }
     ensures same { volumes_under groups.new.items ≡ volumes_under groups.old.items }
@@ -300,7 +304,7 @@ fn cut(groups: &mut Vec<Group>, at: usize) -> Result<(), AllocError>
     Ok(())
 }
 
-// Inserts a group after the one at `at`. There is capacity for it, so `insert` can't fail.
+// Inserts the group `later` after the one at `at`. There is capacity for it, so `insert` can't fail.
 fn insert_after(groups: &mut Vec<Group>, at: usize, later: Group)
     requires place { at < length groups.old.items }
     requires room { length groups.old.items + 1 ≤ groups.old.cap }
@@ -322,8 +326,8 @@ fn last_at_or_before(groups: &[Group], rank: &Rank) -> usize
 
 // ---- removing
 
-/// Removes the volumes of a plan from the groups. They are expected at `places`; if fewer are found there,
-/// all groups are searched.
+/// Removes the volumes of a plan from the groups. They are expected at `places`, one place for each; if fewer
+/// are found there, all groups are searched.
 pub(crate) fn remove_all(groups: &mut Vec<Group>, plan: &PlanKey, places: &[u128])
     ensures same { count_of plan.now.operator plan.now.id (volumes_under groups.old.items)
         ≤ length places.now → volumes_under groups.new.items
@@ -338,7 +342,7 @@ pub(crate) fn remove_all(groups: &mut Vec<Group>, plan: &PlanKey, places: &[u128
 
 // Removes the volumes of a plan that are found at `places`. Returns how many were removed.
 fn remove_at_places(groups: &mut Vec<Group>, plan: &PlanKey, places: &[u128]) -> usize
-    ensures left { RemovesPlanVolumes plan.now.operator plan.now.id (volumes_under groups.old.items)
+    ensures removed { RemovesPlanVolumes plan.now.operator plan.now.id (volumes_under groups.old.items)
         (volumes_under groups.new.items) result }
     ensures group_bounded { AreBoundedGroups groups.old.items → AreBoundedGroups groups.new.items }
 {
@@ -349,11 +353,11 @@ fn remove_at_places(groups: &mut Vec<Group>, plan: &PlanKey, places: &[u128]) ->
     gone
 }
 
-// Removes volumes of the rank's plan from the first group that may have the rank and has some. Returns how
-// many were removed.
+// Removes volumes of the rank's plan from the first group that may have the rank and has volumes of that
+// plan. Returns how many were removed.
 fn remove_at(groups: &mut Vec<Group>, rank: &Rank) -> usize
-    ensures left { RemovesPlanVolumes rank.now.plan.operator rank.now.plan.id (volumes_under groups.old.items)
-        (volumes_under groups.new.items) result }
+    ensures removed { RemovesPlanVolumes rank.now.plan.operator rank.now.plan.id
+        (volumes_under groups.old.items) (volumes_under groups.new.items) result }
     ensures group_bounded { AreBoundedGroups groups.old.items → AreBoundedGroups groups.new.items }
 {
     let at = group_with(groups, rank);
@@ -383,11 +387,12 @@ fn group_with(groups: &[Group], rank: &Rank) -> usize
     at
 }
 
-// Removes volumes of the rank's plan from the group at `at`, and the group if it is empty then.
+// Removes volumes of the rank's plan from the group at `at`, and the group if it is empty then. Merges the
+// groups there with their neighbours where they are small. Returns how many volumes were removed.
 fn remove_from_group(groups: &mut Vec<Group>, rank: &Rank, at: usize) -> usize
     requires { at < length groups.old.items }
-    ensures left { RemovesPlanVolumes rank.now.plan.operator rank.now.plan.id (volumes_under groups.old.items)
-        (volumes_under groups.new.items) result }
+    ensures removed { RemovesPlanVolumes rank.now.plan.operator rank.now.plan.id
+        (volumes_under groups.old.items) (volumes_under groups.new.items) result }
     ensures group_bounded { AreBoundedGroups groups.old.items → AreBoundedGroups groups.new.items }
 {
     let gone = groups[at].remove_plan(rank);
@@ -397,7 +402,7 @@ fn remove_from_group(groups: &mut Vec<Group>, rank: &Rank, at: usize) -> usize
     gone
 }
 
-// Merges the group at `at` with the next one, if both together are at most half full.
+// Merges the group at `at` with the next one, if both together are at most half full and there is capacity.
 fn merge(groups: &mut Vec<Group>, at: usize)
     ensures same { volumes_under groups.new.items ≡ volumes_under groups.old.items }
     ensures group_bounded { AreBoundedGroups groups.old.items → AreBoundedGroups groups.new.items }
@@ -420,7 +425,8 @@ fn drop_if_empty(groups: &mut Vec<Group>, at: usize)
     }
 }
 
-// Removes the volumes of the operator's plan with this id from all groups.
+// Removes the volumes of the operator's plan with this id from all groups. Their bounding boxes stay as they
+// are, and so do empty chunks and groups.
 fn remove_from_all(groups: &mut Vec<Group>, operator: &Operator, id: &PlanId)
     ensures same { volumes_under groups.new.items
         ≡ filter (is_beside operator.now id.now) (volumes_under groups.old.items) }

@@ -15,7 +15,7 @@ ghost use Rattle.live_index.specs.Near.{AddsPlans, AreNearPlans, AreWantedPlans}
 ghost use Rattle.slab_regions.specs.SearchArea.{sought_has};
 ghost use Rattle.volume4d.specs.Slab.{slabs_have};
 
-use crate::changing::{push_all, push_plan, remove_plan, volumes_added_by};
+use crate::changing::{push_all, push_plan, remove_plan_volumes, volumes_added_by};
 use crate::group::{Group, add_near_in, grouped, insert, remove_all};
 use crate::near::{NearPlans, PlanKey, Wanted, add_each};
 use crate::order::put_in_order;
@@ -35,7 +35,7 @@ const APART: usize = 1 << 10;
 // The most extents that are compared one by one with each volume; more are joined into one slab.
 const PARTS: usize = 96;
 
-// The most chunks that are searched if the extents are searched one by one, which takes a tenth of a second.
+// The most chunks that are searched if the extents are searched one by one: a tenth of a second's work.
 const LOOKS: usize = 1 << 13;
 
 /// An index of the volumes of all live plans. Most of them are in groups of chunks.
@@ -60,8 +60,8 @@ impl LiveIndex {
         }
     }
 
-    /// Regions that have every point of `extents` at which live plans of other operators may be; none if
-    /// there are no such plans near. Regions don't overlap along the curve.
+    /// Regions that have every point of `extents` at which live plans of operators other than `operator` may
+    /// be; none if there are no such plans near. Regions don't overlap along the curve.
     ///
     /// # Errors
     ///
@@ -94,8 +94,8 @@ impl LiveIndex {
     }
 
     /// The wanted plans that may hold a point of `extents`; `None` if there are no extents, or if reading the
-    /// plans would cost more than `room` rows. Up to `PARTS` extents are searched at once, more one by one if
-    /// that takes at most `LOOKS` chunks, and else as one slab round all of them.
+    /// plans would cost more than `room` rows. Up to `MAX_SEARCHED_PARTS` extents are searched at once, more
+    /// one by one if that takes at most `MAX_SEARCHES` chunks, and else as one slab round all of them.
     ///
     /// # Errors
     ///
@@ -119,8 +119,8 @@ impl LiveIndex {
         self.near_at_once(alloc, wanted, extents, room)
     }
 
-    // The wanted plans near `extents`, which are searched one by one. `None` if the plans cost more than
-    // `room` rows, or if more than `LOOKS` chunks are searched.
+    // The wanted plans near `extents`, which are searched one by one. `None` if reading the plans would cost
+    // more than `room` rows, or if more than `MAX_SEARCHES` chunks would be searched.
     fn near_one_by_one(
         &self,
         alloc: Global,
@@ -142,7 +142,8 @@ impl LiveIndex {
     }
 
     // The wanted plans near `extents`, which are searched all at once: near one slab round all if there are
-    // more than `PARTS`. `None` if the plans cost more than `room` rows, or if there are no extents.
+    // more than `MAX_SEARCHED_PARTS`. `None` if reading the plans would cost more than `room` rows, or if
+    // there are no extents.
     fn near_at_once(
         &self,
         alloc: Global,
@@ -166,7 +167,7 @@ impl LiveIndex {
         near.if_complete(alloc)
     }
 
-    // Adds the wanted plans that have a volume near `sought`.
+    // Adds the wanted plans that have a volume near `sought` to `near`.
     fn add_near(
         &self,
         near: &mut NearPlans,
@@ -180,7 +181,7 @@ impl LiveIndex {
         self.add_unindexed(near, wanted, sought)
     }
 
-    // Adds the wanted plans that have an unindexed volume near `sought`.
+    // Adds the wanted plans that have an unindexed volume near `sought` to `near`.
     fn add_unindexed(
         &self,
         near: &mut NearPlans,
@@ -198,10 +199,10 @@ impl LiveIndex {
     ///
     /// # Errors
     ///
-    /// `AllocError` if memory runs out.
+    /// `AllocError` if memory runs out; the index has the same volumes as before then.
     pub fn prepare(&mut self, alloc: Global, change: &Change) -> Result<Vec<LiveVolume>, AllocError>
         ensures kept { (w : World) → AreKeptOnce self.old w → AreKeptOnce self.new w }
-        ensures brought { IfOk result (λ fresh. AreBrought change.now fresh.items) }
+        ensures added { IfOk result (λ fresh. AreBrought change.now fresh.items) }
         ensures room { IfOk result (λ fresh. HasRoomForVolumes self.new (length fresh.items)) }
         ensures settled { OnOk result (AreSettled self.new) }
     {
@@ -211,11 +212,11 @@ impl LiveIndex {
         Ok(fresh)
     }
 
-    /// Updates the index after a change: removes the volumes of the plans that it names, and adds `fresh`,
-    /// those that it adds. It needs no allocation, and so can't fail.
+    /// Updates the index after a change: removes the volumes of the plans that the change names, and adds
+    /// `fresh`, which `prepare` returned for it. It needs no allocation, and so can't fail.
     pub fn update_after(&mut self, change: &Change, fresh: &[LiveVolume])
         requires room { HasRoomForVolumes self.old (length fresh.now) }
-        requires brought { AreBrought change.now fresh.now }
+        requires added { AreBrought change.now fresh.now }
         ensures same { ArePlaced self.old.places (volumes_under self.old.groups.items) → volumes_of self.new
             ≡ filter (stays_at change.now) (volumes_of self.old) ++ fresh.now }
         ensures kept { (w : World) → AreKeptOnce self.old w → AreKeptOnce self.new (changed_by change.now w) }
@@ -224,7 +225,7 @@ impl LiveIndex {
         push_all(&mut self.unindexed, fresh);
     }
 
-    // Removes the volumes of the plans that a change names.
+    // Removes the volumes of the plans that a change names: those that it puts, closes or clears.
     fn remove_named(&mut self, change: &Change)
         ensures { HasLeft (stays_at change.now) self.old self.new }
     {
@@ -245,11 +246,12 @@ impl LiveIndex {
         }
     }
 
-    // Removes the volumes of the operator's plan with this id.
+    // Removes the volumes of the operator's plan with this id, from the unindexed ones and from the groups,
+    // and then the plan's places, at which the groups are searched.
     fn remove_plan(&mut self, operator: &Operator, id: &PlanId)
         ensures { HasLeft (is_beside operator.now id.now) self.old self.new }
     {
-        remove_plan(&mut self.unindexed, operator, id);
+        remove_plan_volumes(&mut self.unindexed, operator, id);
         let key = PlanKey {
             operator: *operator,
             id: *id,
@@ -258,7 +260,7 @@ impl LiveIndex {
         self.places.forget(&key);
     }
 
-    // Moves the unindexed volumes into chunks.
+    // Moves the unindexed volumes into chunks, one by one. If memory runs out, some may have been moved.
     fn settle(&mut self, alloc: Global) -> Result<(), AllocError>
         ensures kept { (w : World) → AreKeptOnce self.old w → AreKeptOnce self.new w }
         ensures settled { OnOk result (AreSettled self.new) }
@@ -269,7 +271,8 @@ impl LiveIndex {
         Ok(())
     }
 
-    // Moves the last unindexed volume into a chunk, if there is one.
+    // Moves the last unindexed volume into a chunk, if there is one. Its place is noted first: a place too
+    // many does no harm if memory runs out, but a volume in a group without a place might not be found.
     fn settle_one(&mut self, alloc: Global) -> Result<(), AllocError>
         ensures kept { (w : World) → AreKeptOnce self.old w → AreKeptOnce self.new w }
         ensures fewer { OnOk result (length self.new.unindexed.items ≡ length self.old.unindexed.items - 1) }
@@ -292,7 +295,7 @@ pub struct LiveIndexBuilder {
 }
 
 impl LiveIndexBuilder {
-    /// A builder without plans.
+    /// A builder with the volumes of no plans.
     pub fn new(alloc: Global) -> LiveIndexBuilder
         ensures { AreVolumes [] (gathered_in result) }
     {
@@ -301,11 +304,11 @@ impl LiveIndexBuilder {
         }
     }
 
-    /// Adds the volumes of an operator's plan, if it is live.
+    /// Adds the volumes of the operator's plan `row`, if it is live.
     ///
     /// # Errors
     ///
-    /// `AllocError` if memory runs out.
+    /// `AllocError` if memory runs out; some of the volumes may have been added then.
     pub fn add(&mut self, operator: &Operator, row: &PlanRow) -> Result<(), AllocError>
         ensures { OnOk result ((ps : List Filed) → AreVolumes ps (gathered_in self.old) →
             AreVolumes (ps ++ filed_by operator.now row.now ∷ []) (gathered_in self.new)) }

@@ -11,7 +11,7 @@ use slab_regions::SearchArea;
 use std::alloc::{AllocError, Global};
 use std::collections::BTreeSet;
 
-// What one more query costs, in rows.
+// What the query that reads one more plan costs, in rows.
 const QUERY_COST: usize = 10;
 
 /// The key of a plan.
@@ -35,33 +35,33 @@ pub struct Wanted {
 #[derive(Drop)]
 pub(crate) struct NearPlans {
     keys: BTreeSet<PlanKey>,
-    // how many more rows reading plans may cost
+    // how many more rows reading the plans may cost
     room: usize,
     // how many more chunks may be searched
-    looks: usize,
+    searches_left: usize,
     // false once a limit is exceeded: a plan that is near may be missing, and no more are added
     pub(crate) is_complete: bool,
 }
 
 impl NearPlans {
-    /// No plans yet, with the limits of `room` rows and `looks` chunks.
-    pub(crate) fn new(alloc: Global, room: usize, looks: usize) -> NearPlans
+    /// No plans yet, with the limits of `room` rows and `searches_left` chunks searched.
+    pub(crate) fn new(alloc: Global, room: usize, searches_left: usize) -> NearPlans
         ensures keys { result.keys.keys ≡ [] }
     {
         NearPlans {
             keys: BTreeSet::new(alloc),
             room,
-            looks,
+            searches_left,
             is_complete: true,
         }
     }
 
-    /// Counts a chunk that is searched.
+    /// Counts a chunk that is searched. If no more may be searched, the plans aren't complete from now on.
     pub(crate) fn count_search(&mut self)
         ensures { LooksOn self.old self.new }
     {
-        self.is_complete = self.is_complete && self.looks > 0;
-        self.looks = self.looks.saturating_sub(1);
+        self.is_complete = self.is_complete && self.searches_left > 0;
+        self.searches_left = self.searches_left.saturating_sub(1);
     }
 
     /// Adds the plan of `live`, if it is wanted and the volume is near `sought`.
@@ -97,7 +97,7 @@ impl NearPlans {
         self.keys.contains(&live.key())
     }
 
-    // Adds the plan of `live`, unless the limit of rows is exceeded then.
+    // Adds the plan of `live`, unless its rows exceed the limit: then the plans aren't complete from now on.
     fn take(&mut self, live: &LiveVolume) -> Result<(), AllocError>
         ensures { OnOk result (TakesPlan live.now self.old self.new) }
     {
@@ -111,7 +111,7 @@ impl NearPlans {
         Ok(())
     }
 
-    /// The keys of the plans, or `None` if a limit was exceeded.
+    /// The keys of the plans, ascending, or `None` if a limit was exceeded.
     ///
     /// # Errors
     ///
@@ -131,7 +131,7 @@ impl NearPlans {
     }
 }
 
-/// Adds the wanted plans that have one of the volumes `lives` near `sought`.
+/// Adds the wanted plans that have one of the volumes `lives` near `sought` to `near`.
 ///
 /// # Errors
 ///

@@ -24,8 +24,9 @@ impl Rank {
     }
 }
 
-/// The place of a slab in that order: the bits of its start, its first leaf and its lowest altitude in turn,
-/// the highest first (a Z-order curve), and in the last 64 bits its first leaf.
+/// The place of a slab in that order: the bits of its start (in steps of 128 s), its first leaf (in steps of
+/// `2^42` leaves) and its lowest altitude (in decimetres), the lowest 21 of each, in turn, the highest first
+/// (a Z-order curve), and in the last 64 bits its first leaf.
 pub(crate) fn place_of(slab: &Slab) -> u128
     ensures { result % 2 ^ 64 ≡ slab.now.first }
 {
@@ -43,7 +44,7 @@ fn joined(high: u64, low: u64) -> u128
     (u128::from(high) << 64) | u128::from(low)
 }
 
-// Spreads the lowest 21 bits of a number: two zero bits before each.
+// Spreads the lowest 21 bits of a number: bit k becomes bit 3 * k, and all others are zero.
 #[tactic(auto, using(crate::proofs::OrderLemmas::masked))]
 fn spread(number: u64) -> u64
     ensures { bit_and result 0x1249_2492_4924_9249 ≡ result }
@@ -56,7 +57,7 @@ fn spread(number: u64) -> u64
     (bits | (bits << 2)) & 0x1249_2492_4924_9249
 }
 
-/// Sorts volumes by rank.
+/// Sorts volumes, ascending by rank.
 pub(crate) fn put_in_order(lives: &mut [LiveVolume])
     ensures { IsPermutation lives.old lives.new }
 {

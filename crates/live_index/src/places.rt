@@ -36,11 +36,11 @@ impl Places {
         }
     }
 
-    /// Adds the place of a volume to those of its plan.
+    /// Adds the place of the volume `live` to those of its plan.
     ///
     /// # Errors
     ///
-    /// `AllocError` if memory runs out.
+    /// `AllocError` if memory runs out; no place is lost then.
     pub(crate) fn add(&mut self, alloc: Global, live: &LiveVolume) -> Result<(), AllocError>
         ensures kept { AreNoFewer self.old.plans.entries self.new.plans.entries }
         ensures added { OnOk result (IsOneMore (key_of live.now) self.old.plans.entries
@@ -51,7 +51,7 @@ impl Places {
         push(&mut self.plans, &key, live.place)
     }
 
-    /// Removes the places of a plan.
+    /// Removes all places of a plan, if it has any.
     pub(crate) fn forget(&mut self, key: &PlanKey)
         ensures others { AreOthers key.now self.old.plans.entries self.new.plans.entries }
         ensures gone { list_of key.now self.new.plans.entries ≡ None }
@@ -64,10 +64,10 @@ impl Places {
 
 type Lists = BTreeMap<PlanKey, Vec<u128>>;
 
-// Gives a plan an empty list of places, if it has no list.
+// Gives a plan an empty list of places, if it has no list. If memory runs out, the lists stay as they are.
 fn ensure_list(alloc: Global, plans: &mut Lists, key: &PlanKey) -> Result<(), AllocError>
     ensures kept { AreNoFewer plans.old.entries plans.new.entries }
-    ensures there { OnOk result (IsSome (list_of key.now plans.new.entries)) }
+    ensures has_list { OnOk result (IsSome (list_of key.now plans.new.entries)) }
 {
     if plans.contains_key(key) {
         return Ok(());
@@ -76,7 +76,7 @@ fn ensure_list(alloc: Global, plans: &mut Lists, key: &PlanKey) -> Result<(), Al
     Ok(())
 }
 
-// Adds a place to the list of a plan, if it has one.
+// Adds a place to the list of a plan, if it has one. If memory runs out, the list stays as it is.
 fn push(plans: &mut Lists, key: &PlanKey, place: u128) -> Result<(), AllocError>
     ensures kept { AreNoFewer plans.old.entries plans.new.entries }
     ensures added { OnOk result (IsSome (list_of key.now plans.old.entries)
@@ -88,7 +88,7 @@ fn push(plans: &mut Lists, key: &PlanKey, place: u128) -> Result<(), AllocError>
     Ok(())
 }
 
-/// The places of volumes, by plan.
+/// The places of the volumes `lives`, by plan.
 ///
 /// # Errors
 ///

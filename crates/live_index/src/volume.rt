@@ -24,14 +24,14 @@ pub struct LiveVolume {
     pub(crate) priority: u32,
     // the smallest slab that has all its points
     pub(crate) bounds: Slab,
-    // an estimate of the plan's rows of spans, which no clause mentions
+    // an estimate of how many rows of spans the whole plan has, which no clause mentions
     pub(crate) rows: usize,
-    // its place in the order of chunks, which no clause mentions
+    // its place in the order of chunks (`place_of`), which no clause mentions
     pub(crate) place: u128,
 }
 
 impl LiveVolume {
-    /// The entry of `volume`, one of the plan `row` of the operator.
+    /// The entry for `volume`, a volume of the operator's plan `row`.
     ///
     /// # Errors
     ///
@@ -84,8 +84,8 @@ impl LiveVolume {
         Rank::of(&self.key(), self.place)
     }
 
-    // Whether the volume belongs to a plan that `wanted` leaves out: the operator's with that id, or any if
-    // there is no id.
+    // Whether the volume belongs to a plan that `wanted` leaves out: that of its operator with its id, or any
+    // plan of its operator if it has no id.
     fn is_own(&self, wanted: &Wanted) -> bool
         ensures { result ≡ near.is_own_volume wanted.now self.now }
     {
@@ -95,7 +95,7 @@ impl LiveVolume {
         }
     }
 
-    /// Whether the volume's plan is wanted, and its bounds overlap `sought`.
+    /// Whether the volume's plan is wanted, by its priority and its owner, and its bounds overlap `sought`.
     pub(crate) fn is_near_to(&self, wanted: &Wanted, sought: &SearchArea) -> bool
         ensures { result ≡ near.is_near_to wanted.now sought.now self.now }
     {
@@ -108,13 +108,13 @@ impl LiveVolume {
         !self.is_own(wanted)
     }
 
-    /// Whether the volume belongs to another operator, and its bounds overlap `whole`.
-    pub(crate) fn is_theirs(&self, operator: &Operator, whole: &Slab) -> bool
-        ensures { result ≡ regions.is_theirs operator.now whole.now self.now }
+    /// Whether the volume belongs to another operator than `operator`, and its bounds overlap `extent`.
+    pub(crate) fn is_theirs(&self, operator: &Operator, extent: &Slab) -> bool
+        ensures { result ≡ regions.is_theirs operator.now extent.now self.now }
     {
         if operator.cmp(&self.operator).is_eq() {
             return false;
         }
-        self.bounds.overlaps(whole)
+        self.bounds.overlaps(extent)
     }
 }

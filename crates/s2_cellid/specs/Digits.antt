@@ -1,4 +1,4 @@
--- Hex digits, and texts of them that are filled up with zeros on the right to all digits of an id.
+-- Hex digits, and texts of them that are padded with zeros on the right to all digits of an id.
 use Rattle.std.specs.Prelude.{◌≡◌, ℕ, ◌-◌, ◌≤◌, Bool, IsTrue, List, ◌++◌, length, take, drop, replicate}
 use Rattle.std.specs.Char.{is_digit}
 use Rattle.std.specs.List.{list_all}
@@ -13,7 +13,7 @@ most_digits = 16
 abbrev pub is_hex : List ℕ → Bool
 is_hex text = list_all (λ c. is_digit c 16) text
 
--- the text, filled up with the digit 0 on the right to all digits of an id
+-- the text, padded with the digit 0 on the right to all digits of an id
 abbrev pub filled : List ℕ → List ℕ
 filled text = text ++ replicate (most_digits - length text) 48
 

@@ -9,19 +9,19 @@ use Rattle.s2_cellid.specs.Digits.{most_digits, is_hex, filled}
 use Rattle.s2_cellid.specs.declared.tokens.TokenFault.{TokenFault}
 use Rattle.s2_cellid.specs.declared.tokens.TokenFault.TheVariants.{Empty, TooLong, NotHex, NotACell}
 
--- the number that the filled text writes in base 16
+-- the number that the text writes in base 16, padded with zeros on the right to all digits of an id
 unfoldable pub filled_value : List ℕ → ℕ
 filled_value text = digits_value 16 (filled text)
 
--- the text spells the id: hex digits, one at least and no more than an id has, which, filled up
--- with zeros on the right, write it in base 16
+-- the text spells the id: it is 1 to 16 hex digits of either case, which, padded with zeros on the right,
+-- write the id in base 16
 pub record IsSpelling (text : List ℕ) (id : ℕ) : Type 0 where
   pub some : 0 < length text
   pub at_most : length text ≤ most_digits
   pub hex : IsTrue (is_hex text)
   pub value : filled_value text ≡ id
 
--- the text has no letter of upper case, and no 0 at its end
+-- the text has no upper-case letter, and no digit 0 (48 in ASCII) at its end
 pub record IsInPrintedForm (text : List ℕ) : Type 0 where
   pub lower : IsTrue (list_all (λ c. not (is_ascii_uppercase c)) text)
   pub ended : slice_index text (length text - 1) ≢ 48
@@ -31,6 +31,7 @@ unfoldable pub hex_digits : ℕ → ℕ → List ℕ
 hex_digits zero n = []
 hex_digits (suc count) n = digit_char (n / 16 ^ count % 16) ∷ hex_digits count n
 
+-- whether a byte is the digit 0
 abbrev pub is_zero : ℕ → Bool
 is_zero c = c == 48
 
@@ -53,12 +54,12 @@ abbrev pub first_fault : List (Bool × TokenFault) → Option TokenFault
 first_fault [] = None
 first_fault (condition ∷ rest) = if condition.0 then Some condition.1 else first_fault rest
 
--- the id, unless there is a fault
+-- the fault if there is one, else the id
 abbrev pub unless : Option TokenFault → ℕ → Result ℕ TokenFault
 unless None id = Ok id
 unless (Some fault) id = Err fault
 
--- what a text reads as
+-- what a text reads as: the first fault that applies, or the id
 unfoldable pub read_token : List ℕ → Result ℕ TokenFault
 read_token text = unless (first_fault (faults text)) (filled_value text)
 

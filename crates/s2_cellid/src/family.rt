@@ -36,7 +36,7 @@ impl CellId {
         }
     }
 
-    /// The cell of `level` that contains this one; at its own level, this cell itself.
+    /// The cell of `level` that contains this one; at this cell's own level, this cell itself.
     pub fn parent(&self, level: u8) -> CellId
         requires { level ≤ level_of self.now }
         ensures value { result ≡ parent_id level self.now }
@@ -55,7 +55,7 @@ impl CellId {
         }
     }
 
-    /// The quarter of this cell that the curve visits at place `k`, 0 to 3.
+    /// The quarter of this cell that the curve visits at place `k`, 0 to 3. It is one level down.
     pub fn child(&self, k: u8) -> CellId
         requires k { k < 4 }
         requires level { level_of self.now < 30 }

@@ -90,8 +90,8 @@ impl CellId {
     }
 
     /// The position of the cell's first leaf among all leaves, counted from 0 in the order of
-    /// their ids. The id of the leaf at a position is `2 * position + 1`; that of the first leaf
-    /// is S2's `range_min`.
+    /// their ids. The id of the leaf at a position is `2 * position + 1`; the id of the cell's first
+    /// leaf is S2's `range_min`.
     pub fn first(&self) -> u64
         ensures value { result ≡ first_leaf self.now }
         ensures leaf { leaf_id_at result ≡ first_leaf_id self.now }
@@ -114,7 +114,7 @@ impl CellId {
         self.last_leaf_id() / 2
     }
 
-    /// Whether each leaf of the other cell is a leaf of this one.
+    /// Whether each leaf of the other cell is a leaf of this one; a cell contains itself.
     pub fn contains(&self, other: &CellId) -> bool
         ensures range { IsTrue result
             ↔ IsInRange (first_leaf_id self.now) (last_leaf_id self.now) other.now }
@@ -161,7 +161,8 @@ impl CellId {
         self.id + (self.lowest_bit() - 1)
     }
 
-    // Whether `id` lies between the least and the greatest id of the cell's leaves.
+    // Whether `id` lies between the least and the greatest id of the cell's leaves, both included. The ids of
+    // cells inside this one do.
     fn has_id(&self, id: u64) -> bool
         ensures range { IsTrue result
             ↔ IsInRange (first_leaf_id self.now) (last_leaf_id self.now) id }

@@ -101,6 +101,7 @@ impl Token {
     pub fn as_str(&self) -> &str
         ensures { result.now ≡ self.now }
     {
+        // Hex digits are ASCII, and so UTF-8.
         unsafe { str::from_utf8_unchecked(&self.digits[..self.printed]) }
     }
 }
@@ -122,7 +123,7 @@ impl fmt::Display for CellId {
 }
 
 impl CellId {
-    /// The token of the cell: its id in base 16 without trailing zeros.
+    /// The token of the cell: its id in base 16, lower-case, without trailing zeros.
     pub fn token(&self) -> Token
         ensures value { result ≡ token_text self.now }
         ensures spelling { IsSpelling result self.now }
@@ -182,7 +183,7 @@ fn hex_digit(value: u64) -> u8
     }
 }
 
-// The number of hex digits of an id without its trailing zeros.
+// The number of hex digits of an id without its trailing zeros. A valid id is never 0, so it is 1 to 16.
 fn printed_length(id: u64) -> usize
     requires { IsCellId id }
     ensures { result ≡ length (hex_digits most_digits id)
@@ -199,8 +200,8 @@ fn hex_value(byte: u8) -> Option<u8>
     if value < NO { Some(value) } else { None }
 }
 
-// The number that the hex digits of `token` write, padded with zeros on the right to 16 digits; `None` if a
-// byte is no hex digit.
+// The number that the 1 to 16 hex digits of `token` write, padded with zeros on the right to 16 digits;
+// `None` if a byte is no hex digit.
 fn filled_value(token: &[u8]) -> Option<u64>
     requires some { 0 < length token.now }
     requires at_most { length token.now ≤ most_digits }

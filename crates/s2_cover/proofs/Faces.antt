@@ -121,7 +121,7 @@ below_leaves w p face has = omega (arith, within_face w p has, whole_first w.fac
 pub whole_opened : (set : ℕ → Bool) (face : ℕ) → face < 6 → IsOpened set (square_id (whole face))
 whole_opened set face below = inl (square_block (whole face) (whole_is face below)).level_is
 
--- the greatest number of looks of a level and a number of cells
+-- the greatest number of comparisons of a level and a number of cells
 pub most_looks : (level cells limit : ℕ) → level ≤ 24 → cells ≤ limit + 1
     → looks_for level cells ≤ max_looks limit
 most_looks level cells limit low few =

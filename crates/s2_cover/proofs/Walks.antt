@@ -1,4 +1,4 @@
--- The walk down the squares: what is laid, and how many looks it takes.
+-- The walk down the squares: what is laid, and how many comparisons it takes.
 use Rattle.std.proofs.Common.{◌≡◌, ℕ, ◌+◌, ◌-◌, ◌*◌, ◌<◌, ◌≤◌, Bool, true, false, List, [], ◌∷◌, ◌++◌, length, refl, sym, ◌∙◌, ap, subst, arith, inr}
 use Rattle.std.specs.Prelude.{IsTrue, Contains}
 use Rattle.std.proofs.lemmas.List.{length-append, append-nil, append_assoc}
@@ -172,7 +172,7 @@ walking_goes_on set levels limit level first k upto child before cells after old
       next_place : (first k count : ℕ) → first + (k + 1) * count ≡ first + k * count + count
       next_place first k count = omega arith
 
--- the looks that the children may still take are among those of their parent
+-- the comparisons that the children may still take are among those of their parent
 child_sum : (levels above taken left all : ℕ) → above ≡ levels + 1 → all ≡ taken + left → 0 < left
     → 4 + 4 * (levels * taken) + 4 * (levels * left) ≤ 4 * (above * all)
 child_sum levels above taken left all up parts some =
@@ -283,7 +283,7 @@ child_upto child square k level first =
     omega arith in
     omega (arith, first, place, next, counts, some_leaves child.level)
 
--- a fault is the same within more looks
+-- a fault is the same within more comparisons
 pub stopped_later : (set : ℕ → Bool) (limit most more : ℕ) (fault : CoverFault)
     → HasStopped set limit most fault
     → most ≤ more → HasStopped set limit more fault

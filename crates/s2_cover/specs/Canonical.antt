@@ -22,8 +22,8 @@ pub record IsCanonical (set : ℕ → Bool) (ids : List ℕ) : Type 0 where
   pub ascending : IsStrictlyIncreasing ids
   pub members : (id : ℕ) → Contains ids id ↔ IsLargest set id
 
--- a cover, apart from how the code keeps it: the ids of its cells, and how many squares were looked at
--- to find them
+-- a cover, apart from how the code keeps it: the ids of its cells, and how many squares were compared with a
+-- rectangle to find them
 pub record CoverParts : Type 0 where
   pub ids : List ℕ
   pub looked : ℕ

@@ -89,7 +89,7 @@ widened r = record {
 abbrev pub is_along : ℕ → ℕ → ℕ → ℕ → Bool
 is_along side least greatest n = is_in_range least greatest (n / side)
 
--- whether a leaf lies in one of those squares
+-- whether a leaf lies in one of the squares that the rectangle touches
 abbrev pub wide_has : WideParts → GridLeaf → Bool
 wide_has w leaf =
     leaf.face == w.face
@@ -100,6 +100,6 @@ wide_has w leaf =
 unfoldable pub wide_set : WideParts → ℕ → Bool
 wide_set w position = wide_has w (grid_leaf_at position)
 
--- the positions of a rectangle's leaves along the curve
+-- the positions along the curve of the leaves of a rectangle's footprint
 abbrev pub rect_leaves : RectParts → ℕ → Bool
 rect_leaves r = wide_set (widened r)

@@ -1,4 +1,5 @@
--- A walk down the squares of a face that collects the canonical cells of a set, and counts its looks.
+-- A walk down the squares of a face that collects the canonical cells of a set, and counts its comparisons:
+-- the squares that it compares with the set.
 use Rattle.std.specs.Prelude.{◌≡◌, ◌≢◌, ◌↔◌, ◌⊎◌, ℕ, ◌+◌, ◌*◌, ◌<◌, ◌≤◌, Bool, true, false, IsTrue, List, ◌++◌, length, Contains, AllPairs}
 use Rattle.std.specs.Int.{IsInRange}
 use Rattle.s2_hilbert.specs.Grid.{GridSquare}
@@ -12,24 +13,24 @@ use Rattle.s2_cover.specs.declared.sight.Overlap.TheVariants.{Outside, Inside, A
 use Rattle.s2_cover.specs.declared.walk.CoverFault.{CoverFault}
 use Rattle.s2_cover.specs.declared.walk.CoverFault.TheVariants.{TooManyCells, OutOfMemory}
 
--- each number of a range has this result of a test
+-- the test has this result for each number of a range
 abbrev pub AllIn : ℕ → ℕ → (ℕ → Bool) → Bool → Type 0
 AllIn first last test b = (n : ℕ) → first ≤ n → n ≤ last → test n ≡ b
 
--- some number of a range has it
+-- the test has this result for some number of a range
 pub record SomeIn (first last : ℕ) (test : ℕ → Bool) (b : Bool) : Type 0 where
   pub number : ℕ
   pub low : first ≤ number
   pub high : number ≤ last
   pub is : test number ≡ b
 
--- what a sight says of the numbers of a range
+-- how the numbers of a range overlap those that pass a test
 abbrev pub Saw : ℕ → ℕ → (ℕ → Bool) → Overlap → Type 0
 Saw first last test Outside = AllIn first last test false
 Saw first last test Inside = AllIn first last test true
 Saw first last test Across = SomeIn first last test true × SomeIn first last test false
 
--- the sight of a square, from those of its two coordinates
+-- how a square overlaps, from how the ranges of its two coordinates do
 abbrev pub both : Overlap → Overlap → Overlap
 both Outside j = Outside
 both Inside j = j
@@ -44,7 +45,7 @@ pub record IsWide (w : WideParts) : Type 0 where
   pub a_order : w.a_min ≤ w.a_max
   pub b_order : w.b_min ≤ w.b_max
 
--- what a sight says of a square
+-- how the positions of a square overlap a set; a square that lies across is above the level
 pub record SawSquare (set : ℕ → Bool) (level : ℕ) (square : GridSquare) (sight : Overlap) : Type 0 where
   pub saw : Saw (first_position square) (last_position square) set sight
   pub above : sight ≡ Across → square.level < level
@@ -54,7 +55,7 @@ abbrev pub IsOpened : (ℕ → Bool) → ℕ → Type 0
 IsOpened set id =
     (level_of id ≡ 0) ⊎ ((p : ℕ) × (IsTrue (cell_has (parent_of id) p) × (set p ≡ false)))
 
--- the most looks that this many cells take, so many levels down: one, and four for each level and cell
+-- the most comparisons for so many cells, so many levels down: one, and four for each level and cell
 abbrev pub looks_for : ℕ → ℕ → ℕ
 looks_for levels cells = 1 + 4 * (levels * cells)
 
@@ -68,29 +69,30 @@ pub record IsCrossed (set : ℕ → Bool) (id : ℕ) : Type 0 where
   pub inside : (p : ℕ) × (IsTrue (cell_has id p) × (set p ≡ true))
   pub outside : (p : ℕ) × (IsTrue (cell_has id p) × (set p ≡ false))
 
--- all such cells, each once
+-- all crossed cells, each once
 pub record AreCrossed (set : ℕ → Bool) (ids : List ℕ) : Type 0 where
   pub once : AllPairs ◌≢◌ ids
   pub members : (id : ℕ) → Contains ids id ↔ IsCrossed set id
 
--- how many looks a cover takes: one at a face, and four at the children of each such cell
+-- how many comparisons a cover takes: one of a face, and four of the children of each crossed cell
 abbrev pub HasLooked : (ℕ → Bool) → ℕ → Type 0
 HasLooked set looked = (ids : List ℕ) × (AreCrossed set ids × (looked ≡ 1 + 4 * length ids))
 
--- such a cell among the positions from `first` to before `upto`, with its lowest bit at most at a place
+-- a crossed cell among the positions from `first` to before `upto`, with its lowest set bit at most at `most`
 pub record IsCrossedIn (set : ℕ → Bool) (most first upto id : ℕ) : Type 0 where
   pub crossed : IsCrossed set id
   pub place : lowest_place id ≤ most
   pub begins : first ≤ first_leaf id
   pub ends : last_leaf id < upto
 
--- all of these, each once
+-- all of these crossed cells, each once
 pub record AreCrossedIn (set : ℕ → Bool) (most first upto : ℕ) (ids : List ℕ) : Type 0 where
   pub once : AllPairs ◌≢◌ ids
   pub members : (id : ℕ) → Contains ids id ↔ IsCrossedIn set most first upto id
 
--- a walk over the positions from `first` to before `upto` has appended the canonical cells there, and
--- has looked at one square, and at the four children of each crossed cell
+-- a walk over the positions from `first` to before `upto` has appended the canonical cells there to `before`,
+-- which gives `after`, and has compared one square, and the four children of each crossed cell; `old` and
+-- `new` are the numbers of comparisons before and after it
 pub record HasWalked (set : ℕ → Bool) (levels limit first upto : ℕ) (before after : List ℕ)
     (old new : ℕ) : Type 0 where
   pub marked : List ℕ
@@ -103,18 +105,18 @@ pub record HasWalked (set : ℕ → Bool) (levels limit first upto : ℕ) (befor
   pub looks : new ≤ old + looks_for levels (length more)
   pub counted : length after ≤ new
 
--- a walk has ended at a fault; if it is for too many cells, after at most this many looks
+-- a walk has ended at a fault; if it is for too many cells, then after at most `most` comparisons
 abbrev pub HasStopped : (ℕ → Bool) → ℕ → ℕ → CoverFault → Type 0
 HasStopped set limit most (TooManyCells looked) =
     IsInRange (limit + 1) most looked × HasMoreCells set limit
 HasStopped set limit most OutOfMemory = Unit
 
--- the fault at one cell more: there are as many as the limit allows
+-- the fault at one cell more: there are as many cells as the limit allows
 abbrev pub IsFull : ℕ → ℕ → ℕ → CoverFault → Type 0
 IsFull limit cells looks (TooManyCells looked) = (looked ≡ looks) × (limit ≤ cells)
 IsFull limit cells looks OutOfMemory = Unit
 
--- the most looks at which a cover within a limit is found or refused: 1 + 96 * (limit + 1)
+-- the most comparisons after which a cover within a limit is found or refused: 1 + 96 * (limit + 1)
 abbrev pub max_looks : ℕ → ℕ
 max_looks limit = looks_for max_level (limit + 1)
 

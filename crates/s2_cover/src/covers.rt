@@ -17,6 +17,7 @@ use std::marker::Model;
 #[derive(Debug, Drop)]
 pub struct Cover {
     cells: Vec<CellId>,
+    // how many squares were compared with a rectangle to find the cells
     looked: u64,
 }
 
@@ -47,7 +48,7 @@ impl Cover {
         self.looked
     }
 
-    /// The cover's leaves as ranges of positions, in one pass over the cells.
+    /// The cover's leaves as ranges of positions along the curve, in one pass over the cells.
     ///
     /// # Errors
     ///
@@ -61,7 +62,7 @@ impl Cover {
         Ranges::of_sorted(*self.cells.allocator(), &self.cells)
     }
 
-    /// The canonical cover of the leaves of `ranges`, in a bounded number of steps for each of its cells.
+    /// The canonical cover of the leaves of `ranges`, in a constant number of steps for each of its cells.
     ///
     /// # Errors
     ///
@@ -77,7 +78,8 @@ impl Cover {
         Ok(Cover { cells, looked: 0 })
     }
 
-    /// The cover with these cells, which have to be the canonical list of their leaves.
+    /// The cover with these cells, which have to be the canonical list of their leaves, and the number of
+    /// squares that were compared with a rectangle to find them.
     pub(crate) fn of_canonical(cells: Vec<CellId>, looked: u64) -> Cover
         requires { IsCanonical (leaves_of cells.items) cells.items }
         ensures ids { result.ids ≡ cells.items }
@@ -124,7 +126,8 @@ pub fn normalise(alloc: Global, cells: &[CellId]) -> Result<Cover, AllocError>
     Ok(Cover { cells, looked: 0 })
 }
 
-// The largest cells that lie in the spans, ascending. They are put into `empty`, whose memory is reused.
+// The largest cells that lie in `spans`, the ranges of a set of leaves, ascending. They are put into `empty`,
+// whose memory is reused.
 fn largest_cells(empty: Vec<CellId>, spans: &[Span]) -> Result<Vec<CellId>, AllocError>
     ghost set: { ℕ → Bool }
     requires empty { empty.items ≡ [] }
@@ -139,7 +142,8 @@ fn largest_cells(empty: Vec<CellId>, spans: &[Span]) -> Result<Vec<CellId>, Allo
     Ok(cells)
 }
 
-// Appends the largest cells that lie in `span`, from its first position to its last.
+// Appends the largest cells that lie in `span`, a longest run of the set's positions, from its first position
+// to its last. `cells` has the cells of the spans before it.
 fn push_cells(cells: &mut Vec<CellId>, span: &Span) -> Result<(), AllocError>
     ghost set: { ℕ → Bool }
     requires run { IsLongestRun set span.now }
@@ -155,7 +159,7 @@ fn push_cells(cells: &mut Vec<CellId>, span: &Span) -> Result<(), AllocError>
     Ok(())
 }
 
-// The largest cell whose first leaf is at `first` and whose last leaf is at `last` or before.
+// The largest cell whose first leaf is at the position `first` and whose last leaf is at `last` or before.
 fn largest_from(first: u64, last: u64) -> CellId
     requires ordered { first ≤ last }
     requires below { last < 6 * 2 ^ 60 }
@@ -165,8 +169,9 @@ fn largest_from(first: u64, last: u64) -> CellId
     CellId::from_raw(2 * first + (1 << place)).unwrap()
 }
 
-// The place of the lowest set bit in the id of the largest cell that begins at `first` and ends by `last`. A
-// cell has `2^place` leaves, and its first position is a multiple of that.
+// The place of the lowest set bit, counted from 0, in the id of the largest cell whose first leaf is at the
+// position `first` and whose last leaf is at `last` or before. A cell has `2^place` leaves, with an even
+// place of at most 60, and its first position is a multiple of that number.
 fn largest_place(first: u64, last: u64) -> u32
     requires ordered { first ≤ last }
     requires below { last < 6 * 2 ^ 60 }

@@ -92,8 +92,8 @@ impl Model for Rect {
 }
 
 impl Rect {
-    /// The rectangle of the leaves of `face` with coordinates `i_min..=i_max` and `j_min..=j_max`, and with
-    /// squares of `level`, which has to be 8 to 24.
+    /// The rectangle of the leaves of `face` (0 to 5) with coordinates `i_min..=i_max` and `j_min..=j_max`
+    /// (0 to `2^30 - 1`), and with squares of `level` (8 to 24).
     ///
     /// # Errors
     ///
@@ -150,35 +150,35 @@ impl Rect {
         self.face
     }
 
-    /// The least coordinate `i`.
+    /// The least coordinate `i` of a leaf.
     pub fn i_min(&self) -> u32
         ensures { result ≡ self.now.i_min }
     {
         self.i_min
     }
 
-    /// The greatest coordinate `i`.
+    /// The greatest coordinate `i` of a leaf.
     pub fn i_max(&self) -> u32
         ensures { result ≡ self.now.i_max }
     {
         self.i_max
     }
 
-    /// The least coordinate `j`.
+    /// The least coordinate `j` of a leaf.
     pub fn j_min(&self) -> u32
         ensures { result ≡ self.now.j_min }
     {
         self.j_min
     }
 
-    /// The greatest coordinate `j`.
+    /// The greatest coordinate `j` of a leaf.
     pub fn j_max(&self) -> u32
         ensures { result ≡ self.now.j_max }
     {
         self.j_max
     }
 
-    /// The level of the squares, 8 to 24.
+    /// The level of the squares that make up the footprint, 8 to 24.
     pub fn level(&self) -> u8
         ensures value { result ≡ self.now.level }
         ensures limits { IsRect self.now }
@@ -187,7 +187,7 @@ impl Rect {
     }
 }
 
-// Whether both numbers are coordinates in the grid of a face, at most `2^30 - 1`.
+// Whether both numbers are coordinates in the grid of a face, 0 to `2^30 - 1`; their order doesn't matter.
 fn are_coordinates(least: u32, greatest: u32) -> bool
     ensures { result ≡ (is_coordinate least && is_coordinate greatest) }
 {

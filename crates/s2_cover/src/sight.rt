@@ -12,7 +12,8 @@ use crate::rect::Rect;
 use s2_hilbert::{LEAF_LEVEL, Square};
 use std::marker::Model;
 
-/// A rectangle in coordinates of the squares of its level: all squares that it touches.
+/// A rectangle in coordinates of the squares of its level: the squares that it touches, from (`a_min`,
+/// `b_min`) to (`a_max`, `b_max`).
 #[derive(Clone, Copy, Debug)]
 pub(crate) struct Widened {
     face: u8,
@@ -69,7 +70,7 @@ impl Model for Widened {
 }
 
 impl Widened {
-    /// The squares of the rectangle's level that it touches.
+    /// The squares of the level of `rect` that it touches.
     pub(crate) fn of_rect(rect: &Rect) -> Widened
         ensures value { result ≡ widened rect.now }
         ensures valid { IsWide result }
@@ -94,7 +95,8 @@ impl Widened {
     }
 }
 
-/// How a square of the rectangle's face overlaps the rectangle. Counts the comparison in `looked`.
+/// How `square` overlaps the rectangle `wide`, both on one face; the square's level is at most that of the
+/// rectangle. Adds one to `comparison_count`.
 pub(crate) fn compare(wide: &Widened, square: &Square, looked: &mut u64) -> Overlap
     requires wide { IsWide wide.now }
     requires square { IsSquare square.now }
@@ -112,7 +114,7 @@ pub(crate) fn compare(wide: &Widened, square: &Square, looked: &mut u64) -> Over
     )
 }
 
-// The overlap of a square, from the overlaps of its ranges of `i` and of `j`.
+// The overlap of a square with a rectangle, from the overlaps of its ranges of `i` and of `j`.
 fn combine(i_sight: Overlap, j_sight: Overlap) -> Overlap
     ensures { result ≡ spec.both i_sight j_sight }
 {
@@ -124,8 +126,8 @@ fn combine(i_sight: Overlap, j_sight: Overlap) -> Overlap
     }
 }
 
-// How the leaf coordinates `span.0..=span.1` overlap the squares `least..=greatest`, which have `side` leaves
-// along a side.
+// How the leaf coordinates `span.0..=span.1` overlap the squares with the coordinates `least..=greatest`,
+// which have `side` leaves along a side. They are `Across` only if they lie in more than one square.
 fn compare_range(span: (u32, u32), least: u32, greatest: u32, side: u32) -> Overlap
     requires span { span.0 ≤ span.1 }
     requires order { least ≤ greatest }

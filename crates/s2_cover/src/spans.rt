@@ -60,7 +60,12 @@ impl Ranges {
         Ok(Ranges { spans })
     }
 
-    /// The leaves of `cells` as ranges, in one pass; the cells are in the order of their first leaves.
+    /// The leaves of `cells` as ranges, in one pass. The cells have to ascend by their first leaves; they may
+    /// overlap and repeat.
+    ///
+    /// # Errors
+    ///
+    /// `AllocError` if memory runs out.
     pub(crate) fn of_sorted(alloc: Global, cells: &[CellId]) -> Result<Ranges, AllocError>
         requires { IsNonDecreasingBy first_leaf cells.now }
         ensures ranges { IfOk result (IsRanges (leaves_of cells.now)) }
@@ -85,7 +90,7 @@ impl Ranges {
     }
 }
 
-// The positions of a cell's leaves, from its first leaf to its last.
+// The positions of a cell's leaves as one span, from its first leaf to its last.
 fn span_of(cell: &CellId) -> Span
     ensures valid { IsSpan result }
     ensures first { result.first ≡ first_leaf cell.now }

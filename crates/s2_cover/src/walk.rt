@@ -61,7 +61,7 @@ impl<T: Drop> From<AllocFailed<T>> for CoverFault {
 /// The canonical cover of a rectangle's footprint, if it has at most `limit` cells.
 ///
 /// The search goes down from the whole face and compares at most `1 + 96 * (limit + 1)` squares with the
-/// rectangle.
+/// rectangle: the face, and for each cell four children on each of up to 24 levels.
 ///
 /// # Errors
 ///
@@ -90,8 +90,9 @@ pub fn cover(alloc: Global, rect: &Rect, limit: u32) -> Result<Cover, CoverFault
     Ok(Cover::of_canonical(cells, looked))
 }
 
-// Appends the canonical cells of the rectangle's leaves that lie in `square`, and counts the comparisons in
-// `looked`. `TooManyCells` if there are more than `limit` cells.
+// Appends the canonical cells of the rectangle `wide` that lie in `square`, and adds the number of
+// comparisons to `comparison_count`. `TooManyCells` if `cells` would have more than `limit`, `OutOfMemory` if
+// memory runs out.
 // Long: the state of the walk at a square has nine facts, and each call within hands on each by its name.
 fn walk(
     wide: &Widened,
@@ -128,14 +129,15 @@ fn walk(
     Ok(())
 }
 
-// Appends the cell of `square`; `TooManyCells` if there are `limit` cells already.
+// Appends the cell of `square`. `TooManyCells`, with `comparison_count`, if there are `limit` cells already;
+// `OutOfMemory` if memory runs out.
 fn push_cell(
     square: &Square,
     limit: u32,
     cells: &mut Vec<CellId>,
     looked: u64,
 ) -> Result<(), CoverFault>
-    ensures kept { OnOk result (cells.new.items ≡ cells.old.items ++ square_id square.now ∷ []) }
+    ensures pushed { OnOk result (cells.new.items ≡ cells.old.items ++ square_id square.now ∷ []) }
     ensures room { OnOk result (length cells.old.items < limit) }
     ensures full { IfErr result (IsFull limit (length cells.old.items) looked) }
 {

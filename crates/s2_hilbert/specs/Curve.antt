@@ -31,11 +31,11 @@ quadrant_at turn place = slice_index (quadrants_of turn) place
 unfoldable pub place_of : ℕ → ℕ → ℕ
 place_of turn quadrant = position_or_len (λ q. q == quadrant) (quadrants_of turn)
 
--- the orientation of the quadrant at a place
+-- the orientation of the quadrant at a place, in a square with the orientation `turn`
 unfoldable pub turned : ℕ → ℕ → ℕ
 turned turn place = bit_xor turn (slice_index changes_of_turn place)
 
--- the quadrant of a point in a square of 2^(n+1) points along a side
+-- the quadrant of a point in a square of 2^(n+1) points along a side: the bits n of its coordinates
 abbrev pub quadrant_of : ℕ → ℕ → ℕ → ℕ
 quadrant_of n i j = 2 * (i / 2 ^ n % 2) + j / 2 ^ n % 2
 
@@ -46,7 +46,7 @@ place (suc n) turn i j =
     let p = place_of turn (quadrant_of n i j) in
     p * 4 ^ n + place n (turned turn p) (i % 2 ^ n) (j % 2 ^ n)
 
--- the orientation of the curve at that point
+-- the orientation of the curve at that point, n levels down
 unfoldable pub turn_at : ℕ → ℕ → ℕ → ℕ → ℕ
 turn_at zero turn i j = turn
 turn_at (suc n) turn i j =

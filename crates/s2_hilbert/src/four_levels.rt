@@ -15,8 +15,9 @@ const FOURS: u8 = 7;
 // Masks the hex digits at even places, the lowest digit among them.
 const EVEN_DIGITS: u32 = 0x0f0f_0f0f;
 
-/// The place of the leaf (`i`, `j`) along the curve through a face, counted from 0. The curve enters the face
-/// with the orientation `turn`.
+/// The place of the leaf (`i`, `j`) along the curve through a face, counted from 0. `turn` is the orientation
+/// of the curve in the whole face (swap bit 1, invert bit 2). `row` is where the table's entries for the
+/// orientation that was reached begin.
 pub fn place_on_face(turn: u8, i: u32, j: u32) -> u64
     requires { turn < 4 }
     ensures value { result ≡ curve.place grid.leaf_level turn i j }
@@ -35,8 +36,8 @@ pub fn place_on_face(turn: u8, i: u32, j: u32) -> u64
     place
 }
 
-/// The coordinates (`i`, `j`) of the leaf at the place `along` of the curve through a face: the inverse of
-/// `place_on_face`.
+/// The coordinates (`i`, `j`) of the leaf at the place `along`, counted from 0, of the curve through a face
+/// with the orientation `turn`: the inverse of `place_on_face`. `half` is the orientation one level down.
 pub fn point_on_face(turn: u8, along: u64) -> (u32, u32)
     requires turn { turn < 4 }
     requires along { along < curve.leaf_count 0 }
@@ -62,8 +63,9 @@ pub fn point_on_face(turn: u8, along: u64) -> (u32, u32)
     (i, j)
 }
 
-// The hex digits of `i` and `j` in pairs, one pair in each byte with the digit of `i` first. The first number
-// has the digits at even places, the second those at odd places.
+// The hex digits of `i` and `j` in pairs: each byte has a digit of `i` in its upper half, and the digit of
+// `j` at the same place in its lower half. The first number has the digits at even places, the second the
+// others.
 fn paired_digits(i: u32, j: u32) -> [u32; 2]
     ensures { (digit : ℕ) → digit < 8 →
         slice_index result (digit % 2) / 2 ^ (8 * (digit / 2)) % 256
@@ -72,7 +74,8 @@ fn paired_digits(i: u32, j: u32) -> [u32; 2]
     [even_digits(i, j), even_digits(i >> 4, j >> 4)]
 }
 
-// Packs the hex digits of `i` and `j` at even places: each byte has one of `i` above one of `j`.
+// The hex digits of `i` and `j` at even places: each byte has one of `i` in its upper half, one of `j` in its
+// lower half.
 fn even_digits(i: u32, j: u32) -> u32
     ensures { (byte : ℕ) → byte < 4 → result / 2 ^ (8 * byte) % 256
         ≡ 16 * (i / 2 ^ (8 * byte) % 16) + j / 2 ^ (8 * byte) % 16 }
@@ -80,7 +83,8 @@ fn even_digits(i: u32, j: u32) -> u32
     16 * (i & EVEN_DIGITS) + (j & EVEN_DIGITS)
 }
 
-// The pair of hex digits at the place `digit`, the lowest at 0: 16 times that of `i`, plus that of `j`.
+// The pair of hex digits at the place `digit`, the lowest at 0, from the result `digits` of `paired_digits`:
+// 16 times the digit of `i`, plus the digit of `j`.
 fn pair_at(digits: [u32; 2], digit: u8) -> usize
     requires { digit < 8 }
     ensures value { result ≡ slice_index digits (digit % 2) / 2 ^ (8 * (digit / 2)) % 256 }

@@ -12,7 +12,7 @@ pub fn positions_are_leaves()
     ensures position { (position : ℕ) → position < 6 * 2 ^ 60
         → position_of (grid_leaf_at position) ≡ position }
     ensures below { (leaf : GridLeaf) → IsLeaf leaf → position_of leaf < 6 * 2 ^ 60 }
-    ensures undone { (leaf : GridLeaf) → IsLeaf leaf → grid_leaf_at (position_of leaf) ≡ leaf }
+    ensures inverse { (leaf : GridLeaf) → IsLeaf leaf → grid_leaf_at (position_of leaf) ≡ leaf }
 {}
 
 /// The positions of a square are exactly those of its leaves, which are the leaves that lie in one

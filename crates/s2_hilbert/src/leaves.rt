@@ -70,7 +70,7 @@ pub fn leaf_at(position: u64) -> Leaf
     requires { position < 6 * 2 ^ 60 }
     ensures value { result ≡ grid_leaf_at position }
     ensures leaf { IsLeaf result }
-    ensures undone { position_of result ≡ position }
+    ensures inverse { position_of result ≡ position }
     ensures only { (leaf : GridLeaf) → IsLeaf leaf → position_of leaf ≡ position → leaf ≡ result }
 {
     let face = (position / FACE_LEAVES) as u8;

@@ -16,7 +16,8 @@ fn has_the_limits()
     ensures leaves { FACE_LEAVES ≡ curve.leaf_count 0 }
 {}
 
-/// The quadrant of the leaf (`i`, `j`), 0 to 3, in its square of `2^(bit + 1)` leaves along each side.
+/// The quadrant of the leaf (`i`, `j`), 0 to 3, in its square of `2^(bit + 1)` leaves along each side: 2 in
+/// the upper half along `i`, plus 1 in the upper half along `j`.
 pub fn quadrant_of(bit: u8, i: u32, j: u32) -> u8
     requires { bit < grid.leaf_level }
     ensures value { result ≡ curve.quadrant_of bit i j }

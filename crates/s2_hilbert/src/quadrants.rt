@@ -60,7 +60,7 @@ pub fn quadrant_at(turn: u8, place: u8) -> u8
     QUADRANTS[turn as usize][place as usize]
 }
 
-/// The step down to `quadrant` from a square where the curve has the orientation `turn`.
+/// The step down to `quadrant`, 0 to 3, from a square where the curve has the orientation `turn`.
 #[tactic(auto, unfolding(crate::specs::Curve::place_of, crate::specs::Curve::turned))]
 pub fn step_to(turn: u8, quadrant: u8) -> &'static CurveStep
     requires turn { turn < 4 }
@@ -73,7 +73,8 @@ pub fn step_to(turn: u8, quadrant: u8) -> &'static CurveStep
     &STEPS[turn as usize][quadrant as usize]
 }
 
-/// The orientation in the quadrant that the curve visits at `place`, if it has `turn` in the whole square.
+/// The orientation of the curve in the quadrant that it visits at `place`, 0 to 3, in a square where it has
+/// the orientation `turn`.
 #[tactic(auto, unfolding(crate::specs::Curve::turned))]
 pub fn turned(turn: u8, place: u8) -> u8
     requires turn { turn < 4 }

@@ -61,7 +61,7 @@ impl Square {
         }
     }
 
-    /// The quarter of this square that the curve visits at place `k`, 0 to 3.
+    /// The quarter of this square that the curve visits at place `k`, 0 to 3. It is one level down.
     // Long: five numbers of a square, and which of its parent's leaves it has.
     pub fn child(&self, k: u8) -> Square
         requires k { k < 4 }
@@ -130,8 +130,9 @@ impl Square {
     }
 }
 
-// The place of a square along the curve through a face, among the squares of its level: the place of any of
-// its leaves, divided by the number of its leaves.
+// The place of the square (`a`, `b`) of a level along the curve through a face, among the squares of that
+// level: the place of any of its leaves, divided by the number of its leaves. `turn` is the orientation of
+// the curve in the face.
 fn place_of_square(level: u8, turn: u8, a: u32, b: u32) -> u64
     requires level { level ≤ grid.leaf_level }
     requires turn { turn < 4 }
@@ -160,7 +161,8 @@ fn side_of(level: u8) -> u32
     1 << (LEAF_LEVEL - level)
 }
 
-// The least and the greatest coordinate of leaves in the squares of `level` at `coordinate`.
+// The least and the greatest leaf coordinate in the squares of `level` that have the coordinate `coordinate`
+// in the grid of that level.
 fn span(level: u8, coordinate: u32) -> (u32, u32)
     requires level { level ≤ grid.leaf_level }
     requires coordinate { coordinate < 2 ^ level }

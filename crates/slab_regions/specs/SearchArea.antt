@@ -1,4 +1,5 @@
--- Where volumes are sought: near one of some slabs, the parts of a whole.
+-- Where volumes are sought: near one of the slabs of a search, its parts, which one slab, the whole,
+-- encloses.
 use Rattle.std.specs.Prelude.{Bool, ◌&&◌}
 use Rattle.std.specs.List.{list_any}
 use Rattle.volume4d.specs.declared.slab.Slab.{Slab}
@@ -7,10 +8,10 @@ use Rattle.volume4d.specs.Point.{Point}
 use Rattle.volume4d.specs.Slab.{slab_has, slabs_have}
 use Rattle.slab_regions.specs.declared.sought.SearchArea.{SearchArea}
 
--- a point of the whole is in one of the parts
+-- a point of the whole that is in one of the parts
 abbrev pub sought_has : SearchArea → Point → Bool
 sought_has sought x = slab_has sought.whole x && slabs_have sought.parts.now x
 
--- a slab meets the whole and one of the parts
+-- a slab overlaps the whole and one of the parts
 abbrev pub meets : SearchArea → Slab → Bool
 meets sought slab = overlap slab sought.whole && list_any (overlap slab) sought.parts.now

@@ -10,7 +10,7 @@ use std::alloc::{AllocError, Global};
 use std::slice;
 use volume4d::{Held, Slab};
 
-/// A slab that encloses `first` and `others`.
+/// One slab that encloses `first` and all of `others`: their join.
 pub fn whole_of(first: &Slab, others: &[Slab]) -> Slab
     ensures { HasAll (slabs_have (first.now ∷ others.now)) result }
 {
@@ -21,23 +21,24 @@ pub fn whole_of(first: &Slab, others: &[Slab]) -> Slab
     whole
 }
 
-/// A copy of `extents`, or one slab round all of them if there are more than `most`.
+/// A copy of `extents`, or one slab that encloses all of them if there are more than `limit`.
 ///
 /// # Errors
 ///
 /// `AllocError` if memory runs out.
-pub fn at_most(alloc: Global, extents: &[Slab], most: usize) -> Result<Vec<Slab>, AllocError>
+pub fn at_most(alloc: Global, extents: &[Slab], limit: usize) -> Result<Vec<Slab>, AllocError>
     ensures { IfOk result (λ fewer. HaveEach extents.now fewer.items) }
 {
     match extents.split_first() {
-        Some((first, others)) if most <= others.len() => {
+        Some((first, others)) if limit <= others.len() => {
             Vec::from_slice(alloc, slice::from_ref(&whole_of(first, others)))
         }
         _ => Vec::from_slice(alloc, extents),
     }
 }
 
-/// The extents, ascending; those that overlap along the curve are joined.
+/// The extents, which may be in any order, ascending by first leaf; those that overlap along the curve are
+/// joined, whatever their altitudes and seconds.
 ///
 /// # Errors
 ///
@@ -52,7 +53,7 @@ pub fn joined(alloc: Global, extents: Vec<Slab>) -> Result<Vec<Slab>, AllocError
     }
 }
 
-// Sorts extents by their first leaves.
+// Sorts extents, ascending by their first leaves.
 fn in_order(mut extents: Vec<Slab>) -> Vec<Slab>
     ensures { HaveEach extents.items result.items }
 {
@@ -60,7 +61,7 @@ fn in_order(mut extents: Vec<Slab>) -> Vec<Slab>
     extents
 }
 
-// Joins extents that overlap along the curve; `first` and `others` ascend by first leaf.
+// Joins extents that overlap along the curve; `first` and then `others` ascend by first leaf.
 fn joined_from(alloc: Global, first: &Slab, others: &[Slab]) -> Result<Vec<Slab>, AllocError>
     ensures { IfOk result (λ regions. HaveEach (first.now ∷ others.now) regions.items) }
 {
@@ -78,7 +79,8 @@ fn joined_from(alloc: Global, first: &Slab, others: &[Slab]) -> Result<Vec<Slab>
     Ok(regions)
 }
 
-/// Appends the slabs `more`, each clipped to `region`, with their priorities.
+/// Appends the slabs `more` to `helds`, each clipped to `region`, with their priorities. A clipped slab may
+/// be empty.
 ///
 /// # Errors
 ///

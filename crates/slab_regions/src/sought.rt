@@ -8,8 +8,8 @@ ghost use Rattle.slab_regions.specs.SearchArea as spec;
 use std::slice;
 use volume4d::Slab;
 
-/// The slabs of a search (`parts`), and one round them (`whole`): what doesn't overlap `whole` overlaps no
-/// part, and is skipped after one test.
+/// The slabs of a search (`parts`), and one slab that encloses them (`whole`). What doesn't overlap `whole`
+/// overlaps no part, and is skipped after one test.
 #[derive(Clone, Copy, Debug)]
 pub struct SearchArea<'a> {
     pub whole: Slab,
@@ -17,7 +17,7 @@ pub struct SearchArea<'a> {
 }
 
 impl SearchArea<'_> {
-    /// A search about one slab.
+    /// A search about the one slab `extent`, which is the whole and the only part.
     pub fn one(extent: &Slab) -> SearchArea<'_>
         ensures { (x : Point) → slab_has extent.now x ≡ true → spec.sought_has result x ≡ true }
     {
@@ -27,7 +27,7 @@ impl SearchArea<'_> {
         }
     }
 
-    /// Whether `slab` overlaps the whole and one of the parts.
+    /// Whether `slab` overlaps `whole` and one of `parts`.
     pub fn meets(&self, slab: &Slab) -> bool
         ensures { result ≡ spec.meets self.now slab.now }
     {

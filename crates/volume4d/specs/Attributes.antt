@@ -15,7 +15,7 @@ pub record HasRanges (shape : Shape) (spans : List Span) : Type 0 where
   pub some : 0 < length spans
   pub few : length spans ≤ max_cover
 
--- a footprint within the limits, how many ranges its leaves are, and these, if they are kept, and how many
+-- a footprint within the limits, how many ranges its leaves are, these ranges if they are kept, and how many
 -- cells it has
 pub record KeepsRanges (shape : Shape) (count : ℕ) (kept : Option (List Span)) (cells : ℕ) : Type 0 where
   pub limits : IsTrue (is_footprint shape)

@@ -5,7 +5,8 @@ use Rattle.volume4d.specs.declared.slab.Slab.{Slab}
 use Rattle.volume4d.specs.Point.{Point}
 use Rattle.volume4d.specs.Slab.{slab_has}
 
--- a slab that has a point: each of its lower bounds is below the upper one
+-- a slab that has a point: its first leaf isn't after its last, and its other lower bounds are below the
+-- upper
 pub record IsFilled (slab : Slab) : Type 0 where
   pub ground : slab.first ≤ slab.last
   pub height : slab.lower <ℤ slab.upper
@@ -25,7 +26,8 @@ pub record IsWithin (inner outer : Slab) : Type 0 where
   pub start : outer.start ≤ℤ inner.start
   pub end : inner.end ≤ℤ outer.end
 
--- the smallest slab round two: the lesser of the lower bounds, and the greater of the upper ones
+-- `slab` is the smallest one round two: the lesser of each two lower bounds, and the greater of the upper
+-- ones
 pub record IsJoin (left right slab : Slab) : Type 0 where
   pub first : slab.first ≡ min left.first right.first
   pub last : slab.last ≡ max left.last right.last
@@ -34,7 +36,8 @@ pub record IsJoin (left right slab : Slab) : Type 0 where
   pub start : slab.start ≡ int_min left.start right.start
   pub end : slab.end ≡ int_max left.end right.end
 
--- the slab of the points that two have: the greater of the lower bounds, and the lesser of the upper ones
+-- `slab` has the points that two share: the greater of each two lower bounds, and the lesser of the upper
+-- ones
 pub record IsClip (one other slab : Slab) : Type 0 where
   pub first : slab.first ≡ max one.first other.first
   pub last : slab.last ≡ min one.last other.last
@@ -43,7 +46,7 @@ pub record IsClip (one other slab : Slab) : Type 0 where
   pub start : slab.start ≡ int_max one.start other.start
   pub end : slab.end ≡ int_min one.end other.end
 
--- two slabs meet in seconds, in altitudes and in leaves
+-- the seconds, the altitudes and the leaves of two slabs overlap
 abbrev pub overlap : Slab → Slab → Bool
 overlap one other =
     (int_lt one.start other.end && int_lt other.start one.end)

@@ -10,7 +10,8 @@ abbrev pub AreInTurn : (earlier later : List Slab) → Type 0
 AreInTurn earlier later =
     (x y : Point) → slabs_have earlier x ≡ true → slabs_have later y ≡ true → point_cmp y x ≡ Less → ⊥
 
--- the first slabs of a list, one or more, and the rest of it, none of whose points comes before theirs
+-- `cluster` is the first slabs of a list, one or more, and `later` the rest, none of whose points comes
+-- before one of the cluster
 pub record IsCluster (slabs cluster later : List Slab) : Type 0 where
   pub count : ℕ
   pub some : 0 < count

@@ -18,7 +18,7 @@ is_alike a b =
 abbrev pub alike_have : Slab → List Slab → Point → Bool
 alike_have window slabs x = list_any (λ s. is_alike window s && slab_has s x) slabs
 
--- from the position on, the new slabs have in the window the points that the old ones have
+-- at leaves from the position on, the slabs `new` in the window have the same points as the slabs `old`
 abbrev pub KeepsFrom : Slab → ℕ → List Slab → List Slab → Type 0
 KeepsFrom window position old new =
     (x : Point) → position ≤ position_of x.leaf → alike_have window new x ≡ alike_have window old x
@@ -42,7 +42,7 @@ lanes_have lanes x = list_any (λ l. alike_have l.window l.left.now x) lanes
 abbrev pub LanesAscend : List Lane → Type 0
 LanesAscend lanes = All (λ l. Ascend (λ s. s) l.left.now) lanes
 
--- in each lane all of the slabs are left
+-- in each lane all of the slabs are left: none was dropped
 abbrev pub AreOf : List Slab → List Lane → Type 0
 AreOf slabs lanes = All (λ l. l.left.now ≡ slabs) lanes
 

@@ -11,7 +11,7 @@ use Rattle.volume4d.specs.Slab.{slabs_have, top_held}
 unfoldable pub is_shared : List Slab → List Held → Point → Bool
 is_shared mine theirs x = slabs_have mine x && is_some (top_held theirs x)
 
--- the greater of each of the lower bounds of two slabs, leaves by their positions along the curve
+-- the point at the greater of each two lower bounds of two slabs, leaves by their positions along the curve
 abbrev pub corner_of : Slab → Slab → Point
 corner_of a b = record {
   leaf = grid_leaf_at (max a.first b.first);

@@ -9,11 +9,11 @@ use Rattle.volume4d.specs.Point.{Point, point_cmp}
 use Rattle.volume4d.specs.Slab.{slab_has}
 use Rattle.volume4d.specs.Meeting.{IsFirstPoint}
 
--- one of those that stand where slabs stand has the point
+-- the slab of one of the items of a list has the point
 abbrev pub items_have : {A : Type 0} → (A → Slab) → List A → Point → Bool
 items_have slab_of list x = list_any (λ a. slab_has (slab_of a) x) list
 
--- their first leaves do not fall along the list
+-- the first leaves of the items' slabs ascend along the list
 abbrev pub Ascend : {A : Type 0} → (A → Slab) → List A → Type 0
 Ascend slab_of list = IsNonDecreasingBy (λ a. (slab_of a).first) list
 

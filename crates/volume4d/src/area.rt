@@ -38,7 +38,7 @@ impl Model for Area {
 }
 
 impl Area {
-    /// The area of these volumes, or `None` if they are not 1 to 32; they are dropped then.
+    /// The area of these volumes, or `None` if there are none or more than 32; they are dropped then.
     pub fn try_new(volumes: Vec<Volume>) -> Option<Area>
         ensures { result ≡ (if is_area volumes.items then Some volumes.items else None) }
     {
@@ -56,8 +56,8 @@ impl Area {
         &self.volumes
     }
 
-    /// The slabs of the volumes, ascending by their first leaves. A point belongs to one of the slabs
-    /// exactly if it belongs to the area.
+    /// The slabs of the volumes, ascending by their first leaves. There is at least one slab, and each has a
+    /// point. A point belongs to one of the slabs exactly if it belongs to the area.
     ///
     /// # Errors
     ///
@@ -151,7 +151,7 @@ fn slabs_of(alloc: Global, volumes: &[Volume]) -> Result<Vec<Slab>, AllocError>
     Ok(slabs)
 }
 
-// The same slabs, ascending by their first leaves.
+// Sorts slabs, ascending by their first leaves.
 #[tactic(auto, using(crate::proofs::Filled::filled_again))]
 fn sort_by_first(mut slabs: Vec<Slab>) -> Vec<Slab>
     ensures same { IsPermutation slabs.items result.items }
@@ -162,7 +162,7 @@ fn sort_by_first(mut slabs: Vec<Slab>) -> Vec<Slab>
     slabs
 }
 
-// A copy of the list.
+// Copies of the volumes, in their order.
 fn copies(volumes: &Vec<Volume>) -> Result<Vec<Volume>, AllocError>
     ensures { IfOk result (λ copies. copies.items ≡ volumes.now.items) }
 {
@@ -173,7 +173,7 @@ fn copies(volumes: &Vec<Volume>) -> Result<Vec<Volume>, AllocError>
     Ok(copies)
 }
 
-// Has volumes drop their ranges.
+// Has the volumes drop their ranges. As values they stay as they are.
 fn drop_ranges_of(volumes: &mut [Volume])
     ensures { volumes.new ≡ volumes.old }
 {

@@ -5,7 +5,7 @@ ghost use Rattle.volume4d.specs.Bounds.{AreFilled, IsBounds};
 
 use crate::slab::Slab;
 
-/// The smallest slab that has all points of some slabs: one slab or more, each with a point.
+/// The smallest slab that has all points of `slabs`, which are one or more, each with a point.
 pub fn bounds_of(slabs: &[Slab]) -> Slab
     requires { AreFilled slabs.now }
     ensures { IsBounds (slabs_have slabs.now) result }

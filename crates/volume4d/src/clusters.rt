@@ -6,9 +6,9 @@ ghost use Rattle.volume4d.specs.Sweep.{Ascend};
 
 use crate::slab::Slab;
 
-/// Slabs that ascend by their first leaves, one or more, in two parts: those before the first gap of
-/// more leaves than `gap`, and those after it, which may be none. No point of the second part comes
-/// before one of the first. (How wide a gap has to be is a matter of speed.)
+/// Splits slabs, one or more that ascend by their first leaves, at the first gap of at least `gap` leaves
+/// between them: the slabs before it, and those after it, which may be none. No point of the second part
+/// comes before one of the first. (How wide a gap has to be is a matter of speed.)
 #[tactic(auto, using(crate::proofs::ClusterLemmas::cluster_at))]
 pub fn split_cluster(slabs: &[Slab], gap: u64) -> (&[Slab], &[Slab])
     requires some { 0 < length slabs.now }
@@ -18,7 +18,7 @@ pub fn split_cluster(slabs: &[Slab], gap: u64) -> (&[Slab], &[Slab])
     slabs.split_at(cluster_len(slabs, gap))
 }
 
-// How many slabs stand before the first wide gap.
+// How many slabs stand before the first gap of at least `gap` leaves; all of them if there is none.
 fn cluster_len(slabs: &[Slab], gap: u64) -> usize
     requires some { 0 < length slabs.now }
     requires order { Ascend (λ s. s) slabs.now }

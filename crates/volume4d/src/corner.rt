@@ -10,7 +10,8 @@ ghost use Rattle.volume4d.specs.Shared as spec;
 use crate::slab::Slab;
 use std::marker::Model;
 
-/// A point, as the least corner of a slab.
+/// A point, as the least corner of a slab: the position of its leaf along the S2 curve, its altitude in
+/// decimetres above the WGS84 ellipsoid, and its Unix second.
 #[derive(Clone, Copy, Debug)]
 pub(crate) struct Corner {
     pub(crate) pos: u64,
@@ -47,7 +48,7 @@ impl Model for Corner {
     } };
 }
 
-/// The first point that two slabs share.
+/// The first point that two slabs share, by leaf, then altitude, then second; `None` if they share none.
 pub(crate) fn least_corner(mine: &Slab, theirs: &Slab) -> Option<Corner>
     ensures { IsFirstPoint (λ x. slab_has mine.now x && slab_has theirs.now x) result }
 {
@@ -67,8 +68,8 @@ pub(crate) fn least_corner(mine: &Slab, theirs: &Slab) -> Option<Corner>
     Some(corner)
 }
 
-// The greater of each of the lower bounds of two slabs. Two slabs that share a point share this
-// one, and it is the first that they share.
+// The point at the greater of each two lower bounds of two slabs. If they share a point, they share this one,
+// and it is the first that they share.
 fn corner_of(mine: &Slab, theirs: &Slab) -> Corner
     ensures { result ≡ spec.corner_of mine.now theirs.now }
 {
@@ -103,7 +104,7 @@ fn has_altitude_and_second(slab: &Slab, x: &Corner) -> bool
         && (slab.start <= x.second && x.second < slab.end)
 }
 
-/// The first of two points, either of which may be missing.
+/// The earlier of two points, either of which may be missing; `None` if both are.
 pub(crate) fn earlier(a: Option<Corner>, b: Option<Corner>) -> Option<Corner>
     ensures { (f g : Point → Bool) → IsFirstPoint f a → IsFirstPoint g b
         → IsFirstPoint (λ x. f x || g x) result }

@@ -18,13 +18,13 @@ use s2_cover::laws::{ranges_are_counted, ranges_are_few};
 use s2_cover::{CoverFault, Ranges, Rect, cover, normalise};
 use std::alloc::{AllocError, Global};
 
-// The byte before the ids of a cell list.
+// The first byte of a cell list, before the ids.
 const CELLS: u8 = 1;
 
-// The byte before the parts of a rectangle.
+// The first byte of a rectangle, before its parts.
 const RECTANGLE: u8 = 2;
 
-// How many bytes the parts of a rectangle take.
+// How many bytes the parts of a rectangle take, without the first byte.
 const RECTANGLE_BYTES: usize = 18;
 
 /// The most cells of a cell list.
@@ -143,7 +143,7 @@ fn rect_ranges(alloc: Global, rect: &Rect) -> Result<(Ranges, u32), VolumeFault>
     }
 }
 
-// A cell list as bytes.
+// A cell list as bytes: the byte 1, and each cell's id as eight bytes.
 fn cell_bytes(alloc: Global, cells: &[CellId]) -> Result<Vec<u8>, AllocError>
     ensures value { IfOk result (λ bytes. bytes.items ≡ footprint_bytes (shapes.cells cells.now)) }
     ensures valid { IfOk result (λ bytes. HasValidParts (shapes.cells cells.now)) }
@@ -155,7 +155,7 @@ fn cell_bytes(alloc: Global, cells: &[CellId]) -> Result<Vec<u8>, AllocError>
     Ok(bytes)
 }
 
-// A rectangle as bytes.
+// A rectangle as bytes: the byte 2, and the 18 bytes of its parts.
 fn rect_bytes(alloc: Global, rect: &Rect) -> Result<Vec<u8>, AllocError>
     ensures value { IfOk result (λ bytes. bytes.items ≡ footprint_bytes (shapes.rectangle rect.now)) }
     ensures valid { IfOk result (λ bytes. HasValidParts (shapes.rectangle rect.now)) }
@@ -177,7 +177,7 @@ fn id_bytes(cell: &CellId) -> [u8; 8]
     cell.raw().to_be_bytes()
 }
 
-// The cell list whose bytes these are, without the first, or `None` if they are not those of 1 to
+// The cell list whose bytes after the first, the byte 1, are `bytes`; `None` if they are not the ids of 1 to
 // 64 cells.
 fn cells_of(alloc: Global, bytes: &[u8]) -> Result<Option<Vec<CellId>>, AllocError>
     ensures { IfOk result (λ found. MatchOption found
@@ -198,14 +198,14 @@ fn cells_of(alloc: Global, bytes: &[u8]) -> Result<Option<Vec<CellId>>, AllocErr
     Ok(Some(cells))
 }
 
-// The cell with the id that the eight bytes give, if that id is valid.
+// The cell with the id that eight bytes give, the most significant first; `None` if that id is not valid.
 fn cell_of(id: &[u8; 8]) -> Option<CellId>
     ensures { SomeIff result (IsCellId (from_be_bytes w64 id.now)) (from_be_bytes w64 id.now) }
 {
     CellId::from_raw(u64::from_be_bytes(*id))
 }
 
-// Whether a cell list may have this many cells.
+// Whether a cell list may have this many cells: 1 to 64.
 fn is_count(count: usize) -> bool
     ensures { result ≡ within_cells count }
 {
@@ -215,7 +215,7 @@ fn is_count(count: usize) -> bool
     count <= MAX_CELLS
 }
 
-// The rectangle whose bytes these are, without the first, or `None` if they are not those of one.
+// The rectangle whose bytes after the first, the byte 2, are `bytes`; `None` if they are not those of one.
 fn rect_of(bytes: &[u8]) -> Option<Rect>
     ensures { MatchOption result
         ((shape : Shape) → ¬ AreBytesOf (2 ∷ bytes.now) shape)
@@ -227,7 +227,8 @@ fn rect_of(bytes: &[u8]) -> Option<Rect>
     rect_in(bytes)
 }
 
-// The rectangle of these 18 bytes, or `None` if its numbers are not those of one.
+// The rectangle of 18 bytes (the face, four coordinates of four bytes each, and the level), or `None` if
+// these numbers are not those of a rectangle.
 fn rect_in(bytes: &[u8]) -> Option<Rect>
     requires { length bytes.now ≡ 18 }
     ensures { MatchOption result
@@ -239,7 +240,7 @@ fn rect_in(bytes: &[u8]) -> Option<Rect>
     Rect::try_new(bytes[0], i_min, i_max, j_min, j_max, bytes[17]).ok()
 }
 
-// The number whose four bytes begin at a place, the most significant first.
+// The number whose four bytes begin at the index `place`, the most significant first.
 fn number_at(bytes: &[u8], place: usize) -> u32
     requires { place + 4 ≤ length bytes.now }
     ensures { result ≡ from_be_bytes w32

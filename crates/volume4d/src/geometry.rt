@@ -24,7 +24,8 @@ impl Slab {
         }
     }
 
-    /// Whether it meets another in seconds, in altitudes and in leaves, as slabs do that share a point.
+    /// Whether the seconds, the altitudes and the leaves of two slabs overlap. If each slab has a point, this
+    /// is whether they share one.
     pub fn overlaps(&self, other: &Slab) -> bool
         ensures { result ≡ spec.overlap self.now other.now }
     {
@@ -37,7 +38,8 @@ impl Slab {
         meet_on_ground(self, other)
     }
 
-    /// The smallest slab that has all points of it and of another.
+    /// The smallest slab round this one and another: the lesser of each two lower bounds, and the greater of
+    /// each two upper ones. It has all points of both. The bounds of a slab without points count, too.
     pub fn join(&self, other: &Slab) -> Slab
         ensures { IsJoin self.now other.now result }
     {
@@ -53,7 +55,7 @@ impl Slab {
         }
     }
 
-    /// The slab of the points that it shares with another.
+    /// The slab of the points that this one shares with another; it has no points if they share none.
     pub fn clip(&self, other: &Slab) -> Slab
         ensures { IsClip self.now other.now result }
     {
@@ -70,28 +72,28 @@ impl Slab {
     }
 }
 
-/// Whether two slabs have a second in common.
+/// Whether the seconds of two slabs overlap: if each slab has a second, whether they have one in common.
 pub(crate) fn meet_in_time(one: &Slab, other: &Slab) -> bool
     ensures { result ≡ (int_lt one.now.start other.now.end && int_lt other.now.start one.now.end) }
 {
     one.start < other.end && other.start < one.end
 }
 
-/// Whether two slabs have an altitude in common.
+/// Whether the altitudes of two slabs overlap: if each slab has an altitude, whether they have one in common.
 pub(crate) fn meet_in_height(one: &Slab, other: &Slab) -> bool
     ensures { result ≡ (int_lt one.now.lower other.now.upper && int_lt other.now.lower one.now.upper) }
 {
     one.lower < other.upper && other.lower < one.upper
 }
 
-// Whether two slabs have a leaf in common.
+// Whether the leaves of two slabs overlap: if each slab has a leaf, whether they have one in common.
 fn meet_on_ground(one: &Slab, other: &Slab) -> bool
     ensures { result ≡ (nat_le one.now.first other.now.last && nat_le other.now.first one.now.last) }
 {
     one.first <= other.last && other.first <= one.last
 }
 
-// The lower and the upper bound of the altitudes of two slabs.
+// The lower and the upper bound of the altitudes of the smallest slab round two.
 fn joined_altitudes(one: &Slab, other: &Slab) -> (i32, i32)
     ensures lower { result.0 ≡ int_min one.now.lower other.now.lower }
     ensures upper { result.1 ≡ int_max one.now.upper other.now.upper }
@@ -99,7 +101,7 @@ fn joined_altitudes(one: &Slab, other: &Slab) -> (i32, i32)
     (one.lower.min(other.lower), one.upper.max(other.upper))
 }
 
-// The start and the end of the seconds of two slabs.
+// The start and the end of the seconds of the smallest slab round two.
 fn joined_seconds(one: &Slab, other: &Slab) -> (i64, i64)
     ensures start { result.0 ≡ int_min one.now.start other.now.start }
     ensures end { result.1 ≡ int_max one.now.end other.now.end }
@@ -107,7 +109,7 @@ fn joined_seconds(one: &Slab, other: &Slab) -> (i64, i64)
     (one.start.min(other.start), one.end.max(other.end))
 }
 
-// The lower and the upper bound of the altitudes that two slabs share.
+// The lower and the upper bound of the altitudes that two slabs share: lower < upper only if there are any.
 fn shared_altitudes(one: &Slab, other: &Slab) -> (i32, i32)
     ensures lower { result.0 ≡ int_max one.now.lower other.now.lower }
     ensures upper { result.1 ≡ int_min one.now.upper other.now.upper }
@@ -115,7 +117,7 @@ fn shared_altitudes(one: &Slab, other: &Slab) -> (i32, i32)
     (one.lower.max(other.lower), one.upper.min(other.upper))
 }
 
-// The start and the end of the seconds that two slabs share.
+// The start and the end of the seconds that two slabs share: start < end only if there are any.
 fn shared_seconds(one: &Slab, other: &Slab) -> (i64, i64)
     ensures start { result.0 ≡ int_max one.now.start other.now.start }
     ensures end { result.1 ≡ int_min one.now.end other.now.end }

@@ -8,7 +8,7 @@ use crate::slab::{Held, Slab};
 pub(crate) trait HasSlab {
     ghost use Rattle.volume4d.specs.declared.slab.Slab.{Slab};
 
-    /// The slab of a value.
+    /// The slab of a value, as the clauses name it.
     ghost slab_of: { Self → Slab };
 
     /// The slab.

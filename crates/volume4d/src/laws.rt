@@ -19,7 +19,7 @@ pub fn one_shape()
         → footprint_bytes one ≡ footprint_bytes other → one ≡ other }
 {}
 
-/// The canonical cover of a footprint has at most as many cells as that of a rectangle may have.
+/// The canonical cover of a footprint has at most as many cells as that of a rectangle may have: 1,024.
 pub fn covers_are_few()
     ensures { (shape : Shape) → IsTrue (is_footprint shape) → HasValidParts shape
         → length (canonical_list (shape_positions shape)) ≤ max_cover }
@@ -30,7 +30,8 @@ pub fn covers_are_few()
     shortest();
 }
 
-/// A volume takes at most as many spans as the cover of a rectangle may have cells.
+/// A volume has at most as many spans (ranges of its leaves) as the cover of a rectangle may have cells:
+/// 1,024.
 pub fn spans_are_few()
     ensures { (v : Block) → IsTrue (is_footprint v.footprint) → HasValidParts v.footprint
         → volume_spans v ≤ max_cover }
@@ -42,7 +43,7 @@ pub fn spans_are_few()
     ranges_are_few();
 }
 
-/// A volume has at most as many cells as the cover of a rectangle may have.
+/// A volume has at most as many cells as the cover of a rectangle may have: 1,024.
 pub fn cells_are_few()
     ensures { (v : Block) → IsTrue (is_footprint v.footprint) → volume_cells v ≤ max_cover }
 {}

@@ -83,15 +83,16 @@ pub fn meet(mine: &[Slab], theirs: &[Slab]) -> bool
     first_shared(mine, theirs, &mut pairs).is_some()
 }
 
-/// The first point that the slabs share with held ones, and the greatest priority of those that
-/// hold it; `None` if they share no point. Points are ordered by leaf, then altitude, then second.
+/// The first point that the slabs `mine` share with the held slabs `theirs`, and the greatest priority of
+/// those that hold it; `None` if they share no point. Points are ordered by leaf, then altitude, then second.
 pub fn first_meeting(mine: &[Slab], theirs: &[Held]) -> Option<Meeting>
     ensures { IsFirst (is_shared mine.now theirs.now) (top_held theirs.now) result }
 {
     first_meeting_counted(mine, theirs).0
 }
 
-/// As `first_meeting`, and the number of pairs of slabs that were compared, which tests read.
+/// As `first_meeting`, and the number of pairs of slabs that were compared, which tests read and of which no
+/// clause speaks.
 #[tactic(auto, using(crate::proofs::FirstPoints::meeting_of_point, crate::proofs::FirstPoints::none_shared,))]
 pub fn first_meeting_counted(mine: &[Slab], theirs: &[Held]) -> (Option<Meeting>, u128)
     ensures { IsFirst (is_shared mine.now theirs.now) (top_held theirs.now) result.0 }
@@ -103,14 +104,15 @@ pub fn first_meeting_counted(mine: &[Slab], theirs: &[Held]) -> (Option<Meeting>
     }
 }
 
-// The first point that the slabs share with held ones.
+// The first point that the slabs `mine` share with `theirs`. Adds the number of pairs of slabs that it
+// compares to `pairs`.
 fn first_held(mine: &[Slab], theirs: &[Held], pairs: &mut u128) -> Option<Corner>
     ensures { IsFirstPoint (λ x. slabs_have mine.now x && helds_have theirs.now x) result }
 {
     first_shared(mine, theirs, pairs)
 }
 
-// The meeting at a point, or `None` if nothing holds it.
+// The meeting at the point `corner`, or `None` if none of `theirs` holds it.
 fn meeting_at(corner: Corner, theirs: &[Held]) -> Option<Meeting>
     ensures { result ≡ option_map (λ priority. record { point = corner; priority = priority })
         (top_held theirs.now corner) }
@@ -126,7 +128,7 @@ fn meeting_at(corner: Corner, theirs: &[Held]) -> Option<Meeting>
     }
 }
 
-// The greatest priority held at a point, or `None` if nothing holds it.
+// The greatest priority of those of `theirs` that hold the point `x`, or `None` if none does.
 fn top_at(theirs: &[Held], x: &Corner) -> Option<u32>
     ensures { result ≡ top_held theirs.now x.now }
 {
@@ -137,7 +139,7 @@ fn top_at(theirs: &[Held], x: &Corner) -> Option<u32>
     top
 }
 
-// The greater of `top` and the priority of `held`, if that holds the point `x`.
+// The greater of `top` and the priority of `held`, if that holds the point `x`; else `top`.
 fn raised(top: Option<u32>, held: &Held, x: &Corner) -> Option<u32>
     ensures { result
         ≡ greater top (level_where (slab_has held.now.slab x.now) held.now.priority) }

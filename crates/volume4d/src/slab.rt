@@ -12,7 +12,7 @@ pub struct Slab {
     pub last: u64,
     /// The lowest altitude, in decimetres above the WGS84 ellipsoid.
     pub lower: i32,
-    /// The upper bound of the altitudes, which does not belong to them, in decimetres.
+    /// The upper bound of the altitudes, which does not belong to them, in the same unit.
     pub upper: i32,
     /// The first Unix second.
     pub start: i64,

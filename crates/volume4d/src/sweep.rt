@@ -1,4 +1,5 @@
-//! The sweep: the first point that two lists of slabs share, found along both lists at once.
+//! The sweep: the first point that two lists of slabs share, found along both lists at once. `pairs` counts
+//! the pairs of slabs that are compared, which tests read and of which no clause speaks.
 
 ghost use Rattle.std.specs.Prelude.{◌≡◌, ◌≤◌, ◌&&◌, nat_lt, true, false, List, All, IfSome, IsTrue, length, take};
 ghost use Rattle.std.specs.List.{list_any};
@@ -17,10 +18,11 @@ use crate::geometry::{meet_in_height, meet_in_time};
 use crate::has_slab::HasSlab;
 use crate::slab::Slab;
 
-// An area has at most so many windows, since all slabs of a volume have the window of the volume.
+// The most lanes: an area has at most so many windows, since all slabs of a volume have the volume's window.
 const MAX_LANES: usize = MAX_VOLUMES;
 
-// A window of altitudes and seconds, and the rest of a list of slabs. Only slabs with this window matter.
+// A window of altitudes and seconds (the leaves of `window` don't matter), and the slabs of a list that are
+// left. Only slabs with this window count.
 #[derive(Clone, Copy, Debug)]
 pub(crate) struct Lane<'a> {
     window: Slab,
@@ -45,7 +47,8 @@ pub(crate) fn first_shared<T: HasSlab>(
     }
 }
 
-// The first shared point by a sweep, or `None` if a list does not ascend or `mine` have more than 32 windows.
+// The first shared point (`Some(None)`: there is none) by a sweep; `None` if a list does not ascend, or if
+// `mine` have more than 32 windows.
 fn first_ascending<T: HasSlab>(
     mine: &[Slab],
     theirs: &[T],
@@ -63,7 +66,7 @@ fn first_ascending<T: HasSlab>(
     sweep(mine, theirs, pairs)
 }
 
-// Whether no slab of a list begins before the slab ahead of it.
+// Whether the slabs of a list ascend by their first leaves; equal ones may follow each other.
 fn is_ascending<T: HasSlab>(list: &[T]) -> bool
     ensures { IsTrue result → Ascend T.slab_of list.now }
 {
@@ -78,7 +81,8 @@ fn is_ascending<T: HasSlab>(list: &[T]) -> bool
     true
 }
 
-// The first shared point of two ascending lists, or `None` if `mine` have more windows than there are lanes.
+// The first shared point of two ascending lists (`Some(None)`: there is none); `None` if `mine` have more
+// windows than there are lanes.
 fn sweep<T: HasSlab>(mine: &[Slab], theirs: &[T], pairs: &mut u128) -> Option<Option<Corner>>
     requires mine { Ascend (λ s. s) mine.now }
     requires theirs { Ascend T.slab_of theirs.now }
@@ -99,7 +103,7 @@ fn fill_lanes<'a>(mine: &'a [Slab], lanes: &mut [Lane<'a>]) -> Option<usize>
     requires { AreOf mine.now lanes.old }
     ensures within { IfSome result (λ count. count ≤ length lanes.new) }
     ensures covered { IfSome result (λ count. All (IsCovered (take count lanes.new)) mine.now) }
-    ensures of { AreOf mine.now lanes.new }
+    ensures all_left { AreOf mine.now lanes.new }
 {
     let mut count = 0;
     for slab in mine {
@@ -117,12 +121,12 @@ fn add_lane<'a>(
     slab: &Slab,
 ) -> Option<usize>
     requires within { count ≤ length lanes.old }
-    requires of { AreOf mine.now lanes.old }
+    requires all_left { AreOf mine.now lanes.old }
     ensures within { IfSome result (λ more. more ≤ length lanes.new) }
     ensures kept { IfSome result (λ more. (s : Slab) → IsCovered (take count lanes.old) s
         → IsCovered (take more lanes.new) s) }
     ensures covered { IfSome result (λ more. IsCovered (take more lanes.new) slab.now) }
-    ensures of { AreOf mine.now lanes.new }
+    ensures all_left { AreOf mine.now lanes.new }
 {
     if has_lane(lanes.split_at(count).0, slab) {
         return Some(count);
@@ -160,7 +164,8 @@ fn are_alike(window: &Slab, slab: &Slab) -> bool
 }
 
 // The first point that slabs of the lanes share with `theirs`, which ascend. Each lane drops slabs that end
-// before the current slab of `theirs`: later ones can't meet them.
+// before the current slab of `theirs`: later ones can't meet them. Ends at a slab that begins after the point
+// found so far.
 fn first_along<T: HasSlab>(lanes: &mut [Lane], theirs: &[T], pairs: &mut u128) -> Option<Corner>
     requires lanes { LanesAscend lanes.old }
     requires theirs { Ascend T.slab_of theirs.now }
@@ -220,7 +225,8 @@ fn first_in_lane(
     earlier(found, first_of_head(lane.left, &lane.window, other, pairs))
 }
 
-// Whether two slabs have no second or no altitude in common.
+// Whether the seconds or the altitudes of two slabs don't overlap: then no slab with this window shares a
+// point with `other`.
 fn is_apart(window: &Slab, other: &Slab) -> bool
     ensures { IsTrue result → (slabs : List Slab) (x : Point)
         → (alike_have window.now slabs x && slab_has other.now x) ≡ false }
@@ -231,7 +237,7 @@ fn is_apart(window: &Slab, other: &Slab) -> bool
     !meet_in_height(window, other)
 }
 
-// The slabs without those at the front that have another window or end before `position`.
+// The slabs without those at the front that have another window than `window` or end before `position`.
 fn without_skipped<'a>(slabs: &'a [Slab], window: &Slab, position: u64) -> &'a [Slab]
     requires { Ascend (λ s. s) slabs.now }
     ensures order { Ascend (λ s. s) result.now }
@@ -248,7 +254,7 @@ fn without_skipped<'a>(slabs: &'a [Slab], window: &Slab, position: u64) -> &'a [
     left
 }
 
-// Whether a slab has another window or ends before `position`.
+// Whether a slab has another window than `window` or ends before `position`.
 fn is_skipped(window: &Slab, slab: &Slab, position: u64) -> bool
     ensures passed { IsTrue result → (x : Point) → position ≤ position_of x.leaf
         → (is_alike window.now slab.now && slab_has slab.now x) ≡ false }
@@ -260,7 +266,8 @@ fn is_skipped(window: &Slab, slab: &Slab, position: u64) -> bool
     !are_alike(window, slab)
 }
 
-// The first point that the slabs with this window share with `other`. If one shares a point, the first does.
+// The first point that the slabs `left` with this window share with `other`. The first of them reaches
+// `other` and ascending slabs follow, so if one shares a point, the first shares the earliest.
 fn first_of_head(left: &[Slab], window: &Slab, other: &Slab, pairs: &mut u128) -> Option<Corner>
     requires order { Ascend (λ s. s) left.now }
     requires begins { BeginsReached window.now other.now.first left.now }
@@ -272,7 +279,8 @@ fn first_of_head(left: &[Slab], window: &Slab, other: &Slab, pairs: &mut u128) -
     }
 }
 
-// The first point that two slabs share. They are compared only if `slab` doesn't begin behind `other`.
+// The first point that two slabs share. They are compared only if `slab` doesn't begin after the end of
+// `other`.
 fn compare_if_begun(slab: &Slab, other: &Slab, pairs: &mut u128) -> Option<Corner>
     ensures { IsFirstPoint (λ x. slab_has slab.now x && slab_has other.now x) result }
 {
@@ -282,7 +290,7 @@ fn compare_if_begun(slab: &Slab, other: &Slab, pairs: &mut u128) -> Option<Corne
     compare(slab, other, pairs)
 }
 
-// Whether `position` is after the point found, if there is one.
+// Whether `position` is after the leaf of the point `first`; false if there is none.
 #[tactic(auto, using(crate::proofs::Sweeping::late_after))]
 fn is_after(position: u64, first: &Option<Corner>) -> bool
     ensures { IsTrue result → AreLate position first.now }
@@ -293,7 +301,7 @@ fn is_after(position: u64, first: &Option<Corner>) -> bool
     }
 }
 
-// Whether `position` is after that of a point.
+// Whether `position` is after the leaf of the point `corner`.
 #[tactic(auto, using(s2_hilbert::proofs::lemmas::Curve::position_undone))]
 fn is_beyond(position: u64, corner: &Corner) -> bool
     ensures { result ≡ nat_lt (position_of corner.now.leaf) position }
@@ -301,9 +309,9 @@ fn is_beyond(position: u64, corner: &Corner) -> bool
     corner.pos < position
 }
 
-// Whether a slab has no point at `position` or after it.
+// Whether a slab has no point with a leaf at `position` or after it.
 fn ends_before(slab: &Slab, position: u64) -> bool
-    ensures over { IsTrue result → IsPassed position slab.now }
+    ensures passed { IsTrue result → IsPassed position slab.now }
     ensures some { result ≡ false → slab.now.first ≤ slab.now.last }
     ensures reaches { result ≡ false → position ≤ slab.now.last }
 {

@@ -32,10 +32,10 @@ use std::marker::Model;
 pub struct Volume {
     footprint: Footprint,
     window: Window,
-    // the number of ranges of the footprint's leaves, and the ranges themselves, if they are kept
+    // the number of ranges of the footprint's leaves, and the ranges themselves until `drop_ranges`
     count: u32,
     ranges: Option<Ranges>,
-    // how many cells the footprint has
+    // how many cells the footprint has: those of its list, or of its rectangle's canonical cover
     cells: u32,
     alloc: Global,
 }
@@ -112,8 +112,8 @@ impl Volume {
     }
 
     /// The slabs of the volume, ascending: one for each range of the footprint's leaves along the
-    /// S2 curve, so cells that follow each other on the curve share one. A point belongs to one of
-    /// the slabs exactly if it belongs to the volume.
+    /// S2 curve, so cells that follow each other on the curve share one. There is at least one slab, and each
+    /// has a point. A point belongs to one of the slabs exactly if it belongs to the volume.
     ///
     /// # Errors
     ///
@@ -147,7 +147,7 @@ impl Volume {
         self.cells
     }
 
-    /// The canonical cover of the footprint's leaves: for a rectangle the cover that its limit speaks of.
+    /// The canonical cover of the footprint's leaves. For a rectangle it has at most 1,024 cells.
     ///
     /// # Errors
     ///
@@ -184,7 +184,8 @@ impl Volume {
         })
     }
 
-    // The ranges of the footprint's leaves, computed again.
+    // The ranges of the footprint's leaves, computed again. The footprint is within its limits, since it was
+    // at `try_new`, so only memory can run out.
     fn recompute_ranges(&self) -> Result<Ranges, AllocError>
         ensures { IfOk result (HasRanges self.now.footprint) }
     {
@@ -196,7 +197,8 @@ impl Volume {
     }
 }
 
-// One slab for each range of the leaves of a footprint, all with the same window.
+// One slab for each of the ranges of a footprint's leaves, ascending, all with the altitudes and seconds of
+// `window`.
 fn slabs_over(alloc: Global, ranges: &Ranges, window: Window) -> Result<Vec<Slab>, AllocError>
     requires window { IsTrue (is_window window) }
     ensures slabs { (shape : Shape) → HasRanges shape ranges.now → IfOk result (λ slabs.
@@ -209,7 +211,7 @@ fn slabs_over(alloc: Global, ranges: &Ranges, window: Window) -> Result<Vec<Slab
     slabs_of(alloc, ranges.spans(), window)
 }
 
-// One slab for each span of positions, all with the same window.
+// One slab for each span of positions, in order, all with the altitudes and seconds of `window`.
 fn slabs_of(alloc: Global, spans: &[Span], window: Window) -> Result<Vec<Slab>, AllocError>
     requires { All IsSpan spans.now }
     ensures { IfOk result (λ slabs. AreSlabsOn spans.now window slabs.items) }
@@ -221,7 +223,7 @@ fn slabs_of(alloc: Global, spans: &[Span], window: Window) -> Result<Vec<Slab>, 
     Ok(slabs)
 }
 
-// The slab of one span of positions.
+// The slab of the leaves of one span of positions, with the altitudes and seconds of `window`.
 fn slab_of(span: &Span, window: Window) -> Slab
     requires { IsSpan span.now }
     ensures span { span_of result ≡ span.now }

@@ -87,7 +87,8 @@ pub const MAX_SECOND: i64 = 253_370_764_800;
 const MAX_LENGTH: i64 = 86_400;
 
 impl Window {
-    /// The window of these altitudes, in decimetres above the WGS84 ellipsoid, and Unix seconds.
+    /// The window of the altitudes `lower <= a < upper`, in decimetres above the WGS84 ellipsoid, and of the
+    /// Unix seconds `start <= t < end`.
     ///
     /// # Errors
     ///
@@ -121,7 +122,8 @@ impl Window {
         self.lower
     }
 
-    /// The upper bound of the altitudes, which does not belong to them, in decimetres.
+    /// The upper bound of the altitudes, which does not belong to them, in decimetres above the WGS84
+    /// ellipsoid.
     pub fn upper(&self) -> i32
         ensures { result ≡ self.now.upper }
     {
@@ -143,7 +145,7 @@ impl Window {
     }
 }
 
-// Whether altitudes are in order and within the limits.
+// Whether altitudes, in decimetres, are in order and within the limits.
 fn are_altitudes(lower: i32, upper: i32) -> bool
     ensures value { result ≡ within_altitudes lower upper }
 {
@@ -156,7 +158,7 @@ fn are_altitudes(lower: i32, upper: i32) -> bool
     upper <= MAX_ALTITUDE
 }
 
-// Whether seconds are in order and within the limits.
+// Whether Unix seconds are in order and within the limits.
 fn are_times(start: i64, end: i64) -> bool
     ensures value { result ≡ within_times start end }
     ensures bounds { IsTrue result → (pos 0 ≤ℤ start) × (start <ℤ end) }
@@ -170,7 +172,7 @@ fn are_times(start: i64, end: i64) -> bool
     end <= MAX_SECOND
 }
 
-// Whether the time from start to end is within the limit.
+// Whether the time from `start` to `end`, in seconds, is within the limit of a day.
 fn is_length(start: i64, end: i64) -> bool
     requires low { pos 0 ≤ℤ start }
     requires order { start <ℤ end }

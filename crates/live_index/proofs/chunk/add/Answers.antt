@@ -22,7 +22,7 @@ returns-then-at-len-clause-kept c =
     c.index_mut.result.now c.push.new.self below
     (unmoved _ c.push.new.self.volumes.items
     (is ∙ ap (λ (k : Chunk). k.volumes.items) c.index_mut.ensures.value)))
-    c.push.ensures.err
+    c.push.ensures.volumes_unchanged
 
 pub returns-clause-added : goal.returns-clause-added
 returns-clause-added c =

@@ -14,12 +14,12 @@ pub loop-at-preserved : goal.loop-at-preserved
 loop-at-preserved c =
     let stays = is_beside c.args.operator.now c.args.id.now in
     let chunk = c.index_mut.result.now in
-    let left : Chunk = record chunk { volumes = c.remove_plan.new.volumes } in
+    let left : Chunk = record chunk { volumes = c.remove_plan_volumes.new.volumes } in
     leave_goes_on (λ k. k.volumes.items) IsBoundedChunk stays c.args.chunks.now.items c.loop-at.at
     c.loop-at.chunks.items _ chunk left
     c.loop-at.invariant (search rules) refl
-    (c.remove_plan.ensures.items
+    (c.remove_plan_volumes.ensures.items
     ∙ ap (λ (k : Chunk). filter stays k.volumes.items) c.index_mut.ensures.value)
-    (λ h. subst (AllByRecursion (IsInBox chunk.bbox)) (sym c.remove_plan.ensures.items)
+    (λ h. subst (AllByRecursion (IsInBox chunk.bbox)) (sym c.remove_plan_volumes.ensures.items)
     (all_filter (IsInBox chunk.bbox) stays chunk.volumes.items
     (subst IsBoundedChunk (sym c.index_mut.ensures.value) h)))

@@ -5,8 +5,8 @@ use Rattle.live_index.proofs.GatherLemmas.{set_one}
 use Rattle.live_index.proofs.LeftLemmas.{left_as, left_before, left_behind}
 use Rattle.live_index.proofs.group.remove_from_group.Goals as goal
 
-pub returns-clause-left : goal.returns-clause-left
-returns-clause-left c =
+pub returns-clause-removed : goal.returns-clause-removed
+returns-clause-removed c =
     let o = c.args.rank.now.plan.operator in
     let id = c.args.rank.now.plan.id in
     let old = c.args.groups.now.items in
@@ -16,5 +16,5 @@ returns-clause-left c =
     (left_before o id gone) old c.args.at c.index_mut.result.now c.remove_plan-gone.new.self c.requires
     (subst (λ (g : Group). RemovesPlanVolumes o id (volumes_in g.chunks.items)
     (volumes_in c.remove_plan-gone.new.self.chunks.items) gone)
-    c.index_mut.ensures.value c.remove_plan-gone.ensures.left))
+    c.index_mut.ensures.value c.remove_plan-gone.ensures.removed))
     (c.merge-2.ensures.same ∙ c.merge.ensures.same ∙ c.drop_if_empty.ensures.same)

@@ -171,7 +171,7 @@ returns-in_ok-push_cell-in-Inside-clause-ok t c =
     HasWalked set levels c.args.limit (first_position square) (last_position square + 1) cells after
     c.args.looked.now new in
     subst (λ new. P c.push_cell.new.cells.items new) (sym c.compare.ensures.counted)
-    (subst (λ after. P after (c.args.looked.now + 1)) (sym reported.kept)
+    (subst (λ after. P after (c.args.looked.now + 1)) (sym reported.pushed)
     (walked_inside set levels c.args.limit square.level (first_position square) (square_id square)
     c.args.looked.now
     cells c.requires.laid block largest c.in-Inside.ensures.saw.saw reported.room c.requires.counted))

@@ -10,5 +10,5 @@ returns-clause-position c = λ position below. position_undone position
 pub returns-clause-below : goal.returns-clause-below
 returns-clause-below c = position_below
 
-pub returns-clause-undone : goal.returns-clause-undone
-returns-clause-undone c = leaf_undone
+pub returns-clause-inverse : goal.returns-clause-inverse
+returns-clause-inverse c = leaf_undone

@@ -7,8 +7,8 @@ returns-clause-value c =
     c.point_on_face-i.ensures.i_below
     c.point_on_face-i.ensures.j_below c.point_on_face-i.ensures.inverse).value
 
-pub returns-clause-undone : goal.returns-clause-undone
-returns-clause-undone c =
+pub returns-clause-inverse : goal.returns-clause-inverse
+returns-clause-inverse c =
     (found_at c.args.position c.point_on_face-i.result.0 c.point_on_face-i.result.1 c.requires
     c.point_on_face-i.ensures.i_below
     c.point_on_face-i.ensures.j_below c.point_on_face-i.ensures.inverse).undone

@@ -11,7 +11,7 @@ loop-slab-preserved c =
       covered = all_covered old new c.args.mine.now c.loop-slab.slab-index c.slab-item.result
           c.loop-slab-test.true c.slab-item.is c.in_ok-count.ensures.kept c.in_ok-count.ensures.covered
           c.loop-slab.invariant.covered;
-      of = c.add_lane.ensures.of;
+      of = c.add_lane.ensures.all_left;
     }
 
 pub returns-clause-covered : goal.returns-clause-covered

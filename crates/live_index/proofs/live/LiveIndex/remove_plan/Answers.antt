@@ -14,14 +14,14 @@ returns c =
     let all = volumes_under old.groups.items in record {
       same = λ placed.
           left_of_both o id all (volumes_under c.remove_all.new.groups.items) old.unindexed.items
-          c.remove_plan.new.volumes.items
+          c.remove_plan_volumes.new.volumes.items
           (c.remove_all.ensures.same (subst (λ n. count_of o id all ≤ n) (sym c.of.ensures) (placed o id)))
-          c.remove_plan.ensures.items;
+          c.remove_plan_volumes.ensures.items;
       group_bounded = c.remove_all.ensures.group_bounded;
       placed = λ placed.
           placed_without old.places c.forget.new.self key all (volumes_under c.remove_all.new.groups.items)
           placed c.forget.ensures.others
           (c.remove_all.ensures.same (subst (λ n. count_of o id all ≤ n) (sym c.of.ensures) (placed o id)));
-      room = c.remove_plan.ensures.room;
-      less = c.remove_plan.ensures.fewer;
+      room = c.remove_plan_volumes.ensures.room;
+      less = c.remove_plan_volumes.ensures.fewer;
     }

@@ -20,7 +20,7 @@ returns-clause-kept c = λ w was.
           (volumes_under c.remove_named.new.self.groups.items) c.remove_named.new.self.unindexed.items
           c.push_all.new.volumes.items c.args.fresh.now (c.remove_named.ensures.same was.placed)
           c.push_all.ensures))
-          (changed_live change w (volumes_of old) c.args.fresh.now was.live c.requires.brought);
+          (changed_live change w (volumes_of old) c.args.fresh.now was.live c.requires.added);
       group_bounded = c.remove_named.ensures.group_bounded was.group_bounded;
       placed = c.remove_named.ensures.placed was.placed;
     }
