@@ -7,6 +7,7 @@ use Rattle.desk_changes.specs.declared.writing.VolumeRecord.{VolumeRecord}
 use Rattle.desk_changes.specs.declared.writing.SpanRecord.{SpanRecord}
 use Rattle.desk_sql.specs.Rows.{Tables, VolumeColumns, SpanColumns, is_of, is_not_of, left_without, volume_row, cover_row, span_row}
 
+-- the columns of a record without `canon`; its row without `canon`; its row with the key and `canon` alone
 abbrev pub volume_columns : VolumeRecord → VolumeColumns
 volume_columns v = record {
   operator = v.operator.now;
@@ -29,6 +30,7 @@ cover_of v = cover_row v.operator.now v.id.now v.place v.canon.now
 abbrev pub volume_params : VolumeRecord → Row
 volume_params v = volume_row_in v ++ Blob v.canon.now ∷ []
 
+-- the columns and the row of a record
 abbrev pub span_columns : SpanRecord → SpanColumns
 span_columns s = record {
   operator = s.operator.now;
@@ -46,16 +48,18 @@ span_columns s = record {
 abbrev pub span_row_in : SpanRecord → Row
 span_row_in s = span_row (span_columns s)
 
+-- the rows of volumes and their covers are added to `volume2`, and all else stays
 abbrev pub AddsVolumes : List Row → List Row → Tables → Tables → Type 0
 AddsVolumes rows covers old new = IsPermutation (rows ++ old.volumes) new.volumes
     × IsPermutation (covers ++ old.covers) new.covers
     × (new ≡ record old { volumes = new.volumes; covers = new.covers })
 
+-- the rows are added to `span2`, and all else stays
 abbrev pub AddsSpans : List Row → Tables → Tables → Type 0
 AddsSpans rows old new = IsPermutation (rows ++ old.spans) new.spans
     × (new ≡ record old { spans = new.spans })
 
--- what is put of a plan: whose and which it is, its row, and the rows of its volumes, covers and spans
+-- a plan to store: its operator and id, its row, and the rows of its volumes, covers and spans
 pub record PlanPut : Type 0 where
   pub operator : List ℕ
   pub id : List ℕ
@@ -64,7 +68,7 @@ pub record PlanPut : Type 0 where
   pub covers : List Row
   pub spans : List Row
 
--- what there was of the plan goes, and this comes
+-- the rows of the plan's former version, if there was one, are removed, and those of `put` are added
 pub record PutsPlan (put : PlanPut) (old new : Tables) : Type 0 where
   pub operators : new.operators ≡ old.operators
   pub plans : IsPermutation (put.plan ∷ filter (is_not_of put.operator put.id) old.plans) new.plans
@@ -75,15 +79,15 @@ pub record PutsPlan (put : PlanPut) (old new : Tables) : Type 0 where
   pub with_covers : IsPermutation (put.covers ++ left_without put.operator put.id old old.covers) new.covers
   pub with_spans : IsPermutation (put.spans ++ left_without put.operator put.id old old.spans) new.spans
 
--- of none of these plans
+-- the row belongs to none of the operator's plans with these ids
 abbrev pub is_of_none : List ℕ → List (List ℕ) → Row → Bool
 is_of_none operator ids row = not (list_any (λ id. is_of operator id row) ids)
 
--- those of the ids whose plan is there
+-- those of the ids whose plan is stored
 abbrev pub ids_there : List ℕ → List (List ℕ) → Tables → List (List ℕ)
 ids_there operator ids old = filter (λ id. list_any (is_of operator id) old.plans) ids
 
--- the plans of these ids go, and the volumes and spans of each that is there with it
+-- the operator's plans with these ids are removed, and with each that is stored its volumes and spans
 abbrev pub RemovesPlans : List ℕ → List (List ℕ) → Tables → Tables → Type 0
 RemovesPlans operator ids old new =
     new ≡ record {

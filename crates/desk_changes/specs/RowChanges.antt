@@ -1,4 +1,4 @@
--- What each change is given, what it does, and what it has to fit.
+-- The parameters of each change, what it does, and what it has to fit.
 use Rattle.std.specs.Prelude.{⊤, ◌≡◌, pos, Bool, false, List, ℕ, [], ◌∷◌, filter, length, map}
 use Rattle.std.specs.List.{list_any}
 use Rattle.sqlite.specs.declared.types.Value.TheVariants.{Int, Text}
@@ -16,10 +16,11 @@ use Rattle.desk_sql.specs.Statements.{Changes}
 use Rattle.desk_sql.specs.Changing.{AreLow, IsShort, FitsOperator, FitsPlan, FitsVolume, FitsSpan, IsSureChange}
 use Rattle.desk_changes.specs.Putting.{TakesOperators, TakesRoom, TextCounts, TextTakes}
 
+-- the row of a record
 abbrev pub plan_row_in : PlanRecord → Row
 plan_row_in p = plan_row p.operator.now p.id.now p.priority p.usage p.aircraft
 
--- what is put of a plan by its records
+-- the plan to store that these records describe
 abbrev pub plan_put : PlanRecord → List VolumeRecord → List SpanRecord → PlanPut
 plan_put p volumes spans = record {
   operator = p.operator.now;
@@ -30,7 +31,7 @@ plan_put p volumes spans = record {
   spans = map span_row_in spans;
 }
 
--- which plan
+-- the parameters that name a plan, and below those that close it
 abbrev pub key_row : List ℕ → List ℕ → Row
 key_row operator id = Text operator ∷ Text id ∷ []
 
@@ -38,7 +39,7 @@ abbrev pub closing_row : List ℕ → List ℕ → ℕ → ℕ → Row
 closing_row operator id priority aircraft =
     Text operator ∷ Text id ∷ Int (pos priority) ∷ Int (pos aircraft) ∷ []
 
--- what a change is given, as the parameters of its text in turn
+-- the values of the parameters of a change's statement, in their order
 abbrev pub given_to : RowChange → Row
 given_to (AddOperator name ceiling) = operator_row name.now ceiling
 given_to (AddPlan p) = plan_row_in p
@@ -51,7 +52,7 @@ given_to (RemoveSpans operator id) = key_row operator.now id.now
 given_to EmptyOldVolumes = []
 given_to EmptyOldSpans = []
 
--- how it changes the tables
+-- how a change changes the tables (the usage 2 is Closed)
 abbrev pub changes : RowChange → Tables → Tables → Type 0
 changes (AddOperator name ceiling) = AddsOperator (operator_row name.now ceiling)
 changes (AddPlan p) = AddsPlan (plan_row_in p)
@@ -65,7 +66,7 @@ changes (RemoveSpans operator id) = RemovesSpans operator.now id.now
 changes EmptyOldVolumes = RemovesOldVolumes
 changes EmptyOldSpans = RemovesOldSpans
 
--- what has to be so for it
+-- what a database has to fit, so that only memory, the disk and a limit on steps refuse the change
 abbrev pub fits : RowChange → Database → Type 0
 fits (AddOperator name ceiling) db = FitsOperator name.now (operator_row name.now ceiling) db
 fits (AddPlan p) db = FitsPlan p.operator.now p.id.now (plan_row_in p) db
@@ -76,16 +77,16 @@ fits (SetClosed operator id priority aircraft) db =
     IsShort operator.now × IsShort id.now × AreLow (db.trees 2)
 fits _ db = ⊤
 
--- if no operator passes, their tree stays
+-- if no row of `operator` passes, the b-tree of `operator` (0) stays
 abbrev pub StaysUnless : (Row → Bool) → Trees → Trees → Type 0
 StaysUnless passes old new = list_any passes (tables_of old).operators ≡ false → new 0 ≡ old 0
 
--- how many rows it counts, where somebody asks
+-- how many rows a change counts; nothing is said of those whose count no caller needs
 abbrev pub counts : RowChange → ℕ → Tables → Type 0
 counts (SetCeiling name ceiling) count t = count ≡ length (filter (is_row_by name.now) t.operators)
 counts _ count t = ⊤
 
--- the room that it takes, where somebody asks
+-- how many rowids a change uses; nothing is said where no caller needs it
 abbrev pub takes : RowChange → Trees → Trees → Type 0
 takes (AddOperator name ceiling) old new = TakesOperators 1 old new
 takes (AddPlan p) old new = TakesRoom 1 0 0 old new
@@ -96,7 +97,8 @@ takes (SetClosed operator id priority aircraft) old new = ⊤
 takes (RemoveSpans operator id) old new = ⊤
 takes _ old new = TakesRoom 0 0 0 old new
 
--- a text that, given these parameters, changes the tables so, where they fit, takes this room and counts so
+-- a statement that with these parameters changes the tables as `Change` says, succeeds where `Fits` holds but
+-- for memory, the disk and a limit on steps, uses rowids as `Takes` says, and counts rows as `Counts` says
 pub record Does (text : List ℕ) (params : Row) (Change : Tables → Tables → Type 0) (Fits : Database → Type 0)
     (Takes : Trees → Trees → Type 0) (Counts : ℕ → Tables → Type 0) : Type 0
   where
@@ -105,11 +107,11 @@ pub record Does (text : List ℕ) (params : Row) (Change : Tables → Tables →
     pub room : TextTakes text params Takes
     pub counted : TextCounts text params Counts
 
--- the text of a change, which does all that
+-- the text is a statement that does what the change says
 abbrev pub IsTextOf : RowChange → List ℕ → Type 0
 IsTextOf change text = Does text (given_to change) (changes change) (fits change) (takes change) (counts change)
 
--- ---- and of each that is given names and numbers
+-- ---- the same for each change that has names and numbers as parameters
 
 abbrev pub DoesAddOperator : List ℕ → ℕ → List ℕ → Type 0
 DoesAddOperator name ceiling text =

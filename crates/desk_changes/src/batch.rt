@@ -18,7 +18,8 @@ use crate::execute::execute;
 use crate::writing::{SpanRecord, VolumeRecord};
 use sqlite::{Alter, Error, Transaction};
 
-/// Adds `rows` to `volume2`, within a transaction.
+/// Adds `rows` to `volume2`, in their order, within a transaction. Each uses one rowid. After an error, what
+/// was committed stays.
 pub fn insert_volumes<S: Alter>(
     tx: &mut Transaction<'_, S>,
     rows: &[VolumeRecord<'_>],
@@ -36,7 +37,8 @@ pub fn insert_volumes<S: Alter>(
     Ok(())
 }
 
-/// Adds `rows` to `span2`, within a transaction.
+/// Adds `rows` to `span2`, in their order, within a transaction. Each uses one rowid. After an error, what
+/// was committed stays.
 pub fn insert_spans<S: Alter>(
     tx: &mut Transaction<'_, S>,
     rows: &[SpanRecord<'_>],
@@ -53,7 +55,8 @@ pub fn insert_spans<S: Alter>(
     Ok(())
 }
 
-/// Removes the operator's plans `ids` with their volumes and spans, within a transaction.
+/// Removes the operator's plans `ids` with their volumes and spans, within a transaction. Ids that are not
+/// stored are passed over.
 pub fn remove_plans<S: Alter>(
     tx: &mut Transaction<'_, S>,
     operator: &str,
@@ -70,7 +73,7 @@ pub fn remove_plans<S: Alter>(
     ensures cause { HasRefusal S.Store tx.old.conn.now tx.new.conn.now result }
     ensures remembered { Remembers S.Store tx.old.conn.now tx.new.conn.now }
 {
-    // It fails on a connection that an error has shut, even if there are no ids.
+    // This call fails on a connection that an error has shut. Otherwise empty `ids` would succeed there.
     tx.prepare(RowChange::RemovePlan { operator, id: "" }.text())?;
     'ids: for id in ids {
         remove_plan_by_id(tx, operator, id)?;
@@ -78,7 +81,7 @@ pub fn remove_plans<S: Alter>(
     Ok(())
 }
 
-// Removes the operator's plan `id` with its volumes and spans.
+// Removes the operator's plan `id`, if it is stored, with its volumes and spans.
 fn remove_plan_by_id<S: Alter>(
     tx: &mut Transaction<'_, S>,
     operator: &str,

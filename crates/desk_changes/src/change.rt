@@ -31,19 +31,20 @@ pub(crate) enum RowChange<'a> {
         name: &'a str,
         ceiling: u32,
     },
-    /// Gives a plan, if there is one, the usage Closed, this priority and this state of the aircraft.
+    /// Gives the operator's plan `id`, if it is stored, the usage Closed, this priority and this state of the
+    /// aircraft (as in `PlanRecord`).
     SetClosed {
         operator: &'a str,
         id: &'a str,
         priority: u32,
         aircraft: u32,
     },
-    /// Removes a plan with its volumes and spans, if there is one.
+    /// Removes the operator's plan `id`, if it is stored, with its volumes and spans.
     RemovePlan {
         operator: &'a str,
         id: &'a str,
     },
-    /// Removes the spans of a plan.
+    /// Removes the rows of `span2` of the operator's plan `id`.
     RemoveSpans {
         operator: &'a str,
         id: &'a str,
@@ -55,7 +56,7 @@ pub(crate) enum RowChange<'a> {
 }
 
 impl<'a> RowChange<'a> {
-    /// The statement as SQL.
+    /// The statement as SQL. Its parameters `?1`, `?2` and so on are those that `params` returns.
     pub(crate) fn text(self) -> &'static str
         ensures { IsTextOf self.entry result.now }
     {
@@ -73,7 +74,7 @@ impl<'a> RowChange<'a> {
         }
     }
 
-    /// The values of the statement's parameters.
+    /// The values of the statement's parameters, in the order of their numbers.
     pub(crate) fn params(self) -> Parameters<'a>
         ensures { result ≡ given_to self.entry }
     {
@@ -133,14 +134,14 @@ fn add_span_text() -> &'static str
      VALUES (?1, ?2, ?3, ?4, ?5, ?6, ?7, ?8, ?9, ?10)"
 }
 
-// The statement that sets the ceiling of an operator.
+// The statement that sets the ceiling (`?2`) of an operator (`?1`). It changes no row if there is none.
 fn set_ceiling_text() -> &'static str
     ensures { (name : List ℕ) (ceiling : ℕ) → DoesSetCeiling name ceiling result.now }
 {
     "UPDATE operator SET ceiling = ?2 WHERE name = ?1"
 }
 
-// The statement that gives a plan the usage Closed (2), a priority and a state of the aircraft.
+// The statement that gives a plan the usage Closed (2), a priority (`?3`) and a state of the aircraft (`?4`).
 fn set_closed_text() -> &'static str
     ensures { (operator id : List ℕ) (priority aircraft : ℕ) →
         DoesSetClosed operator id priority aircraft result.now }
@@ -155,14 +156,14 @@ fn remove_plan_text() -> &'static str
     "DELETE FROM plan WHERE operator = ?1 AND id = ?2"
 }
 
-// The statement that removes the spans of a plan.
+// The statement that removes the rows of `span2` of a plan.
 fn remove_spans_text() -> &'static str
     ensures { (operator id : List ℕ) → DoesRemoveSpans operator id result.now }
 {
     "DELETE FROM span2 WHERE operator = ?1 AND id = ?2"
 }
 
-// The statement that removes all rows of `volume`.
+// The statement that removes all rows of `volume`, a table of version 1 of the schema.
 #[tactic(auto, using(crate::proofs::ChangeTexts::empty_old_volumes_does))]
 fn empty_old_volumes_text() -> &'static str
     ensures { IsTextOf RowChange.EmptyOldVolumes result.now }
@@ -170,7 +171,7 @@ fn empty_old_volumes_text() -> &'static str
     "DELETE FROM volume"
 }
 
-// The statement that removes all rows of `span`.
+// The statement that removes all rows of `span`, a table of version 1 of the schema.
 #[tactic(auto, using(crate::proofs::ChangeTexts::empty_old_spans_does))]
 fn empty_old_spans_text() -> &'static str
     ensures { IsTextOf RowChange.EmptyOldSpans result.now }

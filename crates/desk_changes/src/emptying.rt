@@ -10,7 +10,7 @@ use crate::change::RowChange;
 use crate::execute::execute;
 use sqlite::{Alter, Error, Transaction};
 
-/// Removes all rows of `volume`, which version 1 of the schema has, within a transaction.
+/// Removes all rows of `volume`, a table of version 1 of the schema, within a transaction. The table stays.
 pub fn empty_old_volumes<S: Alter>(tx: &mut Transaction<'_, S>) -> Result<(), Error>
     requires desk { Holds S.Store tx.old.conn.now IsDesk }
     ensures same_reference { tx.new.conn.ghost_name ≡ tx.old.conn.ghost_name }
@@ -20,7 +20,7 @@ pub fn empty_old_volumes<S: Alter>(tx: &mut Transaction<'_, S>) -> Result<(), Er
     execute(tx, RowChange::EmptyOldVolumes)
 }
 
-/// Removes all rows of `span`, which version 1 of the schema has, within a transaction.
+/// Removes all rows of `span`, a table of version 1 of the schema, within a transaction. The table stays.
 pub fn empty_old_spans<S: Alter>(tx: &mut Transaction<'_, S>) -> Result<(), Error>
     requires desk { Holds S.Store tx.old.conn.now IsDesk }
     ensures same_reference { tx.new.conn.ghost_name ≡ tx.old.conn.ghost_name }

@@ -12,7 +12,7 @@ use crate::change::RowChange;
 use desk_sql::run;
 use sqlite::{Alter, Error, Transaction};
 
-/// Runs the statement of `change`, and returns how many rows it changed.
+/// Runs the statement of `change` within a transaction, and returns how many rows it changed.
 pub(crate) fn execute_counted<S: Alter>(
     tx: &mut Transaction<'_, S>,
     change: RowChange<'_>,
@@ -28,7 +28,7 @@ pub(crate) fn execute_counted<S: Alter>(
     Ok(count)
 }
 
-/// Runs the statement of `change`.
+/// Runs the statement of `change` within a transaction.
 pub(crate) fn execute<S: Alter>(
     tx: &mut Transaction<'_, S>,
     change: RowChange<'_>,

@@ -18,7 +18,8 @@ use crate::writing::{PlanRecord, SpanRecord, VolumeRecord, insert_operator, inse
 use desk_sql::laws::committed_and_sound;
 use sqlite::{Alter, Connection, Error, Transaction};
 
-/// Removes the operator's plans `ids` with their volumes and spans, in one transaction.
+/// Removes the operator's plans `ids` with their volumes and spans, in one transaction: all of them, or none
+/// if it fails. Ids that are not stored are passed over.
 pub fn clear_plans<S: Alter>(
     connection: &mut Connection<S>,
     operator: &str,
@@ -28,13 +29,15 @@ pub fn clear_plans<S: Alter>(
     ensures committed { IsCommitted S.Store connection.old connection.new result
         (RemovesPlans operator.now (map string_bytes ids.now)) (λ _. ⊤) }
 {
+    // A law, which changes nothing: what the connection shows is committed and sound.
     committed_and_sound(connection);
     let mut tx = connection.transaction();
     remove_plans(&mut tx, operator, ids)?;
     tx.commit()
 }
 
-/// Stores a plan with its volumes and spans, and removes its former version, in one transaction.
+/// Stores a plan with its volumes and spans, in place of its former version if there is one, in one
+/// transaction: as a whole, or not at all if it fails. `volumes` and `spans` have to be those of `plan`.
 pub fn put_plan<S: Alter>(
     connection: &mut Connection<S>,
     plan: PlanRecord<'_>,
@@ -46,6 +49,7 @@ pub fn put_plan<S: Alter>(
         (PutsPlan (plan_put plan.entry volumes.now spans.now))
         (IsPuttable (plan_put plan.entry volumes.now spans.now)) }
 {
+    // A law, which changes nothing: what the connection shows is committed and sound.
     committed_and_sound(connection);
     let mut tx = connection.transaction();
     let (operator, id) = (plan.operator, plan.id);
@@ -63,7 +67,7 @@ pub fn put_plan<S: Alter>(
     tx.commit()
 }
 
-// Sets the ceiling of the operator `name`, or adds the operator if there is none.
+// Sets the ceiling of the operator `name`, or adds the operator if there is none, within a transaction.
 fn set_or_add_operator<S: Alter>(
     tx: &mut Transaction<'_, S>,
     name: &str,
@@ -93,6 +97,7 @@ pub fn put_operator<S: Alter>(
     ensures committed { IsCommitted S.Store connection.old connection.new result
         (PutsOperator name.now ceiling) (λ db. IsShort name.now × HasRowids 1 (db.trees 0)) }
 {
+    // A law, which changes nothing: what the connection shows is committed and sound.
     committed_and_sound(connection);
     let mut tx = connection.transaction();
     set_or_add_operator(&mut tx, name, ceiling)?;
@@ -100,7 +105,7 @@ pub fn put_operator<S: Alter>(
 }
 
 /// Closes the operator's plan `id`, if it is stored, in one transaction: its row gets the usage Closed, this
-/// priority and this state of the aircraft, and its spans are removed.
+/// priority and this state of the aircraft (as in `PlanRecord`), and its spans are removed. Its volumes stay.
 pub fn close_plan<S: Alter>(
     connection: &mut Connection<S>,
     operator: &str,
@@ -113,6 +118,7 @@ pub fn close_plan<S: Alter>(
         (ClosesPlan operator.now id.now priority aircraft)
         (λ db. IsShort operator.now × IsShort id.now × AreLow (db.trees 2)) }
 {
+    // A law, which changes nothing: what the connection shows is committed and sound.
     committed_and_sound(connection);
     let mut tx = connection.transaction();
     let closed = RowChange::SetClosed {

@@ -11,7 +11,8 @@ use crate::change::RowChange;
 use crate::execute::execute;
 use sqlite::{Alter, Error, Transaction};
 
-/// A row of `plan`.
+/// A row of `plan`: the usage is 0 (planned), 1 (in use) or 2 (closed), the state of the aircraft is 0
+/// (nominal), 1 (off nominal) or 2 (contingent).
 #[derive(Clone, Copy, Debug)]
 pub struct PlanRecord<'a> {
     pub operator: &'a str,
@@ -21,7 +22,8 @@ pub struct PlanRecord<'a> {
     pub aircraft: u32,
 }
 
-/// A row of `volume2`: altitudes in decimetres above the WGS84 ellipsoid, times in Unix seconds.
+/// A row of `volume2`: altitudes in decimetres above the WGS84 ellipsoid, times in Unix seconds. `place` is
+/// the volume's index in the plan.
 #[derive(Clone, Copy, Debug)]
 pub struct VolumeRecord<'a> {
     pub operator: &'a str,
@@ -37,7 +39,7 @@ pub struct VolumeRecord<'a> {
 }
 
 /// A row of `span2`: leaf positions, altitudes in decimetres above the WGS84 ellipsoid, times in Unix
-/// seconds.
+/// seconds. `place` is the index of the span's volume in the plan.
 #[derive(Clone, Copy, Debug)]
 pub struct SpanRecord<'a> {
     pub operator: &'a str,
@@ -52,7 +54,8 @@ pub struct SpanRecord<'a> {
     pub priority: u32,
 }
 
-/// Adds a row to `operator`, within a transaction.
+/// Adds a row to `operator`, within a transaction; it uses one rowid. The operator `name` must not have a row
+/// yet.
 pub fn insert_operator<S: Alter>(
     tx: &mut Transaction<'_, S>,
     name: &str,
@@ -67,7 +70,8 @@ pub fn insert_operator<S: Alter>(
     execute(tx, RowChange::AddOperator { name, ceiling })
 }
 
-/// Adds a row to `plan`, within a transaction.
+/// Adds a row to `plan`, within a transaction; `usage` and `aircraft` are as in `PlanRecord`. The operator
+/// needs a row of its own, and the plan must not have one yet. The row uses one rowid.
 pub fn insert_plan<S: Alter>(
     tx: &mut Transaction<'_, S>,
     operator: &str,

@@ -12,14 +12,14 @@ use Rattle.desk_rules.specs.Permission.{blocks}
 abbrev pub AreSlabsOf : List Slab → List Block → Type 0
 AreSlabsOf slabs area = (x : Point) → slabs_have slabs x ≡ area_has area x
 
--- at each point of the area the greatest priority of the held slabs is the level there if that is at
--- least the priority, and else None
+-- `levels` gives the greatest priority that other plans hold at a point. At each point of the area the
+-- greatest priority of the held slabs is that one if it is at least `priority`, and else None
 abbrev pub HoldLevels : List Held → List Block → (Point → Option ℕ) → ℕ → Type 0
 HoldLevels helds area levels priority =
     (x : Point) → area_has area x ≡ true → top_held helds x ≡ at_least priority (levels x)
 
--- at each point of the slabs the greatest priority of the held slabs is the level there if that is at
--- least the priority, and else None
+-- the same at each point of the slabs: the greatest priority of the held slabs is the level there if that
+-- is at least `priority`, and else None
 abbrev pub HoldLevelsAmong : List Held → List Slab → (Point → Option ℕ) → ℕ → Type 0
 HoldLevelsAmong helds slabs levels priority =
     (x : Point) → slabs_have slabs x ≡ true → top_held helds x ≡ at_least priority (levels x)

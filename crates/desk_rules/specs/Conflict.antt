@@ -25,8 +25,8 @@ abbrev pub IsConflict : List ℕ → List Block → (Point → Option ℕ) → �
 IsConflict permitted area levels priority spot =
     IsFirst (is_blocked permitted area levels priority) levels spot
 
--- Bounds on the numbers of an area's points, a leaf by its position along the curve: the search below
--- ends there.
+-- Three upper bounds, on the curve positions, the altitudes and the seconds of an area's points. They let the
+-- search below end.
 abbrev pub leaf_reach : Shape → ℕ
 leaf_reach (cells ids) = sum_by (λ id. last_leaf_id id + 1) ids
 leaf_reach (rectangle r) = 6 * 2 ^ 60
@@ -55,6 +55,6 @@ conflict permitted area levels priority =
     option_and_then (λ x. option_map (λ level. record { point = x; priority = level }) (levels x))
     (first_point area (is_blocked permitted area levels priority))
 
--- a level if it is at least the priority, and else None
+-- the level, if there is one and it is at least the priority, and else None
 abbrev pub at_least : ℕ → Option ℕ → Option ℕ
 at_least priority level = cond (reaches level priority) level None

@@ -1,7 +1,7 @@
--- A priority beside the greatest that is held at a point.
+-- Whether the greatest priority that is held at a point is at least another.
 use Rattle.std.specs.Prelude.{ℕ, Bool, false, nat_le, Option, Some, None}
 
--- whether a priority is held there, and the greatest is at least the other
+-- whether a plan holds the point and the greatest priority held there is at least `priority`
 abbrev pub reaches : Option ℕ → ℕ → Bool
 reaches None priority = false
 reaches (Some level) priority = nat_le priority level

@@ -29,7 +29,7 @@ use Rattle.desk_rules.specs.States.{states_of, status_from, is_offered, step_fro
 unfoldable pub has_ended : List Block → ℤ → Bool
 has_ended area moment = list_any (λ v. int_le v.window.end moment) area
 
--- some volume starts too long after the moment
+-- some volume starts more than 2,592,000 s after the moment
 unfoldable pub is_beyond_horizon : List Block → ℤ → Bool
 is_beyond_horizon area moment = list_any (λ v. int_lt (moment +ℤ pos max_ahead) v.window.start) area
 
@@ -41,8 +41,8 @@ refusal_of (Report s) = None
 refusal_of Shut = None
 refusal_of Keep = None
 
--- which of the later refusals apply: all of them to a check, those of the ceiling and of the numbers of
--- plans, spans and cells to a report, none to closing
+-- whether the later refusals apply: all of them to a check (`is_check`); those of the ceiling and of the
+-- numbers of plans, spans and cells also to a report (`is_stored`); none to closing
 abbrev pub is_check : Step → Bool
 is_check (Refuse n) = false
 is_check (Check s) = true
@@ -50,6 +50,7 @@ is_check (Report s) = false
 is_check Shut = false
 is_check Keep = false
 
+-- whether the step stores the requested plan
 abbrev pub is_stored : Step → Bool
 is_stored (Refuse n) = false
 is_stored (Check s) = true
@@ -63,11 +64,13 @@ first_note [] = None
 first_note (None ∷ notes) = first_note notes
 first_note (Some n ∷ notes) = Some n
 
+-- the note if the test is true, else None
 abbrev pub note_where : Bool → Note → Option Note
 note_where true n = Some n
 note_where false n = None
 
--- the order of refusals, by the states of the stored plan and the operator's standing
+-- the first refusal that applies to a request at a moment, or None: by the states of the stored plan, the
+-- operator's standing, and whether the requested area has a conflict
 unfoldable pub note_from : PutCall → ℤ → Option States → Standing → Bool → Option Note
 note_from call moment stored standing blocked =
     let step = step_from stored call in
@@ -110,7 +113,7 @@ shown_conflict note.SpansLimit conflict = None
 shown_conflict note.CellsLimit conflict = None
 shown_conflict note.Conflict conflict = conflict
 
--- the status and the effect of a step that is carried out
+-- the status after a step, and below its effect; no request with the step Refuse is carried out
 abbrev pub step_status : Step → PlanStatus
 step_status (Refuse n) = status.NotPlanned
 step_status (Check s) = s
@@ -131,7 +134,7 @@ styled_effect style.Hypothetical e = effect.Nothing
 styled_effect style.IfAllowed e = e
 styled_effect style.InReality e = e
 
--- a refusal leaves the stored plan and gives its status
+-- the verdict for a note, or for None: a refusal leaves the stored plan and gives its status
 abbrev pub verdict_from : PutCall → Option States → Option Spot → Option Note → Verdict
 verdict_from call stored conflict (Some n) =
     record {
@@ -156,8 +159,8 @@ unfoldable pub outcome_under : PutCall → ℤ → Option States → Standing �
 outcome_under call moment stored standing conflict =
     verdict_from call stored conflict (note_from call moment stored standing (is_some conflict))
 
--- the same given the plan itself, at a desk where an operator's plans may have any number of spans and cells,
--- by the number of the operator's plans and its ceiling
+-- the same, given the stored plan itself, the number of the operator's plans and its ceiling, at a desk
+-- without limits on spans and cells
 unfoldable pub outcome : PutCall → ℤ → Option PlanRow → ℕ → ℕ → Option Spot → Verdict
 outcome call moment stored own_rows ceiling conflict =
     outcome_under call moment (states_of stored)

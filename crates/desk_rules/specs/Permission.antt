@@ -16,7 +16,7 @@ are_ascending [] = true
 are_ascending (p ∷ []) = true
 are_ascending (p ∷ q ∷ rest) = nat_lt p q && are_ascending (q ∷ rest)
 
--- priorities as a list of permitted ones, or the first fault of theirs
+-- the priorities themselves if they can be permitted, else the first fault that they have
 abbrev pub permitted_in : List ℕ → Result (List ℕ) PermitFault
 permitted_in priorities =
     cond (nat_lt max_permitted (length priorities)) (Err fault.TooMany)
@@ -34,11 +34,11 @@ blocks permitted priority None = false
 blocks permitted priority (Some level) =
     nat_lt priority level || (level == priority && not (is_permitted permitted priority))
 
--- the least priority that blocks a plan where others hold it
+-- the least priority of another plan that blocks a plan of this priority: one more if this one is permitted
 abbrev pub least_blocking : List ℕ → ℕ → ℕ
 least_blocking permitted priority = cond (is_permitted permitted priority) (priority + 1) priority
 
--- the fault as a sentence
+-- the sentence for a fault, in ASCII codes
 abbrev pub permit_fault_text : PermitFault → List ℕ
 permit_fault_text fault.TooMany = codes "at most 32 priorities are permitted"
 permit_fault_text fault.Range = codes "a priority is above 1,000"

@@ -5,6 +5,7 @@ use Rattle.desk_rules.specs.declared.reply.Reply.{Reply}
 use Rattle.desk_rules.specs.declared.reply.Reply.TheVariants as reply
 use Rattle.desk_rules.specs.declared.reply.Shown.{Shown}
 
+-- a reply whose plans are a list
 pub data ReplyParts : Type 0 where
   ready : ReplyParts
   plans : List Shown → ReplyParts
@@ -12,6 +13,7 @@ pub data ReplyParts : Type 0 where
   answered : PutReply → ReplyParts
   cleared : ℕ → ReplyParts
 
+-- what a reply says: its kind, and its plans, result or count
 abbrev pub said_in : Reply → ReplyParts
 said_in reply.Ready = ready
 said_in (reply.Plans shown) = plans shown.items

@@ -8,6 +8,6 @@ use Rattle.desk_rules.specs.Conflict.{first_point}
 abbrev pub HaveAPoint : List Block → List Block → Type 0
 HaveAPoint area other = (x : Point) × (area_has area x ≡ true) × (area_has other x ≡ true)
 
--- whether there is one, as a test: the search among the points of the first finds one that both have
+-- whether there is one: a search among the points of the first area finds a point that both have
 unfoldable pub share_a_point : List Block → List Block → Bool
 share_a_point area other = is_some (first_point area (λ x. area_has area x && area_has other x))

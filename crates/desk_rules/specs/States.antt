@@ -59,7 +59,7 @@ is_offered style.InReality usage.Closed craft = true
 
 -- The state table: a row for each state of the stored plan, a column for the requested states.
 
--- if no plan is stored
+-- the step to the requested states, if no plan is stored
 abbrev pub step_from_none : Usage → Aircraft → Step
 step_from_none usage.Planned aircraft.Nominal = Check status.Planned
 step_from_none usage.Planned aircraft.OffNominal = Refuse note.State
@@ -69,7 +69,7 @@ step_from_none usage.InUse aircraft.OffNominal = Refuse note.State
 step_from_none usage.InUse aircraft.Contingent = Refuse note.State
 step_from_none usage.Closed craft = Refuse note.NotPlanned
 
--- if it is planned
+-- if the stored plan is planned
 abbrev pub step_from_planned : Usage → Aircraft → Step
 step_from_planned usage.Planned aircraft.Nominal = Check status.Planned
 step_from_planned usage.Planned aircraft.OffNominal = Refuse note.State
@@ -79,7 +79,7 @@ step_from_planned usage.InUse aircraft.OffNominal = Report status.OffNominal
 step_from_planned usage.InUse aircraft.Contingent = Report status.OffNominal
 step_from_planned usage.Closed craft = Shut
 
--- if it is in use, and its aircraft is Nominal or OffNominal
+-- if the stored plan is in use, and its aircraft is Nominal or OffNominal
 abbrev pub step_from_use : Usage → Aircraft → Step
 step_from_use usage.Planned craft = Refuse note.State
 step_from_use usage.InUse aircraft.Nominal = Check status.OkToFly
@@ -87,7 +87,7 @@ step_from_use usage.InUse aircraft.OffNominal = Report status.OffNominal
 step_from_use usage.InUse aircraft.Contingent = Report status.OffNominal
 step_from_use usage.Closed craft = Shut
 
--- if it is in use with a contingency, which only closing ends
+-- if the stored plan is in use and its aircraft Contingent: only closing ends that
 abbrev pub step_from_contingency : Usage → Aircraft → Step
 step_from_contingency usage.Planned craft = Refuse note.State
 step_from_contingency usage.InUse aircraft.Nominal = Refuse note.State
@@ -95,13 +95,13 @@ step_from_contingency usage.InUse aircraft.OffNominal = Refuse note.State
 step_from_contingency usage.InUse aircraft.Contingent = Report status.OffNominal
 step_from_contingency usage.Closed craft = Shut
 
--- if it is closed
+-- if the stored plan is closed
 abbrev pub step_from_closed : Usage → Step
 step_from_closed usage.Planned = Refuse note.Closed
 step_from_closed usage.InUse = Refuse note.Closed
 step_from_closed usage.Closed = Keep
 
--- from the states of a stored plan to the requested ones
+-- the step from the states of a stored plan (the first two) to the requested ones (the last two)
 abbrev pub step_from_states : Usage → Aircraft → Usage → Aircraft → Step
 step_from_states usage.Planned stored want craft = step_from_planned want craft
 step_from_states usage.InUse aircraft.Nominal want craft = step_from_use want craft
@@ -109,11 +109,11 @@ step_from_states usage.InUse aircraft.OffNominal want craft = step_from_use want
 step_from_states usage.InUse aircraft.Contingent want craft = step_from_contingency want craft
 step_from_states usage.Closed stored want craft = step_from_closed want
 
--- from the states of a stored plan, or from no plan, for a request
+-- the step for a request, from the states of a stored plan or from no plan
 abbrev pub step_from : Option States → PutCall → Step
 step_from None call = step_from_none call.usage call.aircraft
 step_from (Some stored) call = step_from_states stored.usage stored.aircraft call.usage call.aircraft
 
--- from a stored plan, or from no plan, for a request
+-- the step for a request, from a stored plan or from no plan
 abbrev pub step_of : Option PlanRow → PutCall → Step
 step_of stored call = step_from (states_of stored) call

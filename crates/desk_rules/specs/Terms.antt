@@ -7,14 +7,15 @@ use Rattle.desk_rules.specs.declared.terms.Excess.{Excess}
 abbrev pub no_terms : Terms
 no_terms = record { permitted = []; spans = None; cells = None }
 
--- more than a limit, if there is one
+-- whether a count is more than a limit; None is no limit
 abbrev pub exceeds : Option ℕ → ℕ → Bool
 exceeds None count = false
 exceeds (Some most) count = nat_lt most count
 
--- which of the limits so many spans of live plans and so many cells of all plans exceed
+-- which limits of the terms are exceeded by `spans` spans of live plans and `cells` cells of all plans
 abbrev pub excess_of : Terms → ℕ → ℕ → Excess
 excess_of terms spans cells = record { spans = exceeds terms.spans spans; cells = exceeds terms.cells cells }
 
+-- no limit is exceeded
 abbrev pub no_excess : Excess
 no_excess = record { spans = false; cells = false }

@@ -35,7 +35,7 @@ pub struct Asked {
 }
 
 impl Call {
-    /// A copy of the call.
+    /// A copy of the call, with its plan or volume if it has one.
     ///
     /// # Errors
     ///
@@ -55,7 +55,7 @@ impl Call {
 }
 
 impl Asked {
-    /// A copy of the call, of the same operator.
+    /// A copy of the call and of its operator.
     ///
     /// # Errors
     ///

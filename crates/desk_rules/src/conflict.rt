@@ -14,8 +14,8 @@ use volume4d::{Held, Meeting, Slab, first_meeting, meet};
 /// The conflict of an area with other plans: its first blocked point, or `None` if no point is blocked.
 ///
 /// `mine` are the area's slabs. `theirs` are slabs of the other plans: at each point of the area, their
-/// greatest priority has to be the greatest that other plans hold there, or none if that is too low to block
-/// the area.
+/// greatest priority has to be the greatest that other plans hold there (`levels` in the contract), or none
+/// if that is too low to block the area.
 ///
 /// If `mine` are only some of the area's slabs, the result is the first blocked point among these.
 pub fn first_conflict(mine: &[Slab], theirs: &[Held]) -> Option<Meeting>
@@ -30,7 +30,7 @@ pub fn first_conflict(mine: &[Slab], theirs: &[Held]) -> Option<Meeting>
     first_meeting(mine, theirs)
 }
 
-/// Whether two areas share a point; `mine` and `theirs` are their slabs.
+/// Whether two areas share a point. `mine` are the slabs of one area, `theirs` those of the other.
 pub fn share_a_point(mine: &[Slab], theirs: &[Slab]) -> bool
     ensures { (area other : List Block) → AreSlabsOf mine.now area → AreSlabsOf theirs.now other →
         result ≡ spec.share_a_point area other }

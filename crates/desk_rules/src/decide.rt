@@ -62,8 +62,8 @@ pub const MAX_PRIORITY: u32 = 1_000;
 /// The most plans that an operator may have, closed ones included.
 pub const MAX_PLANS: u32 = 200;
 
-/// The verdict on a request: the first refusal that applies, in the order of `Note`, or `Completed`
-/// if none does.
+/// The verdict on the request `call`: the first refusal that applies, in the order of `Note`, or
+/// `Completed` if none does. An operator's plans may have any number of spans and cells.
 ///
 /// `moment` is the Unix second of the request. `stored` is the operator's plan with this id, and
 /// `own_rows` the number of the operator's plans, closed ones included. `ceiling` is the greatest
@@ -89,8 +89,9 @@ pub fn decide(
     decide_under(call, moment, states_of(stored), &standing, meeting)
 }
 
-/// The verdict on a request, like that of `decide`, under terms that may limit an operator's spans and cells.
-/// `stored` are the states of the operator's plan with the request's id.
+/// The verdict on a request, like that of `decide`, where spans and cells may be limited: `standing` says
+/// which limits the operator would exceed. `stored` are the states of the operator's plan with the request's
+/// id, or `None`.
 #[tactic(auto, unfolding(crate::specs::Outcome::outcome_under))]
 pub fn decide_under(
     call: &PutCall,
@@ -113,7 +114,7 @@ pub fn decide_under(
     }
 }
 
-// The verdict on a request that no rule refuses.
+// The verdict on a request with the style `style` that no rule refuses. `step` is the state table's step.
 fn completed(style: Style, step: Step) -> Verdict
     ensures { result ≡ record {
       result = results.Completed;
@@ -133,7 +134,7 @@ fn completed(style: Style, step: Step) -> Verdict
 }
 
 // The first reason to refuse a request, in the order of `Note`, or `None`. `blocked` says whether the
-// requested area has a conflict.
+// requested area has a conflict; the other parameters are those of `decide_under`.
 #[tactic(auto, unfolding(crate::specs::Outcome::note_from))]
 fn note_for(
     call: &PutCall,
@@ -170,7 +171,8 @@ fn note_for(
     }
 }
 
-// The first limit of the operator that a request to store a plan would exceed, or `None`.
+// The first of the operator's limits that it exceeds if a plan of priority `priority` is stored, or `None`.
+// `stored` are the states of the plan that it replaces, or `None` if the plan is new.
 fn over_limit(priority: u32, stored: Option<States>, standing: &Standing) -> Option<Note>
     ensures { result ≡ first_note (note_where (nat_lt standing.now.ceiling priority) notes.Priority
         ∷ note_where (is_none stored && nat_le max_plans standing.now.own_rows) notes.PlansLimit
@@ -192,7 +194,7 @@ fn over_limit(priority: u32, stored: Option<States>, standing: &Standing) -> Opt
     None
 }
 
-// Whether the request is for a new plan and the operator already has `MAX_PLANS` plans.
+// Whether the plan is new (`stored` is `None`) and the operator already has `MAX_PLANS` plans.
 fn is_full(stored: Option<States>, own_rows: u32) -> bool
     ensures { result ≡ (is_none stored && nat_le max_plans own_rows) }
 {
@@ -202,7 +204,8 @@ fn is_full(stored: Option<States>, own_rows: u32) -> bool
     }
 }
 
-// Whether the desk supports the style for the requested states.
+// Whether the desk supports the style for the requested states. `InReality` reports what has happened: that
+// an aircraft is off its plan, or that a flight is over.
 fn is_offered(style: Style, usage: Usage, aircraft: Aircraft) -> bool
     ensures { result ≡ is_offered style usage aircraft }
 {
@@ -235,7 +238,8 @@ fn starts_beyond(volume: &Volume, moment: i64) -> bool
     moment < earliest_request(volume)
 }
 
-// The earliest Unix second at which a volume may be requested.
+// The earliest Unix second at which a volume may be requested. This subtraction can't overflow, as the sum
+// `moment + HORIZON` could.
 fn earliest_request(volume: &Volume) -> i64
     ensures { result ≡ volume.now.window.start -ℤ pos max_ahead }
 {
@@ -267,7 +271,7 @@ pub fn status_of(stored: Option<&PlanRow>) -> PlanStatus
     status_from(states_of(stored))
 }
 
-/// The status of a plan in these states, or of no plan: `flight_plan_status` of flight_planning v1.
+/// The status of a plan in the states `stored`, or of no plan: `flight_plan_status` of flight_planning v1.
 pub fn status_from(stored: Option<States>) -> PlanStatus
     ensures { result ≡ spec.status_from stored }
 {
@@ -281,7 +285,7 @@ pub fn status_from(stored: Option<States>) -> PlanStatus
     }
 }
 
-// The status of a plan in use, by the state of its aircraft.
+// The status of a plan in use: `OkToFly` if its aircraft keeps to the plan, else `OffNominal`.
 fn status_in_use(aircraft: Aircraft) -> PlanStatus
     ensures { result ≡ status_in_use aircraft }
 {
@@ -291,7 +295,7 @@ fn status_in_use(aircraft: Aircraft) -> PlanStatus
     }
 }
 
-// The status of the plan after `step`, if no rule refuses it.
+// The status of the plan after `step`, which no rule refuses. So it isn't `Refuse`, whose value is arbitrary.
 fn status_after(step: Step) -> PlanStatus
     ensures { result ≡ step_status step }
 {
@@ -304,7 +308,7 @@ fn status_after(step: Step) -> PlanStatus
     }
 }
 
-// The change to the stored plan by `step`, if no rule refuses it; a hypothetical request changes nothing.
+// The change to the stored plan by `step`, which no rule refuses; a hypothetical request changes nothing.
 fn effect_of(style: Style, step: Step) -> Effect
     ensures { result ≡ styled_effect style (step_effect step) }
 {
@@ -320,7 +324,7 @@ fn effect_of(style: Style, step: Step) -> Effect
     }
 }
 
-// The blocked point that is reported beside `note`: only a `Conflict` has one.
+// The blocked point that is reported beside `note`: `meeting` if that is `Conflict`, else `None`.
 fn shown_conflict(note: Note, meeting: Option<Meeting>) -> Option<Meeting>
     ensures { result ≡ shown_conflict note meeting }
 {

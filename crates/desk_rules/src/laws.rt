@@ -10,20 +10,21 @@ ghost use Rattle.desk_rules.specs.Bridge.{AreSlabsOf, is_blocked_among};
 ghost use Rattle.desk_rules.specs.Conflict.{IsConflict, conflict};
 ghost use Rattle.desk_rules.specs.Sharing.{HaveAPoint, share_a_point};
 
-/// An area has one conflict.
+/// An area has only one conflict: two spots that satisfy `IsConflict` for the same area, levels and
+/// priorities are equal.
 pub fn one_conflict()
     ensures { (permitted : List ℕ) (area : List Block) (levels : Point → Option ℕ) (priority : ℕ)
         (a b : Option Spot) → IsConflict permitted area levels priority a →
         IsConflict permitted area levels priority b → a ≡ b }
 {}
 
-/// `conflict`, which searches point by point, returns the conflict.
+/// What `conflict` finds as it searches point by point is the conflict: it satisfies `IsConflict`.
 pub fn conflict_is_found()
     ensures { (permitted : List ℕ) (area : List Block) (levels : Point → Option ℕ) (priority : ℕ) →
         IsConflict permitted area levels priority (conflict permitted area levels priority) }
 {}
 
-/// The first blocked point among an area's slabs is its conflict.
+/// If slabs have just the points of an area, the first blocked point among the slabs is the area's conflict.
 pub fn conflict_among_slabs()
     ensures { (permitted : List ℕ) (area : List Block) (levels : Point → Option ℕ) (priority : ℕ)
         (slabs : List Slab) → AreSlabsOf slabs area → (spot : Option Spot) →
@@ -31,8 +32,8 @@ pub fn conflict_among_slabs()
         spot ≡ conflict permitted area levels priority }
 {}
 
-/// The conflict depends only on the greatest priority that others hold at each point, and on the
-/// permitted priorities.
+/// Two functions `f` and `g` that give the same greatest priority of others at each point give the same
+/// conflict.
 pub fn same_levels_same_conflict()
     ensures found { (permitted : List ℕ) (area : List Block) (f g : Point → Option ℕ)
         (priority : ℕ) →
@@ -43,7 +44,7 @@ pub fn same_levels_same_conflict()
         → IsConflict permitted area g priority spot }
 {}
 
-/// `share_a_point` says whether two areas share a point.
+/// `share_a_point` is true if, and only if, two areas share a point.
 pub fn shared_point_is_found()
     ensures { (area other : List Block) → (share_a_point area other ≡ true) ↔ HaveAPoint area other }
 {}

@@ -18,6 +18,7 @@ const MAX_NAME: usize = 32;
 pub struct Operator {
     // the name, padded with zeros
     bytes: [u8; MAX_NAME],
+    // how many bytes the name has, without the padding
     len: usize,
 }
 
@@ -63,7 +64,7 @@ impl Operator {
         &self.bytes[..self.len]
     }
 
-    /// The name as text.
+    /// The name as text. It is always a valid name.
     pub fn as_str(&self) -> &str
         ensures value { result.now ≡ self.now }
         ensures valid { IsTrue (is_operator_name self.now) }
@@ -72,6 +73,7 @@ impl Operator {
     }
 }
 
+// The name, as `as_str` returns it.
 impl fmt::Display for Operator {
     ghost use Rattle.std.specs.Prelude.{Some};
 
@@ -82,7 +84,7 @@ impl fmt::Display for Operator {
     }
 }
 
-// Names are compared as texts, byte by byte.
+// Names are compared and ordered as texts, byte by byte.
 impl PartialEq for Operator {
     ghost use Rattle.std.specs.Prelude.{nat_eq};
     ghost use Rattle.std.specs.Cmp.{partial_equiv_from_equiv};
@@ -148,14 +150,14 @@ fn is_name(name: &[u8]) -> bool
     are_name_bytes(name)
 }
 
-// Whether a name may have all of these bytes.
+// Whether each of `bytes` is `a-z`, `0-9` or `-`.
 fn are_name_bytes(bytes: &[u8]) -> bool
     ensures { result ≡ list_all spec.is_name_byte bytes.now }
 {
     bytes.iter().all(|byte| is_name_byte(*byte))
 }
 
-// The name, padded with zeros to 32 bytes.
+// `name`, at most 32 bytes, and zeros after it up to 32 bytes.
 fn padded(name: &[u8]) -> [u8; MAX_NAME]
     requires { length name.now ≤ max_name_length }
     ensures { result ≡ name.now ++ replicate (max_name_length - length name.now) 0 }
@@ -165,7 +167,7 @@ fn padded(name: &[u8]) -> [u8; MAX_NAME]
     bytes
 }
 
-// Whether a name may have this byte: `a-z`, `0-9` or `-`.
+// Whether `byte` is `a-z`, `0-9` or `-`.
 fn is_name_byte(byte: u8) -> bool
     ensures { result ≡ spec.is_name_byte byte }
 {

@@ -19,6 +19,7 @@ pub const MAX_PERMITTED: usize = 32;
 pub struct Permitted {
     // the priorities, ascending, padded with zeros
     priorities: [u32; MAX_PERMITTED],
+    // how many of them are permitted, without the padding
     count: usize,
 }
 
@@ -64,7 +65,7 @@ impl Permitted {
         }
     }
 
-    /// Permits these priorities: at most 32, ascending, each at most 1,000.
+    /// Permits `priorities`: at most 32, each at most 1,000 and less than the next. There may be none.
     ///
     /// # Errors
     ///
@@ -87,15 +88,16 @@ impl Permitted {
         })
     }
 
-    /// Whether plans of this priority may share points.
+    /// Whether plans of this priority may share points. Such a priority is at most 1,000.
     pub fn has(&self, priority: u32) -> bool
         ensures value { result ≡ is_permitted self.now priority }
-        ensures low { IsTrue result → priority ≤ max_priority }
+        ensures in_range { IsTrue result → priority ≤ max_priority }
     {
         self.priorities[..self.count].contains(&priority)
     }
 }
 
+// The fault as a sentence.
 impl fmt::Display for PermitFault {
     ghost use Rattle.std.specs.Prelude.{Some};
     ghost use Rattle.desk_rules.specs.Permission.{permit_fault_text};
@@ -113,21 +115,21 @@ impl fmt::Display for PermitFault {
 
 impl Error for PermitFault {}
 
-// Whether each priority is at most 1,000, the greatest that a plan may have.
+// Whether each of `priorities` is at most 1,000, the greatest that a plan may have.
 fn are_priorities(priorities: &[u32]) -> bool
     ensures { result ≡ spec.are_priorities priorities.now }
 {
     priorities.iter().all(|priority| *priority <= MAX_PRIORITY)
 }
 
-// Whether each priority is less than the next.
+// Whether each of `priorities` is less than the next. It is true of none and of one.
 fn are_ascending(priorities: &[u32]) -> bool
     ensures { result ≡ spec.are_ascending priorities.now }
 {
     priorities.is_sorted_by(|low, high| low < high)
 }
 
-// The priorities, padded with zeros to 32 numbers.
+// `priorities`, at most 32, and zeros after them up to 32 numbers.
 fn padded(priorities: &[u32]) -> [u32; MAX_PERMITTED]
     requires { length priorities.now ≤ max_permitted }
     ensures { result ≡ priorities.now ++ replicate (max_permitted - length priorities.now) 0 }

@@ -73,7 +73,7 @@ impl PlanRow {
     }
 
     /// How many spans the plan has: one for each range of each of its volumes along the S2 curve while it
-    /// is live, and none once it is closed.
+    /// is live, and none once it is closed. There are at most 32,768.
     pub fn span_count(&self) -> u32
         ensures value { result ≡ row_spans self.now }
         ensures few { result ≤ max_volumes * max_cover }
@@ -86,7 +86,7 @@ impl PlanRow {
     }
 
     /// How many cells the plan has: for each of its volumes those of its cell list, or of the canonical cover
-    /// of its rectangle. A closed plan keeps them.
+    /// of its rectangle. A closed plan keeps them. There are at most 32,768.
     pub fn cell_count(&self) -> u32
         ensures value { result ≡ row_cells self.now }
         ensures few { result ≤ max_volumes * max_cover }
@@ -94,7 +94,7 @@ impl PlanRow {
         self.area.cell_count()
     }
 
-    /// The states of the plan.
+    /// The usage of the plan and the state of its aircraft.
     pub fn states(&self) -> States
         ensures { result ≡ spec.states_in self.now }
     {
@@ -105,7 +105,7 @@ impl PlanRow {
     }
 }
 
-/// The states of a stored plan, or of no plan.
+/// The states of the plan `stored`, or `None` if no plan is stored.
 pub fn states_of(stored: Option<&PlanRow>) -> Option<States>
     ensures { result ≡ spec.states_of (option_copied stored.entry) }
 {
@@ -113,7 +113,7 @@ pub fn states_of(stored: Option<&PlanRow>) -> Option<States>
 }
 
 impl PutCall {
-    /// A copy of the request.
+    /// A copy of the request, with all its fields.
     ///
     /// # Errors
     ///

@@ -49,7 +49,7 @@ pub struct PutReply {
 }
 
 impl Reply {
-    /// A copy of the reply, which is reported the same.
+    /// A copy of the reply, which says the same. Only the memory of its list is another.
     ///
     /// # Errors
     ///
@@ -84,7 +84,7 @@ impl Shown {
     }
 }
 
-// A copy of a list of plans as they are shown.
+// A copy of `plans`, from the same allocator and in the same order; `AllocError` if memory runs out.
 fn copies(plans: &Vec<Shown>) -> Result<Vec<Shown>, AllocError>
     ensures { IfOk result (λ copies. copies.items ≡ plans.now.items) }
 {

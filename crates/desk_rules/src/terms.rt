@@ -37,7 +37,7 @@ pub struct Excess {
 }
 
 impl Excess {
-    /// No limit is exceeded.
+    /// The value for an operator that exceeds no limit.
     pub fn none() -> Excess
         ensures { result ≡ no_excess }
     {
@@ -49,7 +49,7 @@ impl Excess {
 }
 
 impl Terms {
-    /// No priority is permitted, and spans and cells have no limit.
+    /// The settings under which no priority is permitted, and spans and cells have no limit.
     pub fn none() -> Terms
         ensures { result ≡ no_terms }
     {
@@ -60,7 +60,7 @@ impl Terms {
         }
     }
 
-    /// Which limits an operator exceeds whose live plans have `spans` spans and whose plans, closed ones too,
+    /// Which limits an operator exceeds. Its live plans have `spans` spans. All its plans, closed ones too,
     /// have `cells` cells.
     pub fn excess(&self, spans: u64, cells: u64) -> Excess
         ensures { result ≡ excess_of self.now spans cells }
@@ -72,11 +72,11 @@ impl Terms {
     }
 }
 
-// Whether `count` is greater than the limit `most`; `None` is no limit.
-fn exceeds(most: Option<u32>, count: u64) -> bool
-    ensures { result ≡ spec.exceeds most count }
+// Whether `count` is greater than `limit`; `None` is no limit.
+fn exceeds(limit: Option<u32>, count: u64) -> bool
+    ensures { result ≡ spec.exceeds limit count }
 {
-    match most {
+    match limit {
         Some(most) => count > u64::from(most),
         None => false,
     }

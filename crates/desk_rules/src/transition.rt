@@ -24,15 +24,16 @@ pub enum Step {
     Keep,
 }
 
-/// The step from `stored`, the plan with the request's id, or from no plan, to the requested states.
+/// The step from the plan `stored`, which has the request's id, or from no plan, to the states that `call`
+/// requests.
 pub fn transition(stored: Option<&PlanRow>, call: &PutCall) -> Step
     ensures { result ≡ step_of (option_copied stored.entry) call.now }
 {
     transition_from(states_of(stored), call)
 }
 
-/// The step from `stored`, the states of the plan with the request's id, or from no plan, to the requested
-/// states.
+/// The step from `stored`, the states of the plan with the request's id, or from no plan, to the states that
+/// `call` requests.
 pub fn transition_from(stored: Option<States>, call: &PutCall) -> Step
     ensures { result ≡ step_from stored call.now }
 {
@@ -42,11 +43,12 @@ pub fn transition_from(stored: Option<States>, call: &PutCall) -> Step
     }
 }
 
-// The step if the stored plan has the states `stored` and `craft`.
-fn from_states(stored: Usage, craft: Aircraft, usage: Usage, aircraft: Aircraft) -> Step
-    ensures { result ≡ step_from_states stored craft usage aircraft }
+// The step from a stored plan with the states `old_usage` and `old_aircraft` to the requested states `usage`
+// and `aircraft`.
+fn from_states(old_usage: Usage, old_aircraft: Aircraft, usage: Usage, aircraft: Aircraft) -> Step
+    ensures { result ≡ step_from_states old_usage old_aircraft usage aircraft }
 {
-    match (stored, craft) {
+    match (old_usage, old_aircraft) {
         (Usage::Planned, _) => from_planned(usage, aircraft),
         (Usage::InUse, Aircraft::Contingent) => from_contingency(usage, aircraft),
         (Usage::InUse, _) => from_use(usage, aircraft),
@@ -54,7 +56,7 @@ fn from_states(stored: Usage, craft: Aircraft, usage: Usage, aircraft: Aircraft)
     }
 }
 
-// The step if no plan is stored.
+// The step to the requested states `usage` and `aircraft` if no plan is stored.
 fn from_none(usage: Usage, aircraft: Aircraft) -> Step
     ensures { result ≡ step_from_none usage aircraft }
 {
@@ -66,7 +68,7 @@ fn from_none(usage: Usage, aircraft: Aircraft) -> Step
     }
 }
 
-// The step if the stored plan is planned.
+// The step to the requested states `usage` and `aircraft` if the stored plan is planned.
 fn from_planned(usage: Usage, aircraft: Aircraft) -> Step
     ensures { result ≡ step_from_planned usage aircraft }
 {
@@ -79,7 +81,8 @@ fn from_planned(usage: Usage, aircraft: Aircraft) -> Step
     }
 }
 
-// The step if the stored plan is in use, and its aircraft needs no contingency procedure.
+// The step to the requested states `usage` and `aircraft` if the stored plan is in use and its aircraft needs
+// no contingency procedure.
 fn from_use(usage: Usage, aircraft: Aircraft) -> Step
     ensures { result ≡ step_from_use usage aircraft }
 {
@@ -103,7 +106,7 @@ fn from_contingency(usage: Usage, aircraft: Aircraft) -> Step
     }
 }
 
-// The step if the stored plan is closed.
+// The step to the requested usage `usage` if the stored plan is closed: it may only be closed again.
 fn from_closed(usage: Usage) -> Step
     ensures { result ≡ step_from_closed usage }
 {

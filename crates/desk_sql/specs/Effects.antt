@@ -1,4 +1,4 @@
--- What a call asks of a connection, and what it leaves.
+-- What a call requires of a connection, and what holds of the connection after it.
 use Rattle.std.specs.Prelude.{◌≡◌, ◌⊎◌, false, IsTrue}
 use Rattle.sqlite.specs.Tree.{Trees}
 use Rattle.sqlite.specs.Effect.{Database, IsDatabase}
@@ -9,7 +9,7 @@ use Rattle.desk_sql.specs.Schema.{desk_schema}
 use Rattle.desk_sql.specs.Finding.{Holds}
 use Rattle.desk_sql.specs.Rows.{IsDesk, Tables, tables_of}
 
--- no transaction is under way, and what is shown, if it means something, is so
+-- no transaction is under way, and the database that the connection shows has this property
 pub record IsReady {S : Type 0} (g : Ghosts S) (h : Held S) (Is : Database → Type 0) : Type 0 where
   pub settled : h.in_transaction ≡ false
   pub shown : Holds g h Is
@@ -24,7 +24,7 @@ IsUnderWay g h = HasCleanDisk (state g h) → IsTrue (state g h).is_open × IsTr
     × IsDesk (state g h).now × IsDatabase (state g h).now
 
 module _ {S : Type 0} (g : Ghosts S) (old new : Held S) where
-  -- a connection that was open is open
+  -- over a clean disk, a connection that was open stays open
   abbrev pub StaysOpen : Type 0
   StaysOpen = HasCleanDisk (state g new) → IsTrue (state g old).is_open → IsTrue (state g new).is_open
 
@@ -34,10 +34,11 @@ module _ {S : Type 0} (g : Ghosts S) (old new : Held S) where
     pub now : (state g new).now ≡ (state g old).now
     pub committed : (state g new).committed ≡ (state g old).committed
 
+  -- the same, if the disk is clean and the connection open
   abbrev pub StaysShown : Type 0
   StaysShown = HasCleanDisk (state g new) → IsTrue (state g new).is_open → ShowsAsBefore
 
-  -- within a transaction, which goes on, the tables were changed so
+  -- within a transaction, which goes on, the tables were changed as `Changes` says
   pub record Makes (Changes : Tables → Tables → Type 0) : Type 0 where
     pub was_open : IsTrue (state g old).is_open
     pub is_open : IsTrue (state g new).is_open
@@ -47,7 +48,7 @@ module _ {S : Type 0} (g : Ghosts S) (old new : Held S) where
     pub sound : IsDatabase (state g new).now
     pub changed : Changes (tables_of (state g old).now.trees) (tables_of (state g new).now.trees)
 
-  -- the tables were changed so, and that was committed
+  -- the tables were changed as `Changes` says, and that was committed
   pub record Commits (Changes : Tables → Tables → Type 0) : Type 0 where
     pub was_open : IsTrue (state g old).is_open
     pub is_open : IsTrue (state g new).is_open

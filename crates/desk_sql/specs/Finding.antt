@@ -14,7 +14,7 @@ use Rattle.sqlite.specs.Effect.{Database}
 use Rattle.desk_sql.specs.declared.opening.finding.TablesPresent.{TablesPresent}
 use Rattle.desk_sql.specs.Schema.{schema_of}
 
--- what is shown, if it means something, is so
+-- the database that an open connection over a clean disk shows has this property
 abbrev pub Holds : {S : Type 0} → Ghosts S → Held S → (Database → Type 0) → Type 0
 Holds g h Is = HasCleanDisk (state g h) → IsTrue (state g h).is_open → Is (state g h).now
 
@@ -25,11 +25,12 @@ HasOthers db = (made : TablesPresent) → db.schema ≢ schema_of made
 
 -- ---- rowids
 
--- whole numbers, each above those before
+-- the rowids are whole numbers, each above those before
 pub record AreRising (rows : List Row) : Type 0 where
   pub whole : AllByRecursion (λ r. is_int (rowid r) ≡ true) rows
   pub rising : IsTable rows
 
+-- the number is above the last one, if there is one
 abbrev pub is_above_last : Option ℤ → ℤ → Bool
 is_above_last None n = true
 is_above_last (Some last) n = int_lt last n
@@ -46,11 +47,11 @@ abbrev pub rises_after : (Option ℤ → Bool) → Option ℤ → Bool
 rises_after more None = false
 rises_after more (Some n) = more (Some n)
 
--- each rowid is above the one before, and the first above the last of others
+-- each rowid is above the one before, and the first above `last`, if there is one
 abbrev pub rises : List Row → Option ℤ → Bool
 rises [] last = true
 rises (r ∷ rows) last = rises_after (rises rows) (next_above last (rowid r))
 
--- whether rows that begin with these rise, by whether these do, and the last of them
+-- the state of the check after these rows: `still` says whether their rowids rise, `last` is the last of them
 abbrev pub RiseSo : Bool → Option ℤ → List Row → Type 0
 RiseSo still last rows = (rest : List Row) → rises (rows ++ rest) None ≡ (still && rises rest last)

@@ -1,4 +1,4 @@
--- What each call leaves of a connection.
+-- What each call preserves of a connection.
 use Rattle.std.specs.Prelude.{◌≡◌, ◌≤◌, false}
 use Rattle.sqlite.specs.View.{doubt as doubt_of}
 use Rattle.sqlite.specs.Store.{Ghosts}
@@ -17,7 +17,7 @@ module _ {S : Type 0} (g : Ghosts S) (old new : Held S) where
     pub shield : (state g old).IsShielded → (state g new).IsShielded
     pub spared : Spares g old new
 
-  -- a step of a query, or a statement within a transaction
+  -- a step of a query, or a statement within a transaction: the same, but what is shown may change
   pub record Remembers : Type 0 where
     pub limit : new.step_limit ≡ old.step_limit
     pub doubt : doubt_of (state g old).is_clean ≤ doubt_of (state g new).is_clean

@@ -33,7 +33,7 @@ left_to_make Packed = 0
 
 -- ---- what stops a step
 
--- no fraction, and no text and no bytes that are long
+-- no fraction, and texts and bytes of at most 100 million bytes
 abbrev pub IsSmall : Value → Type 0
 IsSmall Null = ⊤
 IsSmall (Int n) = ⊤
@@ -41,6 +41,7 @@ IsSmall (Real x) = ⊥
 IsSmall (Text text) = IsShort text
 IsSmall (Blob bytes) = IsShort bytes
 
+-- so is each value of the rows
 abbrev pub AreSmall : List Row → Type 0
 AreSmall rows = AllByRecursion (λ r. AllByRecursion IsSmall r) rows
 
@@ -48,7 +49,8 @@ AreSmall rows = AllByRecursion (λ r. AllByRecursion IsSmall r) rows
 abbrev pub HasSmallSpans : Tables → Type 0
 HasSmallSpans t = AreSmall t.old_spans × AreSmall t.spans
 
--- a text that makes what comes next of sound tables with such spans, and that only memory and the disk refuse
+-- a statement that makes `next` of `made`, and that only memory and the disk refuse if the database is sound
+-- and has such spans
 pub record IsStep (text : List ℕ) (made next : TablesPresent) : Type 0 where
   pub extends : Extends text made next
   pub means : IsWholeIn text 0 (understood (schema_of made) text)
@@ -56,9 +58,9 @@ pub record IsStep (text : List ℕ) (made next : TablesPresent) : Type 0 where
       → HasSmallSpans (tables_at made db.trees)
       → ¬ MayStop text (understood (schema_of made) text) [] limit db stop
 
--- ---- what it makes
+-- ---- what a step makes
 
--- within a transaction, which goes on, what is made grew so, and the rows that there were stayed
+-- within a transaction, which goes on, `made` became `next`, and the rows that there were stayed
 pub record GrowsTables {S : Type 0} (g : Ghosts S) (made next : TablesPresent) (old new : Held S) : Type
     0 where
   pub was_open : IsTrue (state g old).is_open

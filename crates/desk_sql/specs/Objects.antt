@@ -1,4 +1,5 @@
--- The tables and the indexes of a desk as the program's rows say them, and as a schema has them.
+-- The tables and indexes of a desk: the forms by which the program describes them, and what they stand for in
+-- a schema.
 use Rattle.std.specs.Prelude.{List, [], ◌∷◌, ℕ, ◌+◌, map, true, false, None}
 use Rattle.sqlite.specs.Kind.TheVariants.{Integer, Text, Blob}
 use Rattle.sqlite.specs.Table.{Table}
@@ -38,16 +39,19 @@ abbrev pub key_index : List ℕ → ℕ → List ℕ → Index
 key_index name table key =
     record { name = name; tree = table + 1; table = table; columns = key; order = plain; is_unique = true }
 
--- ---- what a row says
+-- ---- what a form stands for
 
+-- a column of a STRICT table
 abbrev pub column_from : ColumnForm → Column
 column_from (column.OfText name) = column_of name.now Text
 column_from (column.OfNumber name) = column_of name.now Integer
 column_from (column.OfBytes name) = column_of name.now Blob
 
+-- the name of a column
 abbrev pub name_from : ColumnForm → List ℕ
 name_from form = (column_from form).name
 
+-- a foreign key with no action on an update
 abbrev pub reference_from : ReferenceForm → Reference
 reference_from form = record {
   columns = form.places.now;
@@ -58,6 +62,7 @@ reference_from form = record {
   is_deferred = false;
 }
 
+-- the table in the b-tree `tree`
 abbrev pub table_from : TableForm → ℕ → Table
 table_from form tree = record (table_of form.name.now (map column_from form.columns.now) form.key.now
     (map reference_from form.references.now)) { tree = tree }
@@ -68,7 +73,7 @@ tables_from [] = []
 tables_from (object.KeyedTable form tree ∷ others) = table_from form tree ∷ tables_from others
 tables_from (object.LeafIndex form tree table ∷ others) = tables_from others
 
--- an index over leaves, or that of a table's key
+-- an index over leaves itself, or the index of a table's primary key
 abbrev pub index_from : DeskObject → Index
 index_from (object.KeyedTable form tree) = key_index form.key_index.now tree form.key.now
 index_from (object.LeafIndex form tree table) = record (leaf_index_of form.name.now table) { tree = tree }

@@ -5,14 +5,14 @@ use Rattle.sqlite.specs.Order.{Row, column}
 use Rattle.desk_sql.specs.Rows.{differs, is_at_least, is_of, is_reached}
 use Rattle.desk_sql.specs.declared.reading.rivals.SpanFilter.{SpanFilter}
 
--- a span that is reached, of another operator's plan
+-- a span of another operator's plan that the filter `reach` selects
 abbrev pub is_others : List ℕ → SpanFilter → Row → Bool
 is_others operator reach span = is_reached reach span && differs (column span 0) (Text operator)
 
--- one that begins at a leaf position or later
+-- such a span that begins at the leaf position `low` or later
 abbrev pub is_others_from : List ℕ → SpanFilter → ℤ → Row → Bool
 is_others_from operator reach low span = is_at_least (column span 3) low && is_others operator reach span
 
--- a span that is reached, of this plan
+-- a span of this plan that the filter `reach` selects
 abbrev pub is_plans : List ℕ → List ℕ → SpanFilter → Row → Bool
 is_plans operator id reach span = is_reached reach span && is_of operator id span

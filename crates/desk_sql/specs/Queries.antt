@@ -22,7 +22,7 @@ table_read whole.OldVolumes = desk.OldVolume
 table_read whole.OldSpans = desk.OldSpan
 table_read whole.Spans = desk.Span
 
--- that table, which in a packed file may have another tree
+-- that table, which in a packed file may have another b-tree
 abbrev pub table_in : WholeTable → Bool → DeskTable
 table_in whole.Operators packed = desk.Operator
 table_in whole.Plans packed = desk.Plan
@@ -30,7 +30,7 @@ table_in whole.OldVolumes packed = desk.OldVolume
 table_in whole.OldSpans packed = desk.OldSpan
 table_in whole.Spans packed = if packed then desk.PackedSpan else desk.Span
 
--- the columns by which its rows come: its key
+-- the columns by which a table's rows are ordered, counted from 0: its key
 abbrev pub key_cells : DeskTable → List ℕ
 key_cells desk.Operator = 0 ∷ []
 key_cells desk.Plan = 0 ∷ 1 ∷ []
@@ -41,7 +41,7 @@ key_cells desk.Span = 0 ∷ 1 ∷ 2 ∷ 3 ∷ []
 key_cells desk.PackedVolume = 0 ∷ 1 ∷ 2 ∷ []
 key_cells desk.PackedSpan = 0 ∷ 1 ∷ 2 ∷ 3 ∷ []
 
--- what is read of the tables
+-- the rows of the table that is read
 abbrev pub rows_read : WholeTable → Tables → List Row
 rows_read whole.Operators t = t.operators
 rows_read whole.Plans t = t.plans
@@ -49,27 +49,27 @@ rows_read whole.OldVolumes t = t.old_volumes
 rows_read whole.OldSpans t = t.old_spans
 rows_read whole.Spans t = t.spans
 
--- ---- queries that are given something
+-- ---- queries with parameters
 
--- which spans are asked for, but for those of one plan
+-- the parameters of the query of spans except those of one plan; `reach` is the filter
 abbrev pub rival_params : List ℕ → List ℕ → SpanFilter → ℤ → Row
 rival_params operator id reach low =
     Int reach.last ∷ Int reach.first ∷ Int reach.upper ∷ Int reach.lower ∷ Int reach.stop ∷ Int reach.start
     ∷ Int (pos reach.priority) ∷ Text operator ∷ Text id ∷ Int low ∷ []
 
--- and but for those of one operator, given to the same text: no id differs from NULL
+-- the parameters of the same query for spans except those of one operator: no id differs from NULL
 abbrev pub others_params : List ℕ → SpanFilter → ℤ → Row
 others_params operator reach low =
     Int reach.last ∷ Int reach.first ∷ Int reach.upper ∷ Int reach.lower ∷ Int reach.stop ∷ Int reach.start
     ∷ Int (pos reach.priority) ∷ Text operator ∷ Null ∷ Int low ∷ []
 
--- and of one plan alone
+-- the parameters of the query of spans of one plan
 abbrev pub plan_params : List ℕ → List ℕ → SpanFilter → Row
 plan_params operator id reach =
     Int reach.last ∷ Int reach.first ∷ Int reach.upper ∷ Int reach.lower ∷ Int reach.stop ∷ Int reach.start
     ∷ Int (pos reach.priority) ∷ Text operator ∷ Text id ∷ []
 
--- what a query is given, as the parameters of its text in turn
+-- the values of a query's parameters, in their order
 abbrev pub params_of : Query → Row
 params_of (PlanOf operator id) = Text operator.now ∷ Text id.now ∷ []
 params_of (VolumesOf operator id) = Text operator.now ∷ Text id.now ∷ []
@@ -78,7 +78,7 @@ params_of (RivalSpans operator id reach low) = rival_params operator.now id.now 
 params_of (OtherSpans operator reach low) = others_params operator.now reach low
 params_of (SpansOf operator id reach) = plan_params operator.now id.now reach
 
--- the columns by which its rows come
+-- the columns by which a query's rows are ordered, counted from 0
 abbrev pub order_of : Query → List ℕ
 order_of (PlanOf operator id) = []
 order_of (VolumesOf operator id) = 2 ∷ []
@@ -87,7 +87,7 @@ order_of (RivalSpans operator id reach low) = 0 ∷ []
 order_of (OtherSpans operator reach low) = 0 ∷ []
 order_of (SpansOf operator id reach) = []
 
--- its rows
+-- the rows of a query
 abbrev pub rows_of : Query → Tables → List Row
 rows_of (PlanOf operator id) t = filter (is_of operator.now id.now) t.plans
 rows_of (VolumesOf operator id) t = filter (is_of operator.now id.now) t.volumes

@@ -1,4 +1,4 @@
--- What a query comes to, and a change.
+-- The results of queries and of changes. `old` is the connection before the call, `new` after it.
 use Rattle.std.specs.Prelude.{IsTrue, List, Result, IfOk, IfErr, OnErr, OnOk}
 use Rattle.sqlite.specs.declared.error.Error.{Error}
 use Rattle.sqlite.specs.Order.{Row}
@@ -13,20 +13,21 @@ use Rattle.desk_sql.specs.Frames.{OnlyReads, Remembers, IsOver}
 use Rattle.desk_sql.specs.Refusals.{IsRefusal}
 use Rattle.desk_sql.specs.Taking.{Refusing, IsTakenInPart}
 
--- an open connection answered
+-- a call that succeeds, over a clean disk, found its connection open
 abbrev pub WasOpen : {S V E : Type 0} → Ghosts S → Held S → Held S → Result V E → Type 0
 WasOpen g old new result = HasCleanDisk (state g new) → OnOk result (IsTrue (state g old).is_open)
 
 module _ {S : Type 0} (g : Ghosts S) (old new : Held S) {V : Type 0} (result : Result V Error) where
-  -- over an open connection only memory, the disk and a limit on steps refuse it
+  -- if the connection is open after an error, the error is that of memory, the disk or a limit on steps
   abbrev pub HasRefusal : Type 0
   HasRefusal = HasCleanDisk (state g new) → IsTrue (state g new).is_open → IfErr result (IsRefusal g old new)
 
-  -- what failed commits nothing
+  -- a call that fails commits nothing
   abbrev pub IsUndone : Type 0
   IsUndone = HasCleanDisk (state g new) → OnErr result (KeepsCommit (state g old) (state g new))
 
-  -- a query: what it gives of the rows that the connection showed, and why it is refused; nothing is changed
+  -- a query: its value is as `Gives` says of the rows that the connection showed, its errors are as `Refuses`
+  -- says, and nothing is changed
   pub record Asks (Gives : Trees → V → Type 0) (Refuses : Error → Type 0) : Type 0 where
     pub value : HasCleanDisk (state g new) → IfOk result (Gives (state g old).now.trees)
     pub cause : HasCleanDisk (state g new) → IsTrue (state g new).is_open → IfErr result Refuses
@@ -36,12 +37,14 @@ module _ {S : Type 0} (g : Ghosts S) (old new : Held S) {V : Type 0} (result : R
   abbrev pub Answers : (Trees → V → Type 0) → Type 0
   Answers Gives = Asks Gives (IsRefusal g old new)
 
-  -- one whose rows are handed over, one at a time
+  -- a query whose rows are handed over one at a time: `IsAnswer` holds of the rows that the visitor `has`
+  -- taken
   abbrev pub HandsOut : (Trees → List Row → Type 0) → (List Row → Type 0) → Refusing → Type 0
   HandsOut IsAnswer has refuses = Asks (λ db _. (rows : List Row) × IsAnswer db rows × has rows)
       (IsTakenInPart g old new (IsAnswer (state g old).now.trees) refuses)
 
-  -- a change within a transaction, which goes on: it takes such room, and why it is refused if it fits
+  -- a change within a transaction, which goes on: how it changes the tables, what has to fit so that only
+  -- memory, the disk and a limit on steps refuse it, and which rowids it uses
   pub record IsChanged (Changes : Tables → Tables → Type 0) (Fits : Database → Type 0)
       (Takes : Trees → Trees → Type 0) : Type 0
     where
@@ -53,7 +56,8 @@ module _ {S : Type 0} (g : Ghosts S) (old new : Held S) {V : Type 0} (result : R
           → OnOk result (Takes (state g old).now.trees (state g new).now.trees)
       pub remembered : Remembers g old new
 
-  -- a step within a transaction, which goes on: what it has done, and why it is refused where it fits
+  -- a step within a transaction, which goes on. `Done` holds after a success. If `Fits` holds and the
+  -- connection is open, only memory, the disk and a limit on steps refuse it
   pub record IsRunWithin (Done Fits : Type 0) : Type 0 where
     pub done : HasCleanDisk (state g new) → OnOk result Done
     pub undone : HasCleanDisk (state g new) → OnErr result (KeepsCommit (state g old) (state g new))
@@ -61,7 +65,8 @@ module _ {S : Type 0} (g : Ghosts S) (old new : Held S) {V : Type 0} (result : R
         → IfErr result (IsRefusal g old new)
     pub remembered : Remembers g old new
 
-  -- a change as a transaction of its own, made as a whole or not at all, and why it is refused if it fits
+  -- a change as a transaction of its own, made as a whole or not at all. If `Fits` holds, only memory, the
+  -- disk and a limit on steps refuse it
   pub record IsCommitted (Changes : Tables → Tables → Type 0) (Fits : Database → Type 0) : Type 0 where
     pub done : HasCleanDisk (state g new) → OnOk result (Commits g old new Changes)
     pub kept : OnErr result (StaysShown g old new)

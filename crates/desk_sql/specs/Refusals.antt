@@ -45,16 +45,16 @@ abbrev pub IsSureMeaning : Schema → List ℕ → Row → Result Compiled Compi
 IsSureMeaning schema text params (Ok c) = IsSureCommand schema text params c
 IsSureMeaning schema text params (Err e) = ⊥
 
--- a query under a schema that, given these parameters, only memory, the disk and a limit on steps refuse
+-- a query under this schema that, with these parameters, only memory, the disk and a limit on steps refuse
 pub record IsSureGiven (schema : Schema) (text : List ℕ) (params : Row) : Type 0 where
   pub means : IsSureMeaning schema text params (understood schema text)
   pub unlisted : reads_listing schema text ≡ false
 
--- one that is given nothing
+-- such a query without parameters
 abbrev pub IsSure : Schema → List ℕ → Type 0
 IsSure schema text = IsSureGiven schema text []
 
--- so many rows that they are not counted are as memory that ran out
+-- the error that is reported: `OutOfMemory` instead of `TooBig`, which means too many rows to count
 abbrev pub too_big_as_out_of_memory : Error → Error
 too_big_as_out_of_memory (SqliteFailure code.TooBig) = SqliteFailure code.OutOfMemory
 too_big_as_out_of_memory e = e
@@ -66,6 +66,7 @@ pub record IsMisnumbered (db : Database) : Type 0 where
   pub unsound : ¬ IsMadeTo made db
 
 module _ {S : Type 0} (g : Ghosts S) (old new : Held S) where
+  -- the disk's count of faults rose
   abbrev pub HasDiskFailed : Type 0
   HasDiskFailed = MoreFaults (state g old).faults (state g new).faults
 
@@ -76,12 +77,12 @@ module _ {S : Type 0} (g : Ghosts S) (old new : Held S) where
   abbrev pub IsRefusal : Error → Type 0
   IsRefusal e = (e ≡ SqliteFailure code.OutOfMemory) ⊎ (HasDiskFailed ⊎ HasNoSteps e)
 
-  -- that, or the rowids of the table are not those of a sound one
+  -- an error as in `IsRefusal`, or `DatabaseCorrupt` if the table's rowids are not whole numbers, each once
   abbrev pub IsUnnumbered : DeskTable → Error → Type 0
   IsUnnumbered table e = IsRefusal e ⊎ ((e ≡ SqliteFailure code.DatabaseCorrupt)
       × (¬ AreNumbered ((state g old).now.trees (tree_of table))))
 
-  -- memory, the disk or a limit on steps, or the rowids are not those of a sound desk
+  -- an error as in `IsRefusal`, or `DatabaseCorrupt` if the rowids of some table are not
   abbrev pub AreRowsUnread : Error → Type 0
   AreRowsUnread e =
       IsRefusal e ⊎ ((e ≡ SqliteFailure code.DatabaseCorrupt) × IsMisnumbered (state g old).now)

@@ -19,6 +19,7 @@ use Rattle.desk_sql.specs.declared.reading.rivals.SpanFilter.{SpanFilter}
 
 -- ---- what a row holds
 
+-- the rows of `operator`, and of `plan`, with these values
 abbrev pub operator_row : List ℕ → ℕ → Row
 operator_row name ceiling = Text name ∷ Int (pos ceiling) ∷ []
 
@@ -42,7 +43,7 @@ volume_row v =
     Text v.operator ∷ Text v.id ∷ Int (pos v.place) ∷ Int v.lower ∷ Int v.upper ∷ Int v.start ∷ Int v.stop
     ∷ Blob v.asked ∷ []
 
--- the ids of a volume's canonical cover, and which volume it is
+-- the key of a volume's row, and `canon`: the ids of its canonical cover
 abbrev pub cover_row : List ℕ → List ℕ → ℕ → List ℕ → Row
 cover_row operator id place canon = Text operator ∷ Text id ∷ Int (pos place) ∷ Blob canon ∷ []
 
@@ -64,7 +65,7 @@ span_row s =
     Text s.operator ∷ Text s.id ∷ Int (pos s.place) ∷ Int s.first ∷ Int s.last ∷ Int s.lower ∷ Int s.upper
     ∷ Int s.start ∷ Int s.stop ∷ Int (pos s.priority) ∷ []
 
--- ---- what a row is asked
+-- ---- whose a row is
 
 abbrev pub is_text : Value → List ℕ → Bool
 is_text v text = is_eq (value_cmp v (Text text))
@@ -73,7 +74,7 @@ is_text v text = is_eq (value_cmp v (Text text))
 abbrev pub is_row_by : List ℕ → Row → Bool
 is_row_by operator row = is_text (column row 0) operator
 
--- of this plan: of each table but `operator`
+-- whether a row of a table other than `operator` belongs to this plan
 abbrev pub is_of : List ℕ → List ℕ → Row → Bool
 is_of operator id row = is_row_by operator row && is_text (column row 1) id
 
@@ -93,7 +94,7 @@ pub record Tables : Type 0 where
   pub covers : List Row
   pub spans : List Row
 
--- so many columns of a stored row, which begins with its rowid
+-- the first `width` columns of a stored row, without the rowid that it begins with
 abbrev pub columns : ℕ → Row → Row
 columns width row = map (column row) (range_with_len 1 width)
 
@@ -101,6 +102,7 @@ columns width row = map (column row) (range_with_len 1 width)
 abbrev pub cover_columns : Row → Row
 cover_columns row = map (column row) (1 ∷ 2 ∷ 3 ∷ 9 ∷ [])
 
+-- the rows of a database in canonical order, by the numbers of the b-trees
 abbrev pub tables_of : Trees → Tables
 tables_of db = record {
   operators = map (columns 2) (db 0);
@@ -140,7 +142,7 @@ abbrev pub tables_in : Bool → Trees → Tables
 tables_in true db = packed_tables_of db
 tables_in false db = tables_of db
 
--- the rows of what is made so far; a table that isn't made has none
+-- the rows of a database that has the tables `made`; a table that it doesn't have has no rows
 abbrev pub tables_at : TablesPresent → Trees → Tables
 tables_at Nothing db = no_rows
 tables_at Operators db = record no_rows { operators = map (columns 2) (db 0) }
@@ -162,11 +164,11 @@ has_rows (row ∷ rows) = true
 abbrev pub has_old_rows : Tables → Bool
 has_old_rows t = has_rows t.old_volumes || has_rows t.old_spans
 
--- those that version 2 has alone have
+-- whether one of the tables of version 2 alone has a row
 abbrev pub has_new_rows : Tables → Bool
 has_new_rows t = has_rows t.volumes || has_rows t.spans
 
--- ---- changes of the tables
+-- ---- changes of the tables: what is not named stays
 
 abbrev pub AddsOperator : Row → Tables → Tables → Type 0
 AddsOperator row old new = IsPermutation (row ∷ old.operators) new.operators
@@ -175,7 +177,7 @@ AddsOperator row old new = IsPermutation (row ∷ old.operators) new.operators
 abbrev pub AddsPlan : Row → Tables → Tables → Type 0
 AddsPlan row old new = IsPermutation (row ∷ old.plans) new.plans × (new ≡ record old { plans = new.plans })
 
--- a volume and its cover, which are one row of `volume2`
+-- a volume and its cover are added, which are one row of `volume2`
 abbrev pub AddsVolume : Row → Row → Tables → Tables → Type 0
 AddsVolume row cover old new = IsPermutation (row ∷ old.volumes) new.volumes
     × IsPermutation (cover ∷ old.covers) new.covers
@@ -184,12 +186,12 @@ AddsVolume row cover old new = IsPermutation (row ∷ old.volumes) new.volumes
 abbrev pub AddsSpan : Row → Tables → Tables → Type 0
 AddsSpan row old new = IsPermutation (row ∷ old.spans) new.spans × (new ≡ record old { spans = new.spans })
 
--- what goes with the plan, if it is there
+-- the rows that are left if the plan is removed: those of other plans, or all if the plan isn't stored
 abbrev pub left_without : List ℕ → List ℕ → Tables → List Row → List Row
 left_without operator id old rows =
     if list_any (is_of operator id) old.plans then filter (is_not_of operator id) rows else rows
 
--- the plan goes, and its volumes and spans with it
+-- the plan is removed, if it is stored, and its volumes and spans with it
 abbrev pub RemovesPlan : List ℕ → List ℕ → Tables → Tables → Type 0
 RemovesPlan operator id old new =
     new ≡ record {
@@ -211,7 +213,7 @@ RemovesOldVolumes old new = new ≡ record old { old_volumes = [] }
 abbrev pub RemovesOldSpans : Tables → Tables → Type 0
 RemovesOldSpans old new = new ≡ record old { old_spans = [] }
 
--- this row in place of each that passes
+-- rows with `row` in place of each that passes the test `p`
 abbrev pub with_row : (Row → Bool) → Row → List Row → List Row
 with_row p row = map (λ r. if p r then row else r)
 
@@ -231,7 +233,8 @@ PutsOperator name ceiling old new =
     else operator_row name ceiling ∷ old.operators) new.operators
     × (new ≡ record old { operators = new.operators })
 
--- the plan's row is set to the usage Closed, and its spans go
+-- the plan's row gets the usage Closed (2), this priority and this aircraft, and its rows of `span2` are
+-- removed
 pub record ClosesPlan (operator id : List ℕ) (priority aircraft : ℕ) (old new : Tables) : Type 0 where
   pub operators : new.operators ≡ old.operators
   pub plans : IsPermutation (with_row (is_of operator id)
@@ -247,7 +250,7 @@ pub record AreNumbered (rows : List Row) : Type 0 where
   pub whole : AllByRecursion (λ r. is_int (rowid r) ≡ true) rows
   pub distinct : IsAscending (λ a b. is_eq (value_cmp (rowid a) (rowid b)) ≡ false) rows
 
--- as SQL's = and <>, which are not true of NULL
+-- SQL's = and <>, which are not true of NULL
 abbrev pub is_same : Value → Value → Bool
 is_same a b = not (is_null a) && is_eq (value_cmp a b)
 
@@ -267,7 +270,7 @@ abbrev pub with_volumes : (Row → Bool) → Tables → List Row
 with_volumes wanted t = flat_map (λ p. map (joined p) (filter (has_volume p) t.volumes))
     (filter wanted t.plans)
 
--- as SQL's <=, >=, < and > with a number, which are not true of NULL
+-- SQL's <=, >=, < and > with a number, which are not true of NULL
 abbrev pub is_at_most : Value → ℤ → Bool
 is_at_most v n = not (is_null v) && is_le (value_cmp v (Int n))
 
@@ -280,7 +283,8 @@ is_below v n = not (is_null v) && is_lt (value_cmp v (Int n))
 abbrev pub is_above : Value → ℤ → Bool
 is_above v n = not (is_null v) && is_gt (value_cmp v (Int n))
 
--- a span with a leaf, an altitude and a second of the reach, and a priority at least its least
+-- the filter `reach` selects the span. Its columns are 3 `first`, 4 `last`, 5 `lower`, 6 `upper`, 7 `start`,
+-- 8 `stop` and 9 `priority`
 abbrev pub is_reached : SpanFilter → Row → Bool
 is_reached reach span =
     is_at_most (column span 3) reach.last
@@ -291,13 +295,13 @@ is_reached reach span =
     && (is_above (column span 8) reach.start
     && is_at_least (column span 9) (pos reach.priority))))))
 
--- such a span of another plan than this one
+-- a span of another plan than this one that the filter `reach` selects
 abbrev pub is_rival : List ℕ → List ℕ → SpanFilter → Row → Bool
 is_rival operator id reach span =
     is_reached reach span
     && (differs (column span 0) (Text operator) || differs (column span 1) (Text id))
 
--- one that begins at a leaf position or later
+-- such a span that begins at the leaf position `low` or later
 abbrev pub is_wanted : List ℕ → List ℕ → SpanFilter → ℤ → Row → Bool
 is_wanted operator id reach low span = is_at_least (column span 3) low && is_rival operator id reach span
 
@@ -305,17 +309,17 @@ is_wanted operator id reach low span = is_at_least (column span 3) low && is_riv
 abbrev pub held_columns : Row → Row
 held_columns span = drop 3 span
 
--- by these columns, in turn
+-- the order of rows by these columns, the first first
 abbrev pub by_cells : List ℕ → Row → Row → Ordering
 by_cells [] a b = Equal
 by_cells (at ∷ more) a b = ordering_then (value_cmp (column a at) (column b at)) (by_cells more a b)
 
--- an answer has just these rows, in the order of these columns
+-- `rows` are just the rows `wanted`, ordered by the columns `cells`
 pub record Lists (cells : List ℕ) (wanted rows : List Row) : Type 0 where
   pub same : IsPermutation wanted rows
   pub sorted : IsSorted (by_cells cells) rows
 
--- a database with the desk's tables and their indexes
+-- a database with the desk's tables and their indexes, whose rowids are whole numbers, each once
 pub record IsDesk (db : Database) : Type 0 where
   pub schema : db.schema ≡ desk_schema
   pub operators : AreNumbered (db.trees 0)
@@ -325,12 +329,13 @@ pub record IsDesk (db : Database) : Type 0 where
   pub volumes : AreNumbered (db.trees 9)
   pub spans : AreNumbered (db.trees 11)
 
--- the rows of each table that is made so far
+-- the rowids of each table that there is are whole numbers, each once
 abbrev pub AreNumberedTo : TablesPresent → Trees → Type 0
 AreNumberedTo made trees =
     (table : DeskTable) → has_table made table ≡ true → AreNumbered (trees (tree_of table))
 
--- a database with what is made so far, and nothing else
+-- a database that has the tables and indexes `made`, and nothing else; its rowids are whole numbers, each
+-- once
 pub record IsMadeTo (made : TablesPresent) (db : Database) : Type 0 where
   pub schema : db.schema ≡ schema_of made
   pub rows : AreNumberedTo made db.trees

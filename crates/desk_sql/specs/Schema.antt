@@ -20,6 +20,7 @@ use Rattle.desk_sql.specs.declared.opening.finding.TablesPresent.TheVariants.{No
 use Rattle.desk_sql.specs.declared.opening.numbers.DeskTable.{DeskTable}
 use Rattle.desk_sql.specs.declared.opening.numbers.DeskTable.TheVariants as desk
 
+-- a column of a STRICT table, which takes no NULL, has no default and is compared by its bytes
 abbrev pub column_of : List ℕ → Kind → Column
 column_of name kind = record {
   name = name;
@@ -30,7 +31,7 @@ column_of name kind = record {
   collation = Binary;
 }
 
--- a strict table whose primary key is its first columns, at these places
+-- a STRICT table whose primary key are the columns with the numbers `key`, counted from 1
 abbrev pub table_of : List ℕ → List Column → List ℕ → List Reference → Table
 table_of name columns key references = record {
   name = name;
@@ -114,6 +115,7 @@ span_table = table_of (codes "span2")
     ∷ column_of (codes "priority") Integer ∷ [])
     (1 ∷ 2 ∷ 3 ∷ 4 ∷ []) (to_plan ∷ [])
 
+-- no table, index or view
 abbrev pub blank_schema : Schema
 blank_schema = record { tables = []; indexes = []; views = [] }
 
@@ -132,7 +134,8 @@ old_volume_schema = created plan_schema old_volume_table
 abbrev pub old_table_schema : Schema
 old_table_schema = created old_volume_schema old_span_table
 
--- spans by their leaves, with all that the query of rivals reads
+-- the index over the leaves of spans, in the table with the b-tree `table`. Its columns are `first`, `last`,
+-- `lower`, `upper`, `start`, `stop`, `priority`, `operator` and `id`: all that the query of rivals reads
 abbrev pub leaf_index_of : List ℕ → ℕ → Index
 leaf_index_of name table = record {
   name = name;
@@ -188,7 +191,7 @@ abbrev pub packed_schema : Schema
 packed_schema =
     indexed (indexed packed_table_schema old_span_made old_span_first) packed_span_made span_first
 
--- what there is when the tables and the indexes are made so far
+-- the schema of a database that has the tables and indexes `made`
 abbrev pub schema_of : TablesPresent → Schema
 schema_of Nothing = blank_schema
 schema_of Operators = operator_schema
@@ -234,7 +237,7 @@ tables_to desk.Span others = old_tables_and (volume_made ∷ span_made ∷ other
 tables_to desk.PackedVolume others = old_tables_and (packed_volume_made ∷ others)
 tables_to desk.PackedSpan others = old_tables_and (packed_volume_made ∷ packed_span_made ∷ others)
 
--- the tree that has the rows of a table
+-- the number of the b-tree that has the rows of a table
 abbrev pub tree_of : DeskTable → ℕ
 tree_of desk.Operator = 0
 tree_of desk.Plan = 2
@@ -258,7 +261,7 @@ abbrev pub is_packed : TablesPresent → Bool
 is_packed Packed = true
 is_packed _ = false
 
--- whether there is the table, in its tree, when the tables are made so far
+-- whether a database that has the tables `made` has this table, in this b-tree
 abbrev pub has_table : TablesPresent → DeskTable → Bool
 has_table Nothing _ = false
 has_table Operators desk.Operator = true

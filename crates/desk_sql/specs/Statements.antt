@@ -20,21 +20,21 @@ use Rattle.desk_sql.specs.Refusals.{IsSure, IsSureGiven}
 
 -- ---- what a query shows
 
--- a compiled text that may show these rows
+-- a compiled query that may return these rows
 abbrev pub MayRead : Result Compiled CompileError → Database → Row → List Row → Type 0
 MayRead (Ok c) db params rows = Reads c.command db params rows
 MayRead (Err e) db params rows = ⊥
 
--- a text that, given these parameters, only memory, the disk and a limit on steps refuse, and that of a
--- desk's tables shows just the rows that are wanted, in the order of these columns
+-- a query that, with these parameters, only memory, the disk and a limit on steps refuse, and that returns
+-- just the rows `wanted` of a desk's tables, ordered by the columns `cells`
 pub record Selects (text : List ℕ) (params : Row) (cells : List ℕ) (wanted : Tables → List Row) : Type 0 where
   pub sure : IsSureGiven desk_schema text params
   pub rows : (db : Database) (shown : List Row) → IsDesk db
       → MayRead (understood desk_schema text) db params shown → Lists cells (wanted
       (tables_of db.trees)) shown
 
--- a text that is given nothing, that only memory, the disk and a limit on steps refuse, and that shows just
--- these rows wherever the table is made, in the order of these columns
+-- a query without parameters that, wherever the table exists, only memory, the disk and a limit on steps
+-- refuse, and that returns just the rows `wanted`, ordered by the columns `cells`
 pub record SelectsAll (table : DeskTable) (text : List ℕ) (cells : List ℕ) (wanted : Trees → List Row)
     : Type 0
   where
@@ -57,13 +57,13 @@ abbrev pub IsWriting : Result Compiled CompileError → Type 0
 IsWriting (Ok c) = IsWrite c.command
 IsWriting (Err e) = ⊥
 
--- a compiled text that may make the second database of the first, with so many steps
+-- a compiled statement that, with this limit on steps, may change the first database into the second
 abbrev pub MayWrite : List ℕ → Result Compiled CompileError → Row → Option ℕ → Database → Database → Type 0
 MayWrite text (Ok c) params limit old new =
     (tally : Tally) × Does limit enforced params old (text_of text c) None c.command (Ok (tally, new))
 MayWrite text (Err e) params limit old new = ⊥
 
--- and may count so many rows as changed
+-- the same, and it may count this many rows as changed
 abbrev pub MayCount : List ℕ → Result Compiled CompileError → Row → Option ℕ → Database → Database → ℕ
     → Type 0
 MayCount text (Ok c) params limit old new count =
@@ -71,7 +71,7 @@ MayCount text (Ok c) params limit old new count =
     × (count ≡ unwrap_or tally.rows 0)
 MayCount text (Err e) params limit old new count = ⊥
 
--- a text that shows nothing, and with these parameters changes the schema's tables so
+-- a statement that returns no rows, and with these parameters changes the schema's tables as `Change` says
 pub record Changes (text : List ℕ) (params : Row) (Change : Tables → Tables → Type 0) : Type 0 where
   pub plain : IsPlain (understood desk_schema text)
   pub writes : IsWriting (understood desk_schema text)
@@ -79,7 +79,7 @@ pub record Changes (text : List ℕ) (params : Row) (Change : Tables → Tables 
       → MayWrite text (understood desk_schema text) params limit old new
       → IsDesk new × Change (tables_of old.trees) (tables_of new.trees)
 
--- a text that shows nothing, and makes what comes next; the rows that there were stay
+-- a statement that returns no rows and makes `next` of `made`; the rows that there were stay
 pub record Extends (text : List ℕ) (made next : TablesPresent) : Type 0 where
   pub plain : IsPlain (understood (schema_of made) text)
   pub writes : IsWriting (understood (schema_of made) text)

@@ -13,16 +13,17 @@ use Rattle.sqlite.specs.State.{HasCleanDisk, FailsToQuery, Shown, IsUnchanged, I
 use Rattle.desk_sql.specs.Frames.{Remembers}
 use Rattle.desk_sql.specs.Refusals.{IsRefusal}
 
--- what has taken some rows has taken some then, whatever the disk did
+-- if a visitor has taken some list of rows before, it has taken some list after, whatever the disk returned
 abbrev pub TakesOn : (List Row → Type 0) → (List Row → Type 0) → Type 0
 TakesOn had has = ((rows : List Row) × had rows) → (rows : List Row) × has rows
 
 module _ {S : Type 0} (g : Ghosts S) (old new : Held S) where
-  -- nothing was changed, or the transaction that was under way is undone
+  -- nothing was changed, or the transaction that was under way was rolled back
   abbrev pub IsLeft : Type 0
   IsLeft = IsUnchanged (state g old) (state g new) ⊎ IsRolledBack (state g old) (state g new)
 
-  -- rows that are handed over: what that gives, and why not all of them are; what was committed stays
+  -- handing over rows: what holds of a success (`Gives`) and of an error (`Refuses`); what was committed
+  -- stays
   pub record IsHanded {V : Type 0} (result : Result V Error) (Gives : V → Type 0)
       (Refuses : Error → Type 0) : Type 0
     where
@@ -32,7 +33,8 @@ module _ {S : Type 0} (g : Ghosts S) (old new : Held S) where
       pub mode : old.in_transaction ≡ false → new.in_transaction ≡ false
       pub remembered : Remembers g old new
 
-  -- one more row of the answer is handed over, or those so far are the whole answer
+  -- true: one more row of the answer was handed over; false: those so far, `given`, are the whole answer.
+  -- `had` and `has` say which rows the visitor had taken before and has taken after
   abbrev pub HandsOver : (List Row → Type 0) → (List Row → Type 0) → Bool → Type 0
   HandsOver had has true =
       (sql : List ℕ) (params : Row) (given : List Row) → HasGiven g sql params old given → had given
@@ -41,7 +43,7 @@ module _ {S : Type 0} (g : Ghosts S) (old new : Held S) where
       (sql : List ℕ) (params : Row) (given : List Row) → HasGiven g sql params old given → had given
       → Shown sql params (state g old) (state g new) given × has given
 
-  -- the answer whose first rows were handed over is now handed over as a whole
+  -- the answer whose first rows `given` were handed over before is now handed over as a whole
   abbrev pub HandsAll : (List Row → Type 0) → (List Row → Type 0) → Type 0
   HandsAll had has =
       (sql : List ℕ) (params : Row) (given : List Row) → IsPlain (understood old.schema sql)
@@ -50,17 +52,17 @@ module _ {S : Type 0} (g : Ghosts S) (old new : Held S) where
 
 -- ---- why not all rows are handed over
 
--- what takes rows may refuse one with an error, after those that it took
+-- whether a visitor, after the rows that it has taken, may refuse a row with an error
 abbrev pub Refusing : Type 1
 Refusing = List Row → Row → Error → Type 0
 
--- a row of an answer is refused, after those before it
+-- the error is that of a visitor that has taken the first rows of an answer and refuses the next
 abbrev pub IsRowRefused : (List Row → Type 0) → Refusing → Error → Type 0
 IsRowRefused IsAnswer refuses e =
     (taken : List Row) × (row : Row) × (left : List Row) × IsAnswer (taken ++ row ∷ left)
     × refuses taken row e
 
--- an answer has 2 ^ 64 - 1 rows and more
+-- the error is `TooBig`, and an answer has 2 ^ 64 - 1 rows or more
 abbrev pub HasTooMany : (List Row → Type 0) → Error → Type 0
 HasTooMany IsAnswer e =
     (e ≡ SqliteFailure code.TooBig) × (rows : List Row) × IsAnswer rows × (2 ^ 64 - 1 ≤ length rows)
@@ -91,12 +93,14 @@ module _ {S : Type 0} (g : Ghosts S) (old new : Held S) where
       ⊎ ((e ≡ SqliteFailure code.TooBig) × (all : List Row) × HasGiven g sql params new all
       × (2 ^ 64 - 1 ≤ length all))))
 
+  -- the same of each query that has given rows which the visitor had taken
   abbrev pub FailsToHandAll : (List Row → Type 0) → Refusing → Error → Type 0
   FailsToHandAll had refuses e =
       (sql : List ℕ) (params : Row) (given : List Row) → HasGiven g sql params old given → had given
       → FailsToHand sql params refuses e
 
-  -- memory, the disk or a limit on steps refuses the query, or its rows are not all taken
+  -- memory, the disk or a limit on steps refuses the query, or the visitor refuses a row, or there are too
+  -- many
   abbrev pub IsTakenInPart : (List Row → Type 0) → Refusing → Error → Type 0
   IsTakenInPart IsAnswer refuses e =
       IsRefusal g old new e ⊎ (IsRowRefused IsAnswer refuses e ⊎ HasTooMany IsAnswer e)

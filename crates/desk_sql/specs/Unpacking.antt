@@ -20,16 +20,16 @@ use Rattle.sqlite.specs.Given.{IsPlain}
 unfoldable pub packed_old_first_index : Index
 packed_old_first_index = record old_span_first { tree = 12 }
 
--- a packed file without the index over the leaves of `span`, which is tree 12 there
+-- the schema of a packed file without the index over the leaves of `span`, which is b-tree 12 there
 abbrev pub loose_schema : Schema
 loose_schema = without_index packed_schema 12
 
--- and without `span2`, which is tree 10
+-- the same without `span2`, which is b-tree 10
 abbrev pub spanless_schema : Schema
 spanless_schema = without_table loose_schema 10
 
--- a text that shows nothing, and drops a table or an index: the rows of the tables that are left stay. Of a
--- sound database only memory and the disk refuse it
+-- a statement that returns no rows and drops a table or an index. The rows of the tables that are left stay.
+-- If the database is sound, only memory and the disk refuse it
 pub record Drops (text : List ℕ) (old next : Schema) : Type 0 where
   pub plain : IsPlain (understood old text)
   pub writes : IsWriting (understood old text)

@@ -6,20 +6,20 @@ use Rattle.desk_sql.specs.declared.opening.numbers.DeskTable.{DeskTable}
 use Rattle.desk_sql.specs.declared.opening.numbers.DeskTable.TheVariants.{PackedVolume, Volume}
 use Rattle.desk_sql.specs.Rows.{Tables, Lists}
 
--- the table, which in a packed file stands in another tree
+-- `volume2`, which in a packed file has another b-tree
 abbrev pub volume_table_in : Bool → DeskTable
 volume_table_in packed = if packed then PackedVolume else Volume
 
--- of a row with all columns of `volume2`, those without `canon`
+-- a row of `volume2` without its last column, `canon`
 abbrev pub volume_part : Row → Row
 volume_part row = map (column row) (range_with_len 0 8)
 
--- and the key with `canon` alone
+-- its key and `canon` alone
 abbrev pub cover_part : Row → Row
 cover_part row = map (column row) (0 ∷ 1 ∷ 2 ∷ 8 ∷ [])
 
--- rows with all columns are, without `canon`, those of volumes, and with the key and `canon` alone the
--- covers; both by the columns of the key
+-- the rows with all columns are those of `volume2`: without `canon` they are the volumes, and with the key
+-- and `canon` alone the covers. Both are ordered by the key (columns 0 to 2)
 pub record ListVolumes (t : Tables) (rows : List Row) : Type 0 where
   pub volumes_listed : Lists (0 ∷ 1 ∷ 2 ∷ []) t.volumes (map volume_part rows)
   pub covers_listed : Lists (0 ∷ 1 ∷ 2 ∷ []) t.covers (map cover_part rows)

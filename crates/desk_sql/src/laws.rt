@@ -7,8 +7,8 @@ ghost use Rattle.sqlite.specs.Held.{state};
 
 use sqlite::{Alter, Connection};
 
-/// States that a connection outside a transaction shows what was committed, and that what it shows is a sound
-/// database. It changes nothing.
+/// States that an open connection outside a transaction shows what was committed, and that what it shows is a
+/// sound database. It changes nothing.
 pub fn committed_and_sound<S: Alter>(connection: &Connection<S>)
     ensures settled { connection.now.in_transaction ≡ false → IsTrue (state S.Store connection.now).is_open
         → (state S.Store connection.now).now ≡ (state S.Store connection.now).committed }

@@ -14,6 +14,7 @@ const MAX_PARAMETERS: usize = 10;
 pub struct Parameters<'a> {
     // the parameters, and nulls after them
     values: [ValueRef<'a>; MAX_PARAMETERS],
+    // how many parameters there are
     count: usize,
 }
 
@@ -34,7 +35,7 @@ impl<'a> Model for Parameters<'a> {
 }
 
 impl<'a> Parameters<'a> {
-    /// The parameters `given`.
+    /// The parameters `given`, at most 10.
     pub fn of(given: &[ValueRef<'a>]) -> Parameters<'a>
         requires { length given.now ≤ 10 }
         ensures { result ≡ bound given.now }

@@ -10,8 +10,8 @@ ghost use Rattle.desk_sql.specs.Frames.{Remembers};
 use sqlite::{Alter, Error, Transaction};
 use sqlite_value::value::ValueRef;
 
-/// Runs a statement that writes, and returns how many rows it changed. What was committed stays, even if it
-/// fails.
+/// Runs a statement that writes, with the parameters `params`, and returns how many rows it changed. What was
+/// committed stays, even if it fails.
 // Long: what ran, what is shown, what is undone, and where it stopped have a clause each.
 pub fn run<S: Alter>(
     tx: &mut Transaction<'_, S>,

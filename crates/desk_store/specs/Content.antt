@@ -20,12 +20,13 @@ pub record IsValidVolume (v : Block) : Type 0 where
   pub valid : HasValidParts v.footprint
   pub window : IsTrue (is_window v.window)
 
+-- a plan with a valid id and a valid area
 pub record IsPlan (row : PlanRow) : Type 0 where
   pub id : IsId row.id
   pub volumes : IsTrue (is_area row.area)
   pub each : AllByRecursion IsValidVolume row.area
 
--- what a store may show, and what the tables of a desk may stand for
+-- a valid content of a store: sorted, and with valid names, ids and volumes
 pub record IsContent (w : World) : Type 0 where
   pub world : IsWorld w
   pub names : AllByRecursion (λ l. IsTrue (is_operator_name l.name)) w.operators

@@ -18,6 +18,7 @@ pub record PlanParts : Type 0 where
   pub aircraft : Aircraft
   pub area : List Block
 
+-- the parts of a row, and the row of an id and parts
 abbrev pub parts_of : PlanRow → PlanParts
 parts_of row = record { priority = row.priority; usage = row.usage; aircraft = row.aircraft; area = row.area }
 
@@ -30,17 +31,19 @@ row_of id plan = record {
   area = plan.area;
 }
 
+-- the states of a plan
 abbrev pub kept_states : PlanParts → States
 kept_states plan = record { usage = plan.usage; aircraft = plan.aircraft }
 
+-- the same plan with the usage Closed
 abbrev pub closed_parts : PlanParts → PlanParts
 closed_parts plan = record plan { usage = usage.Closed }
 
--- slabs that have the points of an area, and a slab round them
+-- the slabs have just the points of the area, and the slab `bounds` contains them all
 abbrev pub AreSlabs : List Block → List Slab → Slab → Type 0
 AreSlabs area slabs bounds = ((x : Point) → slabs_have slabs x ≡ area_has area x)
     × HasAll (area_has area) bounds
 
--- an area has no point of some extents
+-- the area shares no point with the extents
 abbrev pub HasNoPoint : List Block → List Slab → Type 0
 HasNoPoint area extents = (x : Point) → slabs_have extents x ≡ true → area_has area x ≡ false

@@ -6,16 +6,16 @@ use Rattle.desk_store.specs.World.{World, plans_of, ceiling_of, stored_of}
 use Rattle.desk_rules.specs.Limits.{max_priority}
 use Rattle.desk_store.specs.Changes.{put_row, close_row, clear_rows, with_plans, with_operator, HasRoom, AreStored, AreDistinct}
 
--- enrolling adds an operator or replaces its ceiling; a put stores a row for its id, a close closes the row
--- of an id, and a clear takes rows out
+-- the world after a change: Enrol adds an operator or replaces its ceiling, Put stores a row under its id,
+-- Close closes the row with the id, and Clear removes rows
 unfoldable pub changed_by : Change → World → World
 changed_by (Enrol operator ceiling) w = with_operator w operator ceiling
 changed_by (Put operator row) w = with_plans w operator (put_row row (plans_of operator w))
 changed_by (Close operator id) w = with_plans w operator (close_row id (plans_of operator w))
 changed_by (Clear operator ids) w = with_plans w operator (clear_rows ids.items (plans_of operator w))
 
--- ceilings and priorities are at most 1,000; a put keeps the limit of plans; plans are changed of listed
--- operators alone, and closed or taken out where they are stored
+-- whether a change fits a world: ceilings and priorities are at most 1,000; a Put keeps the limit of 200
+-- plans; the operator of a changed plan is enrolled; and the plans to close or to remove are stored
 unfoldable pub IsFitting : Change → World → Type 0
 IsFitting (Enrol operator ceiling) w = ceiling ≤ max_priority
 IsFitting (Put operator row) w = HasRoom w operator row.id × (row.priority ≤ max_priority)

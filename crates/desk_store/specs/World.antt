@@ -29,17 +29,18 @@ pub record World : Type 0 where
   pub operators : List Listed
   pub plans : List Filed
 
--- names, and ids, byte by byte
+-- the order of names and of ids: byte by byte
 abbrev pub text_cmp : List ℕ → List ℕ → Ordering
 text_cmp = slice_cmp nat_cmp
 
+-- whether a plan is the operator's, and whether a row has the id
 abbrev pub is_by : List ℕ → Filed → Bool
 is_by operator p = is_eq (text_cmp operator p.operator)
 
 abbrev pub has_id : List ℕ → PlanRow → Bool
 has_id id row = is_eq (text_cmp id row.id)
 
--- operators by name, rows by id, and plans by operator and then by id
+-- the orders of operators by name, of rows by id, and of plans by operator and then by id
 abbrev pub listed_cmp : Listed → Listed → Ordering
 listed_cmp a b = text_cmp a.name b.name
 
@@ -49,7 +50,7 @@ row_cmp a b = text_cmp a.id b.id
 abbrev pub filed_cmp : Filed → Filed → Ordering
 filed_cmp a b = ordering_then (text_cmp a.operator b.operator) (row_cmp a.row b.row)
 
--- the operator's ceiling, or none where it is not listed
+-- the operator's ceiling, or None if it is not enrolled
 unfoldable pub ceiling_of : List ℕ → World → Option ℕ
 ceiling_of operator w = option_map (λ l. l.ceiling) (find (λ l. is_eq (text_cmp operator l.name)) w.operators)
 
@@ -77,11 +78,11 @@ own w operator = record { ceiling = ceiling_of operator w; plans = plans_of oper
 unfoldable pub held : World → List ℕ → Point → Option ℕ
 held w operator x = top_priority (others_of operator w) x
 
--- the stored plan of an id
+-- the row with the id, or None if there is none
 unfoldable pub stored_of : List ℕ → List PlanRow → Option PlanRow
 stored_of id rows = find (has_id id) rows
 
--- what a plan counts, if it isn't the one with the id, and what all such plans count
+-- `count` of a row, or 0 if it has the id; and the sum of these over rows: it leaves out the row with the id
 abbrev pub count_unless : (PlanRow → ℕ) → List ℕ → PlanRow → ℕ
 count_unless count id row = cond (has_id id row) 0 (count row)
 
@@ -89,7 +90,7 @@ unfoldable pub count_beside : (PlanRow → ℕ) → List ℕ → List PlanRow �
 count_beside count id [] = 0
 count_beside count id (row ∷ rows) = count_unless count id row + count_beside count id rows
 
--- the spans that the live plans but that of the id take, and the cells that all of them have
+-- the spans of the live plans and the cells of all plans, without the plan with the id
 abbrev pub spans_beside : List ℕ → List PlanRow → ℕ
 spans_beside = count_beside row_spans
 
@@ -99,8 +100,8 @@ cells_beside = count_beside row_cells
 abbrev pub sizes_beside : List ℕ → List PlanRow → Sizes
 sizes_beside id rows = record { spans = spans_beside id rows; cells = cells_beside id rows }
 
--- the greatest priority held at a point by plans other than the operator's own of the id: the others', and
--- its own
+-- the greatest priority held at a point by the plans of other operators and by the operator's own, without
+-- its plan with the id
 unfoldable pub held_at : List PlanRow → (Point → Option ℕ) → List ℕ → Point → Option ℕ
 held_at rows others id x = greater (others x) (top_priority (filter (λ r. not (has_id id r)) rows) x)
 

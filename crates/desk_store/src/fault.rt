@@ -13,6 +13,7 @@ pub enum StoreFault {
     Store,
 }
 
+// The fault as a sentence.
 impl fmt::Display for StoreFault {
     ghost use Rattle.std.specs.Prelude.{Some};
     ghost use Rattle.desk_store.specs.StoreFaults.{store_fault_text};
@@ -29,6 +30,7 @@ impl fmt::Display for StoreFault {
 
 impl Error for StoreFault {}
 
+// Each failed allocation is `OutOfMemory`.
 impl From<AllocError> for StoreFault {
     ghost use Rattle.std.specs.Prelude.{◌≡◌};
     ghost use Rattle.desk_store.specs.declared.fault.StoreFault.TheVariants.{OutOfMemory};
@@ -40,6 +42,7 @@ impl From<AllocError> for StoreFault {
     }
 }
 
+// The value that found no memory is dropped.
 impl<T: Drop> From<AllocFailed<T>> for StoreFault {
     ghost use Rattle.std.specs.Prelude.{◌≡◌};
     ghost use Rattle.desk_store.specs.declared.fault.StoreFault.TheVariants.{OutOfMemory};

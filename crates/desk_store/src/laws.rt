@@ -1,4 +1,4 @@
-//! Laws of the content of a store. Each is the contract of a function that does nothing else.
+//! Laws of the content of a store. Each is the contract of a function that changes nothing.
 
 ghost use Rattle.std.specs.Prelude.{ℕ, ◌*◌, ◌≤◌, List};
 ghost use Rattle.volume4d.specs.VolumeLimits.{max_cover, max_volumes};

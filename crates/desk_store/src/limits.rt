@@ -1,5 +1,5 @@
-//! Limits that the types of a row's parts guarantee, stated as clauses. These functions do nothing; each is
-//! called for its clause alone.
+//! Limits that the types of a row's parts guarantee, stated as clauses. These functions change nothing: they
+//! call methods whose contracts state the limits, and are called for their own clauses alone.
 
 ghost use Rattle.std.specs.Prelude.{IsTrue};
 ghost use Rattle.std.specs.List.{AllByRecursion};
@@ -22,7 +22,7 @@ pub(crate) fn name_is_valid(operator: &Operator)
     let _name = operator.as_str();
 }
 
-/// Proves that a row has an id of 16 bytes, and an area within the limits.
+/// Proves that a row has an id of 16 bytes, and an area within the limits of `volume4d`.
 pub(crate) fn row_is_valid(row: &PlanRow)
     ensures { IsPlan row.now }
 {

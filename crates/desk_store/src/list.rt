@@ -38,7 +38,9 @@ use volume4d::{Held, Slab};
 /// An enrolled operator's ceiling and the number of its plans, closed ones included.
 #[derive(Clone, Copy, Debug)]
 pub struct CeilingEntry {
+    // the greatest priority that its plans may have
     ceiling: u32,
+    // the number of its plans in the store
     plan_count: u32,
 }
 
@@ -76,6 +78,7 @@ impl ListStore {
     }
 }
 
+// The storage is memory: there is no doubt, no fault, and no state to find after a crash.
 impl PlanStore for ListStore {
     ghost use Rattle.desk_store.specs.World.{World};
 
@@ -106,6 +109,7 @@ impl PlanStore for ListStore {
     }
 
     fn own_sizes(&mut self, operator: &Operator, id: &PlanId) -> Result<Sizes, StoreFault> {
+        // By these laws, the sums fit 32 bits.
         spans_are_few();
         cells_are_few();
         Ok(sizes_of(&self.plans, operator, id))
@@ -155,12 +159,14 @@ impl PlanStore for ListStore {
 }
 
 impl ListStore {
-    // Enrols an operator with a ceiling, or replaces its ceiling.
+    // Enrols an operator with a ceiling, or replaces its ceiling. Its plans stay. If memory runs out, nothing
+    // changes.
     fn enrol(&mut self, operator: Operator, ceiling: u32) -> Result<(), AllocError>
         requires { IsFitting (change.Enrol operator ceiling) self.old }
         ensures ok { OnOk result (self.new ≡ changed_by (change.Enrol operator ceiling) self.old) }
         ensures err { OnErr result (self.new ≡ self.old) }
     {
+        // This states that the name is valid, which the store's invariant demands.
         name_is_valid(&operator);
         let plan_count = count_in(&self.operators, &operator);
         self.operators.insert(
@@ -173,12 +179,14 @@ impl ListStore {
         Ok(())
     }
 
-    // Stores a row of an operator, in place of the plan with its id, if there is one.
+    // Stores a row of an operator, in place of the plan with its id, if there is one. A new plan is counted.
+    // If memory runs out, nothing changes.
     fn put(&mut self, operator: Operator, row: PlanRow) -> Result<(), AllocError>
         requires { IsFitting (change.Put operator row) self.old }
         ensures ok { OnOk result (self.new ≡ changed_by (change.Put operator row) self.old) }
         ensures err { OnErr result (self.new ≡ self.old) }
     {
+        // This states that the row is valid, which the store's invariant demands.
         row_is_valid(&row);
         let id = row.id;
         let plan = Plan::try_new(row)?;
@@ -190,7 +198,7 @@ impl ListStore {
         Ok(())
     }
 
-    // Closes the operator's plan with this id.
+    // Closes the operator's plan with this id. It stays in the store.
     fn close(&mut self, operator: &Operator, id: &PlanId)
         requires { IsFitting (change.Close operator.now id.now) self.old }
         ensures { self.new ≡ changed_by (change.Close operator.now id.now) self.old }
@@ -200,7 +208,7 @@ impl ListStore {
         }
     }
 
-    // Removes the operator's plans with these ids.
+    // Removes the operator's plans with these ids, and counts those that are left.
     fn clear(&mut self, operator: &Operator, ids: &Vec<PlanId>)
         requires { IsFitting (change.Clear operator.now ids.now) self.old }
         ensures { self.new ≡ changed_by (change.Clear operator.now ids.now) self.old }
@@ -211,8 +219,10 @@ impl ListStore {
     }
 }
 
+// The enrolled operators, by name.
 type Operators = BTreeMap<Operator, CeilingEntry>;
 
+// All plans, by operator and id.
 type Plans = BTreeMap<(Operator, PlanId), Plan>;
 
 // The operator's ceiling; `None` if it is not enrolled.
@@ -249,7 +259,8 @@ fn remove_all(plans: &mut Plans, operator: &Operator, ids: &[PlanId])
     plans.retain(|key, _| !is_among(operator, ids, key));
 }
 
-// The operator's plan with this id, as a row.
+// A copy of the operator's plan with this id as a row, or `None` if there is none; `AllocError` if memory
+// runs out.
 fn find_plan(plans: &Plans, operator: &Operator, id: &PlanId) -> Result<Option<PlanRow>, AllocError>
     ensures { IfOk result (λ row.
         row ≡ stored_of id.now (rows_by operator.now (filed_all plans.now.entries))) }
@@ -260,7 +271,7 @@ fn find_plan(plans: &Plans, operator: &Operator, id: &PlanId) -> Result<Option<P
     }
 }
 
-// The states of the operator's plan with this id.
+// The states of the operator's plan with this id, or `None` if there is none.
 fn find_states(plans: &Plans, operator: &Operator, id: &PlanId) -> Option<States>
     ensures { result ≡ states_of
         (stored_of id.now (rows_by operator.now (filed_all plans.now.entries))) }
@@ -269,7 +280,7 @@ fn find_states(plans: &Plans, operator: &Operator, id: &PlanId) -> Option<States
     Some(plan.states())
 }
 
-// Counts the operator's plans, closed ones included.
+// Counts the operator's plans, closed ones included. There are at most 200.
 fn count_of(plans: &Plans, operator: &Operator) -> u32
     requires { length (rows_by operator.now (filed_all plans.now.entries)) ≤ max_plans }
     ensures { result ≡ length (rows_by operator.now (filed_all plans.now.entries)) }
@@ -283,7 +294,7 @@ fn count_of(plans: &Plans, operator: &Operator) -> u32
     count
 }
 
-// The sizes of the operator's plans, without the plan with the id `id`.
+// The sizes of the operator's plans, without the plan with the id `id`. The sums have to fit 32 bits.
 fn sizes_of(plans: &Plans, operator: &Operator, id: &PlanId) -> Sizes
     requires spans { spans_beside id.now (rows_by operator.now (filed_all plans.now.entries)) < 2 ^ 32 }
     requires cells { cells_beside id.now (rows_by operator.now (filed_all plans.now.entries)) < 2 ^ 32 }
@@ -298,7 +309,7 @@ fn sizes_of(plans: &Plans, operator: &Operator, id: &PlanId) -> Sizes
     sizes
 }
 
-// The sizes of `plan`, or none if `key` has the id `id`.
+// The sizes of `plan`, whose operator and id are `key`; no spans and no cells if that id is `id`.
 fn sizes_unless(id: &PlanId, key: &(Operator, PlanId), plan: &Plan) -> Sizes
     ensures spans { result.spans ≡ count_unless row_spans id.now (filed_of (key.now, plan.now)).row }
     ensures cells { result.cells ≡ count_unless row_cells id.now (filed_of (key.now, plan.now)).row }
@@ -309,7 +320,7 @@ fn sizes_unless(id: &PlanId, key: &(Operator, PlanId), plan: &Plan) -> Sizes
     }
 }
 
-// The operator's plans as rows, ascending by id.
+// Copies of the operator's plans as rows, ascending by id; `AllocError` if memory runs out.
 fn rows_of(alloc: Global, plans: &Plans, operator: &Operator) -> Result<Vec<PlanRow>, AllocError>
     ensures { IfOk result (λ rows.
         rows.items ≡ rows_by operator.now (filed_all plans.now.entries)) }
@@ -324,7 +335,8 @@ fn rows_of(alloc: Global, plans: &Plans, operator: &Operator) -> Result<Vec<Plan
 }
 
 // The slabs of live plans of priority `least` or a greater one that overlap one of `extents`, without those
-// of the operator's plan with this id. They ascend by first leaf, so that one pass can compare them.
+// of the operator's plan with this id, in memory from `alloc`. They ascend by first leaf, so that one pass
+// can compare them.
 fn rivals_of(
     alloc: Global,
     plans: &Plans,
@@ -345,7 +357,7 @@ fn rivals_of(
     Ok(in_order(helds))
 }
 
-// Sorts slabs by their first leaves.
+// Sorts slabs by their first leaves. The greatest priority at each point stays.
 fn in_order(mut helds: Vec<Held>) -> Vec<Held>
     ensures same { (x : Point) → top_held result.items x ≡ top_held helds.items x }
     ensures order { IsNonDecreasingBy (λ h. h.slab.first) result.items }
@@ -355,7 +367,7 @@ fn in_order(mut helds: Vec<Held>) -> Vec<Held>
 }
 
 // Appends the slabs of `plan` that overlap one of `extents`, unless it is closed, is the operator's own with
-// this id, or has a priority below `least`.
+// this id, or has a priority below `least`. `key` is the plan's operator and id.
 fn push_rival(
     helds: &mut Vec<Held>,
     operator: &Operator,
@@ -377,7 +389,7 @@ fn push_rival(
     plan.push_near(helds, extents)
 }
 
-// The slabs of the live plans of other operators; none if there are no extents.
+// All slabs of the live plans of other operators, inside and outside `extents`; none if there are no extents.
 fn others_in(
     alloc: Global,
     plans: &Plans,
@@ -393,7 +405,7 @@ fn others_in(
     others_of(alloc, plans, operator)
 }
 
-// The slabs of the live plans of other operators.
+// The slabs of the live plans of other operators, from `alloc`; `AllocError` if memory runs out.
 fn others_of(alloc: Global, plans: &Plans, operator: &Operator) -> Result<Vec<Held>, AllocError>
     ensures { IfOk result (λ helds. (x : Point) →
         top_held helds.items x ≡ others_top operator.now (filed_all plans.now.entries) x) }
@@ -405,7 +417,7 @@ fn others_of(alloc: Global, plans: &Plans, operator: &Operator) -> Result<Vec<He
     Ok(helds)
 }
 
-// Appends the slabs of `plan` if it is live and another operator's.
+// Appends the slabs of `plan` if it is live and another operator's. `key` is the plan's operator and id.
 fn push_other(
     helds: &mut Vec<Held>,
     operator: &Operator,
@@ -421,7 +433,7 @@ fn push_other(
     plan.push_if_live(helds)
 }
 
-// Whether the plan with this key belongs to the operator.
+// Whether the plan with this key (operator and id) belongs to the operator.
 fn is_by(operator: &Operator, key: &(Operator, PlanId)) -> bool
     ensures { result ≡ is_eq (text_cmp operator.now key.now.0) }
 {

@@ -47,7 +47,7 @@ impl Model for Plan {
 }
 
 impl Plan {
-    /// Makes the plan of a row, without the row's id.
+    /// The plan of `row`, without the row's id. This computes the area's slabs.
     ///
     /// # Errors
     ///
@@ -67,7 +67,7 @@ impl Plan {
         })
     }
 
-    /// The plan as a row, with the id `id`.
+    /// A copy of the plan as a row, with the id `id`.
     ///
     /// # Errors
     ///
@@ -84,7 +84,7 @@ impl Plan {
         })
     }
 
-    /// The states of the plan.
+    /// The usage of the plan and the state of its aircraft.
     pub fn states(&self) -> States
         ensures { result ≡ kept_states self.now }
     {
@@ -109,7 +109,7 @@ impl Plan {
         }
     }
 
-    /// Gives the plan the usage `Closed`.
+    /// Gives the plan the usage `Closed`. All else of it stays.
     pub fn close(&mut self)
         ensures { self.new ≡ closed_parts self.old }
     {
@@ -162,14 +162,15 @@ impl Plan {
     }
 }
 
-// Whether `slab` overlaps one of `others`.
+// Whether `slab` overlaps one of `others`; false if there are none.
 fn overlaps_one(slab: &Slab, others: &[Slab]) -> bool
     ensures { result ≡ list_any (overlap slab.now) others.now }
 {
     others.iter().any(|other| slab.overlaps(other))
 }
 
-// Appends those of `slabs` that overlap one of `extents`, with `priority`.
+// Appends those of `slabs` that overlap one of `extents`, with `priority`. If memory runs out, some may be
+// appended.
 fn push_overlapping(
     helds: &mut Vec<Held>,
     slabs: &[Slab],
@@ -190,7 +191,7 @@ fn push_overlapping(
     Ok(())
 }
 
-// Appends all of `slabs`, with `priority`.
+// Appends all of `slabs`, with `priority`. If memory runs out, some may be appended.
 fn push_all(helds: &mut Vec<Held>, slabs: &[Slab], priority: u32) -> Result<(), AllocError>
     ensures { OnOk result (AddsLevel helds.old.items helds.new.items
         (λ x. level_where (slabs_have slabs.now x) priority)) }

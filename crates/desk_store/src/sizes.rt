@@ -22,7 +22,7 @@ impl Sizes {
         Sizes { spans: 0, cells: 0 }
     }
 
-    /// The sizes of one plan.
+    /// The sizes of the plan `row`: no spans if it is closed.
     pub fn of(row: &PlanRow) -> Sizes
         ensures { result ≡ record { spans = row_spans row.now; cells = row_cells row.now } }
     {
@@ -32,7 +32,7 @@ impl Sizes {
         }
     }
 
-    /// The sum of both; a number that exceeds 32 bits becomes `u32::MAX`.
+    /// The sums of the spans and of the cells. A sum that exceeds 32 bits becomes `u32::MAX`.
     pub fn plus(self, other: Sizes) -> Sizes
         ensures spans { self.spans + other.spans < 2 ^ 32 → result.spans ≡ self.spans + other.spans }
         ensures cells { self.cells + other.cells < 2 ^ 32 → result.cells ≡ self.cells + other.cells }

@@ -19,7 +19,7 @@ use volume4d::{Held, Slab};
 ///
 /// A store may be on a disk, which may lose or change what was written. The results of a call are guaranteed
 /// if the storage is still intact ("honest") as the call ends. In any case, a query, and a call that returns
-/// an error, leaves the content unchanged.
+/// an error, leaves the content unchanged. A call fails only if memory runs out or the storage fails.
 ///
 /// Crash states are guaranteed for intact storage only. After a crash in a query, a start finds a state that
 /// it could have found before; after one in a change, such a state or the changed content; and once a change
@@ -48,7 +48,8 @@ pub trait PlanStore {
     /// of store defines its check.
     ghost is_shielded: { Self → Type 0 };
 
-    /// The operator's ceiling, at most 1,000, or `None` if it is not enrolled.
+    /// The operator's ceiling, at most 1,000, or `None` if it is not enrolled. The clause `content` adds that
+    /// all names, ids and volumes in the store are valid.
     fn ceiling(&mut self, operator: &Operator) -> Result<Option<u32>, StoreFault>
         ensures value { IsHonest (doubt self.new) →
             IfOk result (λ ceiling. ceiling ≡ ceiling_of operator.now (content self.old)) }
@@ -77,15 +78,16 @@ pub trait PlanStore {
         ensures reads { OnlyReads content doubt faults may_leave is_shielded self.old self.new }
         ensures cause { IfErr result (IsCounted faults self.old self.new) };
 
-    /// The sizes of the operator's plans, without its plan with this id: the spans of live plans, and the
-    /// cells of all.
+    /// The sizes of the operator's plans, without its plan with this id, if there is one: the spans of live
+    /// plans, and the cells of all.
     fn own_sizes(&mut self, operator: &Operator, id: &PlanId) -> Result<Sizes, StoreFault>
         ensures value { IsHonest (doubt self.new) → IfOk result (λ sizes.
             sizes ≡ sizes_beside id.now (plans_of operator.now (content self.old))) }
         ensures reads { OnlyReads content doubt faults may_leave is_shielded self.old self.new }
         ensures cause { IfErr result (IsCounted faults self.old self.new) };
 
-    /// The operator's plans, at most 200, ascending by id, none twice.
+    /// The operator's plans, at most 200, ascending by id, each once. The clause `content` is as in
+    /// `ceiling`.
     fn own_plans(&mut self, operator: &Operator) -> Result<Vec<PlanRow>, StoreFault>
         ensures value { IsHonest (doubt self.new) →
             IfOk result (λ rows. rows.items ≡ plans_of operator.now (content self.old)) }

@@ -18,30 +18,34 @@ use Rattle.operator_index.specs.declared.account.PlanState.{PlanState}
 use Rattle.operator_index.specs.declared.account.OperatorEntry.{OperatorEntry}
 use Rattle.operator_index.specs.declared.roll.OperatorIndex.{OperatorIndex}
 
+-- the operators' names and their entries, ascending by name
 abbrev pub Accounts : Type 0
 Accounts = List (List ℕ × OperatorEntry)
 
--- what is kept of a plan
+-- what the index has of a plan
 abbrev pub state_of : PlanRow → PlanState
 state_of row = record { id = row.id; states = states_in row; spans = row_spans row; cells = row_cells row }
 
+-- whether the plan has the id
 abbrev pub state_has_id : List ℕ → PlanState → Bool
 state_has_id id s = is_eq (text_cmp id s.id)
 
--- what is counted of a plan, if it isn't the one with the id, and of all such plans
+-- `count` of a plan, or 0 if it has the id; and the sum of these over plans: it leaves out the plan with the
+-- id
 abbrev pub kept_unless : (PlanState → ℕ) → List ℕ → PlanState → ℕ
 kept_unless count id s = cond (state_has_id id s) 0 (count s)
 
 abbrev pub kept_beside : (PlanState → ℕ) → List ℕ → List PlanState → ℕ
 kept_beside count id plans = sum_by (kept_unless count id) plans
 
+-- the spans, and the cells, of the plans without the one with the id
 abbrev pub kept_spans_beside : List ℕ → List PlanState → ℕ
 kept_spans_beside = kept_beside (λ s. s.spans)
 
 abbrev pub kept_cells_beside : List ℕ → List PlanState → ℕ
 kept_cells_beside = kept_beside (λ s. s.cells)
 
--- the account of an operator, its ceiling, and what is kept of its plans
+-- the entry of an operator, its ceiling, and what the index has of its plans: none if it has no entry
 abbrev pub account_in : List ℕ → Accounts → Option OperatorEntry
 account_in name accounts = lookup (is_at (text_cmp name)) accounts
 
@@ -55,7 +59,7 @@ plans_or_none (Some a) = a.plans.items
 abbrev pub plans_in : List ℕ → Accounts → List PlanState
 plans_in name accounts = plans_or_none (account_in name accounts)
 
--- the operators that have a ceiling, in the order of the accounts
+-- an operator before others if it has a ceiling; and all operators that have one, in the order of entries
 abbrev pub with_ceiling : List ℕ → Option ℕ → List Listed → List Listed
 with_ceiling name None more = more
 with_ceiling name (Some n) more = record { name = name; ceiling = n } ∷ more
@@ -64,37 +68,39 @@ unfoldable pub listed_in : Accounts → List Listed
 listed_in [] = []
 listed_in (a ∷ accounts) = with_ceiling a.0 a.1.ceiling (listed_in accounts)
 
--- they are those of these operators and plans
+-- the entries have the ceilings of these operators and the states and sizes of these plans, and no others
 pub record AreAccountsOf (operators : List Listed) (plans : List Filed) (accounts : Accounts) : Type 0 where
   pub ceilings : (name : List ℕ) → ceiling_in name accounts
       ≡ option_map (λ l. l.ceiling) (find (λ l. is_eq (text_cmp name l.name)) operators)
   pub states : (name : List ℕ) → plans_in name accounts ≡ map state_of (rows_by name plans)
 
+-- the entries of an index
 abbrev pub accounts_of : OperatorIndex → Accounts
 accounts_of roll = roll.accounts.entries
 
--- an index has what a world has
+-- the index is right: it has the ceilings of the world's operators and the states and sizes of its plans
 abbrev pub IsIndexOf : World → OperatorIndex → Type 0
 IsIndexOf w roll = AreAccountsOf w.operators w.plans (accounts_of roll)
 
--- a ceiling, or this if there is none
+-- the first ceiling if there is one, else the second
 abbrev pub or_else : Option ℕ → ℕ → Option ℕ
 or_else None ceiling = Some ceiling
 or_else (Some n) ceiling = Some n
 
 -- ---- changes
 
+-- the operator whose ceiling or plans the change concerns
 abbrev pub named_by : Change → List ℕ
 named_by (Enrol operator ceiling) = operator
 named_by (Put operator row) = operator
 named_by (Close operator id) = operator
 named_by (Clear operator ids) = operator
 
--- there is room for one plan more
+-- the list of plans has capacity for one more
 abbrev pub HasRoomForOne : OperatorEntry → Type 0
 HasRoomForOne a = length a.plans.items + 1 ≤ a.plans.cap
 
--- the operator that a change names has an account, with room
+-- there is an entry and it has such capacity; the operator that a change concerns has such an entry
 abbrev pub HasRoomIn : Option OperatorEntry → Type 0
 HasRoomIn None = ⊥
 HasRoomIn (Some a) = HasRoomForOne a
@@ -102,7 +108,7 @@ HasRoomIn (Some a) = HasRoomForOne a
 abbrev pub IsReadyFor : Change → OperatorIndex → Type 0
 IsReadyFor change roll = HasRoomIn (account_in (named_by change) (accounts_of roll))
 
--- what is kept of a plan in place of that of its id, or at its place
+-- plans ascending by id, with `s` in place of the one with its id, or inserted where its id belongs
 abbrev pub put_state : PlanState → List PlanState → List PlanState
 put_state s [] = s ∷ []
 put_state s (p ∷ ps) = match_ordering (text_cmp s.id p.id) (s ∷ p ∷ ps) (s ∷ ps) (p ∷ put_state s ps)
@@ -110,12 +116,15 @@ put_state s (p ∷ ps) = match_ordering (text_cmp s.id p.id) (s ∷ p ∷ ps) (s
 abbrev pub closed_states : States → States
 closed_states states = record states { usage = usage.Closed }
 
+-- the plan closed and without spans if it has the id, else unchanged
 abbrev pub close_if : List ℕ → PlanState → PlanState
 close_if id s = cond (state_has_id id s) (record s { states = closed_states s.states; spans = 0 }) s
 
+-- whether the plan has one of the ids
 abbrev pub is_state_named : List (List ℕ) → PlanState → Bool
 is_state_named ids s = list_any (λ id. state_has_id id s) ids
 
+-- the ceiling, and the plans, of the operator that a change concerns, after it
 abbrev pub ceiling_after : Change → Option ℕ → Option ℕ
 ceiling_after (Enrol operator ceiling) old = Some ceiling
 ceiling_after (Put operator row) old = old
@@ -128,7 +137,7 @@ plans_after (Put operator row) plans = put_state (state_of row) plans
 plans_after (Close operator id) plans = map (close_if id) plans
 plans_after (Clear operator ids) plans = filter (λ s. not (is_state_named ids.items s)) plans
 
--- the first of some plans, if there is one, has the id, or a later one
+-- whether there is a first plan and it has the id of `s`; and: there is none, or its id is not less
 abbrev pub begins_with : PlanState → List PlanState → Bool
 begins_with s [] = false
 begins_with s (p ∷ ps) = state_has_id s.id p

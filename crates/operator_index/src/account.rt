@@ -1,4 +1,4 @@
-//! The entry of an operator in the index: its ceiling, and the states and the sizes of its plans.
+//! The entry of an operator in the index, its account: its ceiling, and the states and sizes of its plans.
 
 ghost use Rattle.std.specs.Prelude.{◌≡◌, ◌<◌, ◌≤◌, ◌+◌, ◌^◌, ◌++◌, ◌∷◌, [], not, map, take, drop, length, IfOk, OnOk};
 ghost use Rattle.std.specs.List.{filter, find};
@@ -13,7 +13,7 @@ use desk_store::{Change, Sizes};
 use std::alloc::AllocError;
 use std::cmp::Ordering;
 
-/// The id of a plan, its states, and how many spans and cells it has.
+/// The id of a plan, its usage and the state of its aircraft, and how many spans and cells it has.
 #[derive(Clone, Copy, Debug)]
 pub(crate) struct PlanState {
     id: PlanId,
@@ -23,7 +23,7 @@ pub(crate) struct PlanState {
 }
 
 impl PlanState {
-    /// The id, states and sizes of a plan.
+    /// The id, states and sizes of the plan `row`.
     pub(crate) fn of(row: &PlanRow) -> PlanState
         ensures { result ≡ state_of row.now }
     {
@@ -49,7 +49,8 @@ impl PlanState {
         ids.iter().any(|id| self.has_id(id))
     }
 
-    // The plan unchanged, or, if it has this id, with the usage `Closed` and no spans; it keeps its cells.
+    // The plan closed, if it has this id: with the usage `Closed`, no spans, and its cells as before. A plan
+    // with another id is returned unchanged.
     fn close_if(&self, id: &PlanId) -> PlanState
         ensures { result ≡ spec.close_if id.now self.now }
     {
@@ -67,7 +68,7 @@ impl PlanState {
         }
     }
 
-    // The sizes of the plan, or none if it has this id.
+    // The sizes of the plan, or no spans and no cells if it has this id.
     fn sizes_unless(&self, id: &PlanId) -> Sizes
         ensures spans { result.spans ≡ kept_unless (λ s. s.spans) id.now self.now }
         ensures cells { result.cells ≡ kept_unless (λ s. s.cells) id.now self.now }
@@ -85,6 +86,7 @@ impl PlanState {
 /// The entry of an operator: its ceiling, if it is enrolled, and its plans.
 #[derive(Drop)]
 pub(crate) struct OperatorEntry {
+    // `None` if it is not enrolled
     pub(crate) ceiling: Option<u32>,
     // ascending by id
     pub(crate) plans: Vec<PlanState>,
@@ -99,7 +101,8 @@ impl OperatorEntry {
         Some(found.states)
     }
 
-    /// The sizes of the operator's plans without the one with this id, each number at most `u32::MAX`.
+    /// The sizes of the operator's plans without the one with this id. A number that exceeds 32 bits becomes
+    /// `u32::MAX`.
     pub(crate) fn sizes_beside(&self, id: &PlanId) -> Sizes
         ensures spans { kept_spans_beside id.now self.now.plans.items < 2 ^ 32
             → result.spans ≡ kept_spans_beside id.now self.now.plans.items }
@@ -109,7 +112,7 @@ impl OperatorEntry {
         sizes_of(&self.plans, id)
     }
 
-    /// Sets the ceiling, unless there is one already.
+    /// Sets the ceiling, unless the operator has one already.
     pub(crate) fn set_first_ceiling(&mut self, ceiling: u32)
         ensures ceiling { self.new.ceiling ≡ or_else self.old.ceiling ceiling }
         ensures plans { self.new.plans.items ≡ self.old.plans.items }
@@ -119,7 +122,7 @@ impl OperatorEntry {
         }
     }
 
-    /// Appends a plan, which has to come after the others by id.
+    /// Appends the plan `row`. Its id has to come after those of the other plans.
     ///
     /// # Errors
     ///
@@ -133,7 +136,7 @@ impl OperatorEntry {
         Ok(())
     }
 
-    /// Reserves capacity for one more plan.
+    /// Reserves capacity for one more plan, which `apply_change` needs.
     ///
     /// # Errors
     ///
@@ -162,7 +165,7 @@ impl OperatorEntry {
     }
 }
 
-// The sizes of `plans` without the one with this id, each number at most `u32::MAX`.
+// The sizes of `plans` without the one with this id. A number that exceeds 32 bits becomes `u32::MAX`.
 fn sizes_of(plans: &[PlanState], id: &PlanId) -> Sizes
     ensures spans { kept_spans_beside id.now plans.now < 2 ^ 32
         → result.spans ≡ kept_spans_beside id.now plans.now }
@@ -192,7 +195,8 @@ fn put(plans: &mut Vec<PlanState>, state: PlanState)
     }
 }
 
-// The index at which `state` belongs among `plans`, by id.
+// The index at which `state` belongs among `plans`: that of the first plan whose id is not less, or their
+// number.
 fn place_of(plans: &[PlanState], state: &PlanState) -> usize
     ensures within { result ≤ length plans.now }
     ensures place { put_state state.now plans.now
@@ -206,7 +210,7 @@ fn place_of(plans: &[PlanState], state: &PlanState) -> usize
     at
 }
 
-// Whether the plan at `at`, if there is one, has the id of `state`.
+// Whether there is a plan at the index `at` and it has the id of `state`.
 fn is_at(plans: &[PlanState], at: usize, state: &PlanState) -> bool
     ensures { result ≡ spec.begins_with state.now (drop at plans.now) }
 {
@@ -216,7 +220,7 @@ fn is_at(plans: &[PlanState], at: usize, state: &PlanState) -> bool
     }
 }
 
-// Closes the plan with this id, if there is one.
+// Closes the plan with this id, if there is one. It stays in its place.
 fn close(plans: &mut Vec<PlanState>, id: &PlanId)
     ensures { plans.new.items ≡ map (close_if id.now) plans.old.items }
 {
@@ -227,7 +231,7 @@ fn close(plans: &mut Vec<PlanState>, id: &PlanId)
     }
 }
 
-// Removes the plans with these ids.
+// Removes the plans with these ids. The others keep their order.
 fn clear(plans: &mut Vec<PlanState>, ids: &[PlanId])
     ensures { plans.new.items ≡ filter (λ s. not (is_state_named ids.now s)) plans.old.items }
 {

@@ -26,7 +26,7 @@ pub struct OperatorIndex {
 }
 
 impl OperatorIndex {
-    /// The index of no operators and no plans.
+    /// The index of no operators and no plans, which takes its memory from `alloc`.
     pub fn new(alloc: Global) -> OperatorIndex
         ensures { AreAccountsOf [] [] (accounts_of result) }
     {
@@ -43,7 +43,7 @@ impl OperatorIndex {
         account.ceiling
     }
 
-    /// The enrolled operators with their ceilings, ascending by name, each once.
+    /// The enrolled operators with their ceilings, ascending by name, each once, in memory from `alloc`.
     ///
     /// # Errors
     ///
@@ -68,7 +68,7 @@ impl OperatorIndex {
         account.states(id)
     }
 
-    /// How many plans the operator has, closed ones included; at most `u32::MAX`.
+    /// How many plans the operator has, closed ones included; `u32::MAX` if 32 bits can't count them.
     pub fn count(&self, operator: &Operator) -> u32
         ensures { (w : World) → IsIndexOf w self.now → length (plans_of operator.now w) < 2 ^ 32
             → result ≡ length (plans_of operator.now w) }
@@ -79,7 +79,8 @@ impl OperatorIndex {
         }
     }
 
-    /// The sizes of the operator's plans without the one with this id, each number at most `u32::MAX`.
+    /// The sizes of the operator's plans without the one with this id. A number that exceeds 32 bits becomes
+    /// `u32::MAX`.
     pub fn sizes_beside(&self, operator: &Operator, id: &PlanId) -> Sizes
         ensures spans { (w : World) → IsIndexOf w self.now
             → spans_beside id.now (plans_of operator.now w) < 2 ^ 32
@@ -94,7 +95,8 @@ impl OperatorIndex {
         }
     }
 
-    /// Reserves the memory that `update_after` needs for this change.
+    /// Reserves the memory that `update_after` needs for this change. The index stays right, even if this
+    /// fails.
     ///
     /// # Errors
     ///
@@ -122,7 +124,8 @@ impl OperatorIndex {
 // ---- opening
 
 impl OperatorIndex {
-    /// Enrols an operator with a ceiling. One that is enrolled already keeps its ceiling.
+    /// Lists an operator with its ceiling, as a store's rows are read. One that is listed already keeps its
+    /// ceiling.
     ///
     /// # Errors
     ///
@@ -144,7 +147,8 @@ impl OperatorIndex {
         Ok(())
     }
 
-    /// Appends a plan to those of an operator, in the order in which a store's rows are read.
+    /// Files the plan `row` after the other plans of its operator. Plans have to be filed in ascending order
+    /// of their ids.
     ///
     /// # Errors
     ///
@@ -167,9 +171,10 @@ impl OperatorIndex {
     }
 }
 
+// The entries of the operators, by name.
 type Accounts = BTreeMap<Operator, OperatorEntry>;
 
-// Appends an operator to the list, if it has a ceiling and so is enrolled.
+// Appends an operator to `listed` if it has a ceiling. One without a ceiling is not enrolled and is left out.
 fn push_listed(
     listed: &mut Vec<ListedOperator>,
     operator: &Operator,
@@ -186,7 +191,8 @@ fn push_listed(
     Ok(())
 }
 
-// Gives an operator an empty entry, if it has none.
+// Gives an operator an empty entry, if it has none. An empty entry has no ceiling and no plans, so the index
+// stays right.
 fn ensure_account(
     alloc: Global,
     accounts: &mut Accounts,
@@ -194,7 +200,7 @@ fn ensure_account(
 ) -> Result<(), AllocError>
     ensures kept { (ls : List Listed) (ps : List Filed) → AreAccountsOf ls ps accounts.old.entries
         → AreAccountsOf ls ps accounts.new.entries }
-    ensures there { OnOk result (IsSome (account_in operator.now accounts.new.entries)) }
+    ensures has_entry { OnOk result (IsSome (account_in operator.now accounts.new.entries)) }
 {
     if has_account(accounts, operator) {
         return Ok(());
@@ -229,7 +235,7 @@ fn make_room(accounts: &mut Accounts, operator: &Operator) -> Result<(), AllocEr
     }
 }
 
-// The operator whose ceiling or plans a change is about.
+// The operator whose ceiling or plans a change concerns.
 fn named_by(change: &Change) -> &Operator
     ensures { result.now ≡ spec.named_by change.now }
 {

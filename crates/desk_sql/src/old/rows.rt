@@ -19,6 +19,7 @@ struct AnyRow {
     was_taken: bool,
 }
 
+// It takes each row and refuses none. It has no part that rows don't change.
 impl RowVisitor for AnyRow {
     ghost use Rattle.std.specs.Prelude.{◌≡◌, ⊤};
     ghost use Rattle.desk_sql.specs.Rows.{has_rows};
@@ -35,7 +36,7 @@ impl RowVisitor for AnyRow {
     }
 }
 
-/// Whether `table`, which exists, has a row.
+/// Whether `table`, which exists, has a row. Too many rows to count are reported as `OutOfMemory`.
 fn has_row<S: Alter>(connection: &mut Connection<S>, table: DeskTable) -> Result<bool, Error>
     requires ready { IsReady S.Store connection.old (HasTable table) }
     ensures answers { Answers S.Store connection.old connection.new result
@@ -49,7 +50,7 @@ fn has_row<S: Alter>(connection: &mut Connection<S>, table: DeskTable) -> Result
     }
 }
 
-/// Whether `table` has a row; false if it isn't among the tables of `made`.
+/// Whether `table` has a row; false if it isn't among `made`, the tables that the database has.
 fn has_row_in<S: Alter>(
     connection: &mut Connection<S>,
     made: TablesPresent,
@@ -67,7 +68,8 @@ fn has_row_in<S: Alter>(
     }
 }
 
-/// Whether there are rows of version 1 of the schema: `volume` or `span` has a row.
+/// Whether there are rows of version 1 of the schema: `volume` or `span` has a row. `made` are the tables
+/// that the database has.
 pub fn has_old_rows<S: Alter>(
     connection: &mut Connection<S>,
     made: TablesPresent,
@@ -82,7 +84,8 @@ pub fn has_old_rows<S: Alter>(
     has_row_in(connection, made, DeskTable::OldSpan)
 }
 
-/// Whether there are rows that only version 2 of the schema has: `volume2` or `span2` has a row.
+/// Whether there are rows that only version 2 of the schema has: `volume2` or `span2` has a row. `made` are
+/// the tables that the database has.
 pub fn has_new_rows<S: Alter>(
     connection: &mut Connection<S>,
     made: TablesPresent,

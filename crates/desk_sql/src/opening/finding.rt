@@ -46,7 +46,8 @@ impl TablesPresent {
         matches!(self, TablesPresent::Packed)
     }
 
-    /// Whether `table` is there. `Volume` and `PackedVolume`, for example, differ by the b-tree alone.
+    /// Whether `table` is there, in its b-tree. `Volume` and `PackedVolume`, for example, are both `volume2`,
+    /// in different b-trees.
     pub fn has(self, table: DeskTable) -> bool
         ensures { result ≡ has_table self table }
     {

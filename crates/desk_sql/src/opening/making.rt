@@ -37,7 +37,7 @@ fn plan_text() -> &'static str
     PLAN_TABLE.sql
 }
 
-// The statement that makes `volume`.
+// The statement that makes `volume`, a table of version 1 of the schema.
 #[tactic(auto, using(crate::proofs::StepStops::old_volume_step))]
 fn old_volume_text() -> &'static str
     ensures { IsStep result.now TablesPresent.Plans TablesPresent.OldVolumes }
@@ -45,7 +45,7 @@ fn old_volume_text() -> &'static str
     OLD_VOLUME_TABLE.sql
 }
 
-// The statement that makes `span`.
+// The statement that makes `span`, a table of version 1 of the schema.
 #[tactic(auto, using(crate::proofs::StepStops::old_span_step))]
 fn old_span_text() -> &'static str
     ensures { IsStep result.now TablesPresent.OldVolumes TablesPresent.OldSpans }
@@ -85,11 +85,12 @@ fn leaf_index_text() -> &'static str
     LEAVES.sql
 }
 
-// The next statement to run if `made` is there, and what is there after it; `None` if nothing is missing.
+// What is there after the next statement if `made` is there now, and that statement; `None` if nothing is
+// missing.
 fn next_step(made: TablesPresent) -> Option<(TablesPresent, &'static str)>
     requires { made ≢ TablesPresent.Packed }
     ensures step { IfSome result (λ step. IsStep step.1.now made step.0) }
-    ensures less { IfSome result (λ step. left_to_make made ≡ suc (left_to_make step.0)) }
+    ensures one_fewer { IfSome result (λ step. left_to_make made ≡ suc (left_to_make step.0)) }
     ensures ordered { IfSome result (λ step. step.0 ≢ TablesPresent.Packed) }
     ensures none { IfNone result (made ≡ TablesPresent.All) }
 {
@@ -106,7 +107,8 @@ fn next_step(made: TablesPresent) -> Option<(TablesPresent, &'static str)>
     }
 }
 
-/// Makes the missing tables and indexes, one statement after the other.
+/// Makes the tables and indexes that are missing beside `made`, one statement after the other, within a
+/// transaction.
 pub(crate) fn make_rest<S: Alter>(
     tx: &mut Transaction<'_, S>,
     made: TablesPresent,
@@ -130,7 +132,8 @@ pub(crate) fn make_rest<S: Alter>(
     Ok(())
 }
 
-/// Makes the missing tables and indexes of the schema in one transaction. The rows of the others stay.
+/// Makes the tables and indexes of the schema that are missing beside `made`, in one transaction. The rows of
+/// the others stay.
 // Long: success, failure and its cause, the end of the transaction and a crash have a clause each.
 pub fn complete_tables<S: Alter>(
     connection: &mut Connection<S>,
@@ -148,6 +151,7 @@ pub fn complete_tables<S: Alter>(
     ensures over { IsOver S.Store connection.old connection.new }
     ensures crash { MayComplete S.Store made connection.old connection.new }
 {
+    // A law, which changes nothing: what the connection shows is committed and sound.
     committed_and_sound(connection);
     let mut tx = connection.transaction();
     make_rest(&mut tx, made)?;

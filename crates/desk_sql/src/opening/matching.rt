@@ -17,12 +17,12 @@ use sqlite_value::value::{Bytes, Value};
 trait FormOf<T> {
     ghost stands_for: { Self → T };
 
-    /// Whether `found` is the part that this describes.
+    /// Whether `found` equals the part that this describes, in all its fields.
     fn describes(&self, found: &T) -> bool
         ensures { IsTrue result ↔ (found.now ≡ stands_for self.now) };
 }
 
-/// Whether `found` has the parts that `forms` describe, in this order, and nothing else.
+/// Whether `found` has the parts that `forms` describe, in this order, and no others.
 fn all_match<T, F: FormOf<T>>(found: &[T], forms: &[F]) -> bool
     ensures { IsTrue result ↔ (found.now ≡ map F.stands_for forms.now) }
 {
@@ -33,7 +33,8 @@ fn all_match<T, F: FormOf<T>>(found: &[T], forms: &[F]) -> bool
     }
 }
 
-/// Whether `column` is one of a STRICT table with this name and type, takes no NULL, and has no default.
+/// Whether `column` is one of a STRICT table with this name and type, takes no NULL, has no default, and is
+/// compared by its bytes.
 fn is_column(column: &Column, name: &[u8], kind: Kind) -> bool
     ensures { IsTrue result ↔ (column.now ≡ column_of name.now kind) }
 {
@@ -45,6 +46,7 @@ fn is_column(column: &Column, name: &[u8], kind: Kind) -> bool
         && column.collation == Collation::Binary
 }
 
+// A column of a table, by its name and type.
 impl FormOf<Column> for ColumnForm {
     ghost stands_for = { column_from };
 
@@ -57,6 +59,7 @@ impl FormOf<Column> for ColumnForm {
     }
 }
 
+// The name of a column, as a foreign key names the columns of its parent.
 impl FormOf<Bytes> for ColumnForm {
     ghost stands_for = { name_from };
 
@@ -69,7 +72,7 @@ impl FormOf<Bytes> for ColumnForm {
     }
 }
 
-// Whether the column numbers `found` are `places`.
+// Whether the column numbers `found` are `places`, in this order. Column 0 is the rowid.
 fn are_places(found: &Items<usize>, places: &[usize]) -> bool
     ensures { IsTrue result ↔ (found.now ≡ places.now) }
 {
@@ -83,7 +86,7 @@ fn is_name(found: &Bytes, name: &[u8]) -> bool
     found.as_slice() == name
 }
 
-/// Whether there is one key, of the columns `places`.
+/// Whether `keys` is one key, of the columns `places`.
 fn is_only_key(keys: &[Items<usize>], places: &[usize]) -> bool
     ensures { IsTrue result ↔ (keys.now ≡ places.now ∷ []) }
 {
@@ -93,7 +96,7 @@ fn is_only_key(keys: &[Items<usize>], places: &[usize]) -> bool
     }
 }
 
-/// Whether there is one order, in which every column ascends by its bytes.
+/// Whether `orders` is one order, in which every column ascends by its bytes (`digits` is 0).
 fn is_only_plain(orders: &[Order]) -> bool
     ensures { IsTrue result ↔ (orders.now ≡ plain ∷ []) }
 {
@@ -103,7 +106,7 @@ fn is_only_plain(orders: &[Order]) -> bool
     }
 }
 
-/// Whether no column has the current time as its default.
+/// Whether no column has the current time as its default: `stamps` is empty.
 fn is_stampless(stamps: &Stamps) -> bool
     ensures { IsTrue result ↔ (stamps.now ≡ no_stamps) }
 {
@@ -122,6 +125,7 @@ fn has_no_extras(table: &Table) -> bool
 }
 
 /// Whether `table` has this name, b-tree and primary key, and nothing else beside columns and foreign keys.
+/// `key` are the numbers of the key's columns.
 fn is_plain_table(table: &Table, name: &[u8], tree: u32, key: &[usize]) -> bool
     ensures { IsTrue result ↔ (table.now ≡ plain_table table.now name.now tree key.now) }
 {
@@ -133,6 +137,7 @@ fn is_plain_table(table: &Table, name: &[u8], tree: u32, key: &[usize]) -> bool
         && has_no_extras(table)
 }
 
+// A foreign key that is not deferred and has no action on an update.
 impl FormOf<Reference> for ReferenceForm {
     ghost stands_for = { reference_from };
 
@@ -171,7 +176,8 @@ fn are_tables(tables: &[Table], objects: &[DeskObject]) -> bool
     }
 }
 
-/// Whether `index` is the one that SQLite makes for the primary key of `form`, in the b-tree after `table`.
+/// Whether `index` is the one that SQLite makes for the primary key of `form`: unique, ascending, and in the
+/// b-tree after that of the table, which is `table`.
 fn is_key_index(index: &Index, form: &TableForm, table: u32) -> bool
     ensures { IsTrue result ↔ (index.now ≡ key_index form.now.key_index.now table form.now.key.now) }
 {
@@ -196,6 +202,7 @@ fn is_leaf_index(index: &Index, name: &[u8], tree: u32, table: u32) -> bool
         && !index.is_unique
 }
 
+// A leaf index itself, or the index of a table's primary key.
 impl FormOf<Index> for DeskObject {
     ghost stands_for = { index_from };
 

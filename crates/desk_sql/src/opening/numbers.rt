@@ -18,7 +18,8 @@ use crate::reading::taking::{RowVisitor, visit_rows};
 use sqlite::{Alter, Connection, Error, ErrorCode, Row};
 use sqlite_value::value::ValueRef;
 
-/// The rowid in the first column of `row`, if it is an integer and greater than `last`.
+/// The rowid in the first column of `row` if it is an integer and greater than `last`, else `None`. If `last`
+/// is `None`, each integer is greater.
 fn next_above(last: Option<i64>, row: &Row) -> Option<i64>
     ensures { result ≡ next_above last (rowid row.now) }
 {
@@ -40,7 +41,7 @@ struct Rowids {
 }
 
 impl Rowids {
-    // Checks the rowid in `row` against the one before.
+    // Checks the rowid in `row` against the one before. After a failed check, nothing more is checked.
     fn add(&mut self, row: &Row)
         ensures { (rest : List Values) → (self.new.rise && rises rest self.new.last)
             ≡ (self.old.rise && rises (row.now ∷ rest) self.old.last) }
@@ -55,6 +56,7 @@ impl Rowids {
     }
 }
 
+// It takes each row and refuses none. It has no part that rows don't change.
 impl RowVisitor for Rowids {
     ghost use Rattle.std.specs.Prelude.{⊤};
     ghost use Rattle.desk_sql.specs.Finding.{RiseSo};
@@ -71,7 +73,7 @@ impl RowVisitor for Rowids {
     }
 }
 
-/// Returns `DatabaseCorrupt` unless `rise` is true.
+/// Returns the error `DatabaseCorrupt` unless `rise` is true: unless all rowids are rising integers.
 fn require_rising(rise: bool) -> Result<(), Error>
     ensures rising { OnOk result (rise ≡ true) }
     ensures broken { OnErr result (rise ≡ false) }
@@ -144,7 +146,7 @@ pub(crate) fn rowids_text(table: DeskTable) -> &'static str
     }
 }
 
-// The query of the rowids of `operator`.
+// The query of the rowids of `operator` (b-tree 0), ascending.
 #[tactic(auto, using(crate::proofs::lemmas::Rowid::operator_rowids_selected))]
 fn operator_rowids_text() -> &'static str
     ensures { SelectsAll DeskTable.Operator result.now (0 ∷ []) (λ db. rowids (db 0)) }
@@ -152,7 +154,7 @@ fn operator_rowids_text() -> &'static str
     "SELECT rowid FROM operator ORDER BY rowid"
 }
 
-// The query of the rowids of `plan`.
+// The query of the rowids of `plan` (b-tree 2), ascending.
 #[tactic(auto, using(crate::proofs::lemmas::Rowid::plan_rowids_selected))]
 fn plan_rowids_text() -> &'static str
     ensures { SelectsAll DeskTable.Plan result.now (0 ∷ []) (λ db. rowids (db 2)) }
@@ -160,7 +162,7 @@ fn plan_rowids_text() -> &'static str
     "SELECT rowid FROM plan ORDER BY rowid"
 }
 
-// The query of the rowids of `volume`.
+// The query of the rowids of `volume` (b-tree 4), ascending.
 #[tactic(auto, using(crate::proofs::lemmas::Rowid::old_volume_rowids_selected))]
 fn old_volume_rowids_text() -> &'static str
     ensures { SelectsAll DeskTable.OldVolume result.now (0 ∷ []) (λ db. rowids (db 4)) }
@@ -168,7 +170,7 @@ fn old_volume_rowids_text() -> &'static str
     "SELECT rowid FROM volume ORDER BY rowid"
 }
 
-// The query of the rowids of `span`.
+// The query of the rowids of `span` (b-tree 6), ascending.
 #[tactic(auto, using(crate::proofs::lemmas::Rowid::old_span_rowids_selected))]
 fn old_span_rowids_text() -> &'static str
     ensures { SelectsAll DeskTable.OldSpan result.now (0 ∷ []) (λ db. rowids (db 6)) }
@@ -176,25 +178,26 @@ fn old_span_rowids_text() -> &'static str
     "SELECT rowid FROM span ORDER BY rowid"
 }
 
-// The query of the rowids of `volume2`.
+// The query of the rowids of `volume2` (b-tree 9, in a packed file 8), ascending.
 #[tactic(auto, using(crate::proofs::lemmas::Rowid::volume_rowids_selected, crate::proofs::PackedLemmas::volume_rowids_selected))]
 fn volume_rowids_text() -> &'static str
-    ensures own { SelectsAll DeskTable.Volume result.now (0 ∷ []) (λ db. rowids (db 9)) }
+    ensures canonical { SelectsAll DeskTable.Volume result.now (0 ∷ []) (λ db. rowids (db 9)) }
     ensures packed { SelectsAll DeskTable.PackedVolume result.now (0 ∷ []) (λ db. rowids (db 8)) }
 {
     "SELECT rowid FROM volume2 ORDER BY rowid"
 }
 
-// The query of the rowids of `span2`.
+// The query of the rowids of `span2` (b-tree 11, in a packed file 10), ascending.
 #[tactic(auto, using(crate::proofs::lemmas::Rowid::span_rowids_selected, crate::proofs::PackedLemmas::span_rowids_selected))]
 fn span_rowids_text() -> &'static str
-    ensures own { SelectsAll DeskTable.Span result.now (0 ∷ []) (λ db. rowids (db 11)) }
+    ensures canonical { SelectsAll DeskTable.Span result.now (0 ∷ []) (λ db. rowids (db 11)) }
     ensures packed { SelectsAll DeskTable.PackedSpan result.now (0 ∷ []) (λ db. rowids (db 10)) }
 {
     "SELECT rowid FROM span2 ORDER BY rowid"
 }
 
-/// Checks that the rowids of `table`, which exists, are integers, each once.
+/// Checks that the rowids of `table`, which exists, are integers, each once; else returns `DatabaseCorrupt`.
+/// Too many rows to count are reported as `OutOfMemory`.
 fn test_rowids<S: Alter>(connection: &mut Connection<S>, table: DeskTable) -> Result<(), Error>
     requires ready { IsReady S.Store connection.old (HasTable table) }
     ensures numbered { OnOk result (Holds S.Store connection.new
@@ -214,7 +217,8 @@ fn test_rowids<S: Alter>(connection: &mut Connection<S>, table: DeskTable) -> Re
     }
 }
 
-/// Checks the rowids of `table` if it is among the tables of `made`.
+/// Checks the rowids of `table`, as `test_rowids` does, if it is among `made`, the tables that the database
+/// has.
 fn test_rowids_if_made<S: Alter>(
     connection: &mut Connection<S>,
     made: TablesPresent,
@@ -235,7 +239,7 @@ fn test_rowids_if_made<S: Alter>(
     }
 }
 
-/// Checks the rowids of all tables of `made`.
+/// Checks the rowids of all tables of `made`, the tables that the database has.
 ///
 /// # Errors
 ///
@@ -245,7 +249,7 @@ pub(crate) fn test_all_rowids<S: Alter>(
     made: TablesPresent,
 ) -> Result<(), Error>
     requires ready { IsReady S.Store connection.old (λ db. db.schema ≡ schema_of made) }
-    ensures legible { OnOk result (Holds S.Store connection.new (IsMadeTo made)) }
+    ensures numbered { OnOk result (Holds S.Store connection.new (IsMadeTo made)) }
     ensures cause { HasCleanDisk (state S.Store connection.new)
         → IsTrue (state S.Store connection.new).is_open
         → IfErr result (AreRowsUnread S.Store connection.old connection.new) }

@@ -235,7 +235,7 @@ static PACKED: [DeskObject; 8] = [
     },
 ];
 
-/// The tables and indexes that a database at the step `made` has, in their order.
+/// The tables and indexes of `made`, in the order in which the file lists them: packed or canonical.
 #[tactic(auto, unfolding(sqlite_tied::specs::Compute::everything))]
 pub(crate) fn objects(made: TablesPresent) -> &'static [DeskObject]
     ensures { schema_from result.now ≡ schema_of made }

@@ -40,7 +40,8 @@ fn drop_volumes_text() -> &'static str
     "DROP TABLE volume2"
 }
 
-// Drops the tables and the index of a packed file that have other b-trees in canonical order.
+// Drops the tables and the index of a packed file that have other b-trees in canonical order. What is left is
+// `OldSpans`.
 fn unpack<S: Alter>(tx: &mut Transaction<'_, S>) -> Result<(), Error>
     requires at { Holds S.Store tx.old.conn.now (IsMadeTo TablesPresent.Packed) }
     ensures same_reference { tx.new.conn.ghost_name ≡ tx.old.conn.ghost_name }

@@ -9,7 +9,7 @@ use crate::laws::committed_and_sound;
 use crate::reading::query::Query;
 use sqlite::{Alter, Connection, Error, Row};
 
-/// All rows of `query`. It changes no row, even if it fails.
+/// All rows of `query`, in its order. It changes no row, even if it fails.
 pub(crate) fn query_rows<S: Alter>(
     connection: &mut Connection<S>,
     query: Query<'_>,
@@ -19,6 +19,7 @@ pub(crate) fn query_rows<S: Alter>(
         (λ db rows. Lists (order_of query.entry) (rows_of query.entry (tables_of db)) rows.items) }
     ensures open { WasOpen S.Store connection.old connection.new result }
 {
+    // A law, which changes nothing: what the connection shows is committed and sound.
     committed_and_sound(connection);
     // It fails on a connection that an error has shut, whose schema isn't known.
     let statement = connection.prepare(query.text())?;

@@ -10,7 +10,7 @@ ghost use Rattle.desk_sql.specs.QueryEnds.{WasOpen, Answers};
 use crate::laws::committed_and_sound;
 use sqlite::{Alter, Connection, Error, Row};
 
-/// All rows of `query`, which has no parameters. It changes no row, even if it fails.
+/// All rows of the SQL query `query`, which has no parameters. It changes no row, even if it fails.
 pub(crate) fn select_all<S: Alter>(
     connection: &mut Connection<S>,
     query: &str,
@@ -22,6 +22,7 @@ pub(crate) fn select_all<S: Alter>(
     ensures open { WasOpen S.Store connection.old connection.new result }
     ensures live { OnOk result (StaysOpen S.Store connection.old connection.new) }
 {
+    // A law, which changes nothing: what the connection shows is committed and sound.
     committed_and_sound(connection);
     // It fails on a connection that an error has shut, whose schema isn't known.
     let statement = connection.prepare(query)?;

@@ -13,7 +13,7 @@ use sqlite::{Alter, Connection, Error};
 
 /// Passes to `visitor` the spans that `span_filter` selects and that begin at leaf position `low` or later,
 /// except those of the operator's plans: each row of `span2` from the column `first` on, ordered by that.
-/// Rows that begin before `low` or after `span_filter.last` aren't read.
+/// Rows that begin before `low` or after `span_filter.last` aren't read. `visitor` has taken no row before.
 ///
 /// # Errors
 ///

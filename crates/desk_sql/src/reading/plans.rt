@@ -12,7 +12,8 @@ use crate::reading::taking::{RowVisitor, for_each_row};
 use sqlite::{Alter, Connection, Error};
 
 /// Passes to `visitor` the spans of the operator's plan `id` that `span_filter` selects: each row of `span2`
-/// from the column `first` on. They are looked up by key, so that no row of another plan is read.
+/// from the column `first` on, in no given order. They are looked up by key, so that no row of another plan
+/// is read. `visitor` has taken no row before.
 ///
 /// # Errors
 ///

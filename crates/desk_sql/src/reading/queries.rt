@@ -10,7 +10,8 @@ use crate::reading::query::Query;
 use crate::reading::taking::{RowVisitor, for_each_row};
 use sqlite::{Alter, Connection, Error, Row};
 
-/// The row of the operator's plan `id`, if it is stored: `operator`, `id`, `priority`, `usage`, `aircraft`.
+/// The row of the operator's plan `id`, or no row if it isn't stored: `operator`, `id`, `priority`, `usage`,
+/// `aircraft`.
 pub fn plan_of<S: Alter>(
     connection: &mut Connection<S>,
     operator: &str,
@@ -24,8 +25,8 @@ pub fn plan_of<S: Alter>(
     query_rows(connection, Query::PlanOf { operator, id })
 }
 
-/// The rows of the volumes of the operator's plan `id`, ordered by place: `operator`, `id`, `place`, `lower`,
-/// `upper`, `start`, `stop`, `asked`.
+/// The rows of the volumes of the operator's plan `id`, ordered by place (column 2): `operator`, `id`,
+/// `place`, `lower`, `upper`, `start`, `stop`, `asked`.
 pub fn volumes_of<S: Alter>(
     connection: &mut Connection<S>,
     operator: &str,
@@ -40,8 +41,9 @@ pub fn volumes_of<S: Alter>(
     query_rows(connection, Query::VolumesOf { operator, id })
 }
 
-/// Passes to `visitor` each plan of an operator with each of its volumes, ordered by id and place: the
-/// columns of `plan`, and then those of `volume2` from `place` to `asked`.
+/// Passes to `visitor` each plan of an operator with each of its volumes, ordered by id (column 1) and place
+/// (column 5): the columns of `plan`, and then those of `volume2` from `place` to `asked`. A plan without
+/// volumes has no row.
 ///
 /// # Errors
 ///

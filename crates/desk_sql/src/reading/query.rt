@@ -57,7 +57,7 @@ pub(crate) enum Query<'a> {
 }
 
 impl<'a> Query<'a> {
-    /// The query as SQL.
+    /// The query as SQL. Its parameters `?1`, `?2` and so on are those that `params` returns.
     pub(crate) fn text(self) -> &'static str
         ensures { Selects result.now (params_of self.entry) (order_of self.entry) (rows_of self.entry) }
     {
@@ -71,7 +71,7 @@ impl<'a> Query<'a> {
         }
     }
 
-    /// The values of the query's parameters.
+    /// The values of the query's parameters, in the order of their numbers.
     pub(crate) fn params(self) -> Parameters<'a>
         ensures { result ≡ params_of self.entry }
     {
@@ -114,7 +114,7 @@ fn plan_of_text() -> &'static str
     "SELECT operator, id, priority, usage, aircraft FROM plan WHERE operator = ?1 AND id = ?2"
 }
 
-// The query of the volumes of one plan, ordered by place.
+// The query of the volumes of one plan, ordered by place (column 2).
 fn volumes_of_text() -> &'static str
     ensures { (operator id : List ℕ) → Selects result.now (Text operator ∷ Text id ∷ []) (2 ∷ [])
         (λ t. filter (is_of operator id) t.volumes) }
@@ -123,7 +123,8 @@ fn volumes_of_text() -> &'static str
      WHERE operator = ?1 AND id = ?2 ORDER BY place"
 }
 
-// The query of each plan of an operator with each of its volumes, ordered by id and place.
+// The query of each plan of an operator with each of its volumes, ordered by id (column 1) and place
+// (column 5).
 fn own_plans_text() -> &'static str
     ensures { (operator : List ℕ) → Selects result.now (Text operator ∷ []) (1 ∷ 5 ∷ [])
         (with_volumes (is_row_by operator)) }
@@ -134,7 +135,9 @@ fn own_plans_text() -> &'static str
      WHERE plan.operator = ?1 ORDER BY plan.id, volume2.place"
 }
 
-// The query of selected spans, except those of one plan, or of one operator if the id is NULL.
+// The query of the spans that the filter (`?1` to `?7`) selects and that begin at `?10` or later, except
+// those of one plan (`?8` and `?9`), or of one operator if the id `?9` is NULL. They are ordered by `first`
+// (column 0).
 fn spans_but_text() -> &'static str
     ensures rivals { (operator id : List ℕ) (span_filter : Reach) (low : ℤ) → Selects result.now
         (rival_params operator id span_filter low) (0 ∷ [])
@@ -149,7 +152,7 @@ fn spans_but_text() -> &'static str
      ORDER BY first"
 }
 
-// The query of selected spans of one plan.
+// The query of the spans of one plan (`?8` and `?9`) that the filter (`?1` to `?7`) selects.
 fn plan_spans_text() -> &'static str
     ensures { (operator id : List ℕ) (span_filter : Reach) → Selects result.now
         (plan_params operator id span_filter) []

@@ -9,8 +9,9 @@ use crate::reading::query::Query;
 use crate::reading::taking::{RowVisitor, for_each_row};
 use sqlite::{Alter, Connection, Error};
 
-/// It selects spans that have a leaf position of `first..=last`, an altitude of `lower..upper` (decimetres
-/// above the WGS84 ellipsoid), a time of `start..stop` (Unix seconds) and a priority of at least `priority`.
+/// A filter of spans. It selects those that have a leaf position in `first..=last`, an altitude in
+/// `lower..upper` (decimetres above the WGS84 ellipsoid), a time in `start..stop` (Unix seconds), and a
+/// priority of at least `priority`.
 #[derive(Clone, Copy, Debug)]
 pub struct SpanFilter {
     pub first: i64,
@@ -24,7 +25,7 @@ pub struct SpanFilter {
 
 /// Passes to `visitor` the spans that `span_filter` selects and that begin at leaf position `low` or later,
 /// except those of the operator's plan `id`: each row of `span2` from the column `first` on, ordered by that.
-/// Rows that begin before `low` or after `span_filter.last` aren't read.
+/// Rows that begin before `low` or after `span_filter.last` aren't read. `visitor` has taken no row before.
 ///
 /// # Errors
 ///

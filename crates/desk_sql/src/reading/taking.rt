@@ -26,13 +26,14 @@ pub trait RowVisitor {
     ghost use Rattle.sqlite.specs.declared.error.Error.{Error};
     ghost use Rattle.desk_sql.specs.Takers.{KeepsOn};
 
-    /// Whether these rows were taken, in this order.
+    /// Whether the visitor may have taken just these rows, in this order.
     ghost has_taken: { Self → List Row → Type 0 };
 
     /// Whether, after these rows, this one may be refused with this error.
     ghost refuses: { List Row → Row → Error → Type 0 };
 
-    /// Whether what a visitor had at the start, the first argument, is the same in the second.
+    /// Whether the visitor, the second argument, still has what taking rows does not change: what it had at
+    /// the start, as the first argument.
     ghost keeps: { Self → Self → Type 0 };
 
     /// Takes the next row.
@@ -48,7 +49,7 @@ pub trait RowVisitor {
             → refuses rows row.now e) };
 }
 
-/// Passes the next row to `visitor`; returns false if there is none.
+/// Passes the next row to `visitor` and returns true; returns false if there is none.
 // Long: what is passed, and what holds whatever bytes the disk returned.
 fn visit_next<S: Alter, T: RowVisitor>(
     rows: &mut Rows<'_, S>,
@@ -81,6 +82,7 @@ fn visit_next<S: Alter, T: RowVisitor>(
 /// # Errors
 ///
 /// Those of the query and of `visitor`; `TooBig` if there are 2^64 - 1 rows or more.
+// Long: what is passed, and what holds whatever bytes the disk returned.
 fn visit_all<S: Alter, T: RowVisitor>(rows: &mut Rows<'_, S>, visitor: &mut T) -> Result<(), Error>
     requires { HasCleanDisk (state S.Store rows.old.conn.now)
         → IsTrue (state S.Store rows.old.conn.now).is_open }
@@ -101,40 +103,45 @@ fn visit_all<S: Alter, T: RowVisitor>(rows: &mut Rows<'_, S>, visitor: &mut T) -
     Err(Error::SqliteFailure(ErrorCode::TooBig))
 }
 
-/// Passes each row of the query `text` to `visitor`. It changes no row, even if it fails.
+/// Passes each row of the SQL query `sql`, with the parameters `params`, to `visitor`, which has taken no
+/// row before. It changes no row, even if it fails.
 ///
 /// # Errors
 ///
 /// Those of `visit_all`.
+// Long: what is passed, that the connection is open, and what holds whatever bytes the disk returned.
 pub(crate) fn visit_rows<S: Alter, T: RowVisitor>(
     connection: &mut Connection<S>,
-    text: &str,
+    sql: &str,
     params: &[ValueRef<'_>],
     visitor: &mut T,
 ) -> Result<(), Error>
     requires ready { IsReady S.Store connection.old
-        (λ db. IsSureGiven db.schema text.now (bound params.now)) }
+        (λ db. IsSureGiven db.schema sql.now (bound params.now)) }
     requires fresh { T.has_taken visitor.old [] }
     ensures answers { HandsOut S.Store connection.old connection.new result
-        (λ _. Shown text.now (bound params.now) (state S.Store connection.old)
+        (λ _. Shown sql.now (bound params.now) (state S.Store connection.old)
         (state S.Store connection.new)) (T.has_taken visitor.new) T.refuses }
     ensures open { WasOpen S.Store connection.old connection.new result }
     ensures live { OnOk result (IsOpenIfClean S.Store connection.new) }
     ensures taken { OnOk result ((rows : List Values) × T.has_taken visitor.new rows) }
     ensures kept { OnOk result (KeepsOn T.keeps visitor.old visitor.new) }
 {
+    // A law, which changes nothing: what the connection shows is committed and sound.
     committed_and_sound(connection);
     // It fails on a connection that an error has shut, whose schema isn't known.
-    let statement = connection.prepare(text)?;
+    let statement = connection.prepare(sql)?;
     let mut rows = connection.query_prepared(&statement, params)?;
     visit_all(&mut rows, visitor)
 }
 
-/// Passes each row of `query` to `visitor`. It changes no row, even if it fails.
+/// Passes each row of `query`, in its order, to `visitor`, which has taken no row before. It changes no row,
+/// even if it fails.
 ///
 /// # Errors
 ///
 /// Those of `visit_all`.
+// Long: what is passed, that the connection is open, and what holds whatever bytes the disk returned.
 pub(crate) fn for_each_row<S: Alter, T: RowVisitor>(
     connection: &mut Connection<S>,
     query: Query<'_>,

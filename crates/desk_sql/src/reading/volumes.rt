@@ -15,7 +15,7 @@ use crate::opening::numbers::DeskTable;
 use crate::reading::taking::{RowVisitor, visit_rows};
 use sqlite::{Alter, Connection, Error};
 
-/// `volume2`, in the b-tree that it has if the file is packed, or if it isn't.
+/// `volume2`, in the b-tree that it has in a packed file if `packed` is true, else in canonical order.
 pub(crate) fn volume_table(packed: bool) -> DeskTable
     ensures { result ≡ volume_table_in packed }
 {
@@ -26,7 +26,7 @@ pub(crate) fn volume_table(packed: bool) -> DeskTable
     }
 }
 
-// The query of all rows of `volume2`, ordered by key.
+// The query of all rows of `volume2`, ordered by its key: `operator`, `id` and `place` (columns 0 to 2).
 fn volumes_text() -> &'static str
     ensures { (packed : Bool) → SelectsAll (volume_table_in packed) result.now (0 ∷ 1 ∷ 2 ∷ [])
         (λ db. map (columns 9) (db (tree_of (volume_table_in packed)))) }
@@ -36,11 +36,13 @@ fn volumes_text() -> &'static str
 }
 
 /// Passes all rows of `volume2` to `visitor`, ordered by key: `operator`, `id`, `place`, `lower`, `upper`,
-/// `start`, `stop`, `asked`, `canon`; none if `made` doesn't have the table.
+/// `start`, `stop`, `asked`, `canon`. `made` are the tables that the database has; without `volume2` there
+/// are no rows. `visitor` has taken no row before.
 ///
 /// # Errors
 ///
 /// Those of the query and of `visitor`; `TooBig` if there are 2^64 - 1 rows or more.
+// Long: what is passed, that the connection is open, and what holds whatever bytes the disk returned.
 pub fn each_volume<S: Alter, T: RowVisitor>(
     connection: &mut Connection<S>,
     made: TablesPresent,

@@ -34,7 +34,7 @@ pub enum WholeTable {
 }
 
 impl WholeTable {
-    /// The table, in the b-tree that it has if the file is packed, or if it isn't.
+    /// The table, in the b-tree that it has in a packed file if `packed` is true, else in canonical order.
     pub(crate) fn table(self, packed: bool) -> DeskTable
         ensures { result ≡ table_in self packed }
     {
@@ -62,21 +62,21 @@ impl WholeTable {
     }
 }
 
-// The query of all rows of `operator`, ordered by key.
+// The query of all rows of `operator`, ordered by its key: `name`.
 fn operators_text() -> &'static str
     ensures { ShowsWhole WholeTable.Operators result.now }
 {
     "SELECT name, ceiling FROM operator ORDER BY name"
 }
 
-// The query of all rows of `plan`, ordered by key.
+// The query of all rows of `plan`, ordered by its key: `operator` and `id`.
 fn plans_text() -> &'static str
     ensures { ShowsWhole WholeTable.Plans result.now }
 {
     "SELECT operator, id, priority, usage, aircraft FROM plan ORDER BY operator, id"
 }
 
-// The query of all rows of `volume`, ordered by key.
+// The query of all rows of `volume`, ordered by its key: `operator`, `id` and `place`.
 fn old_volumes_text() -> &'static str
     ensures { ShowsWhole WholeTable.OldVolumes result.now }
 {
@@ -84,7 +84,7 @@ fn old_volumes_text() -> &'static str
      ORDER BY operator, id, place"
 }
 
-// The query of all rows of `span`, ordered by key.
+// The query of all rows of `span`, ordered by its key: `operator`, `id`, `place` and `first`.
 fn old_spans_text() -> &'static str
     ensures { ShowsWhole WholeTable.OldSpans result.now }
 {
@@ -92,7 +92,7 @@ fn old_spans_text() -> &'static str
      ORDER BY operator, id, place, first"
 }
 
-// The query of all rows of `span2`, ordered by key.
+// The query of all rows of `span2`, ordered by its key: `operator`, `id`, `place` and `first`.
 fn spans_text() -> &'static str
     ensures { ShowsWhole WholeTable.Spans result.now }
 {
@@ -100,52 +100,55 @@ fn spans_text() -> &'static str
      ORDER BY operator, id, place, first"
 }
 
-/// All rows of the table `whole`, ordered by its key; none if `made` doesn't have the table.
+/// All rows of `whole_table`, ordered by its key. `made` are the tables that the database has; without this
+/// table there are no rows. The list is in memory from `alloc` then.
 pub fn all_rows<S: Alter>(
     alloc: Global,
     connection: &mut Connection<S>,
-    whole: WholeTable,
+    whole_table: WholeTable,
     made: TablesPresent,
 ) -> Result<Vec<Row>, Error>
     requires ready { IsReady S.Store connection.old (IsMadeTo made) }
     ensures answers { Answers S.Store connection.old connection.new result
-        (λ db rows. Lists (key_cells (table_read whole)) (rows_read whole (tables_at made db)) rows.items) }
-    ensures open { has_table made (table_in whole (is_packed made)) ≡ true
+        (λ db rows. Lists (key_cells (table_read whole_table)) (rows_read whole_table (tables_at made db))
+        rows.items) }
+    ensures open { has_table made (table_in whole_table (is_packed made)) ≡ true
         → WasOpen S.Store connection.old connection.new result }
     ensures live { OnOk result (StaysOpen S.Store connection.old connection.new) }
 {
-    if made.has(whole.table(made.is_packed())) {
-        select_all(connection, whole.text())
+    if made.has(whole_table.table(made.is_packed())) {
+        select_all(connection, whole_table.text())
     } else {
         Ok(Vec::new(alloc))
     }
 }
 
-/// Passes all rows of the table `whole` to `visitor`, ordered by its key; none if `made` doesn't have the
-/// table.
+/// Passes all rows of `whole_table` to `visitor`, which has taken no row before, ordered by its key. `made`
+/// are the tables that the database has; without this table there are no rows.
 ///
 /// # Errors
 ///
 /// Those of the query and of `visitor`; `TooBig` if there are 2^64 - 1 rows or more.
+// Long: what is passed, that the connection is open, and what holds whatever bytes the disk returned.
 pub fn each_row<S: Alter, T: RowVisitor>(
     connection: &mut Connection<S>,
-    whole: WholeTable,
+    whole_table: WholeTable,
     made: TablesPresent,
     visitor: &mut T,
 ) -> Result<(), Error>
     requires ready { IsReady S.Store connection.old (IsMadeTo made) }
     requires fresh { T.has_taken visitor.old [] }
     ensures answers { HandsOut S.Store connection.old connection.new result
-        (λ db. Lists (key_cells (table_read whole)) (rows_read whole (tables_at made db)))
+        (λ db. Lists (key_cells (table_read whole_table)) (rows_read whole_table (tables_at made db)))
         (T.has_taken visitor.new) T.refuses }
-    ensures open { has_table made (table_in whole (is_packed made)) ≡ true
+    ensures open { has_table made (table_in whole_table (is_packed made)) ≡ true
         → WasOpen S.Store connection.old connection.new result }
     ensures live { OnOk result (StaysOpen S.Store connection.old connection.new) }
     ensures taken { OnOk result ((rows : List Values) × T.has_taken visitor.new rows) }
     ensures kept { OnOk result (KeepsOn T.keeps visitor.old visitor.new) }
 {
-    if made.has(whole.table(made.is_packed())) {
-        visit_rows(connection, whole.text(), &[], visitor)
+    if made.has(whole_table.table(made.is_packed())) {
+        visit_rows(connection, whole_table.text(), &[], visitor)
     } else {
         Ok(())
     }

@@ -31,13 +31,13 @@ pub returns-in-Volume : goal.returns-in-Volume
 returns-in-Volume c =
     let text = c.volume_rowids_text in
     subst (λ table. SelectsAll table text.result.now (0 ∷ []) (λ db. rowids (db (tree_of table))))
-    (sym c.in-Volume.is) text.ensures.own
+    (sym c.in-Volume.is) text.ensures.canonical
 
 pub returns-in-Span : goal.returns-in-Span
 returns-in-Span c =
     let text = c.span_rowids_text in
     subst (λ table. SelectsAll table text.result.now (0 ∷ []) (λ db. rowids (db (tree_of table))))
-    (sym c.in-Span.is) text.ensures.own
+    (sym c.in-Span.is) text.ensures.canonical
 
 pub returns-in-PackedVolume : goal.returns-in-PackedVolume
 returns-in-PackedVolume c =

@@ -27,7 +27,7 @@ returns-in_err-statement-clause-answers g c =
     c.prepare.ensures.survives in
     let refused : HasCleanDisk (state g.S.Store new) → IsTrue (state g.S.Store new).is_open
     → IsRefusal g.S.Store old new c.in_err-statement.field-0.0 = λ clean live.
-    (refused_unprepared g.S.Store old new c.args.text.now (bound c.args.params.now) c.requires.ready.shown
+    (refused_unprepared g.S.Store old new c.args.sql.now (bound c.args.params.now) c.requires.ready.shown
     (omega (arith, c.prepare.ensures.survives.clean, clean)) _
     (c.in_err-statement.ensures.err clean (bound c.args.params.now)) live) in
     search (rules, reads, refused)
@@ -37,7 +37,7 @@ returns-in_err-rows-clause-answers g c =
     let old = c.args.connection.now in
     let mid = c.prepare.new.self in
     let new = c.query_prepared.follows.lender-at-none in
-    let sql = c.args.text.now in
+    let sql = c.args.sql.now in
     let text = c.in_ok-statement.statement.text in
     let params = bound c.args.params.now in
     let settled = c.committed_and_sound.ensures.settled c.requires.ready.settled in
@@ -62,7 +62,7 @@ returns-in_err-rows-clause-answers g c =
 pub visit_all-requires : goal.visit_all-requires
 visit_all-requires g c clean =
     let old = c.args.connection.now in
-    let sql = c.args.text.now in
+    let sql = c.args.sql.now in
     let params = bound c.args.params.now in
     (begun_after g.S.Store sql c.in_ok-statement.statement.text params old c.prepare.new.self
     (plain_if g.S.Store old sql params c.requires.ready.shown) c.in_ok-statement.ensures.ok
@@ -76,7 +76,7 @@ returns-clause-answers g c =
     let mid = c.prepare.new.self in
     let first = c.in_ok-rows.rows.conn.now in
     let new = c.visit_all.new.rows.conn.now in
-    let sql = c.args.text.now in
+    let sql = c.args.sql.now in
     let text = c.in_ok-statement.statement.text in
     let params = bound c.args.params.now in
     let has = g.T.RowVisitor.has_taken c.visit_all.new.visitor in
@@ -124,7 +124,7 @@ returns-clause-open g c =
     let old = c.args.connection.now in
     let first = c.in_ok-rows.rows.conn.now in
     let new = c.visit_all.new.rows.conn.now in
-    let sql = c.args.text.now in
+    let sql = c.args.sql.now in
     let params = bound c.args.params.now in
     let it : HasCleanDisk (state g.S.Store new) → OnOk c.visit_all.result
     (IsTrue (state g.S.Store old).is_open) = λ clean.
@@ -144,7 +144,7 @@ returns-clause-live g c =
     let mid = c.prepare.new.self in
     let first = c.in_ok-rows.rows.conn.now in
     let new = c.visit_all.new.rows.conn.now in
-    let sql = c.args.text.now in
+    let sql = c.args.sql.now in
     let params = bound c.args.params.now in
     let has = g.T.RowVisitor.has_taken c.visit_all.new.visitor in
     let begins = c.in_ok-rows.ensures in

@@ -15,11 +15,11 @@ select_all-requires g c = record {
     shown = λ clean live.
         let packed = is_packed c.args.made in
         let db = (state g.S.Store c.args.connection.now).now in
-        let there : has_table c.args.made (table_in c.args.whole packed) ≡ true =
-        ap (has_table c.args.made) (sym (c.table.ensures ∙ ap (table_in c.args.whole) c.is_packed.ensures))
+        let there : has_table c.args.made (table_in c.args.whole_table packed) ≡ true =
+        ap (has_table c.args.made) (sym (c.table.ensures ∙ ap (table_in c.args.whole_table) c.is_packed.ensures))
         ∙ sym c.has.ensures ∙ c.if-has.true in
         (c.text.ensures packed).sure db
-        (has_made c.args.made (table_in c.args.whole packed) db there
+        (has_made c.args.made (table_in c.args.whole_table packed) db there
         (c.requires.ready.shown clean live).schema);
   };
 }
@@ -27,15 +27,15 @@ select_all-requires g c = record {
 pub returns-then-has-clause-answers : goal.returns-then-has-clause-answers
 returns-then-has-clause-answers g c =
     let packed = is_packed c.args.made in
-    let table = table_in c.args.whole packed in
+    let table = table_in c.args.whole_table packed in
     let there : has_table c.args.made table ≡ true =
-    ap (has_table c.args.made) (sym (c.table.ensures ∙ ap (table_in c.args.whole) c.is_packed.ensures))
+    ap (has_table c.args.made) (sym (c.table.ensures ∙ ap (table_in c.args.whole_table) c.is_packed.ensures))
     ∙ sym c.has.ensures ∙ c.if-has.true in
     let old = state g.S.Store c.args.connection.now in record {
-      value = λ clean. read_at c.args.whole c.args.made true there (λ v. v.items) old.now.trees c.select_all.result
+      value = λ clean. read_at c.args.whole_table c.args.made true there (λ v. v.items) old.now.trees c.select_all.result
           (if_read g.S.Store c.args.connection.now c.select_all.new.connection (λ v. v.items) _ _
-          (Lists (key_cells (table_read c.args.whole))
-          (rows_read c.args.whole (tables_in packed old.now.trees))) table
+          (Lists (key_cells (table_read c.args.whole_table))
+          (rows_read c.args.whole_table (tables_in packed old.now.trees))) table
           (λ clean live. has_made c.args.made table old.now there (c.requires.ready.shown clean live).schema)
           (omega (arith, c.select_all.ensures.answers.reads.doubt, clean))
           (λ rows has shown. all_selected _ _ _ _ (c.text.ensures packed)

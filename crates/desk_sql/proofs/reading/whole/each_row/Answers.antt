@@ -19,11 +19,11 @@ visit_rows-requires-clause-ready g c = record {
   shown = λ clean live.
       let packed = is_packed c.args.made in
       let db = (state g.S.Store c.args.connection.now).now in
-      let there : has_table c.args.made (table_in c.args.whole packed) ≡ true =
-      ap (has_table c.args.made) (sym (c.table.ensures ∙ ap (table_in c.args.whole) c.is_packed.ensures))
+      let there : has_table c.args.made (table_in c.args.whole_table packed) ≡ true =
+      ap (has_table c.args.made) (sym (c.table.ensures ∙ ap (table_in c.args.whole_table) c.is_packed.ensures))
       ∙ sym c.has.ensures ∙ c.if-has.true in
       (c.text.ensures packed).sure db
-      (has_made c.args.made (table_in c.args.whole packed) db there
+      (has_made c.args.made (table_in c.args.whole_table packed) db there
       (c.requires.ready.shown clean live).schema);
 }
 
@@ -32,20 +32,20 @@ returns-then-has-clause-answers g c =
     let old = c.args.connection.now in
     let new = c.visit_rows.new.connection in
     let packed = is_packed c.args.made in
-    let table = table_in c.args.whole packed in
+    let table = table_in c.args.whole_table packed in
     let trees = (state g.S.Store old).now.trees in
-    let cells = key_cells (table_read c.args.whole) in
+    let cells = key_cells (table_read c.args.whole_table) in
     let sql = c.text.result.now in
-    let IsAnswer : List Row → Type 0 = Lists cells (rows_read c.args.whole (tables_at c.args.made trees)) in
+    let IsAnswer : List Row → Type 0 = Lists cells (rows_read c.args.whole_table (tables_at c.args.made trees)) in
     let there : has_table c.args.made table ≡ true =
-    ap (has_table c.args.made) (sym (c.table.ensures ∙ ap (table_in c.args.whole) c.is_packed.ensures))
+    ap (has_table c.args.made) (sym (c.table.ensures ∙ ap (table_in c.args.whole_table) c.is_packed.ensures))
     ∙ sym c.has.ensures ∙ c.if-has.true in
     let start : HasCleanDisk (state g.S.Store new) → HasCleanDisk (state g.S.Store old) = λ clean.
     omega (arith, clean, c.visit_rows.ensures.answers.reads.doubt) in
     let are : (rows : List Row) → HasTable table (state g.S.Store old).now
     → Shown sql [] (state g.S.Store old) (state g.S.Store new) rows → IsAnswer rows = λ rows has shown.
     subst (λ wanted. Lists cells wanted rows)
-    (read_as c.args.whole c.args.made trees there)
+    (read_as c.args.whole_table c.args.made trees there)
     (all_selected _ _ _ _ (c.text.ensures packed) (state g.S.Store old) (state g.S.Store new) rows has
     shown) in
     let holds : Holds g.S.Store old (HasTable table) = λ clean live.
