@@ -11,11 +11,12 @@ abbrev pub fault_of : StoreFault → DeskFault
 fault_of store.OutOfMemory = OutOfMemory
 fault_of store.Store = Store
 
--- out of memory, or a failing store: neither depends on the rules
+-- memory ran out or the store failed: the faults that no rule of planning decides
 abbrev pub IsBreakdown : DeskFault → Type 0
 IsBreakdown fault = (fault ≡ OutOfMemory) ⊎ (fault ≡ Store)
 
--- if the store failed, it counted a fault of its own
+-- a call that ended in `Store` has raised the store's own count of faults, which `faults_of` gives; `old` and
+-- `new` are the store before and after the call
 abbrev pub IsStoreFaultCounted : {S : Type 0} → (S → ℕ) → S → S → DeskFault → Type 0
 IsStoreFaultCounted faults_of old new e = e ≡ Store → HasRisen (faults_of old) (faults_of new)
 

@@ -1,4 +1,4 @@
--- Desks: what a desk's store keeps, and the terms on which the desk plans.
+-- Desks: the content of a desk's store, and the terms on which the desk plans.
 use Rattle.std.specs.Prelude.{◌≡◌, ◌⊎◌, ℕ, List, [], Option, refl}
 use Rattle.std.specs.Coded.{Coded, code_by, coded×, coded_list, coded_option, coded_ℕ}
 use Rattle.desk_rules.specs.declared.terms.Terms.{Terms}
@@ -8,11 +8,12 @@ use Rattle.desk_store.specs.World.{World, Own, own, held}
 use Rattle.desk_store.specs.Changes.{with_operator}
 use Rattle.desk_store.specs.Crashes.{LeavesNoMore, LeavesOnly}
 
--- a store, and the desk's terms
+-- the parts of a desk: its store and its terms
 pub record Parts (S : Type 0) : Type 0 where
   pub store : S
   pub terms : Terms
 
+-- terms, and parts of a desk, as codes, which the model of `Desk` needs
 abbrev pub terms_code : Coded Terms
 terms_code =
     code_by (List ℕ × (Option ℕ × Option ℕ))
@@ -30,14 +31,15 @@ pub record DeskWorld : Type 0 where
   pub content : World
   pub terms : Terms
 
--- that of a new desk: no operators, no plans, and no terms
+-- the world of a new desk: no operators, no plans, and no terms
 abbrev pub new_world : DeskWorld
 new_world = record { content = record { operators = []; plans = [] }; terms = no_terms }
 
+-- the world of these terms and this content
 abbrev pub with_content : Terms → World → DeskWorld
 with_content terms content = record { content = content; terms = terms }
 
--- the world of a desk, by what its store's content is
+-- the world of a desk; `content` gives the content of its store
 abbrev pub world_of : {S : Type 0} → (S → World) → Parts S → DeskWorld
 world_of content d = with_content d.terms (content d.store)
 
@@ -49,19 +51,19 @@ pub record Side : Type 0 where
 abbrev pub side : DeskWorld → List ℕ → Side
 side w operator = record { own = own w.content operator; terms = w.terms }
 
--- the greatest priority that others hold at a point
+-- the greatest priority that operators other than this one hold at a point
 abbrev pub held_in : DeskWorld → List ℕ → Point → Option ℕ
 held_in w operator = held w.content operator
 
--- the world with the operator listed under a ceiling
+-- the world with the operator of this name enrolled with this ceiling
 abbrev pub enrolled : DeskWorld → List ℕ → ℕ → DeskWorld
 enrolled w name ceiling = record w { content = with_operator w.content name ceiling }
 
--- what the desk's store holds is what a start finds, and nothing else
+-- a start can find nothing but the content of the desk's store: what was changed is durable
 abbrev pub IsSettled : {S : Type 0} → (S → World) → (S → Option World → Type 0) → Parts S → Type 0
 IsSettled content may_leave d = LeavesOnly (content d.store) (may_leave d.store)
 
--- the desk is settled; or its world is what it was, and no more may be found than before
+-- the desk `new` is settled; or its world is that of `old`, and a start can find no more than before
 abbrev pub IsSettledOrSame :
     {S : Type 0} → (S → World) → (S → Option World → Type 0) → Parts S → Parts S → Type 0
 IsSettledOrSame content may_leave old new = IsSettled content may_leave new

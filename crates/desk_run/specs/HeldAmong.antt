@@ -13,12 +13,12 @@ use Rattle.desk_rules.specs.declared.plan.PlanRow.{PlanRow}
 use Rattle.desk_rules.specs.Plan.{row_holds, top_priority}
 use Rattle.desk_store.specs.World.{has_id}
 
--- slabs have each point that passes a test
+-- the slabs together have each point that passes the test
 abbrev pub HaveAll : (Point → Bool) → List Slab → Type 0
 HaveAll passes slabs = (x : Point) → passes x ≡ true → slabs_have slabs x ≡ true
 
--- slabs that have the points that a plan holds, in ascending order, each with a point, a slab round them, and
--- slabs in one of which each of the points is
+-- `slabs` have exactly the points that a plan holds. They ascend, and none is empty. The slab `round` has all
+-- these points, and so do `parts` together
 pub record AreSlabsHeld (row : PlanRow) (slabs : List Slab) (round : Slab) (parts : List Slab) : Type 0 where
   pub points : (x : Point) → slabs_have slabs x ≡ row_holds row x
   pub filled : All IsFilled slabs
@@ -30,31 +30,33 @@ pub record AreSlabsHeld (row : PlanRow) (slabs : List Slab) (round : Slab) (part
 abbrev pub some_hold : List PlanRow → Point → Bool
 some_hold rows x = list_any (λ r. row_holds r x) rows
 
--- at each point that passes a test the greatest priority among the slabs is the level there
+-- at each point that passes the test, the greatest priority among the held slabs is the `level` there
 abbrev pub HaveLevelAt : (Point → Bool) → List Held → (Point → Option ℕ) → Type 0
 HaveLevelAt passes helds level = (x : Point) → passes x ≡ true → top_held helds x ≡ level x
 
--- and is the greater of that before and the level
+-- at each point that passes the test, the greatest priority among `helds` is the greater of that among
+-- `before` and of the `level` there: what was appended to `before` adds the level
 abbrev pub AddLevelAt : (Point → Bool) → List Held → List Held → (Point → Option ℕ) → Type 0
 AddLevelAt passes before helds level = HaveLevelAt passes helds (λ x. greater (top_held before x) (level x))
 
--- some slabs have each point that others had
+-- the slabs `new` have each point that `old` have
 abbrev pub Keep : List Slab → List Slab → Type 0
 Keep old new = (x : Point) → slabs_have old x ≡ true → slabs_have new x ≡ true
 
--- slabs that are left have each point that others have at the position or after it
+-- the slabs `left` have each point of `slabs` whose leaf is at the position along the S2 curve or after it
 abbrev pub AreLeft : ℕ → List Slab → List Slab → Type 0
 AreLeft position slabs left = (x : Point) → nat_le position (position_of x.leaf) ≡ true
     → slabs_have slabs x ≡ true → slabs_have left x ≡ true
 
--- the priority that a plan holds at a point, if it isn't that of the id, and the greatest of some plans
+-- the priority that the plan `r` holds at the point `x`, unless it is the plan `id`; and the greatest
+-- priority of some plans there, without that plan
 unfoldable pub own_level : List ℕ → PlanRow → Point → Option ℕ
 own_level id r x = level_where (not (has_id id r) && row_holds r x) r.priority
 
 abbrev pub own_top : List ℕ → List PlanRow → Point → Option ℕ
 own_top id rows x = top_priority (filter (λ r. not (has_id id r)) rows) x
 
--- none of the slabs has a point at the position or before it
+-- none of the slabs has a point whose leaf is at the position or before it
 abbrev pub AreAfter : ℕ → List Slab → Type 0
 AreAfter position slabs =
     (x : Point) → slabs_have slabs x ≡ true → nat_le (position_of x.leaf) position ≡ false

@@ -1,4 +1,4 @@
--- Read first: Verdicts, Sides, TwoRuns.
+-- Read first: Verdicts, Sides, CallRuns.
 pub mod CallFaults
 pub mod DeskWorld
 pub mod DeskFrames

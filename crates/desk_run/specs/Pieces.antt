@@ -8,33 +8,34 @@ use Rattle.volume4d.specs.Meeting.{Spot, IsFirst}
 use Rattle.desk_rules.specs.Bridge.{is_blocked_among}
 use Rattle.desk_store.specs.World.{World, plans_of, held, held_at}
 
--- a slab that has the leaves of another from a position on, all or the first of them
+-- `piece` has the leaves of the slab `whole` from a position on, up to the last or to an earlier one
 pub record IsPiece (whole : Slab) (position : ℕ) (piece : Slab) : Type 0 where
   pub begins : piece.first ≡ position
   pub some : position ≤ whole.last → position ≤ piece.last
   pub within : piece.last ≤ whole.last
 
--- a slab with those of its leaves that a piece has
+-- `cut` is `slab` with those of its leaves that `piece` has
 pub record IsCutTo (slab piece cut : Slab) : Type 0 where
   pub first : cut.first ≡ max slab.first piece.first
   pub last : cut.last ≡ min slab.last piece.last
   pub window : slab_window cut ≡ slab_window slab
 
--- what is held at a point, if it is at a leaf of the piece
+-- the level at a point whose leaf is one of the piece, and none at every other point
 abbrev pub at_piece : Slab → (Point → Option ℕ) → Point → Option ℕ
 at_piece piece levels x = cond (slab_has_leaf piece x.leaf) (levels x) None
 
--- held slabs hold at a piece's leaves what others did, and nothing beside them
+-- the held slabs `cut` hold at the leaves of `piece` what `helds` hold there, and nothing elsewhere
 abbrev pub AreCut : Slab → List Held → List Held → Type 0
 AreCut piece helds cut = (x : Point) → top_held cut x ≡ at_piece piece (top_held helds) x
 
--- extents have each point at a piece's leaves that passes a test
+-- the extents together have each point at the leaves of `piece` that passes the test
 abbrev pub HavePart : (Point → Bool) → Slab → List Slab → Type 0
 HavePart passes piece extents =
     (x : Point) → passes x ≡ true → slab_has_leaf piece x.leaf ≡ true → slabs_have extents x ≡ true
 
--- the first point among the slabs that is blocked by what is held at the leaves of a piece, of an operator's
--- plan of an id with a priority, and the greatest priority that others hold there
+-- `spot` is the first point of `slabs` at the leaves of `piece` that other plans of the world `w` block, with
+-- the greatest priority that they hold there; or none, if none is blocked. The slabs are those of the
+-- operator's plan `id` with this priority
 abbrev pub IsFirstBlockedAt : List ℕ → World → List ℕ → List ℕ → List Slab → Slab → ℕ → Option Spot → Type 0
 IsFirstBlockedAt permitted w operator id slabs piece priority spot =
     let levels = at_piece piece (held_at (plans_of operator w) (held w operator) id) in

@@ -19,14 +19,15 @@ abbrev pub is_from : List ℕ → Option (List ℕ) → Bool
 is_from o None = false
 is_from o (Some name) = is_eq (text_cmp o name)
 
--- the items that stand beside the operator's requests
+-- of the items `xs`, one for each request, those for the requests of the operator `o`; `caller` says whose a
+-- request is
 abbrev pub beside : {R A : Type 0} → (R → Option (List ℕ)) → List ℕ → List R → List A → List A
 beside caller o [] xs = []
 beside caller o (r ∷ rs) [] = []
 beside caller o (r ∷ rs) (x ∷ xs) =
     cond (is_from o (caller r)) (x ∷ beside caller o rs xs) (beside caller o rs xs)
 
--- something said of each request at the world before it
+-- what `f` says of each request and the world just before it; `left` gives the world that a request leaves
 abbrev pub along : {R A : Type 0} → (DeskWorld → R → DeskWorld) → (DeskWorld → R → A) → DeskWorld
     → List R → List A
 along left f w [] = []

@@ -39,8 +39,8 @@ pub data Reported : Type 0 where
   unknown_operator : Reported
   no_such_plan : Reported
 
--- the verdict on a call: what the caller is answered, and the operator's plans afterwards, or none
--- where they stay as they were
+-- the ruling on a call: what the caller is answered, and the operator's plans afterwards, or `None` if they
+-- stay as they were
 pub record Ruling : Type 0 where
   pub reported : Reported
   pub plans : Option (List PlanRow)
@@ -52,25 +52,26 @@ excess_asked terms rows asked =
     excess_of terms (spans_beside asked.id rows + area_spans asked.area)
     (cells_beside asked.id rows + area_cells asked.area)
 
--- an operator's standing for a request to plan, by its plans and its ceiling
+-- an operator's standing for the request `asked`: how many plans it has, its ceiling, which limits it exceeds
 abbrev pub standing_of : Terms → List PlanRow → ℕ → PutCall → Standing
 standing_of terms rows ceiling asked =
     record { own_rows = length rows; ceiling = ceiling; excess = excess_asked terms rows asked }
 
--- the verdict on a request to plan of an operator with a ceiling: the outcome with the conflict of
--- the area asked
+-- the verdict on the request `asked` at a moment: `mine` is what its operator owns, `others` the greatest
+-- priority that others hold at a point
 unfoldable pub put_outcome : Terms → Own → (Point → Option ℕ) → ℕ → ℤ → PutCall → Verdict
 put_outcome terms mine others ceiling moment asked =
     outcome_under asked moment (states_of (stored_of asked.id mine.plans))
     (standing_of terms mine.plans ceiling asked)
     (conflict terms.permitted asked.area (held_at mine.plans others asked.id) asked.priority)
 
--- that in a world
+-- the same in the world `w`
 abbrev pub put_verdict_in : Terms → World → List ℕ → ℕ → ℤ → PutCall → Verdict
 put_verdict_in terms w operator ceiling moment asked =
     put_outcome terms (own w operator) (held w operator) ceiling moment asked
 
--- the conflict of an area with a priority in a world, of an operator's plan of an id
+-- the conflict that the operator's plan `id` has in the world `w` with this area and this priority, if it has
+-- one
 abbrev pub conflict_in : List ℕ → World → List ℕ → List ℕ → List Block → ℕ → Option Spot
 conflict_in permitted w operator id area priority =
     conflict permitted area (held_at (plans_of operator w) (held w operator) id) priority
@@ -85,13 +86,13 @@ row_asked asked = record {
   area = asked.area;
 }
 
--- the plans that an effect leaves
+-- the operator's plans after an effect of the request `asked`; `None` if they stay as they were
 abbrev pub plans_left : Effect → PutCall → List PlanRow → Option (List PlanRow)
 plans_left effect.Nothing asked rows = None
 plans_left effect.Save asked rows = Some (put_row (row_asked asked) rows)
 plans_left effect.Shut asked rows = Some (close_row asked.id rows)
 
--- what the operator is answered by a verdict on its request, and the plans that it has then
+-- the ruling by the verdict `v` on the request `asked` of an operator with the plans `rows`
 abbrev pub put_ruling : Verdict → PutCall → List PlanRow → Ruling
 put_ruling v asked rows =
     record {
@@ -106,7 +107,7 @@ put_ruling v asked rows =
 abbrev pub ruling_alone : Reported → Ruling
 ruling_alone reported = record { reported = reported; plans = None }
 
--- closing answers that the plan is closed, whatever it was
+-- the ruling on a DELETE of the plan `id`, stored as `row`: it is closed, whatever its state was
 abbrev pub delete_ruling : List PlanRow → List ℕ → Option PlanRow → Ruling
 delete_ruling rows id None = ruling_alone no_such_plan
 delete_ruling rows id (Some row) =
@@ -123,7 +124,7 @@ abbrev pub conflict_shown : List ℕ → List PlanRow → (Point → Option ℕ)
 conflict_shown permitted rows others row =
     cond (is_live row.usage) (conflict permitted row.area (held_at rows others row.id) row.priority) None
 
--- a plan as it is shown to its operator, who has these plans beside what others hold
+-- the plan `row` as it is shown to its operator, which has the plans `rows`; `others` is what others hold
 abbrev pub shown_plan : List ℕ → List PlanRow → (Point → Option ℕ) → PlanRow → Shown
 shown_plan permitted rows others row =
     record {
@@ -132,7 +133,7 @@ shown_plan permitted rows others row =
       conflict = conflict_shown permitted rows others row;
     }
 
--- these in a world
+-- these two in the world `w`
 abbrev pub conflict_shown_in : List ℕ → World → List ℕ → PlanRow → Option Spot
 conflict_shown_in permitted w operator row =
     conflict_shown permitted (plans_of operator w) (held w operator) row
@@ -140,22 +141,23 @@ conflict_shown_in permitted w operator row =
 abbrev pub shown_in : List ℕ → World → List ℕ → PlanRow → Shown
 shown_in permitted w operator row = shown_plan permitted (plans_of operator w) (held w operator) row
 
--- all plans of the operator are shown, by id
+-- the ruling on a List: all plans of the operator are shown, in their order, by id
 abbrev pub list_ruling : List ℕ → List PlanRow → (Point → Option ℕ) → Ruling
 list_ruling permitted rows others =
     ruling_alone (replied (said.plans (map (shown_plan permitted rows others) rows)))
 
--- the plan of an id is shown, if there is one
+-- the ruling on a Show: the plan is shown, if there is one
 abbrev pub show_ruling : List ℕ → List PlanRow → (Point → Option ℕ) → Option PlanRow → Ruling
 show_ruling permitted rows others None = ruling_alone no_such_plan
 show_ruling permitted rows others (Some row) =
     ruling_alone (replied (said.plan (shown_plan permitted rows others row)))
 
--- a plan, closed or not, that shares a point with an extent
+-- whether the plan `row`, closed or not, shares a point with `extent`
 abbrev pub is_in : Block → PlanRow → Bool
 is_in extent row = share_a_point (extent ∷ []) row.area
 
--- the plans that share a point with an extent are taken out, closed ones too, and their number is reported
+-- the ruling on a clear: the plans that share a point with `extent` are removed, closed ones too, and their
+-- number is reported
 abbrev pub clear_ruling : List PlanRow → Block → Ruling
 clear_ruling rows extent =
     record {
@@ -163,7 +165,7 @@ clear_ruling rows extent =
       plans = cond (list_any (is_in extent) rows) (Some (filter (λ row. not (is_in extent row)) rows)) None;
     }
 
--- the answer to a call of an operator under a ceiling
+-- the ruling on a call of an operator that is enrolled with this ceiling
 unfoldable pub enrolled_ruling : Terms → Own → (Point → Option ℕ) → ℕ → ℤ → Call → Ruling
 enrolled_ruling terms mine others ceiling moment call.Status = ruling_alone (replied said.ready)
 enrolled_ruling terms mine others ceiling moment call.List = list_ruling terms.permitted mine.plans others
@@ -176,17 +178,18 @@ enrolled_ruling terms mine others ceiling moment (call.Delete id) =
 enrolled_ruling terms mine others ceiling moment (call.Clear extent) =
     clear_ruling mine.plans extent
 
--- the answer to a call; none is made to an operator that is not enrolled
+-- the ruling on a call of an operator, which has a ceiling exactly if it is enrolled
 abbrev pub ruling_under : Option ℕ → Terms → Own → (Point → Option ℕ) → ℤ → Call → Ruling
 ruling_under None terms mine others moment asked = ruling_alone unknown_operator
 ruling_under (Some ceiling) terms mine others moment asked =
     enrolled_ruling terms mine others ceiling moment asked
 
+-- the same, with the ceiling among what the operator owns
 unfoldable pub verdict : Terms → Own → (Point → Option ℕ) → ℤ → Call → Ruling
 verdict terms mine others moment asked =
     ruling_under mine.ceiling terms mine others moment asked
 
--- the operator's side after a call
+-- what an operator owns once a ruling has replaced its plans, and its side of the desk after a call
 abbrev pub own_left : Own → Option (List PlanRow) → Own
 own_left mine plans = record mine { plans = unwrap_or plans mine.plans }
 
@@ -194,31 +197,32 @@ unfoldable pub side_left : Side → (Point → Option ℕ) → ℤ → Call → 
 side_left mine others moment asked =
     record mine { own = own_left mine.own (verdict mine.terms mine.own others moment asked).plans }
 
--- a world with an operator's plans replaced, where they changed
+-- the world `w` with the operator's plans replaced by `rows`, if there are any such
 abbrev pub world_with_plans : World → List ℕ → Option (List PlanRow) → World
 world_with_plans w operator None = w
 world_with_plans w operator (Some rows) = with_plans w operator rows
 
--- the verdict in a desk's world. It is read through the desk's terms, what the operator owns
--- and what others hold alone
+-- the ruling on a call in a desk's world: it depends only on the desk's terms, on what the operator owns and
+-- on what others hold
 abbrev pub ruling_in : DeskWorld → List ℕ → ℤ → Call → Ruling
 ruling_in w operator moment asked =
     verdict w.terms (own w.content operator) (held_in w operator) moment asked
 
--- a call at a moment: what the caller is answered, and the desk's world after it
+-- what the caller of a call at a moment is answered
 unfoldable pub reported_to : DeskWorld → List ℕ → ℤ → Call → Reported
 reported_to w operator moment asked = (ruling_in w operator moment asked).reported
 
--- whether it makes a change: a plan is stored or closed, as it may be already, or some are taken out
+-- whether the call makes a change: a plan is stored or closed, even if it is so already, or plans are removed
 unfoldable pub makes_change : DeskWorld → List ℕ → ℤ → Call → Bool
 makes_change w operator moment asked = is_some (ruling_in w operator moment asked).plans
 
+-- the desk's world after the call
 unfoldable pub step : DeskWorld → List ℕ → ℤ → Call → DeskWorld
 step w operator moment asked =
     record w {
       content = world_with_plans w.content operator (ruling_in w operator moment asked).plans;
     }
 
--- the desk's world after a call of an operator
+-- the same for `asked`, an operator and its call
 abbrev pub step_by : DeskWorld → ℤ → Asked → DeskWorld
 step_by w moment asked = step w asked.operator moment asked.call

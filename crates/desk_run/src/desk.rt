@@ -18,11 +18,11 @@ use std::marker::Model;
 
 /// A desk over a store.
 ///
-/// The replies and changes of a call are guaranteed if the storage is still intact ("honest") as the call
-/// ends. In any case, a call that returns an error leaves the content unchanged.
+/// What a call replies and changes is proved if the storage is still intact ("honest") as the call ends. In
+/// any case, a call that returns an error leaves the operators and plans unchanged.
 ///
-/// After a crash within a call, a start finds the content before the call or the one after it; once the call
-/// has returned a reply, the one after it.
+/// After a crash during a call, a start finds the operators and plans as they were before the call or as they
+/// are after it; once the call has returned a reply, as they are after it.
 #[derive(Drop)]
 pub struct Desk<S> {
     store: S,
@@ -50,15 +50,15 @@ impl<S> Desk<S> {
         }
     }
 
-    /// Returns the store, without the terms.
+    /// Takes the desk apart and returns its store. The terms are dropped.
     pub fn into_store(self) -> S
         ensures { result ≡ self.store }
     {
         self.store
     }
 
-    /// Permits these priorities, and no others: plans of an equal priority may share points if it is
-    /// permitted. Stored plans stay as they are.
+    /// Permits these priorities, and no others, for later calls: two plans of the same priority may share
+    /// points if it is permitted. Stored plans stay as they are.
     pub fn permit(&mut self, permitted: Permitted)
         ensures { self.new ≡ record {
           store = self.old.store;
@@ -86,7 +86,8 @@ impl<S: PlanStore> Desk<S> {
     ghost use Rattle.desk_run.specs.Verdicts.{step_by};
     ghost use Rattle.desk_run.specs.Calls.{ReportsReply, Prepares, CanCommit, reply_in, world_committed};
 
-    /// Enrols the operator with a ceiling of at most 1,000, or replaces its ceiling. Its plans stay.
+    /// Enrols the operator with `ceiling`, the greatest priority that its plans may have (at most 1,000), or
+    /// replaces its ceiling. Its plans stay.
     ///
     /// # Errors
     ///
@@ -112,8 +113,8 @@ impl<S: PlanStore> Desk<S> {
         Ok(())
     }
 
-    /// Prepares the reply to a call at `moment` (a Unix second), and the change for `commit`. Changes
-    /// nothing.
+    /// Prepares the reply to `asked`, an operator's call, at `moment` (a Unix second), and the change for
+    /// `commit`. Changes nothing.
     ///
     /// # Errors
     ///
@@ -160,7 +161,7 @@ impl<S: PlanStore> Desk<S> {
         Ok(reply)
     }
 
-    /// Answers a call at `moment` (a Unix second), and makes its change.
+    /// Answers `asked`, an operator's call, at `moment` (a Unix second), and makes its change.
     ///
     /// # Errors
     ///

@@ -5,7 +5,7 @@ use std::alloc::AllocError;
 use std::error::Error;
 use std::fmt;
 
-/// Why a call has no reply. The operators and plans are unchanged.
+/// Why a call has no reply, or an enrolment failed. The operators and plans are unchanged.
 #[derive(Clone, Copy, Debug, PartialEq, Eq)]
 pub enum DeskFault {
     /// Memory ran out.
@@ -16,7 +16,7 @@ pub enum DeskFault {
     UnknownOperator,
     /// The operator has no plan with this id.
     NoSuchPlan,
-    /// The ceiling is above 1,000.
+    /// The ceiling of an enrolment is above 1,000.
     Ceiling,
 }
 
@@ -26,6 +26,7 @@ impl fmt::Display for DeskFault {
 
     ghost output = { λ fault. Some (desk_fault_text fault) };
 
+    // The fault as a sentence, in lower case and without a full stop.
     fn fmt<W: fmt::Write>(&self, f: &mut fmt::Formatter<W>) -> fmt::Result {
         f.pad(match self {
             DeskFault::OutOfMemory => "out of memory",
@@ -45,6 +46,7 @@ impl From<StoreFault> for DeskFault {
 
     ghost from_gives = { λ fault e. e ≡ fault_of fault };
 
+    // The fault of the store, as the fault of the call that met it.
     fn from(fault: StoreFault) -> DeskFault {
         match fault {
             StoreFault::OutOfMemory => DeskFault::OutOfMemory,
@@ -59,6 +61,7 @@ impl From<AllocError> for DeskFault {
 
     ghost from_gives = { λ _ e. e ≡ OutOfMemory };
 
+    // An allocation failed, so memory ran out.
     fn from(_error: AllocError) -> DeskFault {
         DeskFault::OutOfMemory
     }

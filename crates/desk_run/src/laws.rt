@@ -20,8 +20,8 @@ pub fn others_are_kept()
         side (step w operator moment call) other ≡ side w other }
 {}
 
-/// An operator's ceiling and plans after its request depend only on those before, on what others hold, and on
-/// the desk's terms, which stay.
+/// An operator's ceiling and plans after its request depend only on those before, on the request and its
+/// moment, on what others hold, and on the desk's terms, which stay.
 pub fn own_is_decided()
     ensures { (w : DeskWorld) (operator : List ℕ) (moment : ℤ) (call : Call) →
         side (step w operator moment call) operator
@@ -50,10 +50,10 @@ pub fn repeated()
         enrolled (enrolled w name ceiling) name ceiling ≡ enrolled w name ceiling }
 {}
 
-/// Noninterference: take two runs with the same calls of an operator in the same order and at the same
-/// moments, from states in which it owns the same, on the same terms. If others hold the same before each of
-/// these calls, then the operator is answered the same, and owns the same after each of them and at the end,
-/// whatever calls others make in between.
+/// Noninterference: take two runs, `calls` from `v` and `others` from `w`, with the same calls of `operator`
+/// in the same order and at the same moments, from states in which it owns the same, on the same terms. If
+/// other operators hold the same before each of these calls, then the operator is answered the same, and owns
+/// the same after each of them and at the end, whatever calls others make in between.
 pub fn two_runs()
     ensures { (operator : List ℕ) (v w : DeskWorld) (calls others : List TimedCall) →
         OwnAlike operator v w → calls_of operator calls ≡ calls_of operator others →

@@ -44,7 +44,8 @@ impl Pending {
         &self.reply
     }
 
-    /// Whether there is a change to commit: a plan is to be stored or closed, or plans are to be removed.
+    /// Whether there is a change to commit: a plan is to be stored or closed, even if it is so already, or
+    /// plans are to be removed.
     pub fn has_change(&self) -> bool
         ensures { result ≡ has_change self.now }
     {
@@ -70,8 +71,8 @@ impl Pending {
     }
 }
 
-// Prepares the reply to a call at `moment` (a Unix second), and its change, at a desk with these terms.
-// Changes nothing.
+// Prepares the reply to `asked`, an operator's call, at `moment` (a Unix second), and its change, over
+// `store` on these terms. Changes nothing. `UnknownOperator` if the operator is not enrolled.
 pub fn prepare_over<S: PlanStore>(
     alloc: Global,
     store: &mut S,

@@ -71,7 +71,8 @@ impl Ran {
 }
 
 impl<S: PlanStore> Desk<S> {
-    /// Answers calls, each at its moment (a Unix second), until memory runs out or the store fails in one.
+    /// Answers `calls` in order, each at its moment (a Unix second), until memory runs out or the store fails
+    /// in one. A call that ends in `UnknownOperator` or `NoSuchPlan` does not stop the run.
     ///
     /// # Errors
     ///
@@ -90,7 +91,7 @@ impl<S: PlanStore> Desk<S> {
     }
 }
 
-// Copies of outcomes, in their order.
+// A copy of each outcome, in their order.
 fn copies(outcomes: &Vec<Outcome>) -> Result<Vec<Outcome>, AllocError>
     ensures { IfOk result (λ copies. map as_reported copies.items ≡ map as_reported outcomes.now.items) }
 {
@@ -101,7 +102,7 @@ fn copies(outcomes: &Vec<Outcome>) -> Result<Vec<Outcome>, AllocError>
     Ok(copies)
 }
 
-// Answers calls at a desk, as `Desk::run` says.
+// Answers `calls` at `desk`, as `Desk::run` says.
 fn run_over<S: PlanStore>(
     alloc: Global,
     desk: &mut Desk<S>,
@@ -132,7 +133,7 @@ fn run_over<S: PlanStore>(
     })
 }
 
-// The outcome of a call, or the error that stops a run: `OutOfMemory` or `Store`.
+// The outcome of a call that returned `answered`, or the error that stops a run: `OutOfMemory` or `Store`.
 fn outcome_of(answered: Result<Reply, DeskFault>) -> Result<Outcome, DeskFault>
     ensures { result ≡ spec.call_outcome answered }
 {

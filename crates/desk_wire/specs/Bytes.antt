@@ -12,7 +12,7 @@ use Rattle.desk_wire.specs.RefusalTexts.{refusal_status, refusal_text, server_er
 use Rattle.desk_run.specs.Verdicts.{Reported, replied, unknown_operator, no_such_plan, makes_change, reported_to, step}
 use Rattle.desk_run.specs.DeskWorld.{DeskWorld}
 
--- the text of what a caller is answered
+-- the bytes of the answer to a caller
 unfoldable pub text : Reported → List ℕ
 text (replied reply) = reply_text reply
 text unknown_operator = refusal_text UnknownOperator
@@ -24,7 +24,7 @@ status (replied reply) = 200
 status unknown_operator = refusal_status UnknownOperator
 status no_such_plan = refusal_status NoSuchPlan
 
--- the answer to what is asked at a moment, or to the fault that was met
+-- the bytes of the answer in the world `w` at a moment: to what a request asks, or to the fault that it has
 abbrev pub text_for : DeskWorld → ℤ → Reading Asked → List ℕ
 text_for w moment (Ok a) = text (reported_to w a.operator moment a.call)
 text_for w moment (Err fault) = refusal_text (Fault fault)
@@ -34,29 +34,29 @@ abbrev pub status_for : DeskWorld → ℤ → Reading Asked → ℕ
 status_for w moment (Ok a) = status (reported_to w a.operator moment a.call)
 status_for w moment (Err fault) = fault_status fault
 
--- what it leaves: a fault leaves all as it was
+-- the world that the request leaves: one with a fault leaves `w` as it was
 abbrev pub world_after : DeskWorld → ℤ → Reading Asked → DeskWorld
 world_after w moment (Ok a) = step w a.operator moment a.call
 world_after w moment (Err fault) = w
 
--- whether it makes a change: a fault makes none
+-- whether the request makes a change: one with a fault makes none
 abbrev pub makes_change_for : DeskWorld → ℤ → Reading Asked → Bool
 makes_change_for w moment (Ok a) = makes_change w a.operator moment a.call
 makes_change_for w moment (Err fault) = false
 
--- the answer, and what is left, are those of what is asked
+-- the answer, and the world after it, are those that the rules say
 pub record IsDone (w : DeskWorld) (moment : ℤ) (reading : Reading Asked) (answer : List ℕ)
     (after : DeskWorld) : Type 0 where
   pub reported : answer ≡ text_for w moment reading
   pub left : after ≡ world_after w moment reading
 
--- the desk failed: the answer says why, and all is as it was
+-- the desk failed: the answer says why, and the world is as it was
 pub record IsServerError (why : ServerError) (w : DeskWorld) (answer : List ℕ)
     (after : DeskWorld) : Type 0 where
   pub reported : answer ≡ server_error_text why
   pub left : after ≡ w
 
--- the answer to what is asked, and what it leaves, by whether the desk failed
+-- the answer and the world after it, by why the desk failed, if it did
 abbrev pub IsAnsweredSo : Option ServerError → DeskWorld → ℤ → Reading Asked → List ℕ → DeskWorld → Type 0
 IsAnsweredSo None w moment reading answer after = IsDone w moment reading answer after
 IsAnsweredSo (Some why) w moment reading answer after = IsServerError why w answer after
@@ -66,12 +66,13 @@ abbrev pub status_so : Option ServerError → DeskWorld → ℤ → Reading Aske
 status_so None w moment reading = status_for w moment reading
 status_so (Some why) w moment reading = 500
 
--- whether a change was made
+-- whether a change was made: not if the desk failed
 abbrev pub makes_change_so : Option ServerError → DeskWorld → ℤ → Reading Asked → Bool
 makes_change_so None w moment reading = makes_change_for w moment reading
 makes_change_so (Some why) w moment reading = false
 
--- what was made of what is asked, where the desk didn't fail: the text and its status code, never 500
+-- the answer `made` to a request in the world `w`, where the desk didn't fail, and the world after it; its
+-- status is never 500. `H` says that the store is honest
 pub record IsMadeAnswer (H : Type 0) (w : DeskWorld) (moment : ℤ) (reading : Reading Asked)
     (after : DeskWorld)
     (made : Response) : Type 0 where
@@ -80,7 +81,8 @@ pub record IsMadeAnswer (H : Type 0) (w : DeskWorld) (moment : ℤ) (reading : R
   pub change : H → made.made_change ≡ makes_change_for w moment reading
   pub other : made.status ≢ 500
 
--- the answer with its status code; why the desk failed is reported whether the store is honest or not
+-- the answer to a request in the world `w`, and the world after it. `H` says that the store is honest; what
+-- is said of a desk that failed holds in any case
 pub record IsAnswerReported (H : Type 0) (w : DeskWorld) (moment : ℤ) (reading : Reading Asked)
     (after : DeskWorld)
     (answer : Answer) : Type 0 where

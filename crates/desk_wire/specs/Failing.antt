@@ -1,4 +1,4 @@
--- Failing: why a desk failed, by what was made of a request.
+-- Failing: why a desk failed, by the result of answering a request.
 use Rattle.std.specs.Prelude.{Option, Some, None, option_map, Result, Ok, Err}
 use Rattle.desk_run.specs.declared.fault.DeskFault.{DeskFault}
 use Rattle.desk_run.specs.declared.fault.DeskFault.TheVariants as desk
@@ -16,7 +16,7 @@ abbrev pub failure_of : {V : Type 0} → Result V ServerError → Option DeskFau
 failure_of (Ok v) = None
 failure_of (Err why) = Some (desk_fault why)
 
--- the same of an answer, which reports it, or of none for want of memory
+-- the same by an answer, which reports it; without an answer, memory ran out
 abbrev pub failure_reported : {E : Type 0} → Result Answer E → Option DeskFault
 failure_reported (Ok answer) = option_map desk_fault answer.error
 failure_reported (Err e) = Some desk.OutOfMemory

@@ -1,5 +1,5 @@
--- Which of the answers that a desk gave, to a list of requests or to a stream of them, are the answers to
--- what they ask.
+-- How many of the answers that a desk gave, to a list of requests or to a stream of them, are the answers
+-- that the rules say.
 use Rattle.std.specs.Prelude.{◌≡◌, ◌⊎◌, ◌-◌, ◌+◌, ℕ, ℤ, List, [], ◌∷◌, ◌++◌, length, Option, IfSome}
 use Rattle.std.specs.List.{concat}
 use Rattle.std.specs.Io.KnownBytes.{Appends}
@@ -18,14 +18,15 @@ use Rattle.desk_wire.specs.Playing.{at_moment}
 use Rattle.desk_wire.specs.RefusalTexts.{server_error_text}
 use Rattle.desk_wire.specs.Streams.{requests_in}
 
--- all of them, but for a last one that says why the desk failed
+-- how many of a list of answers are those that the rules say: all of them, but for a last one that says why
+-- the desk failed
 abbrev pub answered : AnswersEnd → List (List ℕ) → ℕ
 answered All answers = length answers
 answered Broken answers = length answers - 1
 answered NoMemory answers = length answers
 
--- how many of the requests of a stream that were answered have the answer to what they ask: all of them, but
--- for a last one at which the desk failed
+-- how many of the `count` requests of a stream that were answered have the answer that the rules say: all of
+-- them, but for a last one at which the desk failed
 abbrev pub reported_in_play : PlayEnd → ℕ → ℕ
 reported_in_play play.End count = count
 reported_in_play play.Unframed count = count
@@ -33,7 +34,8 @@ reported_in_play play.Limit count = count
 reported_in_play play.Broken count = count - 1
 reported_in_play (play.Fault fault) count = count
 
--- what is written after their answers: why the desk failed, the first bytes of the next answer, or nothing
+-- `more` is what was written after their answers: an answer that says why the desk failed, the first bytes of
+-- an answer that was not written whole, or nothing
 abbrev pub FollowsBy : PlayEnd → List ℕ → Type 0
 FollowsBy play.End more = more ≡ []
 FollowsBy play.Unframed more = more ≡ []
@@ -44,8 +46,8 @@ FollowsBy (play.Fault Read) more = more ≡ []
 FollowsBy (play.Fault CutShort) more = more ≡ []
 FollowsBy (play.Fault OutOfMemory) more = more ≡ []
 
--- what is left, by the world that the requests leave: that world; or, if the next answer was broken off, what
--- its request leaves, unless that answer said that the desk failed
+-- the world `after`, by the world `w` that these requests leave: the same; or, if the next answer was not
+-- written whole, the world that its request leaves, or the same if that answer said that the desk failed
 abbrev pub LeavesBy : PlayEnd → (List ℕ → Type 0) → DeskWorld → ℤ → DeskWorld → Type 0
 LeavesBy play.End IsNext w moment after = after ≡ w
 LeavesBy play.Unframed IsNext w moment after = after ≡ w
@@ -57,12 +59,13 @@ LeavesBy (play.Fault Read) IsNext w moment after = after ≡ w
 LeavesBy (play.Fault CutShort) IsNext w moment after = after ≡ w
 LeavesBy (play.Fault OutOfMemory) IsNext w moment after = after ≡ w
 
--- the request that follows the first n of a stream, if its bytes are known
+-- `next` is the request that follows the first n of a stream, `requests`; if the bytes of the stream, `old`,
+-- are known
 abbrev pub IsNextIn : Option (List ℕ) → ℕ → List (List ℕ) → List ℕ → Type 0
 IsNextIn old n requests next = IfSome old (λ stream. requests_in (n + 1) stream ≡ requests ++ next ∷ [])
 
--- the first n requests of a stream, all sent at one moment, have these answers, which are written one after
--- the other
+-- the first n requests of a stream, all sent at one moment, from the world `w` on, have these answers by the
+-- rules; the answers were written one after the other, and then what `FollowsBy` says
 pub record AreGiven (ended : PlayEnd) (n : ℕ) (p : Passage) (w : DeskWorld) (moment : ℤ)
     (after : DeskWorld) (requests answers : List (List ℕ)) : Type 0 where
   pub count : length requests ≡ n

@@ -13,9 +13,9 @@ use Rattle.desk_wire.specs.Playing.{HasPlayed, at_moment}
 use Rattle.desk_wire.specs.Streams.{requests_in}
 use Rattle.desk_wire.specs.TwoRuns.{SparesQuiet}
 
--- of the answers to lists of requests. Up to an answer 500 they are the answers of a run; so one request,
--- answered in two lists at worlds that look alike to its operator, was given equal bytes; and an operator
--- that sent nothing owns what it did
+-- of the answers to lists of requests. Up to an answer 500 they are those that the rules say (`first`). So
+-- one request, answered in two lists at worlds that look alike to its operator, was given equal bytes
+-- (`decided`). An operator that sent nothing owns what it did before (`quiet`)
 pub record AnswersGiven : Type 0 where
   pub first : (end : AnswersEnd) (w after : DeskWorld) (requests : List Sent) (answers : List (List ℕ))
       → AreAnswers end w requests answers after
@@ -29,9 +29,9 @@ pub record AnswersGiven : Type 0 where
       → AreAnswers end w requests answers after → SparesQuiet w requests after
 
 -- of what was written for streams of requests, if the store is honest. The first requests of the stream, all
--- sent at the moment, are answered as in a run, and their answers are written one after the other; so one
--- request, sent at one moment in two streams at worlds that look alike to its operator, was given equal
--- bytes; and an operator that sent nothing owns what it did
+-- sent at one moment, have the answers that the rules say, and these are written one after the other
+-- (`first`). So one request, sent at one moment in two streams at worlds that look alike to its operator, was
+-- given equal bytes (`decided`). An operator that sent nothing owns what it did before (`quiet`)
 pub record StreamGiven : Type 0 where
   pub first : (ended : PlayEnd) (doubt count : ℕ) (p : Passage) (w : DeskWorld) (moment : ℤ)
       (after : DeskWorld) → HasPlayed (IsHonest doubt) ended count p w moment after → IsHonest doubt

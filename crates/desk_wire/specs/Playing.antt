@@ -1,4 +1,4 @@
--- Playing: what comes of the requests of a stream, served one after the other.
+-- Playing: the result of serving the requests of a stream one after the other.
 use Rattle.std.specs.Prelude.{◌≡◌, ◌≢◌, ℕ, ℤ, ◌+◌, true, false, List, length, map, All, Option, Err}
 use Rattle.std.specs.List.{concat}
 use Rattle.std.specs.Io.KnownBytes.{Appends, Consumes, IsAtEnd}
@@ -20,13 +20,13 @@ max_answered = 1000000
 abbrev pub at_moment : ℤ → List (List ℕ) → List Sent
 at_moment moment requests = map (λ request. (moment, request)) requests
 
--- a request after which the place of the next is known
+-- a whole request, after which it is known where the next one begins
 pub record IsWhole (request : List ℕ) : Type 0 where
   pub whole : IsRequest request
   pub framed : is_framed request ≡ true
 
--- so many requests are taken one after the other, and, if the store is honest, their answers are
--- written and what they leave is left
+-- `count` requests were read one after the other, from the world `w` on; and if the store is honest (`H`),
+-- their answers were written, and `after` is the world that they leave
 pub record ArePlayed (H : Type 0) (count : ℕ) (p : Passage) (w : DeskWorld) (moment : ℤ)
     (after : DeskWorld) : Type 0 where
   pub requests : List (List ℕ)
@@ -37,7 +37,7 @@ pub record ArePlayed (H : Type 0) (count : ℕ) (p : Passage) (w : DeskWorld) (m
       H → Appends p.writes.before p.writes.after (concat (answers_to w (at_moment moment requests)))
   pub left : H → after ≡ world_left w (at_moment moment requests)
 
--- one more request is taken, and its answer is that the desk failed
+-- one more request was read, and its answer says that the desk failed
 pub record IsBroken (p : Passage) (w after : DeskWorld) : Type 0 where
   pub request : List ℕ
   pub taken : IsTaken p.reads.before p.reads.after request
@@ -45,14 +45,15 @@ pub record IsBroken (p : Passage) (w after : DeskWorld) : Type 0 where
   pub written : Appends p.writes.before p.writes.after answer
   pub failed : (why : ServerError) × IsServerError why w answer after
 
--- one more request has the answer to what it asks, and the place of the next is unknown
+-- one more request was answered with another status than 500, and it is unknown where the next one begins
 pub record IsUnframed (H : Type 0) (p : Passage) (w : DeskWorld) (moment : ℤ) (after : DeskWorld) :
     Type 0 where
   pub status : ℕ
   pub served : IsServed H p w moment after status false
   pub answered : status ≢ 500
 
--- what comes after the first requests, by why the run ended; the number of requests that are answered
+-- what follows the first `count` requests, by why serving ended; `answered` is the number of all requests
+-- that were answered
 abbrev pub EndsRunBy : Type 0 → PlayEnd → ℕ → ℕ → Passage → DeskWorld → ℤ → DeskWorld → Type 0
 EndsRunBy H End count answered p w moment after =
     (answered ≡ count) × IsAtEnd p.reads.before × IsUntouched p.writes.before p.writes.after w after
@@ -64,7 +65,10 @@ EndsRunBy H Limit count answered p w moment after = (answered ≡ count) × (cou
 EndsRunBy H (Fault fault) count answered p w moment after =
     (answered ≡ count) × HasServed H (Err fault) p w moment after
 
--- the first requests are answered in their order, and then the run ends
+-- the result of serving a stream from the world `w` to the world `after`: the first `count` requests are
+-- answered in their order, and then serving ends for the reason `ended`. `H` says that the store is honest;
+-- `p` are the bytes that were read and written; `input`, `output` and `world` are those after these first
+-- requests
 pub record HasPlayed (H : Type 0) (ended : PlayEnd) (answered : ℕ) (p : Passage) (w : DeskWorld)
     (moment : ℤ) (after : DeskWorld) : Type 0 where
   pub count : ℕ

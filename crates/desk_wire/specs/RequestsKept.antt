@@ -21,17 +21,17 @@ use Rattle.desk_wire.specs.Playing.{at_moment}
 use Rattle.desk_wire.specs.OneRequest.{IsTaken}
 use Rattle.desk_wire.specs.Streams.{requests_in}
 
--- what is found is the content that the next request leaves
+-- `found` is the content that the next request leaves in the world `w`
 abbrev pub IsLeftBy : (List ℕ → Type 0) → DeskWorld → ℤ → Option World → Type 0
 IsLeftBy IsNext w moment found =
     (next : List ℕ) × IsNext next × (found ≡ Some (world_after w moment (asked next)).content)
 
--- the content that is there, or the one that the next request leaves
+-- `found` is the content of the world `w`, or the one that the next request leaves
 abbrev pub IsOldOrNext : (List ℕ → Type 0) → DeskWorld → ℤ → Option World → Type 0
 IsOldOrNext IsNext w moment found = (found ≡ Some w.content) ⊎ IsLeftBy IsNext w moment found
 
--- one request was answered whole and not by a 500, or no whole request was read: so its change is kept, or
--- there is none
+-- by the result of serving one request it is certain whether a start finds its change: the request was
+-- answered whole and not by a 500, or no whole request was read
 abbrev pub IsCertain : Result Served ServeFault → Type 0
 IsCertain (Ok (served.Answered status framed)) = status ≢ 500
 IsCertain (Ok served.End) = ⊤
@@ -40,15 +40,16 @@ IsCertain (Err CutShort) = ⊤
 IsCertain (Err OutOfMemory) = ⊥
 IsCertain (Err (Write fault)) = ⊥
 
--- what is found after one request: the content that is left; or, if that is what was there before, what might
--- have been found before, or what the request would have left, if its change isn't certain
+-- `found` is what a start may find after one request, served in the world `w`, which is now `after`: the
+-- content of `after`; or, if nothing changed, what might have been found before, or, unless `IsCertain` holds,
+-- the content that the request would have left
 abbrev pub IsFoundNow :
     Result Served ServeFault → (Option World → Type 0) → (List ℕ → Type 0) → DeskWorld → ℤ → DeskWorld
     → Option World → Type 0
 IsFoundNow served before IsNext w moment after found = (found ≡ Some after.content)
     ⊎ ((after ≡ w) × (before found ⊎ ((¬ IsCertain served) × IsLeftBy IsNext w moment found)))
 
--- what a start may find after one request, at whatever moment the program ends
+-- what a start may find after one request, wherever the program ends while it serves it
 pub record IsServedKept {S : Type 0} (g : Ghosts S) (old new : Parts S) (served : Result Served ServeFault)
     (p : Passage) (moment : ℤ) : Type 0 where
   pub crash : IsHonest (g.doubt new.store) → (found : Option World) → g.may_leave new.store found
@@ -60,7 +61,9 @@ pub record IsServedKept {S : Type 0} (g : Ghosts S) (old new : Parts S) (served 
       → IsFoundNow served (g.may_leave old.store) (IsTaken p.reads.before p.reads.after)
       (world_of g.content old) moment (world_of g.content new) found
 
--- by why a run ended: the change of a request whose answer is a 500, or isn't whole, may be found or not
+-- `found` is what a start may find after the first requests of a stream left the world `w`, by why serving
+-- ended: the content of `w`; and after `Broken`, `OutOfMemory` and `Write`, maybe the content that the next
+-- request leaves
 abbrev pub FindsBy : PlayEnd → (List ℕ → Type 0) → DeskWorld → ℤ → Option World → Type 0
 FindsBy End IsNext w moment found = found ≡ Some w.content
 FindsBy Unframed IsNext w moment found = found ≡ Some w.content
@@ -71,7 +74,8 @@ FindsBy (Fault CutShort) IsNext w moment found = found ≡ Some w.content
 FindsBy (Fault OutOfMemory) IsNext w moment found = IsOldOrNext IsNext w moment found
 FindsBy (Fault (Write fault)) IsNext w moment found = IsOldOrNext IsNext w moment found
 
--- the first requests of a stream have their answers, which were written; and what is found
+-- the first n requests of a stream have the answers that the rules say, which were written; and `found` is
+-- what a start may find
 pub record IsKept (ended : PlayEnd) (n : ℕ) (p : Passage) (w : DeskWorld) (moment : ℤ) (after : DeskWorld)
     (found : Option World) : Type 0 where
   pub requests : List (List ℕ)
@@ -80,7 +84,7 @@ pub record IsKept (ended : PlayEnd) (n : ℕ) (p : Passage) (w : DeskWorld) (mom
   pub finds : FindsBy ended (IsNextIn p.reads.before n requests)
       (world_left w (at_moment moment requests)) moment found
 
--- after n answers, what is found is what the first n requests of a list left, or what the first n + 1 left
+-- after n answers, a start finds the content after the first n requests of a list, or that after n + 1
 abbrev pub IsFoundInRequests : DeskWorld → List Sent → ℕ → Option World → Type 0
 IsFoundInRequests w requests n found = (found ≡ Some (world_at w requests n).content)
     ⊎ (found ≡ Some (world_at w requests (n + 1)).content)
@@ -89,7 +93,7 @@ IsFoundInRequests w requests n found = (found ≡ Some (world_at w requests n).c
 abbrev pub content_after : DeskWorld → ℤ → List ℕ → ℕ → World
 content_after w moment stream n = (world_left w (at_moment moment (requests_in n stream))).content
 
--- the same of the requests of a stream
+-- after n answers, a start finds the content after the first n requests of a stream, or that after n + 1
 abbrev pub IsFoundInStream : DeskWorld → ℤ → List ℕ → ℕ → Option World → Type 0
 IsFoundInStream w moment stream n found = (found ≡ Some (content_after w moment stream n))
     ⊎ (found ≡ Some (content_after w moment stream (n + 1)))

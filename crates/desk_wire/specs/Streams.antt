@@ -10,22 +10,23 @@ use Rattle.request_parser.specs.Messages.{FrontParts, MessageParts, front_in, fr
 use Rattle.request_parser.specs.Readings.{Reading}
 use Rattle.request_parser.specs.WireLimits.{head_room}
 
--- how many bytes the first request of a stream has before its body: those of its head, or the first
--- `room` if no head ends within them. None if the stream ends before
+-- how many bytes are read of a stream's first request before its body: those of its head, or `room` if no
+-- head ends within so many. None if the stream ends before
 unfoldable pub front_within : ℕ → List ℕ → Option ℕ
 front_within room stream =
     option_or (head_len room stream) (if nat_lt (length stream) room then None else Some room)
 
--- what these bytes are: a head, and how many bytes of a body follow it, or their fault
+-- what these bytes are: a head, with how many bytes of a body follow it, or the fault that they have
 unfoldable pub front_read : List ℕ → Reading FrontParts
 front_read front = if ends_head front then front_in front else Err HeadTooLarge
 
--- how many bytes of a body follow: none after a fault
+-- how many bytes of a body are to be read: 0 after a fault, since it isn't known then
 abbrev pub size_said : Reading FrontParts → ℕ
 size_said (Ok front) = front.size
 size_said (Err fault) = 0
 
--- the length of a request whose body has `size` bytes, if the stream is as long
+-- the length of a request with `front` bytes before a body of `size` bytes. None if the stream, of which
+-- `there` bytes are there, is shorter
 abbrev pub whole_len : ℕ → ℕ → ℕ → Option ℕ
 whole_len there front size = if nat_lt there (front + size) then None else Some (front + size)
 
@@ -36,15 +37,16 @@ request_len stream =
     (λ front. whole_len (length stream) front (size_said (front_read (take front stream))))
     (front_within head_room stream)
 
--- the bytes are one request of a stream, and no more
+-- the bytes are one whole request of a stream, and no more
 abbrev pub IsRequest : List ℕ → Type 0
 IsRequest bytes = request_len bytes ≡ Some (length bytes)
 
--- the place of the next request is known: the request has no fault of its framing
+-- whether it is known where the next request begins: this one can be split into head and body
 abbrev pub is_framed : List ℕ → Bool
 is_framed request = is_ok (message_in request)
 
--- a request at the front of a stream, and those that follow it if the place of the next is known
+-- the request of this length at the front of a stream, and those that `next` finds after it, if it is known
+-- where the next one begins
 abbrev pub with_next : (List ℕ → List (List ℕ)) → List ℕ → Option ℕ → List (List ℕ)
 with_next next stream None = []
 with_next next stream (Some len) =
@@ -61,23 +63,23 @@ pub record IsCut (stream : List ℕ) : Type 0 where
   pub some : 0 < length stream
   pub cut : request_len stream ≡ None
 
--- the byte, if there is one
+-- the byte as a list, empty if there is none
 abbrev pub byte_list : Option ℕ → List ℕ
 byte_list None = []
 byte_list (Some b) = b ∷ []
 
--- a front that was read, or the fault that was met
+-- the parts of the code's `Front`, or its fault
 abbrev pub front_reading : Result Front WireFault → Reading FrontParts
 front_reading (Ok front) = Ok (front_shown front)
 front_reading (Err fault) = Err fault
 
--- the message of a front and a body, or the fault that was met
+-- the message of a front and a body, or the fault of the front
 abbrev pub with_body : Reading FrontParts → List ℕ → Reading MessageParts
 with_body (Ok front) body = Ok (record { head = front.head; body = body })
 with_body (Err fault) body = Err fault
 
--- the bytes before the body of a request: they are its head, or as many as a head may have; no shorter ones
--- are
+-- the bytes that are read of a request before its body: a head, or as many as a head may have; no shorter
+-- prefix of them is a head
 pub record IsFront (text : List ℕ) : Type 0 where
   pub none : least (λ n. ends_head (take n text)) (length text) ≡ None
   pub within : length text ≤ head_room

@@ -25,7 +25,7 @@ use io_ends::Moment;
 use request_parser::{Message, ReadError, WireFault, parse_message, read_message};
 use std::alloc::{AllocError, Global};
 
-/// How many bytes are reserved before a request is carried out: enough for an answer 500.
+/// How many bytes are reserved before a request is carried out: enough for any answer with the status 500.
 const RESERVED_LEN: usize = 512;
 
 // An answer with another status than 500.
@@ -36,12 +36,13 @@ struct Response {
     made_change: bool,
 }
 
-/// Carries out `text`, the bytes of one whole request, at `moment`, and returns the answer.
+/// Carries out `text`, the bytes of one whole request, at `moment`, and returns the bytes of the answer.
 ///
 /// # Errors
 ///
-/// `AllocError` if memory runs out at the beginning: nothing changed. If memory runs out later, or the store
-/// fails, the answer has the status 500 and nothing changed; but the next start may find the change made.
+/// `AllocError` if memory runs out before the request is carried out: nothing changed. If memory runs out
+/// later, or the store fails, the answer has the status 500 and nothing changed; but the next start may find
+/// the change made.
 pub fn answer<S: PlanStore>(
     alloc: Global,
     desk: &mut Desk<S>,
@@ -61,7 +62,7 @@ pub fn answer<S: PlanStore>(
 ///
 /// # Errors
 ///
-/// `AllocError` if memory runs out at the beginning: nothing changed.
+/// `AllocError`, as in `answer`.
 pub fn answer_with_status<S: PlanStore>(
     alloc: Global,
     desk: &mut Desk<S>,
@@ -77,11 +78,12 @@ pub fn answer_with_status<S: PlanStore>(
     answer_request(alloc, desk, moment, &read_message(text))
 }
 
-/// Carries out a request that is split into head and body already; a fault of these is answered, too.
+/// Carries out `request`, which is split into head and body already, at `moment`. If it is a fault, because
+/// it could not be split, the answer says so. Memory for an answer 500 is reserved first.
 ///
 /// # Errors
 ///
-/// `AllocError` if memory runs out at the beginning: nothing changed.
+/// `AllocError` if this memory can't be reserved: nothing changed.
 pub fn answer_request<S: PlanStore>(
     alloc: Global,
     desk: &mut Desk<S>,
@@ -116,7 +118,8 @@ pub fn answer_request<S: PlanStore>(
     }
 }
 
-// The answer to such a request or fault. An error says why the answer has to be a 500.
+// The answer to `request`, a request split into head and body, or a fault. An error says why the answer has
+// to be a 500; nothing has changed then.
 fn respond<S: PlanStore>(
     alloc: Global,
     desk: &mut Desk<S>,
@@ -135,7 +138,7 @@ fn respond<S: PlanStore>(
     }
 }
 
-// Parses a request and carries it out.
+// Parses `message`, a request, and carries it out. The errors are those of `respond`.
 fn answer_message<S: PlanStore>(
     alloc: Global,
     desk: &mut Desk<S>,
@@ -155,7 +158,8 @@ fn answer_message<S: PlanStore>(
     }
 }
 
-// Carries out a call: prepares its reply and its change, and then commits it.
+// Carries out `asked`, an operator's call: prepares its reply and its change, and then commits the change.
+// The errors are those of `respond`. (`Ceiling` never comes: only an enrolment has it.)
 fn answer_call<S: PlanStore>(
     alloc: Global,
     desk: &mut Desk<S>,
@@ -176,7 +180,8 @@ fn answer_call<S: PlanStore>(
     }
 }
 
-// Makes the answer, and only then commits the change, so that nothing can fail after the commit.
+// Makes the answer to a prepared call, and only then commits its change, so that nothing can fail after the
+// commit. The errors are those of `respond`.
 fn answer_pending<S: PlanStore>(
     alloc: Global,
     desk: &mut Desk<S>,
@@ -205,7 +210,7 @@ fn answer_pending<S: PlanStore>(
     }
 }
 
-// The answer with the error that `refusal` says.
+// The answer to a request that is refused for the reason `refusal`. It fails only if memory runs out.
 #[tactic(auto, unfolding(crate::specs::RefusalTexts::refusal_text))]
 fn refuse(alloc: Global, refusal: Refusal) -> Result<Response, ServerError>
     ensures bytes { IfOk result (λ r. r.bytes.items ≡ refusal_text refusal) }

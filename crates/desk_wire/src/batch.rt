@@ -22,6 +22,7 @@ use std::alloc::{AllocError, Global};
 /// The answers to a list of requests, in its order, as far as they were made.
 #[derive(Debug, Drop)]
 pub struct Answers {
+    /// Each is a whole HTTP response.
     pub answers: Vec<Vec<u8>>,
     /// Why there are no more of them.
     pub ended: AnswersEnd,
@@ -70,11 +71,11 @@ pub enum AnswersEnd {
 }
 
 /// Answers `requests` in order, each the bytes of one whole request with its moment, until an answer has the
-/// status 500.
+/// status 500, or memory runs out before a request is carried out.
 ///
 /// # Errors
 ///
-/// `AllocError` if the list of answers can't be allocated: nothing changed.
+/// `AllocError` if the list of answers can't be allocated, before any request: nothing changed.
 pub fn answer_all<S: PlanStore>(
     alloc: Global,
     desk: &mut Desk<S>,

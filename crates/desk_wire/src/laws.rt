@@ -24,10 +24,11 @@ pub fn headline()
     ensures { Headline }
 {}
 
-/// Take two runs from states in which `operator` owns the same, with the same requests of that operator
-/// in the same order and at the same moments. If others hold the same before each of these requests,
-/// then the answers to these are equal byte for byte, and the operator owns the same after each of them
-/// and at the end, whatever requests of others come between.
+/// Take two runs, of `requests` from `v` and of `others` from `w`, states in which `operator` owns the same,
+/// with the same requests of that operator in the same order and at the same moments. If other operators hold
+/// the same before each of these requests, then the answers to these are equal byte for byte, and the
+/// operator owns the same after each of them and at the end, whatever requests of other operators come
+/// between.
 pub fn two_runs()
     ensures { (operator : List ℕ) (v w : DeskWorld) (requests others : List Sent) →
         OwnAlike operator v w → requests_of operator requests ≡ requests_of operator others →
@@ -47,9 +48,10 @@ pub fn stream_given()
     ensures { StreamGiven }
 {}
 
-/// Kept: a start after a stream, however that ended, finds the state after the first `n` requests of the
-/// stream, or after the first `n` and the next one. Here `n` requests were answered, none with a 500, and the
-/// state before was durable (by the clause `kept` of `play_all`).
+/// A start after a stream, however that ended, finds the operators and plans after the first `n` requests of
+/// the stream, or after these and the next one. Here `n` is the number of requests that were answered with
+/// another status than 500, and `w` is the state before the stream, which was durable (by the clause `kept`
+/// of `play_all`).
 pub fn kept()
     ensures { (ended : PlayEnd) (n : ℕ) (passage : Passage) (stream : List ℕ) (w : DeskWorld)
         (moment : ℤ) (after : DeskWorld) (found : Option World) →
@@ -57,16 +59,16 @@ pub fn kept()
         IsFoundInStream w moment stream n found }
 {}
 
-/// Repeated: requests are idempotent. The same request twice in a row, at the same moment, results in the
-/// same state as once.
+/// Requests are idempotent: the same request twice in a row, at the same moment, results in the same state as
+/// once. (The second answer may differ: a clear finds no plan then.)
 pub fn repeated()
     ensures { (w : DeskWorld) (moment : ℤ) (request : List ℕ) →
         world_after (world_after w moment (asked request)) moment (asked request)
         ≡ world_after w moment (asked request) }
 {}
 
-/// The framing is unambiguous: if a stream begins with a request, its first request is that one, whatever
-/// follows. So there is one way to split a stream into requests.
+/// The framing is unambiguous: if a stream begins with the bytes of a request, its first request is that one,
+/// whatever follows (`rest`). So there is only one way to split a stream into requests.
 pub fn request_ends()
     ensures { (request rest : List ℕ) → IsRequest request →
         request_len (request ++ rest) ≡ Some (length request) }

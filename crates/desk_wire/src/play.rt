@@ -1,4 +1,4 @@
-//! Serving a stream: its requests are answered one after the other.
+//! Serving a whole stream: its requests are answered one after the other.
 
 ghost use Rattle.std.specs.Prelude.{◌≡◌, ◌≤◌, ◌==◌};
 ghost use Rattle.desk_store.specs.StoreFrames.{Remembers};
@@ -25,14 +25,14 @@ const MAX_ANSWERED: u32 = 1_000_000;
 /// The result of serving a stream.
 #[derive(Clone, Copy, Debug, PartialEq, Eq)]
 pub struct Played {
-    /// How many requests were answered.
+    /// How many requests were answered whole, the last one maybe with a 500.
     pub answered: u32,
-    /// Why it ended.
+    /// Why serving ended.
     pub ended: PlayEnd,
 }
 
-/// Answers the requests of `input` one after the other, all at the same `moment`, until one of the ends of
-/// `PlayEnd`.
+/// Answers the requests of `input` one after the other, all at the same `moment`, and writes the answers to
+/// `output`, until one of the ends of `PlayEnd`. At most `MAX_ANSWERED` requests are answered.
 pub fn play_all<S: PlanStore, R: Read, W: Write>(
     alloc: Global,
     desk: &mut Desk<S>,
@@ -83,7 +83,7 @@ pub fn play_all<S: PlanStore, R: Read, W: Write>(
     }
 }
 
-// Whether `status` is 500: the desk failed.
+// Whether `status` is 500, which says that the desk itself failed.
 fn is_server_error(status: u16) -> bool
     ensures { result ≡ (status == 500) }
 {

@@ -13,7 +13,7 @@ pub enum Refusal {
     Fault(WireFault),
     /// The operator is not enrolled.
     UnknownOperator,
-    /// The operator has no plan of the id.
+    /// The operator has no plan with the id of the request.
     NoSuchPlan,
 }
 
@@ -40,7 +40,7 @@ impl Refusal {
         }
     }
 
-    /// The methods that the field `allow` lists, if the status is 405 (RFC 9110, section 15.5.6).
+    /// The methods that the field `allow` lists, if the status is 405 (RFC 9110, section 15.5.6); else None.
     pub fn allow(self) -> Option<&'static str>
         ensures { option_map (λ s. s.now) result ≡ spec.refusal_allow self }
     {

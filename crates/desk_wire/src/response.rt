@@ -16,12 +16,13 @@ pub struct Answer {
     pub bytes: Vec<u8>,
     /// Why the desk failed, if the status is 500.
     pub error: Option<ServerError>,
-    /// Whether the database was changed: a plan was stored or closed, or plans were removed.
+    /// Whether the database was changed: a plan was stored or closed, even if it was so already, or plans
+    /// were removed. False if the status is 500.
     pub made_change: bool,
 }
 
 impl Answer {
-    /// A copy of this answer.
+    /// A copy of this answer, all of it.
     ///
     /// # Errors
     ///
@@ -51,10 +52,10 @@ pub enum ServerError {
 }
 
 impl ServerError {
-    /// The whole HTTP response, which needs no allocation.
+    /// The whole HTTP response, with the status 500. It needs no allocation, and has at most 512 bytes.
     pub fn answer(self) -> &'static [u8]
         ensures value { result.now ≡ spec.server_error_text self }
-        ensures room { length result.now ≤ 512 }
+        ensures fits { length result.now ≤ 512 }
     {
         match self {
             ServerError::OutOfMemory => out_of_memory_answer(),
@@ -66,6 +67,7 @@ impl ServerError {
 impl From<AllocError> for ServerError {
     ghost from_gives = { λ _ e. e ≡ error.OutOfMemory };
 
+    // An allocation failed, so memory ran out.
     fn from(_error: AllocError) -> ServerError {
         ServerError::OutOfMemory
     }

@@ -1,4 +1,5 @@
-//! Connections: requests read from a stream, and their answers written to one.
+//! Connections: requests read from a stream, and their answers written to one. A function that reads fails
+//! with `Read` if a read fails, and with `OutOfMemory` if memory runs out.
 
 ghost use Rattle.std.specs.Prelude.{◌≡◌, ◌<◌, ◌+◌, ◌++◌, [], length, take, IfErr, IfOk};
 ghost use Rattle.std.specs.Prelude.{IfSome, None};
@@ -24,19 +25,19 @@ use request_parser::{Front, HEAD_ROOM, Message, WireFault, is_ended, read_front}
 use std::alloc::Global;
 use std::io::{self, Read, Write};
 
-/// The maximum number of reads for one request.
+/// The maximum number of reads for one request, interrupted ones included.
 const MAX_READS: u32 = 200_000;
 
 /// The maximum number of bytes of a body that are read at once.
 const CHUNK: usize = 4_096;
 
-/// Reads one request from `input`, carries it out at `moment`, and writes the answer to `output`. The head is
-/// read byte by byte, so that nothing after the request is consumed. Interrupted reads and writes are
-/// retried.
+/// Reads one request from `input`, carries it out at `moment`, and writes the answer to `output`; or returns
+/// `End` if the input has ended. The head is read byte by byte, so that nothing after the request is
+/// consumed. Interrupted reads and writes are retried.
 ///
 /// # Errors
 ///
-/// As `ServeFault` says.
+/// Those of `ServeFault`, which says for each what was changed.
 pub fn serve_one<S: PlanStore, R: Read, W: Write>(
     alloc: Global,
     desk: &mut Desk<S>,
@@ -66,8 +67,8 @@ pub fn serve_one<S: PlanStore, R: Read, W: Write>(
     Ok(served(answer.status, &request))
 }
 
-/// Reads the bytes of one request; they are empty if the input has ended. The head is read byte by byte, so
-/// that nothing after the request is consumed. Interrupted reads are retried.
+/// Reads the bytes of one request from `input`, as they are; they are empty if the input has ended. The head
+/// is read byte by byte, so that nothing after the request is consumed. Interrupted reads are retried.
 ///
 /// # Errors
 ///
@@ -87,7 +88,7 @@ pub fn receive_request<R: Read>(alloc: Global, input: &mut R) -> Result<Vec<u8>,
     append_body(head, &body)
 }
 
-// Appends the body to the head.
+// The bytes of `head`, and then those of `body`. It fails only if memory runs out.
 fn append_body(mut head: Vec<u8>, body: &[u8]) -> Result<Vec<u8>, ServeFault>
     ensures ok { IfOk result (λ whole. whole.items ≡ head.items ++ body.now) }
     ensures err { IfErr result (λ fault. fault ≡ serve_fault.OutOfMemory) }
@@ -96,7 +97,8 @@ fn append_body(mut head: Vec<u8>, body: &[u8]) -> Result<Vec<u8>, ServeFault>
     Ok(head)
 }
 
-// The result for a request that was answered with `status`: framed if it could be split into head and body.
+// The result of serving `request`, which was answered with `status`: it is framed if it could be split into
+// head and body.
 fn served(status: u16, request: &Result<Message<'_>, WireFault>) -> Served
     ensures { result ≡ Served.Answered status (is_ok request.now) }
 {
@@ -106,7 +108,8 @@ fn served(status: u16, request: &Result<Message<'_>, WireFault>) -> Served
     }
 }
 
-// Parses `text`, the bytes read as a head, and finds the length of the body that is to follow.
+// Parses `text`, the bytes read as a head, and finds the length of the body that is to follow. `HeadTooLarge`
+// if no head ends with them.
 #[tactic(auto, unfolding(crate::specs::Streams::front_read))]
 fn parse_front(text: &[u8]) -> Result<Front<'_>, WireFault>
     ensures { front_reading result ≡ front_read text.now }
@@ -118,7 +121,8 @@ fn parse_front(text: &[u8]) -> Result<Front<'_>, WireFault>
     }
 }
 
-// The length of the body that is to be read: 0 after a fault, since it isn't known then.
+// The length of the body that is to be read after `front`, in bytes: 0 after a fault, since it isn't known
+// then.
 fn body_size(front: &Result<Front<'_>, WireFault>) -> u64
     ensures { result ≡ size_said (front_reading front.now) }
 {
@@ -128,7 +132,7 @@ fn body_size(front: &Result<Front<'_>, WireFault>) -> u64
     }
 }
 
-// The request with this head and `body`, unless the head has a fault.
+// The request with the head of `front` and with `body`, or the fault of the head.
 fn attach_body<'t>(
     front: Result<Front<'t>, WireFault>,
     body: &'t [u8],
@@ -141,8 +145,8 @@ fn attach_body<'t>(
     }
 }
 
-// Reads a head byte by byte, up to its end or to `HEAD_ROOM` bytes. It is empty if the input had
-// ended.
+// Reads a head byte by byte, up to its end or to `HEAD_ROOM` bytes. It is empty if the input has ended.
+// `CutShort` if the input ends inside it. `reads` is how many reads are left for the request.
 fn receive_head<R: Read>(
     alloc: Global,
     input: &mut R,
@@ -171,7 +175,7 @@ fn receive_head<R: Read>(
     Ok(text)
 }
 
-// The next byte. None if the input has ended.
+// The next byte of `input`. None if the input has ended. `reads` is how many reads are left for the request.
 fn receive_byte<R: Read>(input: &mut R, reads: &mut u32) -> Result<Option<u8>, ServeFault>
     ensures taken { IfOk result (λ byte.
         Consumes (R.remaining input.old) (R.remaining input.new) (byte_list byte)) }
@@ -183,7 +187,8 @@ fn receive_byte<R: Read>(input: &mut R, reads: &mut u32) -> Result<Option<u8>, S
     Ok((count > 0).then_some(room[0]))
 }
 
-// Reads a body of `size` bytes.
+// Reads a body of `size` bytes, in at most `size` reads that bring a byte or more. `CutShort` if the input
+// ends before. `reads` is how many reads are left for the request.
 fn receive_body<R: Read>(
     alloc: Global,
     input: &mut R,
@@ -213,7 +218,9 @@ fn receive_body<R: Read>(
     Ok(body)
 }
 
-// Reads once into `room`, and retries an interrupted read while `reads`, the reads left, is above 0.
+// Reads once into `room`, and returns how many bytes came: 0 at the end of the input. An interrupted read is
+// retried as long as `reads`, how many reads are left, is above 0; after that, and if a read fails, the error
+// is `Read`.
 fn receive_retrying<R: Read>(
     input: &mut R,
     room: &mut [u8],
@@ -235,7 +242,7 @@ fn receive_retrying<R: Read>(
     Err(ServeFault::Read)
 }
 
-// Reads once, and counts that in `left`, the reads left, even if it fails.
+// Reads once into `room`, and takes one from `left`, how many reads are left, even if the read fails.
 fn read_counted<R: Read>(input: &mut R, room: &mut [u8], left: &mut u32) -> io::Result<usize>
     requires { 0 < left.old }
     ensures bound { ReadsAtMost result room.new }

@@ -1,4 +1,4 @@
--- Read first: Answer, PlanBody, Replies.
+-- Read first: Answer, PlanBody, ReplyText.
 pub mod Answer
 pub mod PlanWords
 pub mod PlanBody

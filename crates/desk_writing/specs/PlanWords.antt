@@ -34,7 +34,7 @@ aircraft_word Aircraft.Nominal = codes "Nominal"
 aircraft_word Aircraft.OffNominal = codes "OffNominal"
 aircraft_word Aircraft.Contingent = codes "Contingent"
 
--- why a request was refused
+-- the word of a note, which says why a PUT was rejected or not supported
 abbrev pub note_word : Note → List ℕ
 note_word Note.Style = codes "style"
 note_word Note.State = codes "state"

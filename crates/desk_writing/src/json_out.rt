@@ -1,4 +1,4 @@
-//! The bodies of answers, as JSON.
+//! The bodies of answers, as JSON. Each function fails only if memory runs out.
 ghost use Rattle.std.specs.Prelude.{◌≡◌, IfOk, codes};
 ghost use Rattle.serde_json.specs.Data.{object, member};
 ghost use Rattle.serde_json.specs.View.{view};
@@ -50,7 +50,7 @@ fn cleared_value(alloc: Global, count: u32) -> Result<Value, AllocError>
     json!(in alloc; {"outcome": {"message": message.as_str(), "success": true}})
 }
 
-// The body of the answer to a PUT or a DELETE.
+// The body of the answer to a PUT or a DELETE, with its conflict if `put.meeting` is one.
 fn put_value(alloc: Global, put: PutReply) -> Result<Value, AllocError>
     ensures { IfOk result (λ v. view v ≡ put_data put.status put.result put.note put.meeting) }
 {
@@ -63,7 +63,7 @@ fn put_value(alloc: Global, put: PutReply) -> Result<Value, AllocError>
     }
 }
 
-// The result of a PUT or a DELETE without a conflict.
+// The body of the answer to a PUT or a DELETE without a conflict; `outcome` is its `planning_result`.
 fn outcome_value(
     alloc: Global,
     status: PlanStatus,
@@ -79,7 +79,8 @@ fn outcome_value(
     })
 }
 
-// The result of a PUT with a conflict.
+// The body of the answer to a PUT with a conflict; `conflict` is that as JSON, and `outcome` its
+// `planning_result`.
 fn outcome_with_conflict_value(
     alloc: Global,
     status: PlanStatus,
@@ -98,7 +99,8 @@ fn outcome_with_conflict_value(
     })
 }
 
-/// The `conflict` of a plan: its first blocked point, and the priority held there.
+/// The `conflict` of a plan: its first blocked point, whose leaf cell `cell` names by its S2 token, and the
+/// greatest priority held there.
 pub fn conflict_value(alloc: Global, meeting: Meeting) -> Result<Value, AllocError>
     ensures { IfOk result (λ v. view v ≡ conflict_data meeting) }
 {

@@ -1,4 +1,4 @@
-//! Plans as JSON, as List and Show return them.
+//! Plans as JSON, as List and Show return them. Each function fails only if memory runs out.
 
 ghost use Rattle.std.specs.Prelude.{◌≡◌, IfOk, codes};
 ghost use Rattle.serde_json.specs.Data.{object, member};
@@ -39,7 +39,7 @@ pub fn shown_value(alloc: Global, shown: &Shown) -> Result<Value, AllocError>
     }
 }
 
-// A plan without a conflict; `area` is its area as JSON.
+// A plan without a conflict; `area` is its area as JSON. `buffer` is for the id: a UUID in 36 characters.
 fn plan_value(alloc: Global, shown: &Shown, area: Value) -> Result<Value, AllocError>
     ensures { IfOk result (λ v. view v
         ≡ object (member (codes "area") (view area) (row_members shown.now))) }
@@ -55,7 +55,8 @@ fn plan_value(alloc: Global, shown: &Shown, area: Value) -> Result<Value, AllocE
     })
 }
 
-// A plan with a conflict; `area` and `conflict` are JSON already.
+// A plan with a conflict; `area` and `conflict` are its own as JSON. `buffer` is for the id: a UUID in 36
+// characters.
 fn plan_with_conflict_value(
     alloc: Global,
     shown: &Shown,
@@ -77,7 +78,7 @@ fn plan_with_conflict_value(
     })
 }
 
-// The volumes of an area, in their order.
+// The volumes of `area` as JSON, in their order.
 fn area_value(alloc: Global, area: &Area) -> Result<Value, AllocError>
     ensures { IfOk result (λ v. view v ≡ area_data area.now) }
 {
@@ -88,7 +89,7 @@ fn area_value(alloc: Global, area: &Area) -> Result<Value, AllocError>
     Ok(Value::Array(values))
 }
 
-// A volume: its footprint as it was requested, its altitudes and its seconds.
+// A volume as JSON: its footprint as it was requested, its altitudes in decimetres, its Unix seconds.
 fn volume_value(alloc: Global, volume: &Volume) -> Result<Value, AllocError>
     ensures { IfOk result (λ v. view v ≡ volume_data volume.now) }
 {
@@ -104,7 +105,7 @@ fn volume_value(alloc: Global, volume: &Volume) -> Result<Value, AllocError>
     }
 }
 
-// The tokens of `cells`, in their order.
+// The S2 tokens of `cells` as JSON, in their order.
 fn cells_value(alloc: Global, cells: &[CellId]) -> Result<Value, AllocError>
     ensures { IfOk result (λ v. view v ≡ cells_data cells.now) }
 {
@@ -115,7 +116,7 @@ fn cells_value(alloc: Global, cells: &[CellId]) -> Result<Value, AllocError>
     Ok(Value::Array(values))
 }
 
-// A volume over a list of cells; `cells` is that list as JSON.
+// A volume over a list of cells: `window` has its altitudes and seconds, `cells` is the list as JSON.
 fn cells_volume_value(alloc: Global, window: Window, cells: Value) -> Result<Value, AllocError>
     ensures { IfOk result (λ v. view v
         ≡ volume_with window (member (codes "cells") (view cells))) }
@@ -129,7 +130,7 @@ fn cells_volume_value(alloc: Global, window: Window, cells: Value) -> Result<Val
     })
 }
 
-// A rectangle, as it was requested.
+// The rectangle `rect` as JSON, as it was requested.
 fn rectangle_value(alloc: Global, rect: &Rect) -> Result<Value, AllocError>
     ensures { IfOk result (λ v. view v ≡ rectangle_data rect.now) }
 {
@@ -143,7 +144,7 @@ fn rectangle_value(alloc: Global, rect: &Rect) -> Result<Value, AllocError>
     })
 }
 
-// A volume over a rectangle; `rectangle` is that as JSON.
+// A volume over a rectangle: `volume` has its altitudes and seconds, `rectangle` is that as JSON.
 fn rectangle_volume_value(
     alloc: Global,
     volume: &Volume,

@@ -1,4 +1,4 @@
-//! The bytes of answers: HTTP/1.1 responses.
+//! The bytes of answers: HTTP/1.1 responses. A function that can fail does so only if memory runs out.
 ghost use Rattle.std.specs.Prelude.{◌≡◌, ◌≤◌, IfOk, None, codes, false, length, option_map, string_bytes};
 ghost use Rattle.serde_json.specs.View.{view};
 ghost use Rattle.serde_json.specs.Written.{has_float};
@@ -13,6 +13,10 @@ use serde_json::Value;
 use std::alloc::{AllocError, Global};
 
 /// The response for `reply`, with the status 200.
+///
+/// # Errors
+///
+/// `AllocError` if memory runs out.
 #[tactic(auto, unfolding(crate::specs::ReplyText::reply_text))]
 pub fn reply_answer(alloc: Global, reply: &Reply) -> Result<Vec<u8>, AllocError>
     ensures { IfOk result (λ v. v.items ≡ reply_text (said_in reply.now)) }
@@ -23,6 +27,10 @@ pub fn reply_answer(alloc: Global, reply: &Reply) -> Result<Vec<u8>, AllocError>
 
 /// The response with an error: its status code, and `word` as its error code. `allow` lists the resource's
 /// methods if the status is 405, and else is `None`.
+///
+/// # Errors
+///
+/// `AllocError` if memory runs out.
 #[tactic(auto, unfolding(crate::specs::Answer::error_text))]
 pub fn error_answer(
     alloc: Global,
@@ -37,25 +45,28 @@ pub fn error_answer(
     json_answer(alloc, status, allow, &value)
 }
 
-/// The response if memory ran out. It is static, since nothing can be allocated then.
+/// The response if memory ran out. It is static, since nothing can be allocated then, and has at most 512
+/// bytes, as many as are reserved for it before a request is carried out.
 pub fn out_of_memory_answer() -> &'static [u8]
     ensures value { result.now ≡ error_text 500 None (codes "out_of_memory") }
-    ensures room { length result.now ≤ 512 }
+    ensures fits { length result.now ≤ 512 }
 {
     b"HTTP/1.1 500 Internal Server Error\r\ncontent-type: application/json\r\n\
     content-length: 25\r\nconnection: close\r\n\r\n{\"error\":\"out_of_memory\"}"
 }
 
-/// The response if the store failed. It is static, so it can be sent even if memory is short.
+/// The response if the store failed. It is static, so it can be sent even if memory is short, and has at most
+/// 512 bytes, as many as are reserved for it.
 pub fn store_answer() -> &'static [u8]
     ensures value { result.now ≡ error_text 500 None (codes "store") }
-    ensures room { length result.now ≤ 512 }
+    ensures fits { length result.now ≤ 512 }
 {
     b"HTTP/1.1 500 Internal Server Error\r\ncontent-type: application/json\r\n\
     content-length: 17\r\nconnection: close\r\n\r\n{\"error\":\"store\"}"
 }
 
-// The response with this status, whose body is `value`.
+// The response with this status, whose body is `value` as JSON without white space; `allow` is as in
+// `error_answer`. `value` has no floating-point number: how one is printed isn't specified.
 #[tactic(auto, unfolding(crate::specs::Answer::json_answer))]
 fn json_answer(
     alloc: Global,
@@ -71,7 +82,7 @@ fn json_answer(
     Ok(response_text(alloc, status, allow, body.as_str())?.into_bytes())
 }
 
-// The response with this status and body.
+// The response with this status and this body, which is JSON; `allow` is as in `error_answer`.
 fn response_text(
     alloc: Global,
     status: StatusCode,
@@ -89,7 +100,7 @@ fn response_text(
     )
 }
 
-// The field line `allow` for these methods; the empty text if there are none.
+// The field line of `allow`, the methods that a resource has; the empty text if that is `None`.
 fn allow_line(alloc: Global, allow: Option<&str>) -> Result<String, AllocError>
     ensures { IfOk result (λ s. string_bytes s ≡ allow_line (option_map (λ s. s.now) allow.entry)) }
 {

@@ -29,7 +29,7 @@ pub fn result_word(outcome: PlanResult) -> &'static str
     }
 }
 
-// The word for `note`: why a PUT was rejected or not supported.
+// The word of `note`, which says why a PUT was rejected or not supported.
 fn note_word(note: Note) -> &'static str
     ensures { result.now ≡ words.note_word note }
 {

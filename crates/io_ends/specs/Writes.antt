@@ -1,4 +1,4 @@
--- Writes: how the last of some writes came out.
+-- Writes: the result of the last call of `write`.
 use Rattle.std.specs.Prelude.{◌≡◌, ◌≢◌, ◌<◌, ℕ, Result, Ok, Err}
 use Rattle.std.specs.IoError.{error_kind}
 use Rattle.std.specs.declared.io.Error.{Error}
@@ -6,7 +6,7 @@ use Rattle.std.specs.declared.io.ErrorKind.TheVariants.{Interrupted}
 use Rattle.io_ends.specs.declared.writes.LastWrite.{LastWrite}
 use Rattle.io_ends.specs.declared.writes.LastWrite.TheVariants.{Passed, Nothing, Failed}
 
--- how a write came out, by what it answered
+-- the kind of result that one call of `write` had, by what it returned
 abbrev pub IsLast : Result ℕ Error → LastWrite → Type 0
 IsLast (Ok count) Passed = 0 < count
 IsLast (Ok count) Nothing = count ≡ 0

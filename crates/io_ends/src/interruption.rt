@@ -5,7 +5,7 @@ ghost use Rattle.std.specs.IoError.{error_kind};
 
 use std::io::{self, ErrorKind};
 
-/// Whether `error` only says that the call was interrupted by a signal: then the call is retried.
+/// Whether `error` only says that a signal interrupted the call. The caller then makes the call again.
 pub fn is_interrupted(error: &io::Error) -> bool
     ensures { IsTrue result ↔ (error_kind error.now ≡ ErrorKind.Interrupted) }
 {

@@ -13,7 +13,7 @@ pub struct Moment {
 }
 
 impl Moment {
-    /// The moment of a Unix second, or `None` if the second is out of range.
+    /// The moment of a Unix second, or `None` if `second` is out of this range.
     pub fn try_new(second: i64) -> Option<Moment>
         ensures some { IfSome result (λ moment. moment.second ≡ second) }
         ensures none { result ≡ None → IsMoment second → ⊥ }

@@ -7,12 +7,12 @@ use crate::serving::ServeFault;
 pub enum PlayEnd {
     /// The input ended before any byte of a request.
     End,
-    /// It isn't known where the next request begins.
+    /// The last request can't be split into head and body, so it isn't known where the next one begins.
     Unframed,
     /// The last answer has the status 500. Its request's change may still be found at the next start.
     Broken,
     /// 1,000,000 requests were answered.
     Limit,
-    /// The last request has no whole answer.
+    /// The last request has no whole answer, for this reason.
     Fault(ServeFault),
 }

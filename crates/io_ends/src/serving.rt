@@ -20,13 +20,13 @@ pub enum Served {
 /// Why a request of a stream has no whole answer.
 #[derive(Clone, Copy, Debug, PartialEq, Eq)]
 pub enum ServeFault {
-    /// A read failed, or the request takes more than 200,000 reads.
+    /// A read failed, or the request takes more than 200,000 reads. Nothing was written or changed.
     Read,
-    /// Writing the answer failed part-way. The request's change was made.
+    /// Writing the answer failed part-way. The request's change was made, unless the answer is a 500.
     Write(PartialWrite),
     /// The input ended inside a request. Nothing was written or changed.
     CutShort,
-    /// Memory ran out. Nothing was written or changed.
+    /// Memory ran out before the request was carried out. Nothing was written or changed.
     OutOfMemory,
 }
 
@@ -36,6 +36,7 @@ impl fmt::Display for ServeFault {
 
     ghost output = { λ fault. Some (serve_fault_text fault) };
 
+    // The fault as a sentence; of a failed write, also how many bytes of the answer were written.
     fn fmt<W: fmt::Write>(&self, f: &mut fmt::Formatter<W>) -> fmt::Result {
         match self {
             ServeFault::Read => f.write_str("a read failed"),
@@ -54,6 +55,7 @@ impl Error for ServeFault {}
 impl<W> From<WriteError<W>> for ServeFault {
     ghost from_gives = { λ error e. e ≡ serve_fault.Write error.fault };
 
+    // Writing the answer failed part-way; how far it came is kept.
     fn from(error: WriteError<W>) -> ServeFault {
         ServeFault::Write(error.fault())
     }
@@ -62,6 +64,7 @@ impl<W> From<WriteError<W>> for ServeFault {
 impl From<AllocError> for ServeFault {
     ghost from_gives = { λ _ e. e ≡ serve_fault.OutOfMemory };
 
+    // An allocation failed, so memory ran out.
     fn from(_error: AllocError) -> ServeFault {
         ServeFault::OutOfMemory
     }

@@ -19,7 +19,8 @@ pub enum LastWrite {
     Failed,
 }
 
-/// How many calls of `write` there were, and the result of the last. Only `write_counted` adds to the count.
+/// The calls of `write` that were made so far: how many, and the result of the last one. Only `write_counted`
+/// adds a call.
 #[derive(Clone, Copy, Debug, PartialEq, Eq)]
 pub struct Writes {
     count: usize,
@@ -27,7 +28,7 @@ pub struct Writes {
 }
 
 impl Writes {
-    // The state before the first call.
+    // No calls yet: the count is 0, and a first call may follow.
     pub(crate) fn none() -> Writes
         ensures count { result.count ≡ 0 }
         ensures last { result.last ≡ LastWrite.Passed }
@@ -38,21 +39,21 @@ impl Writes {
         }
     }
 
-    /// The number of calls.
+    /// The number of calls, the failed and interrupted ones included.
     pub fn count(self) -> usize
         ensures { result ≡ self.count }
     {
         self.count
     }
 
-    // Whether another call may follow: the last one neither failed nor took no byte.
+    // Whether another call may follow: the last one took some bytes or was interrupted, or there was none.
     pub(crate) fn may_continue(self) -> bool
         ensures { IsTrue result ↔ (self.last ≡ LastWrite.Passed) }
     {
         matches!(self.last, LastWrite::Passed)
     }
 
-    /// The result of the last call.
+    /// The result of the last call; `Passed` if there was none.
     pub fn last(self) -> LastWrite
         ensures { result ≡ self.last }
     {
@@ -60,7 +61,8 @@ impl Writes {
     }
 }
 
-// Calls `write` once, and counts the call in `writes` even if it fails.
+// Calls `write` once with `bytes`, and adds the call to `writes` even if it fails. Returns how many of the
+// bytes were taken.
 pub(crate) fn write_counted<W: Write>(
     output: &mut W,
     bytes: &[u8],
@@ -79,7 +81,7 @@ pub(crate) fn write_counted<W: Write>(
     written
 }
 
-// Sorts the result of one call of `write`.
+// Classifies `written`, what one call of `write` returned. An interruption counts as passed.
 fn classify_write(written: &io::Result<usize>) -> LastWrite
     ensures { IsLast written.now result }
 {

@@ -9,7 +9,7 @@ use crate::writes::{LastWrite, Writes, write_counted};
 use std::io::{self, Write};
 use std::marker::PhantomData;
 
-/// How many calls of `write` are allowed beside one for each byte.
+/// How many calls of `write` are allowed beyond one for each byte, since some may be interrupted.
 const SPARE_WRITES: usize = 1_000;
 
 /// Why writing bytes ended.
@@ -25,7 +25,7 @@ pub enum WriteStop {
     Limit,
 }
 
-/// How far a write came that ended before the last byte.
+/// How far `write_whole` came if it ended before the last byte.
 #[derive(Clone, Copy, Debug, PartialEq, Eq)]
 pub struct PartialWrite {
     sent: usize,
@@ -34,7 +34,7 @@ pub struct PartialWrite {
 }
 
 impl PartialWrite {
-    /// The length of the prefix that was written.
+    /// How many bytes were written: the first ones.
     pub fn sent(self) -> usize
         ensures { result ≡ self.sent }
     {
@@ -48,7 +48,7 @@ impl PartialWrite {
         self.end
     }
 
-    /// The calls of `write` that were made.
+    /// The calls of `write` that were made: how many, and the result of the last one.
     pub fn writes(self) -> Writes
         ensures { result ≡ self.writes }
     {
@@ -56,8 +56,8 @@ impl PartialWrite {
     }
 }
 
-/// That a writer of type `W` failed part-way. Only `write_whole` makes one: so a function that is generic in
-/// `W` and returns one has called the writer that it was given.
+/// The error that writing to a `W` ended before the last byte. Only `write_whole` makes one: so a function
+/// that is generic in `W` and returns one has called the writer that it was given.
 #[derive_where(Clone, Copy, Debug, PartialEq, Eq)]
 pub struct WriteError<W> {
     fault: PartialWrite,
@@ -73,14 +73,15 @@ impl<W> WriteError<W> {
     }
 }
 
-// The length of the prefix that was written, and the calls of `write` that were made.
+// How many bytes were written, the first ones, and the calls of `write` that were made.
 #[derive(Clone, Copy)]
 struct Written {
     sent: usize,
     writes: Writes,
 }
 
-/// Writes all of `bytes`, in at most `bytes.len() + 1_000` calls of `write`; interrupted calls are retried.
+/// Writes all of `bytes` to `output`, in at most `bytes.len() + 1_000` calls of `write`. Interrupted calls
+/// are retried; the output is not flushed.
 ///
 /// # Errors
 ///
@@ -102,7 +103,8 @@ pub fn write_whole<W: Write>(output: &mut W, bytes: &[u8]) -> Result<(), WriteEr
     })
 }
 
-// Writes `bytes` until all are written, a call fails or takes no byte, or the allowed calls are used up.
+// Writes `bytes` to `output` until all are written, a call fails or takes no byte, or there were
+// `SPARE_WRITES` calls more than bytes. An interrupted call is no failure.
 fn write_most<W: Write>(output: &mut W, bytes: &[u8]) -> Written
     ensures written { Appends (W.contents output.old) (W.contents output.new)
         (take result.sent bytes.now) }
@@ -124,7 +126,7 @@ fn write_most<W: Write>(output: &mut W, bytes: &[u8]) -> Written
     Written { sent, writes }
 }
 
-// How many bytes a call took: none if it failed.
+// How many bytes a call took, by its result `written`: 0 if it failed.
 fn count_or_zero(written: io::Result<usize>) -> usize
     ensures ok { IfOk written (λ count. result ≡ count) }
     ensures err { OnErr written (result ≡ 0) }
@@ -132,7 +134,8 @@ fn count_or_zero(written: io::Result<usize>) -> usize
     written.unwrap_or(0)
 }
 
-// Why a write ended before the last byte, by the result of its last call.
+// Why writing ended before the last byte, by the result of the last call. If that passed, the allowed calls
+// were used up.
 fn stop_reason(last: LastWrite) -> WriteStop
     ensures { (writes : Writes) → (count : ℕ) → writes.last ≡ last
         → (last ≡ LastWrite.Passed → writes.count ≡ count + spare_writes) → EndsBy result writes count }

@@ -8,7 +8,7 @@ use Rattle.request_parser.specs.JsonIn.{body_value}
 use Rattle.request_parser.specs.VolumeIn.{volume_of}
 use Rattle.request_parser.specs.declared.wire_fault.WireFault.TheVariants.{BadMember}
 
--- the volume to clear: `extent`, an object
+-- the volume to clear, from the JSON of a body: its member `extent`, an object
 unfoldable pub clear_of : Data → Reading Block
 clear_of d =
     or_fault (get (codes "extent") d) BadMember λ extent.

@@ -23,7 +23,7 @@ fault_status BadMember = 400
 fault_status BadVolume = 400
 fault_status TooManyCells = 400
 
--- the word of `error`
+-- the error code in the answer's body, `{"error":WORD}`
 abbrev pub fault_word : WireFault → List ℕ
 fault_word HeadTooLarge = codes "too_large"
 fault_word BadHead = codes "bad_head"
@@ -60,6 +60,7 @@ fault_text BadMember = codes "a member of the body is missing or has a wrong for
 fault_text BadVolume = codes "a volume is malformed or out of its limits"
 fault_text TooManyCells = codes "a rectangle takes too many cells"
 
+-- the same for a reader's error
 abbrev pub read_error_text : ReadError → List ℕ
 read_error_text OutOfMemory = codes "out of memory"
 read_error_text (Fault fault) = fault_text fault

@@ -14,28 +14,29 @@ values_of name fields =
     map (λ (f : List ℕ × List ℕ). f.1)
     (filter (λ (f : List ℕ × List ℕ). str_eq_ignore_ascii_case f.0 name) fields)
 
--- how often a field is there, and its value if it is there once
+-- how often a field occurs: never, once with this value, or more than once
 pub data Count : Type 0 where
   absent : Count
   once : List ℕ → Count
   more : Count
 
+-- the count that the values of a field give
 abbrev pub once_of : List (List ℕ) → Count
 once_of [] = absent
 once_of (value ∷ []) = once value
 once_of (value ∷ next ∷ rest) = more
 
--- how often a field of that name is there
+-- how often the field `name` occurs among `fields`, pairs of a name and a value
 abbrev pub count_in : List ℕ → List (List ℕ × List ℕ) → Count
 count_in name fields = once_of (values_of name fields)
 
--- what the code's answer says
+-- the count that the code's `Occurrence` stands for
 abbrev pub count_shown : Occurrence → Count
 count_shown Absent = absent
 count_shown (Value value) = once value.now
 count_shown More = more
 
--- the number that 1 to 19 digits write
+-- the number that 1 to `digit_room` digits write
 abbrev pub decimal_of : List ℕ → Option ℕ
 decimal_of digits =
     if nat_lt 0 (length digits) && nat_le (length digits) digit_room && list_all is_ascii_digit digits

@@ -11,7 +11,7 @@ ends_head text =
     ends_with nat_eq text (line_feed ∷ line_feed ∷ [])
     || ends_with nat_eq text (line_feed ∷ carriage_return ∷ line_feed ∷ [])
 
--- the least number below the bound that passes the test
+-- the least number below the bound (the second argument) that passes the test
 abbrev pub least : (ℕ → Bool) → ℕ → Option ℕ
 least test zero = None
 least test (suc n) = option_or (least test n) (if test n then Some n else None)

@@ -80,7 +80,7 @@ is_request_head h =
     && nat_le h.minor 1
     && list_all is_field h.fields
 
--- the head, if its parts are of their classes and it is the text when printed
+-- the head `h`, if its parts are of their classes and `h`, printed, is the text
 abbrev pub checked_head : List ℕ → RequestHead → Option RequestHead
 checked_head text h = if is_request_head h && bytes_eq (print_request h) text then Some h else None
 
@@ -99,10 +99,11 @@ pub record HeadParts : Type 0 where
   pub target : List ℕ
   pub fields : List (List ℕ × List ℕ)
 
+-- the parts of a head
 abbrev pub head_parts : RequestHead → HeadParts
 head_parts h = record { method = h.method; target = h.target; fields = map name_and_value h.fields }
 
--- the same, of what a parser's spans cover
+-- the parts of the head `text`, by the spans that the parser found in it
 abbrev pub parts_at : List ℕ → RequestSpans → List HeaderSpan → HeadParts
 parts_at text r headers = record {
   method = span_bytes text r.method;

@@ -11,28 +11,29 @@ use Rattle.request_parser.specs.declared.wire_fault.WireFault.TheVariants.{BadJs
 unfoldable pub body_value : List ℕ → Reading Data
 body_value body = or_fault (if is_utf8 body then read body else None) BadJson Ok
 
--- a member that is a text, and one that is a whole number which fits 64 bits
+-- the member `key` of an object, if it is a text
 abbrev pub text_at : List ℕ → Data → Option (List ℕ)
 text_at key d = option_and_then as_str (get key d)
 
+-- a value, if it is an integer that fits an `i64`, and such a member of an object
 abbrev pub whole_of : Data → Option ℤ
 whole_of d = option_and_then as_i64 (as_number d)
 
 abbrev pub whole_at : List ℕ → Data → Option ℤ
 whole_at key d = option_and_then whole_of (get key d)
 
--- a member that is an array
+-- the member `key` of an object, if it is an array
 abbrev pub array_at : List ℕ → Data → Option Items
 array_at key d = option_and_then as_array (get key d)
 
--- a member that is there and is not null
+-- a value, if it is not null, and the member `key` of an object, if it is there and not null
 abbrev pub unless_null : Data → Option Data
 unless_null d = if is_some (as_null d) then None else Some d
 
 abbrev pub present : List ℕ → Data → Option Data
 present key d = option_and_then unless_null (get key d)
 
--- each item as f reads it, or the first fault
+-- what `f` reads from each item, in their order, or the first fault
 abbrev pub each : {A : Type 0} → (Data → Reading A) → Items → Reading (List A)
 each f no_items = Ok []
 each f (item d ds) = or_met (f d) λ x. or_met (each f ds) λ xs. Ok (x ∷ xs)

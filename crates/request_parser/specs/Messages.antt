@@ -17,6 +17,7 @@ pub record MessageParts : Type 0 where
   pub head : HeadParts
   pub body : List ℕ
 
+-- the parts of the code's `Message`
 abbrev pub message_shown : Message → MessageParts
 message_shown m = record { head = m.head; body = m.body.now }
 
@@ -30,16 +31,17 @@ pub record FrontParts : Type 0 where
   pub head : HeadParts
   pub size : ℕ
 
+-- those of the code's `Front`
 abbrev pub front_shown : Front → FrontParts
 front_shown f = record { head = f.head; size = f.size }
 
--- there is such a field
+-- whether a field occurs at all
 abbrev pub is_present : Count → Bool
 is_present absent = false
 is_present (once value) = true
 is_present more = true
 
--- how many bytes the body is to have, by the head's fields
+-- how many bytes the body is to have, by the fields of the head, or the first fault of these
 unfoldable pub body_len : List (List ℕ × List ℕ) → Reading ℕ
 body_len fields =
     guard (is_present (count_in (codes "transfer-encoding") fields)) TransferEncoding
@@ -47,7 +49,7 @@ body_len fields =
     guard (nat_lt body_room size) BodyTooLarge
     (Ok size))
 
--- the fault of a text in which no head ends
+-- the fault of a text in which no head ends: it may be incomplete, or is too long
 abbrev pub unended : List ℕ → WireFault
 unended text = if nat_lt (length text) head_room then BadHead else HeadTooLarge
 

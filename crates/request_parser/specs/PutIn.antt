@@ -41,6 +41,7 @@ aircraft_words =
     ∷ (codes "Contingent", Contingent)
     ∷ []
 
+-- what a word means. None for every other word
 unfoldable pub style_of : List ℕ → Option Style
 style_of word = value_beside style_words word
 
@@ -50,7 +51,7 @@ usage_of word = value_beside usage_words word
 unfoldable pub aircraft_of : List ℕ → Option Aircraft
 aircraft_of word = value_beside aircraft_words word
 
--- the members that hold them
+-- the members that have such words
 abbrev pub style_at : Data → Option Style
 style_at d = option_and_then style_of (text_at (codes "execution_style") d)
 
@@ -60,17 +61,17 @@ usage_at d = option_and_then usage_of (text_at (codes "usage_state") d)
 abbrev pub aircraft_at : Data → Option Aircraft
 aircraft_at d = option_and_then aircraft_of (text_at (codes "uas_state") d)
 
--- a priority, from 0 to the greatest
+-- a number, if it is a priority: from 0 to `max_priority`
 abbrev pub priority_number : ℤ → Option ℕ
 priority_number (pos n) = if nat_le n max_priority then Some n else None
 priority_number (negsuc n) = None
 
--- 0 if there is none
+-- the priority in the member `priority`: 0 if there is no such member
 abbrev pub priority_or_zero : Option Data → Reading ℕ
 priority_or_zero None = Ok 0
 priority_or_zero (Some d) = or_fault (option_and_then priority_number (whole_of d)) BadMember Ok
 
--- the priority among the rules of ASTM F3548-21, an object if they are there
+-- the priority in the member `astm_f3548_21`, which has to be an object: 0 if there is no such member
 abbrev pub priority_by : Option Data → Reading ℕ
 priority_by None = Ok 0
 priority_by (Some rules) =
@@ -81,7 +82,8 @@ priority_by (Some rules) =
 unfoldable pub priority_of : Data → Reading ℕ
 priority_of plan = priority_by (present (codes "astm_f3548_21") plan)
 
--- a request for the plan of this id. What fails of its own shape comes first, then its area.
+-- the request for the plan of this id that the JSON of a body is, or its first fault: those of its volumes
+-- come last
 unfoldable pub put_of : List ℕ → Data → Reading PutCall
 put_of id d =
     or_fault (style_at d) BadMember λ style.

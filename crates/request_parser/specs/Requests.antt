@@ -18,7 +18,7 @@ use Rattle.request_parser.specs.PutIn.{put_in}
 abbrev pub id_of : List ℕ → Reading (List ℕ)
 id_of text = or_fault (parsed text) BadPlanId Ok
 
--- the call that an action with an id and a body is. Only a PUT and a POST read the body.
+-- the call that an action with an id and a body is. Only a PUT and a clear read the body.
 abbrev pub call_by : Action → List ℕ → List ℕ → Reading Call
 call_by Status id body = Ok call.Status
 call_by ListPlans id body = Ok call.List
@@ -28,16 +28,16 @@ call_by Put id body =
     or_met (id_of id) λ plan_id. or_met (put_in plan_id body) λ put. Ok (call.Put put)
 call_by Clear id body = or_met (clear_in body) λ extent. Ok (call.Clear extent)
 
--- what the operator at an address asks with a body
+-- the operator of an address, and the call that its action, its id and a body are
 abbrev pub asked_at : AddressParts → List ℕ → Reading Asked
 asked_at address body =
     or_met (call_by address.action address.id body) λ made.
     Ok (record { operator = address.operator; call = made })
 
--- what a message asks: the address first, then the body
+-- what a message asks, or its first fault: those of the address come before those of the body
 unfoldable pub asked_by : MessageParts → Reading Asked
 asked_by message = or_met (address_of message.head) λ address. asked_at address message.body
 
--- what the bytes of one whole request ask: framing first
+-- what the bytes of one whole request ask, or their first fault: those of the framing come first
 unfoldable pub asked : List ℕ → Reading Asked
 asked text = or_met (message_in text) asked_by

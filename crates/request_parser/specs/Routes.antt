@@ -20,6 +20,7 @@ slash = 47
 abbrev pub path_of : List ℕ → List ℕ
 path_of target = before_first (λ b. b == question_mark) target
 
+-- whether a slash is among the bytes
 abbrev pub has_slash : List ℕ → Bool
 has_slash bytes = list_any (λ b. b == slash) bytes
 
@@ -32,7 +33,7 @@ is_segment (b ∷ bytes) = not (has_slash (b ∷ bytes))
 abbrev pub plans_folder : List ℕ
 plans_folder = codes "/flight_plans/"
 
--- what follows it
+-- what follows that in a path. None if the path doesn't begin with it
 abbrev pub rest_in : List ℕ → Option (List ℕ)
 rest_in path = if starts_with nat_eq path plans_folder then Some (drop (length plans_folder) path) else None
 
@@ -40,13 +41,14 @@ rest_in path = if starts_with nat_eq path plans_folder then Some (drop (length p
 unfoldable pub plan_id_in : List ℕ → Option (List ℕ)
 plan_id_in path = option_and_then (λ id. if is_segment id then Some id else None) (rest_in path)
 
--- a resource, with the id of a flight plan that its path names: empty if it names none
+-- a resource, and the plan id in its path, which is empty if the path has none
 pub record ResourcePlace : Type 0 where
   pub route : Route
   pub id : List ℕ
 
-abbrev pub whole : Route → ResourcePlace
-whole route = record { route = route; id = [] }
+-- the place of a resource whose path has no plan id, and that of the flight plan of an id
+abbrev pub place_without_id : Route → ResourcePlace
+place_without_id route = record { route = route; id = [] }
 
 abbrev pub plan_at : List ℕ → ResourcePlace
 plan_at id = record { route = FlightPlan; id = id }
@@ -54,15 +56,15 @@ plan_at id = record { route = FlightPlan; id = id }
 -- the resource that a path names
 unfoldable pub route_of : List ℕ → Option ResourcePlace
 route_of path =
-    if bytes_eq path (codes "/clear_area_requests") then Some (whole ClearAreaRequests)
-    else if bytes_eq path (codes "/flight_plans") then Some (whole FlightPlans)
-    else if bytes_eq path (codes "/status") then Some (whole Status)
+    if bytes_eq path (codes "/clear_area_requests") then Some (place_without_id ClearAreaRequests)
+    else if bytes_eq path (codes "/flight_plans") then Some (place_without_id FlightPlans)
+    else if bytes_eq path (codes "/status") then Some (place_without_id Status)
     else option_map plan_at (plan_id_in path)
 
 -- the same for a request target: one that isn't UTF-8 names no resource
 unfoldable pub route_in : List ℕ → Option ResourcePlace
 route_in target = if is_utf8 target then route_of (path_of target) else None
 
--- what the code's answer says
+-- the place that the code's `Target` stands for
 abbrev pub target_shown : Target → ResourcePlace
 target_shown target = record { route = target.route; id = target.id.now }

@@ -31,14 +31,14 @@ o >>= f = option_and_then f o
 unfoldable pub number_written : List ℕ → Option ℕ
 number_written digits = if list_all is_ascii_digit digits then Some (digits_value 10 digits) else None
 
--- the marks from `full-date` to `time-second` are at their places
+-- the separators of `YYYY-MM-DDTHH:MM:SS` are at their places
 unfoldable pub has_marks : List ℕ → Bool
 has_marks text =
     (slice_index text 4 == byte "-") && (slice_index text 7 == byte "-")
     && (to_ascii_uppercase (slice_index text 10) == byte "T")
     && (slice_index text 13 == byte ":") && (slice_index text 16 == byte ":")
 
--- the digits between these marks
+-- the numbers between these separators
 unfoldable pub civil_of : List ℕ → Option CivilTime
 civil_of text = do
   year ← number_written (slice_range text 0 4)
@@ -60,7 +60,8 @@ civil_of text = do
 abbrev pub digit_count : List ℕ → ℕ
 digit_count text = prefix_len is_ascii_digit text
 
--- the length of the `[time-secfrac]` with which a text begins: 0 if there is no point
+-- the length of the `[time-secfrac]` with which a text begins: 0 if there is no point. None if no digit
+-- follows the point
 unfoldable pub secfrac_len : List ℕ → Option ℕ
 secfrac_len text =
     if slice_index text 0 == byte "."
@@ -77,17 +78,17 @@ has_offset_marks text =
     (length text == 6) && ((slice_index text 0 == byte "+") || (slice_index text 0 == byte "-"))
     && (slice_index text 3 == byte ":")
 
--- so many seconds ahead of UTC, or behind it (section 4.2)
+-- an offset of so many seconds, negative if it is behind UTC (section 4.2)
 abbrev pub ahead_or_behind : Bool → ℕ → ℤ
 ahead_or_behind is_behind seconds = if is_behind then neg_ℤ (pos seconds) else pos seconds
 
--- an offset in seconds. `-00:00` is zero (section 4.3).
+-- the offset of an hour and a minute, in seconds. `-00:00` is zero (section 4.3). None if one is out of range
 abbrev pub offset_by : Bool → ℕ → ℕ → Option ℤ
 offset_by is_behind hour minute =
     if nat_le hour 23 && nat_le minute 59
     then Some (ahead_or_behind is_behind (hour * 3600 + minute * 60)) else None
 
--- a `time-numoffset`
+-- a `time-numoffset`, in seconds
 unfoldable pub numoffset_of : List ℕ → Option ℤ
 numoffset_of text =
     if has_offset_marks text
@@ -95,12 +96,12 @@ numoffset_of text =
     number_written (slice_range text 4 6) >>= λ minute.
     offset_by (slice_index text 0 == byte "-") hour minute) else None
 
--- a `time-offset`
+-- a `time-offset`, in seconds
 unfoldable pub offset_of : List ℕ → Option ℤ
 offset_of text =
     if str_eq_ignore_ascii_case text (codes "Z") then Some (pos 0) else numoffset_of text
 
--- the date and time of day, with the `[time-secfrac] time-offset` that follows it
+-- the time of `civil`, a date and time of day, with the `[time-secfrac] time-offset` that `rest` is
 unfoldable pub time_with : CivilTime → List ℕ → Option WrittenTime
 time_with civil rest =
     secfrac_len rest >>= λ len.
@@ -113,7 +114,7 @@ time_of text =
     if is_in_range 20 time_room (length text) && has_marks text
     then (civil_of text >>= λ civil. time_with civil (drop 19 text)) else None
 
--- what four digits and five times two digits can write
+-- each number is one that its digits can write: four for the year, two for every other
 pub record IsInDigits (w : CivilTime) : Type 0 where
   pub year : w.year < 10_000
   pub month : w.month < 100
@@ -122,12 +123,12 @@ pub record IsInDigits (w : CivilTime) : Type 0 where
   pub minute : w.minute < 100
   pub second : w.second < 100
 
--- at most a day, ahead or behind
+-- at most a day (86,400 seconds), ahead of UTC or behind it
 pub record IsOffset (offset : ℤ) : Type 0 where
   pub low : neg_ℤ (pos 86_400) ≤ℤ offset
   pub high : offset ≤ℤ pos 86_400
 
--- what a text can write
+-- its numbers and its offset are in these ranges, as those of every text are
 pub record IsWritten (t : WrittenTime) : Type 0 where
   pub civil : IsInDigits t.civil
   pub offset : IsOffset t.offset

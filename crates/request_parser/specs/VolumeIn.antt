@@ -29,6 +29,7 @@ unfoldable pub time_text : Data → Option (List ℕ)
 time_text d =
     if is_rfc3339 (text_at (codes "format") d) then text_at (codes "value") d else None
 
+-- the texts of the times of a volume, and the Unix seconds that these are
 abbrev pub time_at : List ℕ → Data → Option (List ℕ)
 time_at key d = option_and_then time_text (get key d)
 
@@ -38,7 +39,7 @@ start_at d = option_and_then start_of (time_at (codes "time_start") d)
 abbrev pub end_at : Data → Option ℤ
 end_at d = option_and_then end_of (time_at (codes "time_end") d)
 
--- the altitudes are members of the volume's `volume`, the times its own
+-- the window of the volume `d`: the altitudes are members of `shape`, its member `volume`, the times its own
 unfoldable pub window_of : Data → Data → Reading WindowParts
 window_of d shape =
     or_fault (whole_at (codes "altitude_lower") shape) BadVolume λ lower.
@@ -56,7 +57,7 @@ token_of d = or_fault (option_and_then (λ text. result_ok (read_token text)) (a
 unfoldable pub cells_of : Data → Reading (List ℕ)
 cells_of list = or_fault (as_array list) BadVolume (each token_of)
 
--- a member that is a whole number and not negative
+-- a number that is not negative, and a member that is such an integer
 abbrev pub natural : ℤ → Option ℕ
 natural (pos n) = Some n
 natural (negsuc n) = None
@@ -82,7 +83,7 @@ rectangle_of d =
       level = level;
     }))) BadVolume Ok
 
--- exactly one of a cell list and a rectangle is there
+-- the footprint, if exactly one of a cell list and a rectangle is there
 abbrev pub one_of : Option Data → Option Data → Reading Shape
 one_of (Some list) None = or_met (cells_of list) λ ids. Ok (cells ids)
 one_of None (Some d) = or_met (rectangle_of d) λ rect. Ok (rectangle rect)
@@ -93,7 +94,7 @@ one_of None None = Err BadVolume
 unfoldable pub footprint_of : Data → Reading Shape
 footprint_of shape = one_of (present (codes "cells") shape) (present (codes "rectangle") shape)
 
--- the fault of a footprint past its limit
+-- the fault of a footprint out of its limits: a cell list of none or too many, a rectangle of too many cells
 abbrev pub past_limit : Shape → WireFault
 past_limit (cells ids) = BadVolume
 past_limit (rectangle rect) = TooManyCells
@@ -104,7 +105,7 @@ volume_over footprint window =
     guard (not (is_footprint footprint)) (past_limit footprint) (
     Ok (record { footprint = footprint; window = window }))
 
--- a volume
+-- the volume that a JSON value is, or its first fault
 unfoldable pub volume_of : Data → Reading Block
 volume_of d =
     or_fault (get (codes "volume") d) BadVolume λ shape.

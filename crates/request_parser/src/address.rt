@@ -46,7 +46,7 @@ pub fn read_address<'t>(head: &Head<'t>) -> Result<Address<'t>, WireFault>
     })
 }
 
-// The operator, from the field `x-operator`. None if that doesn't occur just once, or is no operator's name.
+// The operator that the field `x-operator` names. None unless it occurs once, with an operator's name.
 fn find_operator(head: &Head<'_>) -> Option<Operator>
     ensures { result ≡ operator_of (count_in (codes "x-operator") head.now.fields) }
 {

@@ -11,7 +11,7 @@ use serde_json::Value;
 use std::alloc::Global;
 use volume4d::Volume;
 
-/// Parses the body of a request to clear: the volume whose plans are to be removed.
+/// Parses `body`, the JSON body of a request to clear: the volume whose plans are to be removed.
 ///
 /// # Errors
 ///
@@ -25,7 +25,7 @@ pub fn read_clear(alloc: Global, body: &[u8]) -> Result<Volume, ReadError>
     read_extent(alloc, &value)
 }
 
-// Reads that volume, the member `extent`, from the body's JSON.
+// Reads the volume of a request to clear from `value`, the JSON of its body: the member `extent`, an object.
 #[tactic(auto, unfolding(crate::specs::ClearIn::clear_of))]
 fn read_extent(alloc: Global, value: &Value) -> Result<Volume, ReadError>
     ensures { GivesIfRoom (λ volume. volume) result (spec.clear_of (view value.now)) }

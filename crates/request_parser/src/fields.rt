@@ -6,18 +6,22 @@ ghost use Rattle.request_parser.specs.Fields.{count_in, count_shown, decimal_of}
 
 use httparse::spans::HeaderSpan;
 
-/// The maximum number of digits of a number: each number of so many digits fits a `u64`.
+/// The maximum number of digits that `read_decimal` takes: every number of 19 digits fits a `u64`.
 const MAX_DIGITS: usize = 19;
 
-/// How often a field occurs, with its value if it occurs once.
+/// How often a field occurs in a head, and its value if it occurs once.
 #[derive(Clone, Copy, Debug, PartialEq, Eq)]
 pub enum Occurrence<'t> {
+    /// Never.
     Absent,
+    /// Once, with this value.
     Value(&'t [u8]),
+    /// More than once.
     More,
 }
 
-/// How often the field `name` occurs among `headers`, which are spans of `text`, in any case of letters.
+/// How often the field `name` occurs, in any case of letters, and its value if it occurs once. `headers` are
+/// the spans of the fields in `text`, a head.
 pub fn find_field<'t>(text: &'t [u8], headers: &[HeaderSpan], name: &[u8]) -> Occurrence<'t>
     requires { All (IsHeaderWithin (length text.now)) headers.now }
     ensures { count_shown result ≡ count_in name.now (map (header_bytes text.now) headers.now) }
@@ -34,7 +38,7 @@ pub fn find_field<'t>(text: &'t [u8], headers: &[HeaderSpan], name: &[u8]) -> Oc
     found
 }
 
-/// Parses 1 to 19 decimal digits. None for every other text.
+/// The number that `digits` write: 1 to `MAX_DIGITS` decimal digits. None for every other text.
 pub fn read_decimal(digits: &[u8]) -> Option<u64>
     ensures { result ≡ decimal_of digits.now }
 {

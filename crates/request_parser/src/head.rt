@@ -19,6 +19,7 @@ const MAX_FIELDS: usize = 64;
 pub struct Head<'t> {
     text: &'t [u8],
     spans: RequestSpans,
+    /// The first `spans.headers` of these are the spans of its fields.
     headers: [HeaderSpan; MAX_FIELDS],
 }
 

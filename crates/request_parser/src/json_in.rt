@@ -9,7 +9,7 @@ use crate::wire_fault::{ReadError, WireFault};
 use serde_json::Value;
 use std::alloc::Global;
 
-/// Parses a body as JSON.
+/// Parses `body` as JSON. `BadJson` if it is not JSON, or not UTF-8; `OutOfMemory` if memory runs out.
 #[tactic(auto, unfolding(crate::specs::JsonIn::body_value))]
 pub fn read_json(alloc: Global, body: &[u8]) -> Result<Value, ReadError>
     ensures { GivesIfRoom view result (body_value body.now) }
@@ -21,21 +21,21 @@ pub fn read_json(alloc: Global, body: &[u8]) -> Result<Value, ReadError>
     }
 }
 
-/// The member `key` of an object, if it is a string.
+/// The member `key` of `value`, if `value` is an object and the member a string.
 pub fn text_at<'a>(value: &'a Value, key: &str) -> Option<&'a str>
     ensures { option_map (λ s. s.now) result ≡ spec.text_at key.now (view value.now) }
 {
     value.get(key)?.as_str()
 }
 
-/// The member `key` of an object, if it is an integer that fits an `i64`.
+/// The member `key` of `value`, if `value` is an object and the member an integer that fits an `i64`.
 pub fn whole_at(value: &Value, key: &str) -> Option<i64>
     ensures { result ≡ spec.whole_at key.now (view value.now) }
 {
     value.get(key)?.as_i64()
 }
 
-/// The member `key` of an object, if there is one and it isn't null.
+/// The member `key` of `value`, if `value` is an object that has it and it isn't null.
 pub fn non_null_at<'a>(value: &'a Value, key: &str) -> Option<&'a Value>
     ensures { option_map (λ v. view v.now) result ≡ spec.present key.now (view value.now) }
 {
@@ -43,7 +43,7 @@ pub fn non_null_at<'a>(value: &'a Value, key: &str) -> Option<&'a Value>
     if member.is_null() { None } else { Some(member) }
 }
 
-/// The member `key` of an object, if it is an array.
+/// The member `key` of `value`, if `value` is an object and the member an array.
 pub fn array_at<'a>(value: &'a Value, key: &str) -> Option<&'a [Value]>
     ensures { option_map (λ items. items_view items.now) result
         ≡ spec.array_at key.now (view value.now) }

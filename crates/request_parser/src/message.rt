@@ -26,6 +26,7 @@ pub struct Message<'t> {
 #[derive(Drop)]
 pub struct Front<'t> {
     pub head: Head<'t>,
+    /// In bytes, at most `MAX_BODY_LEN`.
     pub size: u64,
 }
 
@@ -69,7 +70,8 @@ pub fn read_front(text: &[u8]) -> Result<Front<'_>, WireFault>
     Ok(Front { head, size })
 }
 
-// The fault of `text`, in which no head ends: incomplete, or too long already.
+// The fault of `text`, in which no head ends: `HeadTooLarge` if it has `HEAD_ROOM` bytes or more, and else
+// `BadHead`, since the head is incomplete.
 fn unended_fault(text: &[u8]) -> WireFault
     ensures { result ≡ unended text.now }
 {

@@ -15,7 +15,7 @@ use desk_rules::words::{Aircraft, Style, Usage};
 use serde_json::Value;
 use std::alloc::Global;
 
-/// Parses the body of a PUT of the plan `id`.
+/// Parses `body`, the JSON body of a PUT of the plan `id`.
 ///
 /// # Errors
 ///
@@ -29,7 +29,8 @@ pub fn read_put(alloc: Global, id: PlanId, body: &[u8]) -> Result<PutCall, ReadE
     read_members(alloc, id, &value)
 }
 
-// Reads the members of such a request, in the order in which their faults are reported.
+// Reads a PUT of the plan `id` from `value`, the JSON of its body. The order of the reads is that in which
+// faults are reported: those of the volumes come last.
 #[tactic(auto, unfolding(crate::specs::PutIn::put_of))]
 fn read_members(alloc: Global, id: PlanId, value: &Value) -> Result<PutCall, ReadError>
     ensures { GivesIfRoom (λ call. call) result (spec.put_of id (view value.now)) }
@@ -52,7 +53,8 @@ fn read_members(alloc: Global, id: PlanId, value: &Value) -> Result<PutCall, Rea
     })
 }
 
-// The priority of a `flight_plan`: 0 if `astm_f3548_21`, or its `priority`, is missing or null.
+// The priority of `plan`, a `flight_plan`: 0 if `astm_f3548_21`, or its `priority`, is missing or null.
+// `BadMember` if the first is not an object, or the second no priority.
 #[tactic(auto, unfolding(crate::specs::PutIn::priority_of))]
 fn read_priority(plan: &Value) -> Result<u32, WireFault>
     ensures { result ≡ spec.priority_of (view plan.now) }
@@ -69,7 +71,7 @@ fn read_priority(plan: &Value) -> Result<u32, WireFault>
     }
 }
 
-// A priority: an integer from 0 to `MAX_PRIORITY`.
+// The priority that `value` is: an integer from 0 to `MAX_PRIORITY`. None for every other value.
 fn read_priority_number(value: &Value) -> Option<u32>
     ensures { result ≡ option_and_then spec.priority_number (whole_of (view value.now)) }
 {
@@ -77,28 +79,28 @@ fn read_priority_number(value: &Value) -> Option<u32>
     (priority <= MAX_PRIORITY).then_some(priority)
 }
 
-// Reads `execution_style`.
+// The `execution_style` of `value`, the body. None if it is missing or no such word.
 fn read_style(value: &Value) -> Option<Style>
     ensures { result ≡ spec.style_at (view value.now) }
 {
     parse_style(text_at(value, "execution_style")?)
 }
 
-// Reads `usage_state`.
+// The `usage_state` of `value`, a `basic_information`. None if it is missing or no such word.
 fn read_usage(value: &Value) -> Option<Usage>
     ensures { result ≡ spec.usage_at (view value.now) }
 {
     parse_usage(text_at(value, "usage_state")?)
 }
 
-// Reads `uas_state`.
+// The `uas_state` of `value`, a `basic_information`. None if it is missing or no such word.
 fn read_aircraft(value: &Value) -> Option<Aircraft>
     ensures { result ≡ spec.aircraft_at (view value.now) }
 {
     parse_aircraft(text_at(value, "uas_state")?)
 }
 
-// Parses the word of an execution style, in InterUSS flight_planning v1.
+// Parses the word of an execution style in InterUSS flight_planning v1. None for every other word.
 #[tactic(auto, unfolding(crate::specs::PutIn::style_of))]
 fn parse_style(word: &str) -> Option<Style>
     ensures { result ≡ spec.style_of word.now }
@@ -111,7 +113,7 @@ fn parse_style(word: &str) -> Option<Style>
     }
 }
 
-// Parses the word of a usage state, in InterUSS flight_planning v1.
+// Parses the word of a usage state in InterUSS flight_planning v1. None for every other word.
 #[tactic(auto, unfolding(crate::specs::PutIn::usage_of))]
 fn parse_usage(word: &str) -> Option<Usage>
     ensures { result ≡ spec.usage_of word.now }
@@ -124,7 +126,7 @@ fn parse_usage(word: &str) -> Option<Usage>
     }
 }
 
-// Parses the word of an aircraft state, in InterUSS flight_planning v1.
+// Parses the word of an aircraft state in InterUSS flight_planning v1. None for every other word.
 #[tactic(auto, unfolding(crate::specs::PutIn::aircraft_of))]
 fn parse_aircraft(word: &str) -> Option<Aircraft>
     ensures { result ≡ spec.aircraft_of word.now }

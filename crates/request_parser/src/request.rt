@@ -29,7 +29,7 @@ pub fn read_request(alloc: Global, text: &[u8]) -> Result<Asked, ReadError>
     parse_message(alloc, &message)
 }
 
-/// Parses a request that is split into head and body already.
+/// Parses `message`, a request that is split into head and body already.
 ///
 /// # Errors
 ///
@@ -44,7 +44,7 @@ pub fn parse_message(alloc: Global, message: &Message<'_>) -> Result<Asked, Read
     }
 }
 
-// The operator of `address` and its call. Only a PUT and a clear read `body`.
+// The operator of `address`, and the call that its action is. Only a PUT and a clear read `body`.
 fn read_call(alloc: Global, address: &Address<'_>, body: &[u8]) -> Result<Asked, ReadError>
     ensures { GivesIfRoom (λ asked. asked) result (asked_at (address_shown address.now) body.now) }
 {
@@ -60,7 +60,7 @@ fn read_call(alloc: Global, address: &Address<'_>, body: &[u8]) -> Result<Asked,
     Ok(Asked { operator, call })
 }
 
-// Parses the id of a flight plan, a UUID.
+// Parses the id of a flight plan. `BadPlanId` if `text` is not a UUID.
 fn read_plan_id(text: &str) -> Result<PlanId, WireFault>
     ensures { result ≡ id_of text.now }
 {

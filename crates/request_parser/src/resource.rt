@@ -60,7 +60,7 @@ impl Route {
     }
 }
 
-// The action of `method` at a flight plan. None if it has no such method.
+// The action of `method` at a flight plan. None if a flight plan has no such method.
 #[tactic(auto, unfolding(crate::specs::Resources::action_of))]
 fn plan_action(method: &[u8]) -> Option<Action>
     ensures { result ≡ spec.action_of route.FlightPlan method.now }

@@ -17,7 +17,8 @@ pub struct Target<'t> {
     pub id: &'t str,
 }
 
-/// The resource that `target`, a request target, names. None if it names none, or isn't UTF-8.
+/// The resource and the plan id that `target`, a request target, names. None if there is no such resource, or
+/// the target isn't UTF-8.
 pub fn find_target(target: &[u8]) -> Option<Target<'_>>
     ensures { option_map target_shown result ≡ route_in target.now }
 {
@@ -37,7 +38,7 @@ fn read_path(target: &str) -> &str
     }
 }
 
-// The resource at `path`. None if there is none.
+// The resource at `path`, with its plan id. None if there is none.
 #[tactic(auto, unfolding(crate::specs::Routes::route_of))]
 fn find_route(path: &str) -> Option<Target<'_>>
     ensures { option_map target_shown result ≡ route_of path.now }
@@ -58,9 +59,9 @@ fn find_route(path: &str) -> Option<Target<'_>>
     })
 }
 
-// The target of a resource whose path has no plan id.
+// The target that names `route`, a resource whose path has no plan id.
 fn target_without_id(route: Route) -> Target<'static>
-    ensures { target_shown result ≡ spec.whole route }
+    ensures { target_shown result ≡ spec.place_without_id route }
 {
     Target { route, id: "" }
 }
@@ -74,7 +75,7 @@ fn find_plan_id(path: &str) -> Option<&str>
     if is_segment(id) { Some(id) } else { None }
 }
 
-// The rest of `path` after `PLANS_FOLDER`. None if it doesn't begin with that.
+// The rest of `path` after `PLANS_FOLDER`. None if `path` doesn't begin with that.
 fn strip_plans_folder(path: &str) -> Option<&str>
     ensures { option_map (λ rest. rest.now) result ≡ rest_in path.now }
 {
@@ -91,6 +92,7 @@ fn is_segment(text: &str) -> bool
     !has_slash(text.as_bytes())
 }
 
+// Whether a slash is among `bytes`.
 fn has_slash(bytes: &[u8]) -> bool
     ensures { result ≡ spec.has_slash bytes.now }
 {

@@ -34,8 +34,9 @@ struct WrittenTime {
     offset: i32,
 }
 
-/// Parses the start of a volume to a Unix second; a fraction is rounded down.
-/// None if `text` isn't a `date-time` of RFC 3339 of at most 64 bytes, or there is no such date or time.
+/// Parses the start of a volume to a Unix second; a fraction is rounded down. None if `text` isn't a
+/// `date-time` of RFC 3339 of at most 64 bytes, or there is no such date or time, or it is after
+/// 9999-12-30T22:00:00Z, where `jiff` ends.
 #[tactic(auto, unfolding(crate::specs::Times::start_of))]
 pub fn parse_start(text: &[u8]) -> Option<i64>
     ensures { result ≡ spec.start_of text.now }
@@ -57,7 +58,8 @@ pub fn parse_end(text: &[u8]) -> Option<i64>
     }
 }
 
-// Parses a `date-time` of RFC 3339 of at most `MAX_TIME_LEN` bytes.
+// Parses a `date-time` of RFC 3339 of at most `MAX_TIME_LEN` bytes. The date and the time are not checked
+// against the calendar yet. None for every other text.
 #[tactic(auto, unfolding(crate::specs::Times::time_of))]
 fn parse_time(text: &[u8]) -> Option<WrittenTime>
     ensures parsed { result ≡ spec.time_of text.now }
@@ -71,7 +73,8 @@ fn parse_time(text: &[u8]) -> Option<WrittenTime>
     parse_time_rest(civil, rest)
 }
 
-// Parses `rest`, the fraction and the offset that follow a date and time of day.
+// Parses `rest`, the fraction and the offset that follow `civil`, a date and a time of day. None for
+// every other text.
 #[tactic(auto, unfolding(crate::specs::Times::time_with))]
 fn parse_time_rest(civil: CivilTime, rest: &[u8]) -> Option<WrittenTime>
     requires in_digits { IsInDigits civil }
@@ -88,7 +91,7 @@ fn parse_time_rest(civil: CivilTime, rest: &[u8]) -> Option<WrittenTime>
     })
 }
 
-// Whether the separators of a date and a time of day are at their places.
+// Whether the separators of `YYYY-MM-DDTHH:MM:SS` are at their places in `text`.
 #[tactic(auto, unfolding(crate::specs::Times::has_marks))]
 fn has_marks(text: &[u8]) -> bool
     requires { 19 ≤ length text.now }
@@ -101,7 +104,8 @@ fn has_marks(text: &[u8]) -> bool
         && text[16] == b':'
 }
 
-// Parses the numbers between these separators.
+// Parses the six numbers of `YYYY-MM-DDTHH:MM:SS`, with which `text` begins. None if a byte of them is not a
+// digit. The separators are not looked at.
 #[tactic(auto, unfolding(crate::specs::Times::civil_of))]
 fn parse_civil(text: &[u8]) -> Option<CivilTime>
     requires { 19 ≤ length text.now }
@@ -118,7 +122,7 @@ fn parse_civil(text: &[u8]) -> Option<CivilTime>
     })
 }
 
-// Parses up to four decimal digits. None if another byte is among them.
+// The number that `digits`, up to four decimal digits, write. None if another byte is among them.
 #[tactic(auto, unfolding(crate::specs::Times::number_written))]
 fn parse_number(digits: &[u8]) -> Option<u16>
     requires { length digits.now ≤ 4 }
@@ -135,7 +139,7 @@ fn parse_number(digits: &[u8]) -> Option<u16>
     Some(number)
 }
 
-// The length of the fraction that `text` begins with, with its point; 0 without a fraction. None if no
+// The length of the fraction that `text` begins with, its point included; 0 if there is no point. None if no
 // digit follows the point.
 #[tactic(auto, unfolding(crate::specs::Times::secfrac_len))]
 fn fraction_len(text: &[u8]) -> Option<usize>
@@ -152,7 +156,7 @@ fn fraction_len(text: &[u8]) -> Option<usize>
     }
 }
 
-// The number of digits that `text` begins with.
+// How many decimal digits `text` begins with.
 fn count_leading_digits(text: &[u8]) -> usize
     ensures count { result ≡ spec.digit_count text.now }
     ensures within { result ≤ length text.now }
@@ -167,7 +171,7 @@ fn is_above_zero(secfrac: &[u8]) -> bool
     secfrac.iter().any(|byte| b'1' <= *byte && *byte <= b'9')
 }
 
-// Parses an offset from UTC, `Z` or a numeric one, to seconds.
+// Parses an offset from UTC, `Z` or a numeric one, to seconds. None for every other text.
 #[tactic(auto, unfolding(crate::specs::Times::offset_of))]
 fn parse_offset(text: &[u8]) -> Option<i32>
     ensures parsed { result ≡ spec.offset_of text.now }
@@ -180,7 +184,7 @@ fn parse_offset(text: &[u8]) -> Option<i32>
     }
 }
 
-// Parses a numeric offset, `+HH:MM` or `-HH:MM`, to seconds.
+// Parses a numeric offset, `+HH:MM` or `-HH:MM`, to seconds. None for every other text.
 #[tactic(auto, unfolding(crate::specs::Times::numoffset_of))]
 fn parse_numeric_offset(text: &[u8]) -> Option<i32>
     ensures parsed { result ≡ spec.numoffset_of text.now }
@@ -203,7 +207,8 @@ fn has_offset_marks(text: &[u8]) -> bool
     text.len() == 6 && (text[0] == b'+' || text[0] == b'-') && text[3] == b':'
 }
 
-// The offset of `hour` and `minute`, in seconds; negative if local time is behind UTC.
+// The offset of `hour` and `minute`, in seconds; negative if local time is behind UTC (`is_behind`). None if
+// the hour is above 23 or the minute above 59.
 fn offset_seconds(is_behind: bool, hour: u16, minute: u16) -> Option<i32>
     ensures seconds { result ≡ spec.offset_by is_behind hour minute }
     ensures range { IfSome result IsOffset }
@@ -215,7 +220,7 @@ fn offset_seconds(is_behind: bool, hour: u16, minute: u16) -> Option<i32>
     Some(if is_behind { -seconds } else { seconds })
 }
 
-// The Unix second in which `time` lies. None if there is no such date or time.
+// The Unix second in which `time` lies. None if there is no such date or time, or `jiff` has no such instant.
 #[tactic(auto, unfolding(crate::specs::Times::second_of))]
 fn unix_second(time: WrittenTime) -> Option<i64>
     requires { IsWritten time }
@@ -228,10 +233,11 @@ fn unix_second(time: WrittenTime) -> Option<i64>
     Some(instant.as_second())
 }
 
-// The date and time, if they exist: no month 13, February 30, hour 24 or second 60.
+// The date and time as `jiff` has them. None if they do not exist: month 13, February 30, hour 24, second 60.
+// The casts lose nothing, since the year has four digits and every other number two.
 fn to_date_time(civil: CivilTime) -> Option<DateTime>
     requires { IsInDigits civil }
-    ensures there { is_some result ≡ is_civil civil }
+    ensures exists { is_some result ≡ is_civil civil }
     ensures as_written { IfSome result (IsShownBy civil) }
 {
     DateTime::new(

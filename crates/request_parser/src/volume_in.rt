@@ -20,7 +20,11 @@ use serde_json::Value;
 use std::alloc::Global;
 use volume4d::{Area, Footprint, MAX_VOLUMES, Volume, VolumeFault, Window};
 
-/// Reads the area of a plan: 1 to `MAX_VOLUMES` volumes.
+/// Reads the area of a plan from `items`, its 1 to `MAX_VOLUMES` volumes as JSON.
+///
+/// # Errors
+///
+/// `OutOfMemory`; `BadVolume` if there are too few or too many; else the first fault of a volume.
 pub fn read_area(alloc: Global, items: &[Value]) -> Result<Area, ReadError>
     ensures { GivesIfRoom (λ area. area) result (spec.area_of (items_view items.now)) }
 {
@@ -38,7 +42,7 @@ fn is_volume_count(count: usize) -> bool
     (1..=MAX_VOLUMES).contains(&count)
 }
 
-// Reads a volume from each of `items`, in their order.
+// Reads a volume from each of `items`, in their order, up to the first fault.
 fn read_volumes(alloc: Global, items: &[Value]) -> Result<Vec<Volume>, ReadError>
     ensures { GivesIfRoom (λ v. v.items) result (each spec.volume_of (items_view items.now)) }
 {
@@ -49,7 +53,7 @@ fn read_volumes(alloc: Global, items: &[Value]) -> Result<Vec<Volume>, ReadError
     Ok(volumes)
 }
 
-/// Reads a volume: a footprint with altitudes and times.
+/// Reads a volume from `value`, its JSON: a footprint with altitudes and times.
 ///
 /// # Errors
 ///
@@ -64,7 +68,8 @@ pub fn read_volume(alloc: Global, value: &Value) -> Result<Volume, ReadError>
     make_volume(alloc, footprint, window)
 }
 
-// Makes a volume of a footprint and a window, unless the footprint has too many cells.
+// Makes a volume of a footprint and a window. `BadVolume` if a cell list does not have 1 to 64 cells;
+// `TooManyCells` if the cover of a rectangle has more than 1,024.
 #[tactic(auto, unfolding(crate::specs::VolumeIn::volume_over))]
 fn make_volume(alloc: Global, footprint: Footprint, window: Window) -> Result<Volume, ReadError>
     ensures { GivesIfRoom (λ volume. volume) result (spec.volume_over (shape_of footprint) window) }
@@ -77,7 +82,8 @@ fn make_volume(alloc: Global, footprint: Footprint, window: Window) -> Result<Vo
     }
 }
 
-// Reads the footprint: either `cells` or `rectangle`, the other one missing or null.
+// Reads the footprint from `shape`, the `volume` of a volume: either its `cells` or its `rectangle`, of which
+// the other one is missing or null. `BadVolume` if both or neither are there.
 #[tactic(auto, unfolding(crate::specs::VolumeIn::footprint_of))]
 fn read_footprint(alloc: Global, shape: &Value) -> Result<Footprint, ReadError>
     ensures { GivesIfRoom shape_of result (spec.footprint_of (view shape.now)) }
@@ -89,7 +95,7 @@ fn read_footprint(alloc: Global, shape: &Value) -> Result<Footprint, ReadError>
     }
 }
 
-// Reads the value of `cells`: an array of S2 tokens.
+// Reads `list`, the value of `cells`: an array of S2 tokens.
 #[tactic(auto, unfolding(crate::specs::VolumeIn::cells_of))]
 fn read_cells(alloc: Global, list: &Value) -> Result<Vec<CellId>, ReadError>
     ensures { GivesIfRoom (λ v. v.items) result (spec.cells_of (view list.now)) }
@@ -98,7 +104,7 @@ fn read_cells(alloc: Global, list: &Value) -> Result<Vec<CellId>, ReadError>
     read_tokens(alloc, items)
 }
 
-// Reads the value of `rectangle`.
+// Reads `value`, the value of `rectangle`: a rectangle of the S2 grid.
 #[tactic(auto, unfolding(crate::specs::VolumeIn::rectangle_of))]
 fn read_rectangle(value: &Value) -> Result<Rect, WireFault>
     ensures { result ≡ spec.rectangle_of (view value.now) }
@@ -112,7 +118,8 @@ fn read_rectangle(value: &Value) -> Result<Rect, WireFault>
     checked_rect(face, i_min, i_max, j_min, j_max, level).ok_or(WireFault::BadVolume)
 }
 
-// The rectangle with these parts. None if a part is out of range, or a minimum above its maximum.
+// The rectangle of the leaves of `face` from `i_min` to `i_max` and from `j_min` to `j_max`, with squares of
+// `level`. None if a part is out of range, or a minimum is above its maximum.
 fn checked_rect(
     face: u64,
     i_min: u64,
@@ -146,7 +153,7 @@ fn natural_at(value: &Value, key: &str) -> Option<u64>
     u64::try_from(whole_at(value, key)?).ok()
 }
 
-// Reads a cell from each of `items`, S2 tokens, in their order.
+// Reads a cell from each of `items`, S2 tokens, in their order, up to the first fault.
 fn read_tokens(alloc: Global, items: &[Value]) -> Result<Vec<CellId>, ReadError>
     ensures { GivesIfRoom (λ v. v.items) result (each spec.token_of (items_view items.now)) }
 {
@@ -157,7 +164,7 @@ fn read_tokens(alloc: Global, items: &[Value]) -> Result<Vec<CellId>, ReadError>
     Ok(cells)
 }
 
-// Reads a cell from its S2 token.
+// Reads a cell from `value`, its S2 token. `BadVolume` for every other value.
 fn read_cell(value: &Value) -> Result<CellId, WireFault>
     ensures { result ≡ spec.token_of (view value.now) }
 {
@@ -168,7 +175,7 @@ fn read_cell(value: &Value) -> Result<CellId, WireFault>
     }
 }
 
-// Reads the altitudes of a volume, from `shape`, and its times, from `value`.
+// Reads the altitudes of a volume from `shape`, its member `volume`, and its times from `value`, the volume.
 #[tactic(auto, unfolding(crate::specs::VolumeIn::window_of))]
 fn read_window(value: &Value, shape: &Value) -> Result<Window, WireFault>
     ensures { result ≡ spec.window_of (view value.now) (view shape.now) }
@@ -180,7 +187,8 @@ fn read_window(value: &Value, shape: &Value) -> Result<Window, WireFault>
     checked_window(lower, upper, start, end).ok_or(WireFault::BadVolume)
 }
 
-// The window with these altitudes (dm) and Unix seconds. None if they are out of range.
+// The window with these altitudes, in decimetres, and these Unix seconds. None if it is empty or too long, or
+// one of them is out of range.
 fn checked_window(lower: i64, upper: i64, start: i64, end: i64) -> Option<Window>
     ensures { result ≡ result_ok
         (window_or_fault (record { lower = lower; upper = upper; start = start; end = end })) }
@@ -190,28 +198,28 @@ fn checked_window(lower: i64, upper: i64, start: i64, end: i64) -> Option<Window
     Window::try_new(lower, upper, start, end).ok()
 }
 
-// Reads `time_start`, rounded down to a Unix second.
+// The `time_start` of `value`, a volume, rounded down to a Unix second. None if it is missing or malformed.
 fn read_start(value: &Value) -> Option<i64>
     ensures { result ≡ spec.start_at (view value.now) }
 {
     parse_start(time_at(value, "time_start")?.as_bytes())
 }
 
-// Reads `time_end`, rounded up to a Unix second.
+// The `time_end` of `value`, a volume, rounded up to a Unix second. None if it is missing or malformed.
 fn read_end(value: &Value) -> Option<i64>
     ensures { result ≡ spec.end_at (view value.now) }
 {
     parse_end(time_at(value, "time_end")?.as_bytes())
 }
 
-// The text of the member `key` of an object, a time.
+// The text of the time that is the member `key` of `value`, an object. None if it is missing or malformed.
 fn time_at<'a>(value: &'a Value, key: &str) -> Option<&'a str>
     ensures { option_map (λ s. s.now) result ≡ spec.time_at key.now (view value.now) }
 {
     time_text(value.get(key)?)
 }
 
-// The text of a time: its `value`, if its `format` is `RFC3339`.
+// The text of `value`, a time: its own member `value`, if its `format` is `RFC3339`. The text is not parsed.
 #[tactic(auto, unfolding(crate::specs::VolumeIn::time_text))]
 fn time_text<'a>(value: &'a Value) -> Option<&'a str>
     ensures { option_map (λ s. s.now) result ≡ spec.time_text (view value.now) }

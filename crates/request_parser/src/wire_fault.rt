@@ -10,7 +10,8 @@ use std::alloc::{AllocError, AllocFailed};
 use std::error::Error;
 use std::fmt;
 
-/// A fault of a request. They are checked in this order, and the first one is reported.
+/// A fault of a request. Only the first one is reported: framing and head are checked first, then path,
+/// method, operator, plan id and body.
 #[derive(Clone, Copy, Debug, PartialEq, Eq)]
 pub enum WireFault {
     /// No head ends within the first 16,384 bytes.
@@ -81,7 +82,7 @@ impl WireFault {
         }
     }
 
-    /// The methods that the field `allow` lists, if the status is 405 (RFC 9110, section 15.5.6).
+    /// The methods that the field `allow` lists, if the status is 405 (RFC 9110, section 15.5.6); else None.
     pub fn allow(self) -> Option<&'static str>
         ensures { option_map (λ s. s.now) result ≡ spec.fault_allow self }
     {
@@ -97,6 +98,7 @@ impl fmt::Display for WireFault {
 
     ghost output = { λ fault. Some (spec.fault_text fault) };
 
+    // The fault as a sentence, in lower case and without a full stop.
     fn fmt<W: fmt::Write>(&self, f: &mut fmt::Formatter<W>) -> fmt::Result {
         f.pad(match self {
             WireFault::HeadTooLarge => "the head is too large",
@@ -132,6 +134,7 @@ impl fmt::Display for ReadError {
 
     ghost output = { λ error. Some (spec.read_error_text error) };
 
+    // The sentence of the fault, or that memory ran out.
     fn fmt<W: fmt::Write>(&self, f: &mut fmt::Formatter<W>) -> fmt::Result {
         match self {
             ReadError::OutOfMemory => f.pad("out of memory"),
@@ -145,6 +148,7 @@ impl Error for ReadError {}
 impl From<AllocError> for ReadError {
     ghost from_gives = { λ _ e. e ≡ OutOfMemory };
 
+    // An allocation failed, so memory ran out.
     fn from(_error: AllocError) -> ReadError {
         ReadError::OutOfMemory
     }
@@ -153,6 +157,7 @@ impl From<AllocError> for ReadError {
 impl<T: Drop> From<AllocFailed<T>> for ReadError {
     ghost from_gives = { λ _ e. e ≡ OutOfMemory };
 
+    // A `Vec` couldn't grow, so memory ran out. The value that was to be added is dropped.
     fn from(_error: AllocFailed<T>) -> ReadError {
         ReadError::OutOfMemory
     }
@@ -161,6 +166,7 @@ impl<T: Drop> From<AllocFailed<T>> for ReadError {
 impl From<WireFault> for ReadError {
     ghost from_gives = { λ fault e. e ≡ Fault fault };
 
+    // The request has this fault.
     fn from(fault: WireFault) -> ReadError {
         ReadError::Fault(fault)
     }

@@ -1,4 +1,4 @@
-//! Clears: the removal of an operator's plans.
+//! Clears: the removal of an operator's plans. A function fails only if memory runs out or the store fails.
 
 ghost use Rattle.std.specs.Prelude.{◌≡◌, ◌≤◌, ◌<◌, ◌^◌, ◌∷◌, [], length, IsSome, IfOk, IfErr};
 ghost use Rattle.desk_run.specs.CallFaults.{IsStoreFaultCounted};
@@ -21,7 +21,8 @@ use desk_store::{Change, PlanStore};
 use std::alloc::{AllocError, Global};
 use volume4d::{Slab, Volume};
 
-// Prepares the removal of an enrolled operator's plans that share a point with `extent`, closed ones too.
+// Prepares the reply and the change that remove an enrolled operator's plans that share a point with
+// `extent`, closed ones too.
 pub fn prepare_clear<S: PlanStore>(
     alloc: Global,
     store: &mut S,
@@ -39,8 +40,8 @@ pub fn prepare_clear<S: PlanStore>(
     Ok(pending_clear(alloc, operator, &extent.slabs()?, &rows)?)
 }
 
-// The reply and the change that remove those of `rows` that share a point with an extent. `slabs` are the
-// extent's; without such rows there is no change.
+// The reply and the change that remove those of `rows`, the operator's plans, that share a point with an
+// extent. `slabs` are the slabs of the extent. If there are no such plans, there is no change.
 fn pending_clear(
     alloc: Global,
     operator: &Operator,
@@ -66,7 +67,7 @@ fn pending_clear(
     })
 }
 
-// The ids of those of `rows` that share a point with the extent that has these slabs.
+// The ids of those of `rows` that share a point with the extent that has these slabs, in their order.
 fn ids_sharing_point(
     alloc: Global,
     slabs: &[Slab],
@@ -84,7 +85,7 @@ fn ids_sharing_point(
     Ok(ids)
 }
 
-// Whether a plan, closed or not, shares a point with the extent that has these slabs.
+// Whether the plan `row`, closed or not, shares a point with the extent that has these slabs.
 fn shares_point(slabs: &[Slab], row: &PlanRow) -> Result<bool, AllocError>
     ensures { (extent : Block) → AreSlabsOf slabs.now (extent ∷ []) →
         IfOk result (λ found. found ≡ is_in extent row.now) }
@@ -92,7 +93,7 @@ fn shares_point(slabs: &[Slab], row: &PlanRow) -> Result<bool, AllocError>
     Ok(share_a_point(slabs, &row.area.slabs()?))
 }
 
-// The number of ids, at most `u32::MAX`.
+// The number of ids; `u32::MAX` if there are more.
 fn count_of(ids: &[PlanId]) -> u32
     ensures { length ids.now < 2 ^ 32 → result ≡ length ids.now }
 {

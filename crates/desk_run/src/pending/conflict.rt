@@ -1,4 +1,5 @@
-//! Conflicts of an operator's plans with stored plans.
+//! Conflicts of an operator's plans with stored plans. A function fails only if memory runs out or the store
+//! fails.
 
 ghost use Rattle.std.specs.Prelude.{◌≡◌, ◌≤◌, ◌^◌, IfOk, IfErr};
 ghost use Rattle.desk_store.specs.StoreFrames.{OnlyReads};
@@ -19,11 +20,12 @@ use volume4d::{Area, Meeting, Slab};
 // first slab to the last. So a plan has fewer than 64 gaps that are wide by this rule.
 const GAPS: u64 = 64;
 
-// It is wide, too, if it is more than the leaves of a cell of level 6. A store over tables starts to read
-// about that far before an extent, so for two extents it reads no more than for one that includes the gap.
+// A gap of more leaves than a cell of level 6 has is wide, too. A store over tables starts to read about that
+// far before an extent, so for two extents it reads no more than for one that includes the gap.
 const WIDEST: u64 = 1 << 48;
 
-// The conflict of the operator's plan `id` with other live plans, if it has this area and priority.
+// The conflict that the operator's plan `id` would have with other live plans, its own and others', with this
+// area and priority; None if it would have none.
 pub fn conflict_of<S: PlanStore>(
     alloc: Global,
     store: &mut S,
@@ -44,7 +46,8 @@ pub fn conflict_of<S: PlanStore>(
     first_among(alloc, store, permitted, operator, id, &mine, priority)
 }
 
-// The most leaves between two of `slabs` that count as close together; a wider gap separates clusters.
+// The most leaves between two of `slabs` that count as close together: a gap of more is wide. `slabs` are a
+// plan's, and ascend.
 pub fn wide_gap(slabs: &[Slab]) -> u64
     ensures { result ≤ 2 ^ 48 }
 {
@@ -54,7 +57,8 @@ pub fn wide_gap(slabs: &[Slab]) -> u64
     }
 }
 
-// The least priority of other plans that blocks a plan of `priority` at a shared point.
+// The least priority of other plans that blocks a plan of `priority` at a shared point: `priority` itself, or
+// one more if plans of this priority may share points.
 pub fn least_of(permitted: &Permitted, priority: u32) -> u32
     ensures { result ≡ least_blocking permitted.now priority }
 {

@@ -1,4 +1,5 @@
-//! Deletes, which close a plan.
+//! Deletes, which close a plan. But for `NoSuchPlan`, a function fails only if memory runs out or the store
+//! fails.
 
 ghost use Rattle.std.specs.Prelude.{◌≡◌, ◌≤◌, IsSome, IfErr};
 ghost use Rattle.desk_run.specs.CallFaults.{IsStoreFaultCounted};
@@ -16,7 +17,8 @@ use desk_rules::reply::{PutReply, Reply};
 use desk_rules::words::{PlanResult, PlanStatus};
 use desk_store::{Change, PlanStore};
 
-// Prepares the closing of an enrolled operator's plan; `NoSuchPlan` if it has none with this id.
+// Prepares the reply and the change that close an enrolled operator's plan, which may be closed already.
+// `NoSuchPlan` if it has no plan with this id.
 pub fn prepare_delete<S: PlanStore>(
     store: &mut S,
     operator: &Operator,

@@ -1,5 +1,5 @@
 //! The conflicts of all of an operator's plans, with each other and with other operators' plans, which are
-//! read once.
+//! read once. A function fails only if memory runs out or the store fails.
 
 ghost use Rattle.std.specs.Prelude.{◌≡◌, ◌≤◌, ℕ, Option, true, map, IfOk, IfErr, OnOk};
 ghost use Rattle.desk_store.specs.StoreFrames.{OnlyReads};
@@ -24,7 +24,7 @@ use desk_store::{PlanStore, StoreFault};
 use std::alloc::{AllocError, Global};
 use volume4d::{Held, Meeting, Slab};
 
-// An operator's plans, each with the slabs that it holds.
+// The plans of `rows`, in their order, each with the slabs that it holds.
 pub fn own_plans(alloc: Global, rows: &[PlanRow]) -> Result<Vec<OwnPlan>, AllocError>
     ensures { IfOk result (λ plans. plans.items ≡ rows.now) }
 {
@@ -35,7 +35,8 @@ pub fn own_plans(alloc: Global, rows: &[PlanRow]) -> Result<Vec<OwnPlan>, AllocE
     Ok(plans)
 }
 
-// Slabs of other operators' live plans: all that hold a point of one of the operator's `plans`.
+// Slabs of other operators' live plans, each with its priority: all that have a point of one of `plans`, the
+// operator's own, and maybe some more.
 pub fn others_near<S: PlanStore>(
     alloc: Global,
     store: &mut S,
@@ -51,7 +52,7 @@ pub fn others_near<S: PlanStore>(
     store.held_by_others(operator, &extents)
 }
 
-// Extents that together have every point held by one of `plans`.
+// Slabs to query, that together have every point held by one of `plans`.
 fn extents_of(alloc: Global, plans: &[OwnPlan]) -> Result<Vec<Slab>, AllocError>
     ensures { IfOk result (λ extents. HaveAll (some_hold plans.now) extents.items) }
 {
@@ -62,7 +63,8 @@ fn extents_of(alloc: Global, plans: &[OwnPlan]) -> Result<Vec<Slab>, AllocError>
     Ok(extents)
 }
 
-// The plans as they are shown to their operator, each with its conflict; `others` are other operators' slabs.
+// All of an operator's `plans` as they are shown to it, each with its conflict; `others` are the slabs of
+// other operators, with all that have a point of these plans.
 pub fn all_shown(
     alloc: Global,
     permitted: &Permitted,
@@ -79,7 +81,7 @@ pub fn all_shown(
     Ok(all)
 }
 
-// One of `plans` as it is shown, with its conflict.
+// `plan`, one of `plans`, as it is shown, with its conflict; `others` as in `all_shown`.
 fn shown_among(
     alloc: Global,
     permitted: &Permitted,
@@ -99,7 +101,7 @@ fn shown_among(
     })
 }
 
-// The conflict of `plan` with the operator's other plans and with `others`; a closed plan has none.
+// The conflict of `plan` with the operator's other `plans` and with `others`; a closed plan has none.
 fn conflict_among(
     alloc: Global,
     permitted: &Permitted,
@@ -119,8 +121,8 @@ fn conflict_among(
     Ok(plan.conflict_with(&theirs))
 }
 
-// The slabs that may block `plan`: those of the operator's other plans and of `others` that have the priority
-// `least` or a greater one and may share a point with it.
+// The slabs that may block `plan`, by their first leaves: those of the operator's other plans and of `others`
+// that have the priority `least` or a greater one and may share a point with `plan`.
 fn blocking_slabs(
     alloc: Global,
     plan: &OwnPlan,
@@ -138,8 +140,8 @@ fn blocking_slabs(
     Ok(in_order(theirs))
 }
 
-// Appends the slabs of the operator's plans but `mine` that have the priority `least` or a greater one and
-// may share a point with `mine`.
+// Appends to `theirs` the slabs of the operator's `plans` but `mine` that have the priority `least` or a
+// greater one and may share a point with `mine`.
 fn push_own(
     theirs: &mut Vec<Held>,
     mine: &OwnPlan,

@@ -1,4 +1,5 @@
-//! Slabs that may share a point with those of a plan.
+//! Slabs that may share a point with those of a plan. Leaves are numbered along the S2 curve: a `position` is
+//! the number of one. A function fails only if memory runs out.
 
 ghost use Rattle.std.specs.Prelude.{◌≡◌, None, true, false, nat_le, OnOk};
 ghost use Rattle.volume4d.specs.Bounds.{HasAll};
@@ -12,8 +13,8 @@ ghost use Rattle.desk_run.specs.HeldAmong.{AddLevelAt, AreAfter, AreLeft, HaveAl
 use std::alloc::AllocError;
 use volume4d::{Held, Slab};
 
-// Appends those of `slabs` that may share a point with one of `mine`, with `priority`. `mine` ascend and lie
-// within `bounds` and within `parts`.
+// Appends to `theirs` those of `slabs`, with `priority`, that may share a point with one of `mine`. `mine`
+// ascend, and all their points lie in `bounds` and in one of `parts`. It is fast if `slabs` ascend, too.
 pub fn push_slabs(
     theirs: &mut Vec<Held>,
     mine: &[Slab],
@@ -43,8 +44,8 @@ pub fn push_slabs(
     Ok(())
 }
 
-// Appends those of `helds` that have the priority `least` or a greater one and may share a point with one of
-// `mine`. `mine` ascend and lie within `bounds` and within `parts`.
+// Appends to `theirs` those of `helds` that have the priority `least` or a greater one and may share a point
+// with one of `mine`. `mine`, `bounds` and `parts` are as in `push_slabs`.
 pub fn push_helds(
     theirs: &mut Vec<Held>,
     mine: &[Slab],
@@ -72,11 +73,11 @@ pub fn push_helds(
 }
 
 // Whether `held` has the priority `least` or a greater one, and may share a point with one of `left`, the
-// slabs that don't end before it.
+// slabs that don't end before it. `bounds` and `parts` have all points of these.
 fn is_wanted(held: &Held, least: u32, left: &[Slab], bounds: &Slab, parts: &[Slab]) -> bool
     requires { Ascend (λ s. s) left.now }
-    ensures high { result ≡ true → nat_le least held.now.priority ≡ true }
-    ensures none { result ≡ false → (x : Point) → slab_has bounds.now x ≡ true
+    ensures high_enough { result ≡ true → nat_le least held.now.priority ≡ true }
+    ensures nothing_lost { result ≡ false → (x : Point) → slab_has bounds.now x ≡ true
         → slabs_have parts.now x ≡ true → slabs_have left.now x ≡ true
         → at_least least (level_where (slab_has held.now.slab x) held.now.priority) ≡ None }
 {
@@ -86,8 +87,8 @@ fn is_wanted(held: &Held, least: u32, left: &[Slab], bounds: &Slab, parts: &[Sla
     may_share(left, bounds, parts, &held.slab)
 }
 
-// The slabs of `mine` from the first one on that doesn't end before `position`. `left` are those for
-// `before`, where the search goes on unless `position` is less.
+// The slabs of `mine` from the first one on that doesn't end before `position`. `left` is the result for the
+// position `before`: the search goes on there, or begins anew if `position` is less.
 fn remaining_at<'a>(mine: &'a [Slab], left: &'a [Slab], before: u64, position: u64) -> &'a [Slab]
     requires order { Ascend (λ s. s) mine.now }
     requires left_order { Ascend (λ s. s) left.now }
@@ -102,7 +103,7 @@ fn remaining_at<'a>(mine: &'a [Slab], left: &'a [Slab], before: u64, position: u
     }
 }
 
-// Drops slabs from the front until one doesn't end before `position`.
+// The rest of `slabs` without the first ones that end before `position`.
 fn skip_before(slabs: &[Slab], position: u64) -> &[Slab]
     requires { Ascend (λ s. s) slabs.now }
     ensures order { Ascend (λ s. s) result.now }
@@ -118,8 +119,8 @@ fn skip_before(slabs: &[Slab], position: u64) -> &[Slab]
     left
 }
 
-// Whether `slab` may share a point with one of `left`, which ascend, don't end before it, and lie within
-// `bounds` and within `parts`.
+// Whether `slab` may share a point with one of `left`, which ascend and don't end before it. `bounds` and
+// `parts` have all points of `left`. False is certain, true is not.
 fn may_share(left: &[Slab], bounds: &Slab, parts: &[Slab], slab: &Slab) -> bool
     requires { Ascend (λ s. s) left.now }
     ensures { result ≡ false → (x : Point) → slab_has bounds.now x ≡ true → slabs_have parts.now x ≡ true
@@ -134,7 +135,7 @@ fn may_share(left: &[Slab], bounds: &Slab, parts: &[Slab], slab: &Slab) -> bool
     overlaps_one(slab, parts)
 }
 
-// Whether `slab` overlaps one of `parts`.
+// Whether `slab` shares a point with one of `parts`.
 fn overlaps_one(slab: &Slab, parts: &[Slab]) -> bool
     ensures { result ≡ false → (x : Point) → slabs_have parts.now x ≡ true → slab_has slab.now x ≡ false }
 {

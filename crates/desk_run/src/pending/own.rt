@@ -1,4 +1,4 @@
-//! Plans of an operator, with the slabs that they hold.
+//! Plans of an operator, with the slabs that they hold. A function fails only if memory runs out.
 
 ghost use Rattle.std.specs.Prelude.{◌≡◌, ◌&&◌, ℕ, List, Option, true, not, nat_le, All, IfOk, OnOk};
 ghost use Rattle.volume4d.specs.Bounds.{IsFilled};
@@ -43,7 +43,7 @@ impl Model for OwnPlan {
 }
 
 impl OwnPlan {
-    // The plan of `row`, with its slabs and bounds.
+    // The plan of `row`, with its slabs and bounds: none if it is closed.
     pub fn try_new(alloc: Global, row: PlanRow) -> Result<OwnPlan, AllocError>
         ensures { IfOk result (λ plan. plan ≡ row) }
     {
@@ -73,7 +73,7 @@ impl OwnPlan {
         &self.row
     }
 
-    // Appends extents that together have every point that the plan holds.
+    // Appends slabs to query to `extents`, that together have every point that the plan holds.
     pub fn push_extents(&self, extents: &mut Vec<Slab>) -> Result<(), AllocError>
         ensures kept { OnOk result (Keep extents.old.items extents.new.items) }
         ensures all { OnOk result (HaveAll (row_holds self.now) extents.new.items) }
@@ -81,8 +81,8 @@ impl OwnPlan {
         push_clusters(extents, &self.slabs)
     }
 
-    // Appends those of other operators' slabs that have the priority `least` or a greater one and may share a
-    // point with the plan.
+    // Appends to `theirs` those of `others`, other operators' slabs, that have the priority `least` or a
+    // greater one and may share a point with the plan.
     pub fn push_others(
         &self,
         theirs: &mut Vec<Held>,
@@ -102,8 +102,8 @@ impl OwnPlan {
         )
     }
 
-    // Appends this plan's slabs to those that may block `mine`, another plan of the operator: none if this is
-    // the same plan, has a priority below `least`, or is out of its bounds.
+    // Appends to `theirs` those of this plan's slabs that may block `mine`, another plan of the operator:
+    // none if this is the same plan, has a priority below `least`, or is out of its bounds.
     pub fn push_blocking(
         &self,
         theirs: &mut Vec<Held>,
@@ -129,7 +129,9 @@ impl OwnPlan {
         )
     }
 
-    // The plan's conflict with slabs of other plans, which hold at its points what may block it.
+    // The conflict of this plan, a live one, with `theirs`, slabs of other plans: at each point of this plan
+    // their greatest priority is the greatest that other plans hold there, or none if that is too low to
+    // block it.
     pub fn conflict_with(&self, theirs: &[Held]) -> Option<Meeting>
         ensures { (permitted : List ℕ) (levels : Point → Option ℕ) → is_live self.now.usage ≡ true
             → HaveLevelAt (row_holds self.now) theirs.now
@@ -140,7 +142,7 @@ impl OwnPlan {
     }
 }
 
-// The bounds of each volume of an area.
+// The bounds of each volume of `area`, in their order: the smallest slab that has all points of the volume.
 fn parts_of(alloc: Global, area: &Area) -> Result<Vec<Slab>, AllocError>
     ensures { IfOk result (λ parts. HaveAll (area_has area.now) parts.items) }
 {
@@ -161,7 +163,8 @@ fn may_block(row: &PlanRow, id: &PlanId, least: u32) -> bool
     least <= row.priority
 }
 
-// Appends the bounds of each cluster of `slabs`, which ascend; wide gaps separate clusters.
+// Appends to `extents` the bounds of each cluster of `slabs`, which ascend. Clusters are separated by gaps of
+// more leaves than `wide_gap`.
 fn push_clusters(extents: &mut Vec<Slab>, slabs: &[Slab]) -> Result<(), AllocError>
     requires filled { All IsFilled slabs.now }
     requires order { Ascend (λ s. s) slabs.now }

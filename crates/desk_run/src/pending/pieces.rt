@@ -1,5 +1,5 @@
-//! Pieces of a plan's leaves: a long plan is compared with stored plans piece by piece, in the order of
-//! leaves.
+//! Pieces of a plan: a plan that takes many leaves of the S2 curve is compared with stored plans piece by
+//! piece, along the curve. A function fails only if memory runs out or the store fails.
 
 ghost use Rattle.std.specs.Prelude.{◌+◌, ◌<◌, ◌*◌, ◌^◌, IfOk, IfErr};
 ghost use Rattle.desk_store.specs.StoreFrames.{OnlyReads};
@@ -18,16 +18,16 @@ use desk_store::{PlanStore, StoreFault};
 use std::alloc::Global;
 use volume4d::{Held, Meeting, Slab, bounds_of};
 
-// How many leaves after its first one the first piece ends: those of a cell of level 10. A plan that is no
-// longer takes one query.
+// How many leaves after its first one the first piece ends: as many as a cell of level 10 has. A plan that is
+// no longer takes one query.
 const LENGTH: u64 = 1 << 40;
 
 // How many times as long each piece is as the one before. All six faces take at most five pieces.
 const GROWTH: u64 = 64;
 
-// The first blocked point among `slabs`, those of the operator's plan `id` with this priority. The store is
-// queried piece by piece, so that nothing is read after the piece with the first blocked point. Pieces grow,
-// so that a plan that isn't blocked takes only a few queries.
+// The first blocked point among `slabs`, one or more, those of the operator's plan `id` with this priority;
+// None if none is blocked. The store is queried piece by piece, so that nothing is read after the piece with
+// that point. Pieces grow, so that a plan that isn't blocked takes only a few queries.
 pub fn first_among<S: PlanStore>(
     alloc: Global,
     store: &mut S,
@@ -61,7 +61,8 @@ pub fn first_among<S: PlanStore>(
     )
 }
 
-// The piece of `whole` after `piece`, which ends before `whole` does.
+// The piece of `whole`, the bounds of a plan, that follows `piece`: it ends `length` leaves after its first
+// one, or with `whole`. There is one, since `piece` ends before `whole`.
 fn next_piece(whole: &Slab, piece: &Slab, length: u64) -> Slab
     requires { piece.now.last < whole.now.last }
     ensures { IsPiece whole.now (piece.now.last + 1) result }
@@ -69,7 +70,8 @@ fn next_piece(whole: &Slab, piece: &Slab, length: u64) -> Slab
     piece_from(whole, piece.last + 1, length)
 }
 
-// The slab `whole`, restricted to the leaves from `position` to `length` leaves after it.
+// The slab `whole`, restricted to the leaves from `position` to `length` leaves after it. A position is the
+// number of a leaf along the S2 curve, of which there are 6 * 2^60.
 fn piece_from(whole: &Slab, position: u64, length: u64) -> Slab
     requires { position < 6 * 2 ^ 60 }
     ensures { IsPiece whole.now position result }
@@ -85,7 +87,8 @@ fn piece_from(whole: &Slab, position: u64, length: u64) -> Slab
 }
 
 // The first point of `slabs` at the leaves of `piece` where a stored plan blocks the operator's plan `id`
-// with this priority. The slabs that the store returns may extend beyond the piece, so they are cut to it.
+// with this priority; None if there is none. The store may return slabs that extend beyond the piece, so
+// these are cut to it.
 fn first_at<S: PlanStore>(
     alloc: Global,
     store: &mut S,
@@ -107,8 +110,8 @@ fn first_at<S: PlanStore>(
     Ok(first_conflict(slabs, &theirs))
 }
 
-// Cuts held slabs to `piece`, and sorts them by their first leaves, so that one pass can compare them: a
-// store may return them plan by plan.
+// Cuts each held slab to `piece`, and sorts them by their first leaves, so that one pass can compare them
+// with a plan's: a store may return them plan by plan.
 fn cut_in_order(helds: &mut [Held], piece: &Slab)
     ensures { AreCut piece.now helds.old helds.new }
 {
@@ -116,7 +119,7 @@ fn cut_in_order(helds: &mut [Held], piece: &Slab)
     helds.sort_unstable_by_key(|held| held.slab.first);
 }
 
-// Cuts each held slab to `piece`.
+// Cuts each held slab to the leaves of `piece`. One without such leaves has no point then.
 fn cut_all(helds: &mut [Held], piece: &Slab)
     ensures { AreCut piece.now helds.old helds.new }
 {
@@ -128,7 +131,7 @@ fn cut_all(helds: &mut [Held], piece: &Slab)
     }
 }
 
-// The slab, restricted to the leaves of `piece`; if it has none of them, `first` is above `last`.
+// `slab`, restricted to the leaves of `piece`; if it has none of them, `first` is above `last` in the result.
 pub fn cut(slab: &Slab, piece: &Slab) -> Slab
     ensures { IsCutTo slab.now piece.now result }
 {

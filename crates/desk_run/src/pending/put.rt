@@ -1,4 +1,4 @@
-//! Requests to plan, decided over a store.
+//! Requests to plan, decided over a store. A function fails only if memory runs out or the store fails.
 
 ghost use Rattle.std.specs.Prelude.{◌≡◌, ◌+◌, ◌≤◌, length, Option, Some, None, true, false, cond, IfOk, IfErr};
 ghost use Rattle.desk_run.specs.CallFaults.{IsStoreFaultCounted};
@@ -27,7 +27,8 @@ use desk_store::{Change, PlanStore, StoreFault};
 use std::alloc::{AllocError, Global};
 use volume4d::Meeting;
 
-// Prepares the reply to a request to plan, and its change. The operator is enrolled with `ceiling`.
+// Prepares the reply to `put`, a request to plan at `moment` (a Unix second), and its change. The operator is
+// enrolled with `ceiling`, the greatest priority that its plans may have.
 pub fn prepare_put<S: PlanStore>(
     alloc: Global,
     store: &mut S,
@@ -70,7 +71,8 @@ fn reply_of(verdict: &Verdict) -> PutReply
     }
 }
 
-// The verdict on a request to plan of the operator, which is enrolled with `ceiling`.
+// The verdict on `put`, a request to plan at `moment` by the operator, which is enrolled with `ceiling`. The
+// store is queried for conflicts last, and only if the verdict depends on one.
 fn verdict_on<S: PlanStore>(
     alloc: Global,
     store: &mut S,
@@ -98,8 +100,8 @@ fn verdict_on<S: PlanStore>(
     Ok(decide_under(put, moment, stored, &standing, meeting))
 }
 
-// Whether the verdict on a request depends on a conflict: nothing else refuses it (it has no note), and the
-// state table has it checked for conflicts.
+// Whether the verdict on `put` depends on a conflict: nothing else refuses it (the verdict has no note), and
+// the state table has it checked for conflicts. `stored` are the states of the stored plan, if there is one.
 #[tactic(auto, using(crate::proofs::OutcomeLemmas::settled))]
 fn depends_on_conflict(
     put: &PutCall,
@@ -118,14 +120,15 @@ fn depends_on_conflict(
     verdict.note.is_none() && is_checked(transition_from(stored, put))
 }
 
-// Whether a conflict may refuse a request with this step of the state table.
+// Whether a conflict may refuse a request for which the state table has this step.
 fn is_checked(step: Step) -> bool
     ensures { result ≡ is_check step }
 {
     matches!(step, Step::Check(_))
 }
 
-// The conflict of the requested area; `None`, without a query, if it isn't `needed`.
+// The conflict of the requested area, or `None` if it has none; also `None`, without a query, if it isn't
+// `needed`.
 fn conflict_if<S: PlanStore>(
     alloc: Global,
     needed: bool,
@@ -154,8 +157,8 @@ fn conflict_if<S: PlanStore>(
     )
 }
 
-// The states of the operator's plan with this id; if there is none, also how many plans the operator has,
-// which is 0 otherwise.
+// The states of the operator's plan with this id, if there is one, and how many plans the operator has. The
+// number is only needed, and queried, if there is no such plan; otherwise 0 is in its place.
 fn states_and_count<S: PlanStore>(
     store: &mut S,
     operator: &Operator,
@@ -176,8 +179,8 @@ fn states_and_count<S: PlanStore>(
     Ok((stored, own_rows))
 }
 
-// Which limits the operator's plans would exceed, with the requested one in place of the stored one. The
-// store is queried only if there is a limit.
+// Which limits, on spans and on cells, the operator's plans would exceed with the requested one in place of
+// the stored one. The store is queried only if there is a limit.
 fn excess_with<S: PlanStore>(
     store: &mut S,
     terms: &Terms,
@@ -199,7 +202,7 @@ fn excess_with<S: PlanStore>(
     ))
 }
 
-// The change to the store by the effect of a request, or `None` if it changes nothing.
+// The change to the store that `effect`, the effect of the request `put`, is; `None` if it changes nothing.
 fn change_for(
     effect: Effect,
     operator: &Operator,
@@ -221,7 +224,7 @@ fn change_for(
     }
 }
 
-// The requested plan, as a row to be stored.
+// The plan that `put` requests, as a row to be stored.
 fn asked_row(put: &PutCall) -> Result<PlanRow, AllocError>
     ensures { IfOk result (λ row. row ≡ row_asked put.now) }
 {

@@ -1,4 +1,5 @@
-//! Plans as they are shown to their operator.
+//! Plans as they are shown to their operator. Where a comment names no error, a function fails only if memory
+//! runs out or the store fails.
 
 ghost use Rattle.std.specs.Prelude.{◌≡◌, ◌≤◌, map, IfOk, IfErr};
 ghost use Rattle.desk_run.specs.CallFaults.{IsStoreFaultCounted};
@@ -23,7 +24,7 @@ use desk_store::{PlanStore, StoreFault};
 use std::alloc::Global;
 use volume4d::Meeting;
 
-// Prepares the list of an enrolled operator's plans, each with its conflict.
+// Prepares the reply that lists an enrolled operator's plans, closed ones too, each with its conflict.
 pub fn prepare_list<S: PlanStore>(
     alloc: Global,
     store: &mut S,
@@ -101,7 +102,7 @@ pub fn prepare_show<S: PlanStore>(
     })
 }
 
-// A plan of the operator as it is shown, with its conflict.
+// The operator's plan `row` as it is shown, with its conflict.
 fn shown<S: PlanStore>(
     alloc: Global,
     store: &mut S,
@@ -122,7 +123,7 @@ fn shown<S: PlanStore>(
     })
 }
 
-// The conflict of a plan of the operator with other plans; a closed plan has none.
+// The conflict of the operator's plan `row` with other plans, its own and others'; a closed plan has none.
 fn shown_conflict<S: PlanStore>(
     alloc: Global,
     store: &mut S,

@@ -1,5 +1,5 @@
-//! The extents of a query for a piece: each encloses slabs of a plan that have the same altitudes and seconds
-//! and lie close to each other.
+//! The extents of a query for a piece, slabs in which a store is to look: each encloses slabs of a plan that
+//! have the same altitudes and seconds and lie close to each other. A function fails only if memory runs out.
 
 ghost use Rattle.std.specs.Prelude.{◌<◌, ◌≤◌, ◌+◌, length, IfOk, IfSome, IsTrue, OnOk};
 ghost use Rattle.volume4d.specs.Slab.{slab_has, slabs_have};
@@ -15,7 +15,7 @@ use volume4d::Slab;
 // distance. A plan has at most 32 volumes, so a piece has at most 96 extents.
 const MOST: usize = 64;
 
-// Extents that have all points of `slabs` at the leaves of `piece`.
+// Extents that together have all points of `slabs` at the leaves of `piece`, and may have others.
 pub fn extents_in(alloc: Global, slabs: &[Slab], piece: &Slab) -> Result<Vec<Slab>, AllocError>
     ensures { IfOk result (λ extents. HavePart (slabs_have slabs.now) piece.now extents.items) }
 {
@@ -27,7 +27,8 @@ pub fn extents_in(alloc: Global, slabs: &[Slab], piece: &Slab) -> Result<Vec<Sla
     Ok(extents)
 }
 
-// Adds the points of `slab` at the leaves of `piece` to `extents`.
+// Adds the points of `slab` at the leaves of `piece` to `extents`. `gap` is the most leaves between two slabs
+// that are joined.
 fn add_part(extents: &mut Vec<Slab>, slab: &Slab, piece: &Slab, gap: u64) -> Result<(), AllocError>
     ensures kept { OnOk result (Keep extents.old.items extents.new.items) }
     ensures has { OnOk result (HavePart (slab_has slab.now) piece.now extents.new.items) }
@@ -39,7 +40,7 @@ fn add_part(extents: &mut Vec<Slab>, slab: &Slab, piece: &Slab, gap: u64) -> Res
     add(extents, &part, gap)
 }
 
-// Adds the points of `slab` to `extents`: widens one that is close to it, or adds one.
+// Adds the points of `slab` to `extents`: widens one that `slab` may be joined to, or else adds one.
 fn add(extents: &mut Vec<Slab>, slab: &Slab, gap: u64) -> Result<(), AllocError>
     ensures kept { OnOk result (Keep extents.old.items extents.new.items) }
     ensures has { OnOk result (HaveAll (slab_has slab.now) extents.new.items) }
@@ -51,7 +52,8 @@ fn add(extents: &mut Vec<Slab>, slab: &Slab, gap: u64) -> Result<(), AllocError>
     Ok(())
 }
 
-// The index of the last extent that `slab` may be joined to, if there is one.
+// The index of the last extent that `slab` may be joined to, if there is one. `gap` is ignored once there are
+// `SOFT_LIMIT` extents.
 fn place_for(extents: &[Slab], slab: &Slab, gap: u64) -> Option<usize>
     ensures { IfSome result (λ place. place < length extents.now) }
 {
@@ -62,6 +64,8 @@ fn place_for(extents: &[Slab], slab: &Slab, gap: u64) -> Option<usize>
 }
 
 // Whether `slab` has the altitudes and seconds of `extent`, and begins at most `gap` leaves after its end.
+// Slabs come ascending by their first leaves, so none begins before `extent`. For the proof any join is
+// right; this only matters for speed.
 fn may_join(extent: &Slab, slab: &Slab, gap: u64) -> bool
     ensures { IsTrue result → slab.now.first ≤ extent.now.last + gap }
 {
@@ -72,7 +76,7 @@ fn may_join(extent: &Slab, slab: &Slab, gap: u64) -> bool
         == (slab.lower, slab.upper, slab.start, slab.end)
 }
 
-// Widens the extent at `place`, so that it has the points of `slab`.
+// Widens the extent at the index `place`, so that it has the points of `slab`, too.
 fn widen(extents: &mut [Slab], place: usize, slab: &Slab)
     requires { place < length extents.old }
     ensures kept { Keep extents.old extents.new }

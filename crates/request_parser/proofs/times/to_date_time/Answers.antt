@@ -3,8 +3,8 @@ use Rattle.std.proofs.lemmas.Int.{to_z_pos}
 use Rattle.request_parser.proofs.TimeLemmas.{civil_test, same_when_ok}
 use Rattle.request_parser.proofs.times.to_date_time.Goals as goal
 
-pub returns-clause-there : goal.returns-clause-there
-returns-clause-there c =
+pub returns-clause-exists : goal.returns-clause-exists
+returns-clause-exists c =
     let w = c.args.civil in
     let short = c.requires in
     let year = to_z_pos w16 w.year (omega arith) in

@@ -28,14 +28,14 @@ loop-held-preserved c =
           elim c.if-is_wanted.branch [
             | then-is_wanted+in_ok-push w ↦ ap (λ v. top_held v.items x) w.theirs-is
                 ∙ held_adds n c.loop-held.theirs.items _ helds c.loop-held.held-index held x before
-                c.loop-held-test.true c.held-item.is (c.is_wanted.ensures.high w.if-is_wanted.true)
+                c.loop-held-test.true c.held-item.is (c.is_wanted.ensures.high_enough w.if-is_wanted.true)
                 w.in_ok-push.ensures.items (so_far.levels x has)
             | else-is_wanted w ↦ ap (λ v. top_held v.items x) w.theirs-is
                 ∙ held_passed n helds c.loop-held.held-index held x _ before c.loop-held-test.true
                 c.held-item.is
                 (at_mine (at_least n (level_where (slab_has held.slab x) held.priority)) None
                 c.args.mine.now c.remaining_at-left.result.now held.slab x c.remaining_at-left.ensures.left has
-                (c.is_wanted.ensures.none w.if-is_wanted.false x (c.requires.bounds x has)
+                (c.is_wanted.ensures.nothing_lost w.if-is_wanted.false x (c.requires.bounds x has)
                 (c.requires.parts x has))
                 (none_without n held.priority (slab_has held.slab x)))
                 (so_far.levels x has)
