@@ -17,7 +17,7 @@ use Rattle.desk_tables.proofs.HeldLemmas.{all_taken}
 use Rattle.table_load.proofs.lemmas.Frame.{reads_itself, reads_then}
 
 module _ {S : Type 0} (g : Ghosts S) where
-  -- some questions are answered, and nothing was changed
+  -- some queries are answered, and nothing was changed
   pub record IsAsking {Q : Type 0} (old new : HeldWorld S) (asked : Q → Row → Bool) (questions : List Q)
       (helds : List One) : Type 0
     where

@@ -121,7 +121,7 @@ top_either s t p f (x ∷ xs) =
     (top_by (λ a. (s a || t a) && p a) f xs))
     ∙ sym (top_by-cons (λ a. (s a || t a) && p a) f x xs)
 
--- of what questions find, each its own
+-- of what queries find, each its own
 pub top_asked : {Q A B : Type 0} (want : Q → A → Bool) (cut : A → B) (p : B → Bool) (f : B → ℕ) (xs : List A)
     (questions : List Q) → top_by p f (flat_map (λ q. map cut (filter (want q) xs)) questions)
     ≡ top_by (λ a. list_any (λ q. want q a) questions && p (cut a)) (λ a. f (cut a)) xs
@@ -536,7 +536,7 @@ are_wanted tables w o (Some id) least extent span_bounds questions helds hi h t 
 are_wanted tables w o None least extent span_bounds questions helds hi h t bounds whole within taken =
     are_others tables w o least extent span_bounds questions helds h t bounds whole within taken
 
--- ---- one question after the other
+-- ---- one query after the other
 
 taken_both : (helds more : List Held) (rows others : List Row) → HasTakenHelds helds rows
     → HasTakenHelds more others → HasTakenHelds (helds ++ more) (rows ++ others)

@@ -17,7 +17,7 @@ use Rattle.desk_store.specs.declared.fault.StoreFault.{StoreFault}
 use Rattle.desk_store.specs.declared.fault.StoreFault.TheVariants.{Store}
 use Rattle.row_codec.specs.Tables.{ArePlanSpanRows}
 
--- `span2` has 2 ^ 64 - 1 rows and more
+-- `span2` has 2 ^ 64 - 1 rows or more
 abbrev pub HasTooManySpans : Database → Type 0
 HasTooManySpans db = 2 ^ 64 - 1 ≤ length (tables_of db.trees).spans
 
@@ -28,19 +28,20 @@ pub record HasRoomForPlan (p : Filed) (db : Database) : Type 0 where
   pub spans : (rows : List Row) → ArePlanSpanRows p rows → HasRoomFor (length rows) (db.trees 11)
 
 module _ {S : Type 0} (g : Ghosts S) (old new : Held S) where
-  -- over an open connection a fault of the store's own is the disk's
+  -- over an open connection, `Store` is answered only if the disk failed
   abbrev pub BlamesStore : StoreFault → Type 0
   BlamesStore e =
       HasCleanDisk (state g new) → IsTrue (state g new).is_open → e ≡ Store → HasDiskFailed g old new
 
-  -- a change: where the tables have room for what it adds
+  -- the same of a change, if the tables have rowids left for what it adds
   abbrev pub BlamesChange : Change → StoreFault → Type 0
   BlamesChange (Enrol operator ceiling) e = HasRowids 1 ((state g old).now.trees 0) → BlamesStore e
   BlamesChange (Put operator row) e = HasRoomForPlan (filed_by operator row) (state g old).now → BlamesStore e
   BlamesChange (Close operator id) e = AreLow ((state g old).now.trees 2) → BlamesStore e
   BlamesChange (Clear operator ids) e = BlamesStore e
 
-  -- that, or more spans are there than a reading counts
+  -- over an open connection, `Store` is answered only if the disk failed, or if there are too many spans to
+  -- count
   abbrev pub BlamesSpans : StoreFault → Type 0
   BlamesSpans e =
       HasCleanDisk (state g new) → IsTrue (state g new).is_open → e ≡ Store →

@@ -22,8 +22,8 @@ pub record IsNext {S : Type 0} (g : Ghosts S) (old : HeldWorld S) (next : World)
     pub world : next ≡ changed_by change old.world
     pub fits : HasCleanDisk (state g old.held) → IsFitting change old.world
 
--- where a change was committed this is answered, and its world follows; else the world stays, and a growth
--- that was refused isn't answered as `Store`
+-- if a change was committed, `answer` is returned, and the world becomes `next`; else the world stays, and
+-- the fault isn't `Store` if memory ran out
 abbrev pub HasFollowed : {V U : Type 0} → Result V Error → U → Result U StoreFault → World → World → World
     → Type 0
 HasFollowed committed answer result old new next =
@@ -31,8 +31,8 @@ HasFollowed committed answer result old new next =
     (λ error. IsErrAnd result (λ fault. fault ≡ Store → error ≢ SqliteFailure code.OutOfMemory)
     × (new ≡ old))
 
--- tables stand for what the change makes of their world, and that is committed, or for the same world; a
--- crash leaves what it could leave before, or what the change makes
+-- the world is the one after the change, which is committed, or the same as before if it failed; a crash
+-- leaves what it could leave before, or the world after the change
 pub record IsMade {S V : Type 0} (g : Ghosts S) (old new : HeldWorld S) (result : Result V StoreFault)
     (change : Change) : Type 0
   where

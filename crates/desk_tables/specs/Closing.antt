@@ -7,8 +7,8 @@ use Rattle.sqlite.specs.Files.{FailsToClose, IsClosed}
 use Rattle.sqlite.specs.Held.{Held}
 use Rattle.desk_tables.specs.declared.closing.CheckpointError.{CheckpointError}
 
--- what was to be closed was rolled back, a crash has no new outcome, and if the disk returned what was
--- written, memory ran out, the disk failed meanwhile, or the connection was shut before
+-- the checkpoint of a close failed: a crash has no new outcome, and if the disk returned what was written,
+-- then memory ran out, the disk failed meanwhile, or the connection was shut before
 pub record IsLeftUnclosed {D : Type 0} {g : disk.Ghosts D} (h : Held (FileStore D g))
     (it : CheckpointError D g)
     : Type 0 where

@@ -78,8 +78,7 @@ module _ {D : Type 0} {g : disk.Ghosts D} (image : Image) (e : OpenFault) where
     pub cause : BlamesDisk (over_files {D = D} {g = g}) found left e
     pub reads : OnlyReads (over_files {D = D} {g = g}) found left
 
-  -- files of which no content is reported were read so; or they were not opened, and it isn't said of them
-  -- that they have none
+  -- reading the files failed, and the connection is left; or they were not opened, and nothing was read
   abbrev pub AreNotRead : Result (Held (FileStore D g)) (NotOpened D g) → Type 0
   AreNotRead (Ok left) = IsUnreadIn left
   AreNotRead (Err it) = IsOfUnreached image e it

@@ -18,11 +18,11 @@ module _ {S V : Type 0} (g : Ghosts S) (old new : HeldWorld S) (result : Result 
     pub same : new.world ≡ old.world
     pub reads : OnlyReads g old.held new.held
 
-  -- a reader that fails as the disk does
+  -- the same of a reader that fails with `Store` only if the disk failed
   abbrev pub ReadsPlans : (V → Type 0) → Type 0
   ReadsPlans Gives = ReadsWorld Gives (BlamesStore g old.held new.held)
 
-  -- or where more spans are there than a reading counts
+  -- or also if there are more spans than a reader counts
   abbrev pub ReadsSpans : (V → Type 0) → Type 0
   ReadsSpans Gives = ReadsWorld Gives (BlamesSpans g old.held new.held)
 

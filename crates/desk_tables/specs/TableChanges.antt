@@ -14,7 +14,7 @@ use Rattle.desk_store.specs.declared.change.Change.TheVariants.{Enrol, Put, Clos
 use Rattle.row_codec.specs.Tables.{id_text, usage_number, row_of_plan, area_rows, area_covers, ArePlanSpanRows, HasNoOldRows}
 use Rattle.desk_store.specs.Content.{IsId, IsPlan}
 
--- a row of none of an operator's plans of these ids
+-- a row stays if the operator's plans `ids` are removed: it is of none of them
 abbrev pub is_left : List ℕ → List (List ℕ) → Row → Bool
 is_left operator ids row = not (list_any (λ id. is_of operator (id_text id) row) ids)
 
@@ -70,6 +70,7 @@ pub record ClearsRows (operator : List ℕ) (ids : List (List ℕ)) (old new : T
   pub covers : IsPermutation (filter (is_left operator ids) old.covers) new.covers
   pub spans : IsPermutation (filter (is_left operator ids) old.spans) new.spans
 
+-- the tables are changed as this change says
 unfoldable pub ChangesRows : Change → Tables → Tables → Type 0
 ChangesRows (Enrol operator ceiling) old new = EnrolsRows operator ceiling old new
 ChangesRows (Put operator row) old new = PutsRows (filed_by operator row) old new

@@ -39,7 +39,7 @@ pub struct SqliteStore<S: Alter> {
     known: MemoryIndex,
     // how many faults of its own it had; it saturates
     faults: u64,
-    // whether it had an operator when it was opened
+    // whether it had an operator when it was opened; true of a store that was copied or migrated
     is_enrolled: bool,
 }
 
@@ -66,8 +66,8 @@ impl<S: Alter> Model for SqliteStore<S> {
 
 impl<S: Alter> SqliteStore<S> {
     /// A store over `connection`, whose rows are those of the state `kept`, with the indexes in memory
-    /// `known`. It reports I/O errors as `reported`. `is_enrolled` says whether there is an operator; no
-    /// contract says this.
+    /// `known`. It reports I/O errors as `reported`. `is_enrolled` is what `has_begun_enrolled` will return;
+    /// no contract says this.
     pub(crate) fn with(
         alloc: Global,
         connection: Connection<S>,
@@ -77,7 +77,7 @@ impl<S: Alter> SqliteStore<S> {
         is_enrolled: bool,
     ) -> SqliteStore<S>
         requires stands { Stands S.Store connection kept.world }
-        requires bounded { Knows known kept.world }
+        requires known { Knows known kept.world }
         requires live { IsOpenIfClean S.Store connection }
         ensures value { result ≡ record { held = connection; world = kept.world; faults = 0 } }
         ensures left { IsSettledAt S.Store connection kept.world }
@@ -97,8 +97,8 @@ impl<S: Alter> SqliteStore<S> {
         }
     }
 
-    /// Whether the store had an operator when it was opened, or was copied or migrated. No contract says
-    /// this.
+    /// Whether the store had an operator when it was opened; also true if it was copied or migrated. No
+    /// contract says this.
     pub fn has_begun_enrolled(&self) -> bool {
         self.is_enrolled
     }
@@ -217,7 +217,7 @@ impl<S: Alter> PlanStore for SqliteStore<S> {
     }
 }
 
-// Returns `answer`, and counts it in `faults` if it is a fault of the store; the count saturates.
+// Returns `answer`, and adds one to `faults` if it is the fault `Store`; the count saturates.
 fn count_fault<T>(faults: &mut u64, answer: Result<T, StoreFault>) -> Result<T, StoreFault>
     ensures same { result ≡ answer }
     ensures counted { faults.old ≤ faults.new }

@@ -41,7 +41,8 @@ impl<S: Alter> Model for DeskTables<S> {
 }
 
 impl<S: Alter> DeskTables<S> {
-    /// The allocator for what is read. The contract also says that the rows are those of the state.
+    /// The allocator for what is read. The contract also says that the rows of the tables are those of the
+    /// state.
     pub(crate) fn allocator(&self) -> Global
         ensures { Stands S.Store self.now.held self.now.world }
     {

@@ -48,14 +48,14 @@ keeps_long_spans old new same more span known = elim known [
   | inr among ↦ inr (more span among)
 ]
 
--- ---- the walk along the long spans, for the questions
+-- ---- the walk along the long spans, for the queries
 
 module _ (extent : Slab) (low : ℕ) where
   abbrev pub AreFor : Option Span → List Span → Type 0
   AreFor long_span questions =
       AreWhole extent (λ span. IsTrue (takes_in span long_span) × (span.first < low)) questions
 
-  -- the questions for some of the long spans that are kept
+  -- the queries for some of the long spans that are kept
   pub record AreAskedFor (long_spans : List (Option Span)) (questions : List Span) : Type 0 where
     pub whole : AreWhole extent (λ span. IsAmong long_spans span × (span.first < low)) questions
     pub within : AllByRecursion (IsWithinExtent extent) questions

@@ -12,6 +12,7 @@ use Rattle.row_codec.specs.Tables.{row_of_operator, plan_rows, volume_rows}
 use Rattle.row_codec.specs.declared.exact.RowFault.TheVariants as row
 use Rattle.row_codec.specs.Records.{IsOperator, IsFiled}
 
+-- a value is this text
 abbrev pub has_text : Value → List ℕ → Bool
 has_text Null text = false
 has_text (Int n) text = false
@@ -34,12 +35,12 @@ pub record ArePlanRows (ps : List Filed) (head_rows volumes : List Row) : Type 0
   pub plans : head_rows ≡ plan_rows ps
   pub areas : volumes ≡ volume_rows ps
 
--- each plan's operator is among these, and none has too many plans
+-- the operator of each plan is among `ls`, and no operator has more than `max_plans` plans
 pub record AreShared (ls : List Listed) (ps : List Filed) : Type 0 where
   pub listed : AllByRecursion (IsListed (record { operators = ls; plans = ps })) ps
   pub few : (operator : List ℕ) → length (rows_by operator ps) ≤ max_plans
 
--- an element is below the first of a list, if there is one
+-- an element is less than the first of a list; true if the list is empty
 abbrev pub is_below_first : {X : Type 0} → (X → X → Ordering) → X → List X → Bool
 is_below_first cmp x [] = true
 is_below_first cmp x (y ∷ ys) = is_lt (cmp x y)

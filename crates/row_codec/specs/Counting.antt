@@ -10,7 +10,7 @@ use Rattle.row_codec.specs.Tables.{AreSpanRows}
 use Rattle.row_codec.specs.declared.counting.Counted.{Counted}
 use Rattle.row_codec.specs.declared.counting.Counted.TheVariants.{Spans, Cells}
 
--- these plans have so many
+-- these plans have `count` rows of spans
 pub record HaveSpanRows (ps : List Filed) (count : ℕ) : Type 0 where
   pub rows : List Row
   pub are : AreSpanRows ps rows
@@ -26,7 +26,7 @@ module _ (count : PlanRow → ℕ) where
   abbrev pub operator_count : List ℕ → List Filed → ℕ
   operator_count operator ps = sum_by (λ p. count p.row) (filter (is_by operator) ps)
 
-  -- no operator's plans have more, and those of one have as much, if any have some
+  -- `most` is the greatest `operator_count`: no operator has more, and one has as much unless `most` is 0
   pub record IsMostOf (ps : List Filed) (most : ℕ) : Type 0 where
     pub none_more : (operator : List ℕ) → operator_count operator ps ≤ most
     pub one : (most ≡ 0) ⊎ ((operator : List ℕ) × (operator_count operator ps ≡ most))

@@ -7,7 +7,7 @@ use Rattle.sqlite.specs.declared.error.ErrorCode.TheVariants as code
 use Rattle.desk_store.specs.declared.fault.StoreFault.{StoreFault}
 use Rattle.desk_store.specs.declared.fault.StoreFault.TheVariants.{Store}
 
--- what SQLite answered, or its error as a fault: memory that ran out is reported as that
+-- `result` has the value of `answer`, or a fault for its error: not `Store` if memory ran out
 abbrev pub IsReportedAs : {V : Type 0} → Result V Error → Result V StoreFault → Type 0
 IsReportedAs answer result =
     MatchResult answer (λ v. result ≡ Ok v)

@@ -9,7 +9,7 @@ use Rattle.row_codec.specs.declared.values.PlanHead.{PlanHead}
 use Rattle.desk_store.specs.Content.{IsValidVolume, IsId, IsPlan}
 use Rattle.row_codec.specs.RowsRead.{IsHead, IsVolumeAt, is_later, joined_from, listing_rows}
 
--- the plan that is this but for its area
+-- the plan with this head and area
 abbrev pub plan_with : PlanHead → List Block → PlanRow
 plan_with head area =
     record {
@@ -20,13 +20,13 @@ plan_with head area =
       area = area;
     }
 
--- the plans that are whole, and the one under way, as if no volume of it were left
+-- the finished plans, and the plan of `head` with the volumes so far, if there is one
 abbrev pub closed_plans : List PlanRow → Option PlanHead → List Block → List PlanRow
 closed_plans plans None volumes = plans
 closed_plans plans (Some head) volumes = plans ++ plan_with head volumes ∷ []
 
--- the plan under way is the first of some whose other rows are left; with the plans before it they
--- are all plans
+-- the rows `left` are the remaining rows of the plan under way and all rows of the plans `more` after it;
+-- with the finished plans before it, these are `all`
 pub record IsPlanUnderWay (plans : List PlanRow) (head : PlanHead) (volumes : List Block)
     (left : List Row) (all : List PlanRow) : Type 0 where
   pub plan : Filed
@@ -39,12 +39,12 @@ pub record IsPlanUnderWay (plans : List PlanRow) (head : PlanHead) (volumes : Li
   pub rows : left ≡ joined_from plan (length volumes) rest ++ listing_rows more
   pub whole : plans ++ map (λ p. p.row) (plan ∷ more) ≡ all
 
--- what is gathered and the rows that are left make these plans
+-- what is collected so far is of the plans `ps`, and the rows `left` are the remaining rows of their listing
 abbrev pub Leads : List PlanRow → Option PlanHead → List Block → List Row → List Filed → Type 0
 Leads plans None volumes left ps = (plans ≡ []) × (left ≡ listing_rows ps)
 Leads plans (Some head) volumes left ps = IsPlanUnderWay plans head volumes left (map (λ p. p.row) ps)
 
--- whatever plans these are the first rows of a listing of: what is gathered leads to them
+-- `rows` were collected: if they begin the listing of some plans, what is collected leads to these plans
 abbrev pub HasCollected : List PlanRow → Option PlanHead → List Block → List Row → Type 0
 HasCollected plans head volumes rows =
     (ps : List Filed) (left : List Row) → AllByRecursion (λ p. IsPlan p.row) ps
@@ -52,7 +52,7 @@ HasCollected plans head volumes rows =
 
 -- ---- rows that are not gathered
 
--- the plan under way has no area's volumes
+-- there is a plan under way, and its volumes aren't those of an area
 abbrev pub HasNoArea : Option PlanHead → List Block → Type 0
 HasNoArea None volumes = ⊥
 HasNoArea (Some head) volumes = is_area volumes ≡ false
@@ -61,8 +61,8 @@ HasNoArea (Some head) volumes = is_area volumes ≡ false
 abbrev pub IsNoHead : Row → Type 0
 IsNoHead row = (p : PlanRow) → IsId p.id → p.priority < 2 ^ 32 → ¬ IsHead row p
 
--- a row of a plan after the one under way, which can't end or which it can't begin; one of a plan of which no
--- row came; or one without a volume
+-- a row is refused: it begins a plan, but the plan before it has no area, or the row is no plan's; or it is a
+-- later row, but no plan was begun; or it has no valid volume
 abbrev pub IsUngathered : Option PlanHead → List Block → Row → Type 0
 IsUngathered head volumes row =
     ((is_later row ≡ false) × (HasNoArea head volumes ⊎ IsNoHead row))

@@ -5,7 +5,7 @@ use Rattle.operator_index.specs.Roll.{IsIndexOf}
 use Rattle.row_codec.specs.declared.known.MemoryIndex.{MemoryIndex}
 use Rattle.row_codec.specs.SpanBounds.{Bounds}
 
--- how long their spans are at most, each live volume, and the roll of operators
+-- the indexes in memory are those of `w`: the span bounds hold, and both indexes have what `w` has
 pub record Knows (known : MemoryIndex) (w : World) : Type 0 where
   pub span_bounds : Bounds known.span_bounds w
   pub live : AreKeptOnce known.live w

@@ -18,6 +18,7 @@ AreAskedOf volumes asked = asked ≡ map (λ v. footprint_bytes v.footprint) vol
 abbrev pub AreCanonOf : List Block → List (List ℕ) → Type 0
 AreCanonOf volumes canon = canon ≡ map (λ v. canon_bytes v.footprint) volumes
 
+-- the row of a volume in `volume2`, without its cover, from its parts
 abbrev pub volume_record : List ℕ → List ℕ → ℕ → WindowParts → List ℕ → Row
 volume_record operator id place w asked = sql.volume_row (record {
   operator = operator;
@@ -30,6 +31,7 @@ volume_record operator id place w asked = sql.volume_row (record {
   asked = asked;
 })
 
+-- the row of a slab in `span2`, from its parts
 abbrev pub slab_record : List ℕ → List ℕ → ℕ → ℕ → Slab → Row
 slab_record operator id place priority s = sql.span_row (record {
   operator = operator;
@@ -44,7 +46,7 @@ slab_record operator id place priority s = sql.span_row (record {
   priority = priority;
 })
 
--- what is put of a plan, with these rows of its spans
+-- the rows that are written for a plan, with these rows of its spans
 abbrev pub filed_put : Filed → List Row → PlanPut
 filed_put p spans = record {
   operator = p.operator;

@@ -38,13 +38,13 @@ pub record AreNumbersOf (row : Row) (p : PlanRow) : Type 0 where
   pub usage : column row 3 ≡ Int (pos (usage_number p.usage))
   pub aircraft : column row 4 ≡ Int (pos (aircraft_number p.aircraft))
 
--- a row of so many columns, of which the first two are an operator's name and the text of an id
+-- a row of `width` columns, of which the first two are an operator's name and the text of an id
 pub record IsKeyed (operator id : List ℕ) (width : ℕ) (row : Row) : Type 0 where
   pub wide : length row ≡ width
   pub name : column row 0 ≡ Text operator
   pub text : column row 1 ≡ Text id
 
--- the four columns from a place on are the altitudes and seconds of a window
+-- the four columns from `at` on are the altitudes and times of a window
 pub record IsWindowAt (row : Row) (at : ℕ) (window : WindowParts) : Type 0 where
   pub lower : column row at ≡ Int window.lower
   pub upper : column row (at + 1) ≡ Int window.upper
@@ -55,7 +55,7 @@ pub record IsWindowAt (row : Row) (at : ℕ) (window : WindowParts) : Type 0 whe
 abbrev pub slab_row : Filed → ℕ → Slab → Row
 slab_row p place s = slab_record p.operator (id_text p.row.id) place p.row.priority s
 
--- what a reading's fault says of rows of which any may come
+-- `StoreFault` of a row that was read, as `RowFault`
 abbrev pub row_fault_of : StoreFault → RowFault
 row_fault_of store.OutOfMemory = OutOfMemory
 row_fault_of store.Store = InvalidRows

@@ -29,7 +29,7 @@ pub record IsSlabIn (row : Row) (slab : Slab) : Type 0 where
   pub start : column row 4 ≡ Int slab.start
   pub end : column row 5 ≡ Int slab.end
 
--- and `priority` is its plan's
+-- the same, and the column `priority` is its plan's
 pub record IsHeldIn (row : Row) (held : Held) : Type 0 where
   pub slab : IsSlabIn row held.slab
   pub priority : column row 6 ≡ Int (pos held.priority)
@@ -50,7 +50,7 @@ IsNoHeld row = (held : Held) → FitsColumns held → ¬ IsHeldIn row held
 abbrev pub HasTakenHelds : List Held → List Row → Type 0
 HasTakenHelds helds rows = AllZip IsHeldIn rows helds
 
--- what spans are asked for that may hold a point of an extent, at a priority at least
+-- the filter for spans that overlap an extent and have at least the priority `least`
 abbrev pub span_filter_of : Slab → ℕ → SpanFilter
 span_filter_of extent least = record {
   first = pos extent.first;
@@ -62,53 +62,53 @@ span_filter_of extent least = record {
   priority = least;
 }
 
--- of these only those that begin at the leaves that a question is for
+-- and that begin at the last leaf of a query or before
 abbrev pub span_filter_from : Span → Slab → ℕ → SpanFilter
 span_filter_from question extent least = record (span_filter_of extent least) { last = pos question.last }
 
--- a row of `span2` is of another plan than the operator's own one with this id, or, if there is no id, than
--- all of its own; it is reached, and begins at a leaf position or later
+-- a row of `span2` is of another plan than the operator's plan with this id, or, if there is no id, of
+-- another operator's plan; it passes the filter, and begins at a leaf position or later
 abbrev pub is_another_from : List ℕ → Option (List ℕ) → SpanFilter → ℤ → Row → Bool
 is_another_from operator None = is_others_from operator
 is_another_from operator (Some id) = is_wanted operator (id_text id)
 
--- a question of the spans that are wanted near an extent is for a row of `span2`
+-- a query for the spans that are wanted near an extent finds this row of `span2`
 abbrev pub is_asked : Wanted → Slab → Span → Row → Bool
 is_asked wanted extent question =
     is_another_from wanted.operator wanted.id (span_filter_from question extent wanted.least) (pos question.first)
 
--- a question of the spans of a plan is for a row of `span2`
+-- the query for the spans of a plan finds this row of `span2`
 abbrev pub is_asked_of_plan : ℕ → Slab → PlanKey → Row → Bool
 is_asked_of_plan least extent key = is_plans key.operator (id_text key.id) (span_filter_of extent least)
 
--- so is one of the spans that pass a test
+-- a query for the spans that pass a test finds this row of `span2`
 abbrev pub is_asked_if : (Row → Bool) → ℕ → Slab → Span → Row → Bool
 is_asked_if passes least extent question row =
     is_at_least (column row 3) (pos question.first)
     && (is_reached (span_filter_from question extent least) row && passes row)
 
--- one held slab for each row of these that is wanted, in some order
+-- one held slab for each of these rows of spans that passes the test `wanted`, in some order
 abbrev pub HaveTaken : (Row → Bool) → List Row → List Held → Type 0
 HaveTaken wanted spans helds =
     (rows : List Row) × IsPermutation (map held_columns (filter wanted spans)) rows × HasTakenHelds helds rows
 
--- and for each that another question is for
+-- one held slab for each row that each of the queries finds, in some order
 abbrev pub HaveTakenAll : {Q : Type 0} → (Q → Row → Bool) → List Q → List Row → List Held → Type 0
 HaveTakenAll asked questions spans helds =
     (rows : List Row)
     × IsPermutation (flat_map (λ question. map held_columns (filter (asked question) spans)) questions) rows
     × HasTakenHelds helds rows
 
--- where they meet an extent, these are what the plans that are wanted hold
+-- at each point of an extent, the greatest priority of these slabs is that of the wanted plans there
 abbrev pub AreWanted : World → Wanted → Slab → List Held → Type 0
 AreWanted w wanted extent helds =
     HaveLevel extent helds (λ x. at_least wanted.least (held_but w wanted.operator wanted.id x))
 
--- and so where they meet one of some extents
+-- the same at each point of some extents
 abbrev pub AreWantedNear : World → Wanted → List Slab → List Held → Type 0
 AreWantedNear w wanted extents helds = (x : Point) → slabs_have extents x ≡ true
     → top_held helds x ≡ at_least wanted.least (held_but w wanted.operator wanted.id x)
 
--- at how many leaves the spans begin that questions are for
+-- how many leaves the ranges of all queries have
 abbrev pub leaves_begun : List Span → ℕ
 leaves_begun questions = sum_by (λ q. q.last - q.first + 1) questions

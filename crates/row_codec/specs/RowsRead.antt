@@ -11,7 +11,7 @@ use Rattle.desk_sql.specs.Rows.{joined}
 use Rattle.desk_store.specs.World.{Filed}
 use Rattle.row_codec.specs.Tables.{id_text, usage_number, aircraft_number, row_of_plan, volume_rows_from, area_rows}
 
--- the columns from `lower` on, of which this is the first, are a volume's
+-- the five columns from `at` on, of which `lower` is the first, are those of a volume
 pub record IsVolumeAt (row : Row) (at : ℕ) (v : Block) : Type 0 where
   pub lower : column row at ≡ Int v.window.lower
   pub upper : column row (at + 1) ≡ Int v.window.upper
@@ -19,13 +19,14 @@ pub record IsVolumeAt (row : Row) (at : ℕ) (v : Block) : Type 0 where
   pub end : column row (at + 3) ≡ Int v.window.end
   pub asked : column row (at + 4) ≡ Blob (footprint_bytes v.footprint)
 
--- the columns from `id` to `aircraft` are a plan's
+-- the columns from `id` to `aircraft` are those of a plan
 pub record IsHead (row : Row) (p : PlanRow) : Type 0 where
   pub id : column row 1 ≡ Text (id_text p.id)
   pub priority : column row 2 ≡ Int (pos p.priority)
   pub usage : column row 3 ≡ Int (pos (usage_number p.usage))
   pub aircraft : column row 4 ≡ Int (pos (aircraft_number p.aircraft))
 
+-- a value is an integer above 0
 abbrev pub is_positive : Value → Bool
 is_positive Null = false
 is_positive (Int n) = int_lt (pos 0) n
@@ -37,13 +38,14 @@ is_positive (Blob b) = false
 abbrev pub is_later : Row → Bool
 is_later row = is_positive (column row 5)
 
--- a plan with each of its volumes, and plans one after the other
+-- the joined rows of a plan: one for each of its volumes
 abbrev pub joined_rows : Filed → List Row
 joined_rows p = map (joined (row_of_plan p)) (area_rows p)
 
+-- those of plans, one plan after the other
 abbrev pub listing_rows : List Filed → List Row
 listing_rows ps = flat_map joined_rows ps
 
--- of the volumes from one on
+-- the joined rows of volumes, the first of which is at a place
 abbrev pub joined_from : Filed → ℕ → List Block → List Row
 joined_from p place vs = map (joined (row_of_plan p)) (volume_rows_from p place vs)

@@ -19,13 +19,14 @@ use volume4d::Volume;
 pub fn canon_of(alloc: Global, volume: &Volume) -> Result<Vec<u8>, AllocError>
     ensures { IfOk result (λ bytes. bytes.items ≡ canon_bytes volume.now.footprint) }
 {
+    // For the contract alone: the cells of a cover are the canonical list.
     one_canonical_list();
     canonical_list_is();
     let cover = volume.cover()?;
     ids_of(alloc, cover.cells())
 }
 
-/// The canonical covers of `volumes` as bytes, as `canon_of` has them.
+/// The canonical cover of each of `volumes` as bytes, as `canon_of` returns it.
 ///
 /// # Errors
 ///

@@ -108,7 +108,8 @@ pub fn operators_in(alloc: Global, rows: &[Row]) -> Result<Vec<ListedOperator>, 
     Ok(operators)
 }
 
-/// The plans whose rows of `plan` are `head_rows`, and whose rows of volumes are `volumes`, ordered by key.
+/// The plans whose rows of `plan` are `head_rows`, and whose rows of volumes are `volumes`, both ordered by
+/// key.
 ///
 /// # Errors
 ///
@@ -138,7 +139,8 @@ pub fn plans_in(
     }
 }
 
-// How many of the first `rows` are of volumes of the plan whose row of `plan` is `head`.
+// How many rows at the beginning of `rows` are of volumes of the plan whose row of `plan` is `head`; 0 if the
+// key of `head` isn't two texts.
 fn count_own_volumes(head: &Row, rows: &[Row]) -> usize
     ensures of { (p : Filed) → head.now ≡ row_of_plan p →
         result ≡ prefix_len (spec.is_row_of p.operator (id_text p.row.id)) rows.now }
@@ -151,7 +153,7 @@ fn count_own_volumes(head: &Row, rows: &[Row]) -> usize
     count_of(rows, operator, id)
 }
 
-// How many of the first `rows` are of the operator's plan `id`.
+// How many rows at the beginning of `rows` are of the operator's plan `id`.
 #[tactic(auto, using(crate::proofs::JoinLemmas::within))]
 fn count_of(rows: &[Row], operator: &[u8], id: &[u8]) -> usize
     ensures value { result ≡ prefix_len (spec.is_row_of operator.now id.now) rows.now }
@@ -196,7 +198,7 @@ pub fn are_names_ascending(operators: &[ListedOperator]) -> bool
     true
 }
 
-// Whether the name of `one` is less than that of the first of `others`, if there is one.
+// Whether the name of `one` is less than that of the first of `others`; true if `others` is empty.
 fn name_is_below(one: &ListedOperator, others: &[ListedOperator]) -> bool
     ensures { result ≡ is_below_first listed_cmp one.now others.now }
 {
@@ -220,7 +222,7 @@ pub fn are_keys_ascending(plans: &[FiledPlan]) -> bool
     true
 }
 
-// Whether `one` comes before the first of `others`, if there is one, by operator and id.
+// Whether `one` comes before the first of `others` by operator and id; true if `others` is empty.
 fn key_is_below(one: &FiledPlan, others: &[FiledPlan]) -> bool
     ensures { result ≡ is_below_first filed_cmp one.now others.now }
 {
@@ -260,7 +262,7 @@ fn is_within_limit(count: usize) -> bool
     count <= MAX_PLANS as usize
 }
 
-/// How many of the first `plans` are the operator's.
+/// How many plans at the beginning of `plans` are the operator's.
 #[tactic(auto, using(crate::proofs::JoinLemmas::within))]
 pub(crate) fn count_own(operator: &Operator, plans: &[FiledPlan]) -> usize
     ensures value { result ≡ prefix_len (world.is_by operator.now) plans.now }

@@ -1,4 +1,4 @@
-//! The most spans, and the most cells, that the plans of one operator have.
+//! How many spans, and how many cells, the plans of one operator have at most.
 
 ghost use Rattle.std.specs.Prelude.{◌≡◌, ◌*◌, ◌≤◌, ◌⊎◌, ℕ, List, length};
 ghost use Rattle.std.specs.List.{sum_by};
@@ -20,8 +20,8 @@ pub enum Counted {
     Cells,
 }
 
-/// The greatest number of spans, or of cells, that one operator has; 0 without plans. Since the plans are
-/// ordered, those of one operator follow each other.
+/// The greatest number of spans, or of cells, that one operator's plans have together; 0 without plans.
+/// `plans` are ordered by operator and id, so that those of one operator follow each other.
 pub fn most_of(counted: Counted, plans: &[FiledPlan]) -> usize
     requires keys { IsStrictlySortedBy filed_cmp plans.now }
     requires few { (operator : List ℕ) → length (rows_by operator plans.now) ≤ max_plans }
@@ -45,7 +45,7 @@ fn max_of(one: usize, other: usize) -> usize
     if one < other { other } else { one }
 }
 
-// How many spans, or cells, `plans` have. They are the plans of one operator.
+// How many spans, or cells, `plans` have together. They are the plans of one operator.
 fn sum_of(counted: Counted, plans: &[FiledPlan]) -> usize
     requires { length plans.now ≤ max_plans }
     ensures { result ≡ sum_by (λ p. count_of counted p.row) plans.now }

@@ -26,7 +26,7 @@ use std::alloc::Global;
 use std::marker::Model;
 use volume4d::Slab;
 
-// How many columns a row of each table has.
+// How many columns a row of each table has; a row of `volume2` is without its cover.
 const OPERATOR_WIDTH: usize = 2;
 
 pub const PLAN_WIDTH: usize = 5;
@@ -73,11 +73,11 @@ impl Model for FiledPlan {
     ghost view = { λ p. record { operator = p.operator; row = p.row } };
 }
 
-/// The operator whose row of `operator` is `row`.
+/// The operator with its ceiling whose row of `operator` is `row`.
 ///
 /// # Errors
 ///
-/// `OutOfMemory` if memory runs out. `InvalidRows` if it isn't the row of an operator within the limits.
+/// `OutOfMemory` if memory runs out. `InvalidRows` if `row` isn't the row of an operator within the limits.
 pub(crate) fn listed_in(row: &Row) -> Result<ListedOperator, RowFault>
     ensures ok { IfOk result (λ l. IsOperator l × (row.now ≡ row_of_operator l)) }
     ensures refused { IfErr result (λ e. e ≡ RowFault.InvalidRows →
@@ -97,7 +97,8 @@ pub(crate) fn listed_in(row: &Row) -> Result<ListedOperator, RowFault>
 }
 
 /// The plan whose row of `plan` is `head`, and whose rows of `volume2`, or of `volume` in schema 1, are
-/// `volumes`, ordered by place. The ranges of a closed plan are dropped, since it has no spans.
+/// `volumes`, ordered by place: the fourth column of these is `lower`. The ranges of leaves of a closed plan
+/// are dropped, since it has no spans.
 ///
 /// # Errors
 ///
@@ -125,7 +126,7 @@ pub(crate) fn filed_in(alloc: Global, head: &Row, volumes: &[Row]) -> Result<Fil
     Ok(plan)
 }
 
-/// The operator whose name is in the first column, if it is a valid name.
+/// The operator whose name is in the first column of `row`; none if that isn't a valid name.
 pub fn operator_in(row: &Row) -> Option<Operator>
     ensures { MatchOption result
         ((name : List ℕ) → IsTrue (is_operator_name name) → column row.now 0 ≢ Text name)
@@ -137,7 +138,8 @@ pub fn operator_in(row: &Row) -> Option<Operator>
     }
 }
 
-// Whether `head` and `volumes`, from which `plan` was read, are exactly the rows that it has.
+// Whether `head` and `volumes`, from which `plan` was read, are exactly the rows of `plan`. Only their keys
+// and their numbers of columns are compared: `plan` was read from all other columns.
 fn are_rows_of(plan: &FiledPlan, head: &Row, volumes: &[Row]) -> bool
     requires numbers { AreNumbersOf head.now plan.now.row }
     requires area { AllZip (λ row v. IsVolumeAt row 3 v) volumes.now plan.now.row.area }
@@ -151,7 +153,8 @@ fn are_rows_of(plan: &FiledPlan, head: &Row, volumes: &[Row]) -> bool
     are_volume_rows(plan, id, volumes)
 }
 
-// Whether `rows`, from which the volumes of `plan` were read, are exactly its rows, at the places 0, 1, ..
+// Whether `rows`, from which the volumes of `plan` were read, are exactly the rows of these, at the places 0,
+// 1, ..; `id` is the plan's id as text.
 fn are_volume_rows(plan: &FiledPlan, id: &str, rows: &[Row]) -> bool
     requires id { id.now ≡ id_text plan.now.row.id }
     requires area { AllZip (λ row v. IsVolumeAt row 3 v) rows.now plan.now.row.area }
@@ -165,7 +168,8 @@ fn are_volume_rows(plan: &FiledPlan, id: &str, rows: &[Row]) -> bool
     true
 }
 
-// Whether `row`, from which a volume was read, is exactly the row of that volume at `place` of `plan`.
+// Whether `row`, from which a volume was read, is exactly the row of that volume at `place` of `plan`; `id`
+// is the plan's id as text.
 fn is_volume_row(plan: &FiledPlan, id: &str, place: usize, row: &Row) -> bool
     requires id { id.now ≡ id_text plan.now.row.id }
     ensures { (v : Block) → IsVolumeAt row.now 3 v →
@@ -177,7 +181,8 @@ fn is_volume_row(plan: &FiledPlan, id: &str, place: usize, row: &Row) -> bool
     is_count_at(row, 2, place as u64)
 }
 
-/// Whether `row` is exactly the row of `slab`, which is of the volume at `place` of `plan`.
+/// Whether `row` is exactly the row of `slab`, which is of the volume at `place` of `plan`; `id` is the
+/// plan's id as text.
 pub fn is_slab_row(plan: &FiledPlan, id: &str, place: usize, slab: &Slab, row: &Row) -> bool
     requires id { id.now ≡ id_text plan.now.row.id }
     ensures { IsTrue result ↔ (row.now ≡ slab_row plan.now place slab.now) }
@@ -197,7 +202,7 @@ pub fn is_slab_row(plan: &FiledPlan, id: &str, place: usize, slab: &Slab, row: &
     is_count_at(row, 9, u64::from(plan.row.priority))
 }
 
-// Whether the columns `first` and `last` of a row of spans are the leaves of `slab`.
+// Whether the columns `first` and `last` of a row of spans, its fourth and fifth, are the leaves of `slab`.
 fn has_leaves_of(row: &Row, slab: &Slab) -> bool
     ensures { IsTrue result ↔ ((column row.now 3 ≡ Int (pos slab.now.first))
         × (column row.now 4 ≡ Int (pos slab.now.last))) }
@@ -208,7 +213,7 @@ fn has_leaves_of(row: &Row, slab: &Slab) -> bool
     is_count_at(row, 4, slab.last)
 }
 
-// Whether `row` has `width` columns and begins with the name `operator` and the text `id`.
+/// Whether `row` has `width` columns and begins with the name `operator` and the text `id`.
 pub fn is_keyed(row: &Row, operator: &str, id: &str, width: usize) -> bool
     ensures { IsTrue result ↔ IsKeyed operator.now id.now width row.now }
 {
@@ -248,7 +253,7 @@ fn is_text_at(row: &Row, at: usize, text: &str) -> bool
     }
 }
 
-// Whether the column `at` is the integer `number`.
+// Whether the column `at` is the signed integer `number`.
 fn is_number_at(row: &Row, at: usize, number: i64) -> bool
     ensures { IsTrue result ↔ (column row.now at ≡ Int number) }
 {
@@ -258,7 +263,7 @@ fn is_number_at(row: &Row, at: usize, number: i64) -> bool
     }
 }
 
-// Whether the column `at` is the integer `count`.
+/// Whether the column `at` is the unsigned integer `count`.
 pub(crate) fn is_count_at(row: &Row, at: usize, count: u64) -> bool
     ensures { IsTrue result ↔ (column row.now at ≡ Int (pos count)) }
 {

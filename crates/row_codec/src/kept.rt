@@ -9,7 +9,7 @@ use crate::content::Content;
 use desk_store::Change;
 use std::marker::Model;
 
-/// The database state of a store. It takes no memory: only contracts read it.
+/// The database state of a store: its operators and plans. It takes no memory: only contracts read it.
 #[derive(Drop)]
 pub struct GhostState {
     pub ghost world: { World },
@@ -27,7 +27,7 @@ impl GhostState {
         GhostState {}
     }
 
-    /// The state after `_change`.
+    /// The state that `_change` makes of `_before`.
     pub fn after(_before: &GhostState, _change: &Change) -> GhostState
         ensures { result.world ≡ changed_by _change.now _before.now.world }
     {

@@ -37,15 +37,15 @@ impl MemoryIndex {
         }
     }
 
-    /// Allocates what `update_after` needs for `change`, so that it can't fail; returns the live volumes that
-    /// the change adds.
+    /// Allocates what `update_after` needs for `change`, so that `update_after` can't fail; returns the live
+    /// volumes that the change adds.
     ///
     /// # Errors
     ///
-    /// `AllocError` if memory runs out.
+    /// `AllocError` if memory runs out. The indexes are still those of the same state.
     pub fn prepare(&mut self, alloc: Global, change: &Change) -> Result<Vec<LiveVolume>, AllocError>
         ensures kept { (w : World) → Knows self.old w → Knows self.new w }
-        ensures brought { IfOk result (λ fresh. AreBrought change.now fresh.items) }
+        ensures added { IfOk result (λ fresh. AreBrought change.now fresh.items) }
         ensures room { IfOk result (λ fresh. HasRoomForVolumes self.new.live (length fresh.items)) }
         ensures ready { OnOk result (IsReadyFor change.now self.new.roll) }
     {
@@ -53,10 +53,11 @@ impl MemoryIndex {
         self.live.prepare(alloc, change)
     }
 
-    /// Applies `change`, for which `prepare` made room and returned `fresh`; `span_bounds` hold after it.
+    /// Updates the indexes to the state after `change`, for which `prepare` made room. `span_bounds` are the
+    /// bounds after the change, and `fresh` are the live volumes that it adds, as `prepare` returned them.
     pub fn update_after(&mut self, change: &Change, span_bounds: SpanBounds, fresh: &[LiveVolume])
         requires room { HasRoomForVolumes self.old.live (length fresh.now) }
-        requires brought { AreBrought change.now fresh.now }
+        requires added { AreBrought change.now fresh.now }
         requires ready { IsReadyFor change.now self.old.roll }
         requires kept { Keeps self.old.span_bounds span_bounds }
         requires brings { BringsKnown span_bounds change.now }
@@ -68,7 +69,7 @@ impl MemoryIndex {
     }
 }
 
-/// The index of the volumes of those `plans` that are live.
+/// The index of the volumes of those `plans` that are live. `plans` are ordered by operator and id.
 ///
 /// # Errors
 ///
@@ -77,11 +78,11 @@ pub fn live_index_of(alloc: Global, plans: &[FiledPlan]) -> Result<LiveIndex, Al
     ensures { IfOk result (λ live. (w : World) → IsStrictlySortedBy filed_cmp w.plans
         → w.plans ≡ plans.now → AreKeptOnce live w) }
 {
-    let mut gathering = LiveIndexBuilder::new(alloc);
+    let mut builder = LiveIndexBuilder::new(alloc);
     for plan in plans {
-        gathering.add(&plan.operator, &plan.row)?;
+        builder.add(&plan.operator, &plan.row)?;
     }
-    gathering.finish(alloc)
+    builder.finish(alloc)
 }
 
 /// The index of `operators` and their `plans`.

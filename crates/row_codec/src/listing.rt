@@ -26,7 +26,7 @@ use volume4d::{Area, Volume};
 pub struct PlanCollector {
     alloc: Global,
     plans: Vec<PlanRow>,
-    // the plan of the last row, of which `volumes` are those so far
+    // the plan of the last row, whose volumes so far are `volumes`; None before the first row
     head: Option<PlanHead>,
     volumes: Vec<Volume>,
 }
@@ -44,8 +44,8 @@ impl PlanCollector {
         }
     }
 
-    // Adds the plan of the last row to `plans`, if there is one, now that its volumes are complete. `Store`
-    // if a plan can't have so many.
+    // Adds the plan of the last row, if there is one, to `plans`, now that its volumes are complete. `Store`
+    // if these aren't the volumes of an area.
     fn finish_plan(&mut self) -> Result<(), StoreFault>
         ensures plans { OnOk result (self.new.plans.items
             ≡ closed_plans self.old.plans.items self.old.head self.old.volumes.items) }
@@ -63,7 +63,7 @@ impl PlanCollector {
         }
     }
 
-    // Finishes the plan before, and begins the one whose first row is `row`.
+    // Finishes the plan of the row before, and begins the plan whose first row is `row`.
     fn begin_plan(&mut self, row: &Row) -> Result<(), StoreFault>
         ensures plans { OnOk result (self.new.plans.items
             ≡ closed_plans self.old.plans.items self.old.head self.old.volumes.items) }
@@ -78,7 +78,8 @@ impl PlanCollector {
         Ok(())
     }
 
-    // Adds the volume in `row` to its plan.
+    // Adds the volume in `row`, whose column `lower` is the seventh, to its plan. `Store` if the row has no
+    // volume, or if the first row of its plan is missing.
     fn add(&mut self, row: &Row) -> Result<(), StoreFault>
         ensures leads { OnOk result ((ps : List Filed) (left : List Values)
             → AllByRecursion (λ p. IsPlan p.row) ps
@@ -96,11 +97,11 @@ impl PlanCollector {
         Ok(())
     }
 
-    /// The plans, after the last row.
+    /// The plans of all rows, once the last row was passed.
     ///
     /// # Errors
     ///
-    /// `OutOfMemory` if memory runs out. `Store` if the rows aren't those of plans.
+    /// `OutOfMemory` if memory runs out. `Store` if the volumes of the last plan aren't those of an area.
     pub fn finish(mut self) -> Result<Vec<PlanRow>, StoreFault>
         ensures value { IfOk result (λ plans. (ps : List Filed)
             → AllByRecursion (λ p. IsPlan p.row) ps
@@ -134,7 +135,7 @@ impl RowVisitor for PlanCollector {
     }
 }
 
-// The error that a visitor returns for `fault`.
+/// The error that a visitor returns for `fault`: `OutOfMemory` if memory ran out, else `DatabaseCorrupt`.
 pub(crate) fn error_of(fault: StoreFault) -> Error
     ensures { (result ≡ Error.SqliteFailure ErrorCode.OutOfMemory) ↔ (fault ≡ StoreFault.OutOfMemory) }
 {
@@ -144,7 +145,7 @@ pub(crate) fn error_of(fault: StoreFault) -> Error
     }
 }
 
-// Whether `row` is of another volume than the first of its plan, by the column `place`.
+// Whether `row` is of another volume than the first of its plan: its sixth column, `place`, is above 0.
 fn is_later(row: &Row) -> bool
     ensures { result ≡ spec.is_later row.now }
 {

@@ -43,7 +43,7 @@ pub fn aircraft_number(aircraft: Aircraft) -> u32
     }
 }
 
-/// The ids as texts. The contract also says that they are valid ids.
+/// Each of `ids` as text, hyphenated and in lower case. The contract also says that they are valid ids.
 ///
 /// # Errors
 ///
@@ -59,7 +59,7 @@ pub fn texts_of(alloc: Global, ids: &[PlanId]) -> Result<Vec<String>, AllocError
     Ok(texts)
 }
 
-// The id as text. The contract also says that it is a valid id.
+// `id` as text, hyphenated and in lower case. The contract also says that it is a valid id.
 fn text_of(alloc: Global, id: &PlanId) -> Result<String, AllocError>
     ensures value { IfOk result (λ text. string_bytes text ≡ id_text id.now) }
     ensures valid { IsId id.now }
@@ -95,8 +95,8 @@ fn asked_bytes(alloc: Global, volume: &Volume) -> Result<Vec<u8>, AllocError>
     volume.footprint().to_bytes(alloc)
 }
 
-/// The rows of a plan's volumes, at the places 0, 1, ..; `asked` and `canon` have the bytes of each volume's
-/// footprint and canonical cover.
+/// The rows of a plan's volumes, at the places 0, 1, ..; `operator` is its operator's name, and `id` its id
+/// as text. `asked` and `canon` have the bytes of each volume's footprint and canonical cover.
 ///
 /// # Errors
 ///
@@ -109,9 +109,9 @@ pub fn volume_rows<'a>(
     asked: &'a [Vec<u8>],
     canon: &'a [Vec<u8>],
 ) -> Result<Vec<VolumeRecord<'a>>, AllocError>
-    requires named { id.now ≡ id_text plan.now.id }
-    requires same { AreAskedOf plan.now.area (map (λ bytes. bytes.items) asked.now) }
-    requires covered { AreCanonOf plan.now.area (map (λ bytes. bytes.items) canon.now) }
+    requires id { id.now ≡ id_text plan.now.id }
+    requires asked { AreAskedOf plan.now.area (map (λ bytes. bytes.items) asked.now) }
+    requires canon { AreCanonOf plan.now.area (map (λ bytes. bytes.items) canon.now) }
     ensures volumes { IfOk result (λ rows. map volume_row_in rows.items
         ≡ area_rows (filed_by operator.now plan.now)) }
     ensures covers { IfOk result (λ rows. map cover_of rows.items
@@ -128,7 +128,8 @@ pub fn volume_rows<'a>(
     Ok(rows)
 }
 
-// The row of the volume at `place`; `asked` and `canon` are the bytes of its footprint and canonical cover.
+// The row of `volume`, which is at `place` in the plan `id` of `operator`; `asked` and `canon` are the bytes
+// of its footprint and canonical cover.
 fn volume_row<'a>(
     operator: &'a str,
     id: &'a str,
@@ -156,7 +157,7 @@ fn volume_row<'a>(
 }
 
 /// The rows of a plan's spans: one for each range of leaves of each of its volumes while it is live, and none
-/// once it is closed.
+/// once it is closed. `operator` is its operator's name, and `id` its id as text.
 ///
 /// # Errors
 ///
@@ -200,7 +201,7 @@ fn area_spans<'a>(
     Ok(rows)
 }
 
-// The rows of the slabs of the volume at `place`.
+// The rows of `slabs`, which are those of the volume at `place` in the plan `id` of `operator`.
 fn slab_rows<'a>(
     alloc: Global,
     operator: &'a str,
@@ -219,7 +220,7 @@ fn slab_rows<'a>(
     Ok(rows)
 }
 
-// The row of `slab`, which is of the volume at `place`.
+// The row of `slab`, which is one of the volume at `place` in the plan `id` of `operator`.
 fn slab_row<'a>(
     operator: &'a str,
     id: &'a str,
@@ -243,7 +244,7 @@ fn slab_row<'a>(
     }
 }
 
-/// Bounds that hold for what `span_bounds` do and for the spans of the rows `spans`.
+/// Bounds that hold for each span for which `span_bounds` hold, and for the spans of the rows `spans`.
 pub fn bounds_with_rows(span_bounds: &SpanBounds, spans: &[SpanRecord<'_>]) -> SpanBounds
     ensures kept { Keeps span_bounds.now result }
     ensures known { AllByRecursion (IsKnownRow result) (map span_row_in spans.now) }
@@ -255,7 +256,7 @@ pub fn bounds_with_rows(span_bounds: &SpanBounds, spans: &[SpanRecord<'_>]) -> S
     after
 }
 
-// Bounds that hold for what `span_bounds` do and for the span of the row `span`.
+// Bounds that hold for each span for which `span_bounds` hold, and for the span of the row `span`.
 fn with_span_row(span_bounds: &SpanBounds, span: &SpanRecord<'_>) -> SpanBounds
     ensures kept { Keeps span_bounds.now result }
     ensures known { IsKnownRow result (span_row_in span.now) }

@@ -1,4 +1,4 @@
-//! Held slabs, read from rows of `span2` one at a time.
+//! Slabs with the priority of their plan (`Held`), read from rows of `span2` one at a time.
 
 ghost use Rattle.std.specs.Prelude.{◌≡◌, ◌≢◌, ◌<◌, ◌*◌, ◌^◌, ℕ, pos, [], IfErr, IfOk};
 ghost use Rattle.sqlite_value.specs.declared.value.Value.TheVariants.{Int};
@@ -19,7 +19,7 @@ use volume4d::{Held, Slab};
 // How many leaf positions there are along the curve.
 const POSITIONS: i64 = 6 << 60;
 
-/// A visitor of rows of `span2` that collects their slabs.
+/// A visitor of rows of `span2` that collects their slabs, each with its plan's priority.
 #[derive(Drop)]
 pub struct SpanCollector {
     helds: Vec<Held>,
@@ -64,7 +64,7 @@ impl RowVisitor for SpanCollector {
     }
 }
 
-/// It selects the spans that hold a point of `extent` with at least the priority `least`.
+/// The filter that selects the spans which overlap `extent` and whose plan has at least the priority `least`.
 pub fn span_filter_of(extent: &Slab, least: u32) -> SpanFilter
     ensures { result ≡ spec.span_filter_of extent.now least }
 {
@@ -79,17 +79,18 @@ pub fn span_filter_of(extent: &Slab, least: u32) -> SpanFilter
     }
 }
 
-/// As `span_filter_of`, but only the spans that begin at the last leaf of `question` or before.
+/// As `span_filter_of`, but only the spans that begin at the last leaf of the range `query` or before.
+/// Where the range begins is no part of the filter: a query takes it as a parameter of its own.
 pub fn span_filter_from(question: &Span, extent: &Slab, least: u32) -> SpanFilter
     requires { question.now.last < 6 * 2 ^ 60 }
     ensures { result ≡ spec.span_filter_from question.now extent.now least }
 {
-    let mut reach = span_filter_of(extent, least);
-    reach.last = question.last as i64;
-    reach
+    let mut filter = span_filter_of(extent, least);
+    filter.last = question.last as i64;
+    filter
 }
 
-// The slab in the columns of `span2` from `first` on, with its plan's priority.
+// The slab in the first six columns of `row`, with its plan's priority, which is the seventh.
 fn held_in(row: &Row) -> Result<Held, StoreFault>
     ensures value { IfOk result (λ held. IsHeldIn row.now held) }
     ensures refused { IfErr result (λ e. e ≡ StoreFault.Store → IsNoHeld row.now) }
@@ -100,7 +101,8 @@ fn held_in(row: &Row) -> Result<Held, StoreFault>
     })
 }
 
-// The slab in the columns `first` to `stop` of `span2`, which are the first six of `row`.
+// The slab in the columns `first` to `stop` of `span2`, which are the first six of `row`; `Store` if they
+// aren't those of a slab.
 fn slab_in(row: &Row) -> Result<Slab, StoreFault>
     ensures value { IfOk result (λ slab. IsSlabIn row.now slab) }
     ensures refused { IfErr result (λ e. e ≡ StoreFault.Store → (shown : One) → FitsColumns shown

@@ -11,10 +11,11 @@ use s2_cover::Span;
 use std::alloc::{AllocError, Global};
 use volume4d::Slab;
 
-// The most long spans that are kept one by one.
+// How many long spans are kept one by one, at most.
 const MAX_LONG_SPANS: usize = 16;
 
-// A span is long if its last leaf is more positions after its first than in a cell of level 6.
+// How many positions after its first leaf the last leaf of a cell of level 6 is. A span is long if its last
+// leaf is farther from its first.
 const MAX_ORDINARY_LENGTH: u64 = (1 << 48) - 1;
 
 /// Which spans live plans may have: those whose last leaf is at most `bound` positions after the first, and
@@ -38,7 +39,8 @@ impl SpanBounds {
         }
     }
 
-    /// Bounds that also hold for the span `first..=last`; the same bounds if these aren't leaf positions.
+    /// Bounds that also hold for the span `first..=last`. They are the same if the span has one leaf, or if
+    /// `first` and `last` aren't the leaf positions of a span.
     pub fn with(&self, first: i64, last: i64) -> SpanBounds
         ensures kept { Keeps self.now result }
         ensures known { IsKnownBetween result first last }
@@ -54,14 +56,18 @@ impl SpanBounds {
     }
 
     /// The queries that together find all spans which may hold a point of `extent`. Each is a range of leaves
-    /// at which the spans begin: one leaf for each long span that overlaps `extent` and begins far before it,
-    /// and then one range for all other spans.
+    /// at which the spans begin: one leaf for each long span that overlaps `extent` and begins more than
+    /// `bound` positions before it, and then one range for all other spans.
+    ///
+    /// # Errors
+    ///
+    /// `AllocError` if memory runs out.
     pub fn questions(&self, alloc: Global, extent: &Slab) -> Result<Vec<Span>, AllocError>
-        ensures whole { IfOk result (λ questions.
+        ensures complete { IfOk result (λ questions.
             AreWhole extent.now (IsKnown self.now) questions.items) }
         ensures within { IfOk result (λ questions.
             AllByRecursion (IsWithinExtent extent.now) questions.items) }
-        ensures some { IfOk result (λ questions. 0 < length questions.items) }
+        ensures not_empty { IfOk result (λ questions. 0 < length questions.items) }
     {
         let low = self.low(extent);
         let mut questions = Vec::new(alloc);
@@ -83,8 +89,8 @@ impl SpanBounds {
         extent.first.saturating_sub(self.bound)
     }
 
-    // Bounds that also hold for `span`: a long one joins the long spans if there is room; else `bound` is
-    // raised.
+    // Bounds that also hold for `span`. A long span joins `long_spans` if there is room; else `bound` is
+    // raised to the span's length, if it is less.
     fn with_span(&self, span: Span) -> SpanBounds
         requires { span.first ≤ span.last }
         ensures kept { Keeps self.now result }
@@ -115,7 +121,7 @@ impl SpanBounds {
     }
 }
 
-// The value of a column as a leaf position.
+// `number`, the value of a column, as a leaf position. It isn't negative.
 fn position_of(number: i64) -> u64
     requires { pos 0 ≤ℤ number }
     ensures { (a : ℕ) → number ≡ pos a → result ≡ a }
@@ -123,7 +129,8 @@ fn position_of(number: i64) -> u64
     number as u64
 }
 
-// The long spans and `span`, or `None` if there is no room for it.
+// The long spans with `span`, which replaces a shorter one that begins at the same leaf; `None` if there is
+// no room for it.
 fn with_long_span(
     long_spans: &[Option<Span>; MAX_LONG_SPANS],
     span: Span,
@@ -138,7 +145,8 @@ fn with_long_span(
     Some(sorted_by_first(more))
 }
 
-// The index of the long span that begins at `first`, or else of the first free place.
+// The index of the long span that begins at `first`, or else of the first free place; `None` if there is
+// neither.
 fn slot_for(long_spans: &[Option<Span>; MAX_LONG_SPANS], first: u64) -> Option<usize>
     ensures { IfSome result (λ at. IsRoomFor long_spans.now first at) }
 {
@@ -151,7 +159,7 @@ fn slot_for(long_spans: &[Option<Span>; MAX_LONG_SPANS], first: u64) -> Option<u
     None
 }
 
-// The longer of `span` and `long_span`, which begin at the same leaf.
+// The longer of `span` and `long_span`, which begin at the same leaf; `span` if there is no `long_span`.
 fn longer_of(long_span: Option<Span>, span: Span) -> Span
     requires { BeginsOrNone span.first long_span }
     ensures kept { (known : Range) → IsTrue (takes_in known long_span)
@@ -164,7 +172,8 @@ fn longer_of(long_span: Option<Span>, span: Span) -> Span
     }
 }
 
-// Adds a query for `long_span` if it overlaps `extent` and begins before `low`.
+// Adds a query for `long_span` if it overlaps `extent` and begins before `low`, where the last query begins;
+// else adds none.
 fn push_query(
     long_span: &Option<Span>,
     low: u64,

@@ -27,17 +27,18 @@ use std::alloc::Global;
 use volume4d::laws::one_shape;
 use volume4d::{Area, Footprint, Volume, VolumeFault, Window};
 
-/// The store's fault for an error of SQLite.
+/// The store's fault for an error of SQLite: `OutOfMemory` if memory ran out, else `Store`.
 pub(crate) fn fault_of(error: Error) -> StoreFault
     ensures { result ≡ StoreFault.Store → error ≢ Error.SqliteFailure ErrorCode.OutOfMemory }
 {
     fault_reported(error, StoreFault::Store)
 }
 
-/// The store's fault for an error of SQLite; an I/O error becomes `reported`.
+/// The store's fault for an error of SQLite: `OutOfMemory` if memory ran out, `reported` for an I/O error,
+/// and else `Store`.
 pub fn fault_reported(error: Error, reported: StoreFault) -> StoreFault
     ensures store { result ≡ StoreFault.Store → error ≢ Error.SqliteFailure ErrorCode.OutOfMemory }
-    ensures shut { error ≡ Error.SqliteFailure ErrorCode.Closed → result ≡ StoreFault.Store }
+    ensures closed { error ≡ Error.SqliteFailure ErrorCode.Closed → result ≡ StoreFault.Store }
 {
     match error {
         Error::SqliteFailure(ErrorCode::OutOfMemory) => StoreFault::OutOfMemory,
@@ -46,7 +47,7 @@ pub fn fault_reported(error: Error, reported: StoreFault) -> StoreFault
     }
 }
 
-/// The same result, with SQLite's error as the store's fault; an I/O error becomes `reported`.
+/// The result `answer`, with an error of SQLite as the store's fault; an I/O error becomes `reported`.
 pub fn or_fault<T>(answer: Result<T, Error>, reported: StoreFault) -> Result<T, StoreFault>
     ensures { IsReportedAs answer result }
 {
@@ -56,7 +57,7 @@ pub fn or_fault<T>(answer: Result<T, Error>, reported: StoreFault) -> Result<T, 
     }
 }
 
-// The integer of 32 bits in the column `at`; `Store` if it isn't one.
+/// The signed integer of 32 bits in the column `at`; `Store` if the column isn't such an integer.
 pub(crate) fn i32_at(row: &Row, at: usize) -> Result<i32, StoreFault>
     ensures value { IfOk result (λ n. column row.now at ≡ Int n) }
     ensures refused { IfErr result (λ e. e ≡ StoreFault.Store →
@@ -68,7 +69,7 @@ pub(crate) fn i32_at(row: &Row, at: usize) -> Result<i32, StoreFault>
     }
 }
 
-// The integer in the column `at`; `Store` if it isn't one.
+/// The integer in the column `at`; `Store` if the column isn't an integer.
 pub(crate) fn i64_at(row: &Row, at: usize) -> Result<i64, StoreFault>
     ensures value { IfOk result (λ n. column row.now at ≡ Int n) }
     ensures refused { IfErr result (λ e. e ≡ StoreFault.Store → (n : ℤ) → column row.now at ≢ Int n) }
@@ -79,7 +80,7 @@ pub(crate) fn i64_at(row: &Row, at: usize) -> Result<i64, StoreFault>
     }
 }
 
-// The bytes in the column `at`; `Store` if it isn't a blob.
+// The bytes in the column `at`; `Store` if the column isn't a blob, `OutOfMemory` if memory runs out.
 fn blob_at(row: &Row, at: usize) -> Result<Vec<u8>, StoreFault>
     ensures value { IfOk result (λ bytes. column row.now at ≡ Blob bytes.items) }
     ensures refused { IfErr result (λ e. e ≡ StoreFault.Store →
@@ -91,16 +92,16 @@ fn blob_at(row: &Row, at: usize) -> Result<Vec<u8>, StoreFault>
     }
 }
 
-/// The volume in the columns from `at` on: `lower`, `upper`, `start`, `stop`, `asked`.
+/// The volume in the five columns from `at` on: `lower`, `upper`, `start`, `stop`, `asked`.
 ///
 /// # Errors
 ///
-/// `OutOfMemory` if memory runs out. `Store` if they aren't those of a volume.
+/// `OutOfMemory` if memory runs out. `Store` if these columns aren't those of a valid volume.
 pub fn volume_in(alloc: Global, row: &Row, at: usize) -> Result<Volume, StoreFault>
     requires { at ≤ 6 }
     ensures value { IfOk result (λ volume. (v : Block) → IsValidVolume v → IsVolumeAt row.now at v
         → volume ≡ v) }
-    ensures is { IfOk result (λ volume. IsValidVolume volume × IsVolumeAt row.now at volume) }
+    ensures valid { IfOk result (λ volume. IsValidVolume volume × IsVolumeAt row.now at volume) }
     ensures refused { IfErr result (λ e. e ≡ StoreFault.Store →
         (v : Block) → IsValidVolume v → ¬ IsVolumeAt row.now at v) }
 {
@@ -122,7 +123,8 @@ pub fn volume_in(alloc: Global, row: &Row, at: usize) -> Result<Volume, StoreFau
     }
 }
 
-// The store's fault if a row has no valid volume.
+// The store's fault for a row whose volume was refused for `fault`: `OutOfMemory` if memory ran out, else
+// `Store`.
 fn fault_of_volume(fault: VolumeFault) -> StoreFault
     ensures { result ≡ StoreFault.Store → fault ≢ VolumeFault.OutOfMemory }
 {
@@ -132,16 +134,16 @@ fn fault_of_volume(fault: VolumeFault) -> StoreFault
     }
 }
 
-/// The area of the volumes in `rows`, one in each, in the columns from `at` on.
+/// The area of the volumes in `rows`: one in each row, in the five columns from `at` on.
 ///
 /// # Errors
 ///
-/// `OutOfMemory` if memory runs out. `Store` if they aren't those of an area.
+/// `OutOfMemory` if memory runs out. `Store` if the rows aren't those of an area's volumes.
 pub fn area_in(alloc: Global, rows: &[Row], at: usize) -> Result<Area, StoreFault>
     requires { at ≤ 6 }
     ensures value { IfOk result (λ area. (vs : List Block) → AllByRecursion IsValidVolume vs
         → AllZip (λ row v. IsVolumeAt row at v) rows.now vs → area ≡ vs) }
-    ensures are { IfOk result (λ area. AllByRecursion IsValidVolume area
+    ensures valid { IfOk result (λ area. AllByRecursion IsValidVolume area
         × AllZip (λ row v. IsVolumeAt row at v) rows.now area) }
     ensures refused { IfErr result (λ e. e ≡ StoreFault.Store →
         (vs : List Block) → IsTrue (is_area vs) → AllByRecursion IsValidVolume vs
@@ -173,7 +175,7 @@ pub fn count_at(row: &Row, at: usize) -> Result<u32, StoreFault>
     }
 }
 
-// The text in the column `at`; `Store` if it isn't one.
+// The text in the column `at`; `Store` if the column isn't a text, `OutOfMemory` if memory runs out.
 fn text_at(row: &Row, at: usize) -> Result<String, StoreFault>
     ensures value { IfOk result (λ text. column row.now at ≡ Text (string_bytes text)) }
     ensures refused { IfErr result (λ e. e ≡ StoreFault.Store →
@@ -185,15 +187,15 @@ fn text_at(row: &Row, at: usize) -> Result<String, StoreFault>
     }
 }
 
-/// The plan id in the second column.
+/// The plan id whose text is the second column of `row`.
 ///
 /// # Errors
 ///
-/// `OutOfMemory` if memory runs out. `Store` if it isn't an id.
+/// `OutOfMemory` if memory runs out. `Store` if the column isn't the text of an id.
 pub fn id_in(row: &Row) -> Result<PlanId, StoreFault>
     ensures value { IfOk result (λ found. (id : List ℕ) → IsId id
         → column row.now 1 ≡ Text (id_text id) → found ≡ id) }
-    ensures is { IfOk result (λ found. IsId found) }
+    ensures valid { IfOk result (λ found. IsId found) }
     ensures refused { IfErr result (λ e. e ≡ StoreFault.Store →
         (id : List ℕ) → IsId id → column row.now 1 ≢ Text (id_text id)) }
 {
@@ -204,7 +206,7 @@ pub fn id_in(row: &Row) -> Result<PlanId, StoreFault>
     }
 }
 
-// The usage in the fourth column of a row of `plan`.
+// The usage whose number is the fourth column of a row of `plan`; `Store` if it isn't the number of one.
 fn usage_in(row: &Row) -> Result<Usage, StoreFault>
     ensures value { IfOk result (λ usage. column row.now 3 ≡ Int (pos (usage_number usage))) }
     ensures refused { IfErr result (λ e. e ≡ StoreFault.Store →
@@ -218,7 +220,8 @@ fn usage_in(row: &Row) -> Result<Usage, StoreFault>
     }
 }
 
-// The state of the aircraft in the fifth column of a row of `plan`.
+// The state of the aircraft whose number is the fifth column of a row of `plan`; `Store` if it isn't the
+// number of one.
 fn aircraft_in(row: &Row) -> Result<Aircraft, StoreFault>
     ensures value { IfOk result (λ aircraft. column row.now 4 ≡ Int (pos (aircraft_number aircraft))) }
     ensures refused { IfErr result (λ e. e ≡ StoreFault.Store →
@@ -242,7 +245,7 @@ pub struct PlanHead {
 }
 
 impl PlanHead {
-    /// The plan with this area.
+    /// The plan of this head, with the area `area`.
     pub fn with(self, area: Area) -> PlanRow
         ensures { result ≡ plan_with self area }
     {
@@ -256,15 +259,15 @@ impl PlanHead {
     }
 }
 
-/// The plan without its area, in the columns from `id` to `aircraft`.
+/// The plan without its area, in the second to fifth columns: `id`, `priority`, `usage`, `aircraft`.
 ///
 /// # Errors
 ///
-/// `OutOfMemory` if memory runs out. `Store` if they aren't those of a plan.
+/// `OutOfMemory` if memory runs out. `Store` if these columns aren't those of a plan.
 pub fn head_in(row: &Row) -> Result<PlanHead, StoreFault>
     ensures value { IfOk result (λ head. (p : Plan) → IsId p.id → IsHead row.now p
         → plan_with head p.area ≡ p) }
-    ensures is { IfOk result (λ head. IsId head.id × AreNumbersOf row.now (plan_with head [])) }
+    ensures valid { IfOk result (λ head. IsId head.id × AreNumbersOf row.now (plan_with head [])) }
     ensures refused { IfErr result (λ e. e ≡ StoreFault.Store →
         (p : Plan) → IsId p.id → p.priority < 2 ^ 32 → ¬ IsHead row.now p) }
 {
@@ -276,7 +279,7 @@ pub fn head_in(row: &Row) -> Result<PlanHead, StoreFault>
     })
 }
 
-/// The plan in the columns from `id` to `aircraft`, with this area.
+/// The plan that `head_in` reads from `row`, with the area `area`.
 ///
 /// # Errors
 ///
@@ -284,7 +287,7 @@ pub fn head_in(row: &Row) -> Result<PlanHead, StoreFault>
 pub fn plan_in(row: &Row, area: Area) -> Result<PlanRow, StoreFault>
     ensures value { IfOk result (λ plan. (p : Plan) → IsId p.id → IsHead row.now p
         → area ≡ p.area → plan ≡ p) }
-    ensures is { IfOk result (λ plan. IsId plan.id × (plan.area ≡ area)
+    ensures valid { IfOk result (λ plan. IsId plan.id × (plan.area ≡ area)
         × AreNumbersOf row.now plan) }
     ensures refused { IfErr result (λ e. e ≡ StoreFault.Store →
         (p : Plan) → IsId p.id → p.priority < 2 ^ 32 → ¬ IsHead row.now p) }

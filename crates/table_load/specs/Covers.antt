@@ -13,14 +13,15 @@ use Rattle.row_codec.specs.Tables.{canon_bytes}
 abbrev pub HasCoverOf : Block → Row → Type 0
 HasCoverOf v row = column row 8 ≡ Blob (canon_bytes v.footprint)
 
--- a row has a volume, and the cover of that
+-- a row has a valid volume, and the canonical cover of that
 pub record HasItsCover (row : Row) : Type 0 where
   pub volume : Block
   pub within : IsValidVolume volume
   pub there : IsVolumeAt row 3 volume
   pub cover : HasCoverOf volume row
 
--- rows were compared: each is kept without its cover, and all have their covers or not
+-- rows were compared: `volumes` are these rows without their covers, and `agree` says whether each had the
+-- cover of its volume
 pub record AreCompared (volumes : List Row) (agree : Bool) (rows : List Row) : Type 0 where
   pub volumes_are : volumes ≡ map volume_part rows
   pub agreed : IsTrue agree ↔ AllByRecursion HasItsCover rows

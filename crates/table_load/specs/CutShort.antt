@@ -39,7 +39,7 @@ pub record IsMovedAs (db : Database) (left : Trees) : Type 0 where
   pub before : HoldsContent true world db
   pub after : HasOldWorld left world ⊎ HasWorld left world
 
--- either
+-- what an opening that may migrate leaves: the tables completed, or the rows migrated
 abbrev pub IsMovedOn : Database → Trees → Type 0
 IsMovedOn db left = IsCompletedAs db left ⊎ IsMovedAs db left
 

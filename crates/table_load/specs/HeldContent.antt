@@ -20,6 +20,7 @@ abbrev pub IsContentIn : Bool → Tables → World → Type 0
 IsContentIn true tables w = IsOldContentOf tables w
 IsContentIn false tables w = IsContentOf tables w
 
+-- the rows are those of no valid state in this schema
 abbrev pub AreNoContentIn : Bool → Tables → Type 0
 AreNoContentIn true tables = AreNoOldContent tables
 AreNoContentIn false tables = AreNoContent tables
@@ -40,8 +41,7 @@ HoldsNone db = (db.schema ≡ blank_schema) ⊎ (HasOthers db ⊎ (HasNoContent 
 abbrev pub live_count : List Filed → ℕ
 live_count ps = length (filter (λ p. is_live p.row.usage) ps)
 
--- what a content holds: operators, plans, those not closed, rows of spans, those of the operator that has
--- most, and the cells of the operator that has most of those
+-- these are the statistics of the state `w`, whatever `is_old` says
 pub record AreHoldingsOf (h : DbStats) (w : World) : Type 0 where
   pub operators : h.operators ≡ length w.operators
   pub plans : h.plans ≡ length w.plans
@@ -51,7 +51,7 @@ pub record AreHoldingsOf (h : DbStats) (w : World) : Type 0 where
   pub most_cells : IsMostCells w.plans h.most_cells
 
 module _ {S : Type 0} (g : Ghosts S) (old new : Held S) where
-  -- what is shown is no content
+  -- over a clean disk and an open connection, what was shown is no valid state
   abbrev pub ShowsNone : Type 0
   ShowsNone = HasCleanDisk (state g new) → IsTrue (state g new).is_open → HoldsNone (state g old).now
 

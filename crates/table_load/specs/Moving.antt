@@ -38,6 +38,7 @@ pub record IsOldArea (area : List Block) : Type 0 where
   pub few : length area ≤ old_max_volumes
   pub each : AllByRecursion (λ v. IsOldShape v.footprint) area
 
+-- a valid state within the limits of schema 1
 pub record IsOldContent (w : World) : Type 0 where
   pub content : IsContent w
   pub areas : AllByRecursion (λ p. IsOldArea p.row.area) w.plans
@@ -56,10 +57,12 @@ pub record AreOldTables (tables : Tables) (w : World) : Type 0 where
   pub volumes : IsPermutation (volume_rows w.plans) tables.old_volumes
   pub spans : (rows : List Row) × AreSpanRows w.plans rows × IsPermutation rows tables.old_spans
 
+-- the tables have the rows of this state in schema 1
 pub record IsOldContentOf (t : Tables) (w : World) : Type 0 where
   pub content : IsOldContent w
   pub tables : AreOldTables t w
 
+-- the tables have the rows of no valid state in schema 1
 abbrev pub AreNoOldContent : Tables → Type 0
 AreNoOldContent t = (w : World) → IsOldContent w → ¬ AreOldTables t w
 
@@ -98,11 +101,11 @@ pub record AddsPlansRows (ps : List Filed) (old new : Tables) : Type 0 where
   pub with_spans :
       (rows : List Row) × AreSpanRows ps rows × IsPermutation (rows ++ old.spans) new.spans
 
--- the rows of schema 1 go
+-- the rows of schema 1 are removed
 abbrev pub RemovesOldRows : Tables → Tables → Type 0
 RemovesOldRows old new = new ≡ record old { old_volumes = []; old_spans = [] }
 
--- both
+-- the rows of schema 1 are removed, and those of `ps` in schema 2 are added
 pub record MovesRows (ps : List Filed) (old new : Tables) : Type 0 where
   pub operators : new.operators ≡ old.operators
   pub plans : new.plans ≡ old.plans

@@ -52,14 +52,14 @@ pub record IsPlanHead (head : Row) : Type 0 where
 abbrev pub ArePlanHeads : List Row → Type 0
 ArePlanHeads heads = AllByRecursion IsPlanHead heads
 
--- these rows of spans were held against plans: they are named if they aren't the plans', and the covers if
--- they aren't those of the volumes
+-- rows of spans were compared with plans: `Span` is named if they aren't the rows of the plans, else `Cover`
+-- if a cover isn't that of its volume
 abbrev pub FailsSpans : List Filed → List Row → Bool → InvalidPart → Type 0
 FailsSpans ps rows covered Span = ¬ AreSpanRows ps rows
 FailsSpans ps rows covered Cover = AreSpanRows ps rows × (covered ≡ false)
 FailsSpans ps rows covered _ = ⊥
 
--- the same of schema 1, which has no covers: plans are named if they are beyond its limits
+-- the same of schema 1, which has no covers: `OldPlan` is named if a plan exceeds the limits of schema 1
 abbrev pub FailsOldSpans : List Filed → List Row → InvalidPart → Type 0
 FailsOldSpans ps rows OldSpan = ¬ AreSpanRows ps rows
 FailsOldSpans ps rows OldPlan = AreSpanRows ps rows × (¬ AllByRecursion (λ p. IsOldArea p.row.area) ps)
@@ -74,7 +74,7 @@ abbrev pub AreNoPlans : List Row → List Row → Type 0
 AreNoPlans heads volumes =
     (ps : List Filed) → IsStrictlySortedBy filed_cmp ps → ¬ ArePlanRows ps heads volumes
 
--- operators and plans have these rows, and a plan is of none of them, or one has too many
+-- operators and plans have these rows, but a plan's operator isn't there, or an operator has too many plans
 pub record AreUnshared (t : Tables) : Type 0 where
   pub operators : List Listed
   pub plans : List Filed
@@ -82,7 +82,7 @@ pub record AreUnshared (t : Tables) : Type 0 where
   pub filed : ArePlanRows plans t.plans t.volumes
   pub unshared : ¬ AreShared operators plans
 
--- the part that is named of rows but for spans and covers: the plans, or else this one for their volumes
+-- the part that is named of the rows but for spans and covers; `other` is the name for rows of volumes
 abbrev pub FailsHeads : Tables → InvalidPart → InvalidPart → Type 0
 FailsHeads t other part =
     ((part ≡ Operator) × AreNoOperators t.operators)

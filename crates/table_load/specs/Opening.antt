@@ -67,7 +67,7 @@ pub record AreRows (t : Tables) (w : World) : Type 0 where
   pub volume_part : t.volumes ≡ volume_rows w.plans
   pub span_part : AreSpanRows w.plans t.spans
 
--- and its covers
+-- and also its covers
 pub record AreAllRows (t : Tables) (w : World) : Type 0 where
   pub rows : AreRows t w
   pub covers : t.covers ≡ cover_rows w.plans
@@ -108,7 +108,7 @@ pub record IsContentOf (t : Tables) (w : World) : Type 0 where
   pub content : IsContent w
   pub tables : AreTables t w
 
--- of no content
+-- the tables have the rows of no content
 abbrev pub AreNoContent : Tables → Type 0
 AreNoContent t = (w : World) → IsContent w → ¬ AreTables t w
 
@@ -174,11 +174,11 @@ module _ {S : Type 0} (g : Ghosts S) (old new : Held S) where
       BeganBlank (state g old).now w
       ⊎ (WasFound g old new w ⊎ (WasCompleted g old new w ⊎ WasOrdered g old new w))
 
-  -- what is shown is invalid
+  -- over an open connection and a clean disk, what was shown is invalid
   abbrev pub ShowsNoDesk : Type 0
   ShowsNoDesk = HasCleanDisk (state g new) → IsTrue (state g new).is_open → IsNoDesk (state g old).now
 
-  -- what is shown has rows of schema 1
+  -- over an open connection and a clean disk, what was shown has rows of schema 1
   abbrev pub ShowsOldRows : Type 0
   ShowsOldRows = HasCleanDisk (state g new) → IsTrue (state g new).is_open → HasOldRows (state g old).now
 
@@ -186,12 +186,13 @@ module _ {S : Type 0} (g : Ghosts S) (old new : Held S) where
   abbrev pub IsHindered : Type 0
   IsHindered = HasDiskFailed g old new ⊎ IsSome old.step_limit
 
-  -- why rows are not read, or not written
+  -- over an open connection, `Store` is answered only if the disk failed or the steps of a statement
+  -- are limited
   abbrev pub BlamesReading : OpenFault → Type 0
   BlamesReading e =
       HasCleanDisk (state g new) → IsTrue (state g new).is_open → e ≡ Store → IsHindered
 
-  -- why an opening, a move or a look reports that the database failed
+  -- the same of an opening, a migration or a look; or a rowid of the database is invalid
   abbrev pub BlamesDatabase : OpenFault → Type 0
   BlamesDatabase e =
       HasCleanDisk (state g new) → IsTrue (state g new).is_open → e ≡ Store →

@@ -28,12 +28,12 @@ pub record IsAtRest {S : Type 0} (h : Held S) : Type 0 where
   pub unlimited : h.step_limit ≡ None
 
 module _ {S : Type 0} (g : Ghosts S) (h : Held S) (made : TablesPresent) where
-  -- tables are made so far, if the disk is clean and the connection open, and no transaction is begun
+  -- over a clean disk and an open connection, the tables `made` are there; no transaction is begun
   pub record ShowsPart : Type 0 where
     pub part : Holds g h (IsMadeTo made)
     pub settled : h.in_transaction ≡ false
 
-  -- that of operators is among them
+  -- the same, and the table of operators is among them
   pub record ShowsOperators : Type 0 where
     pub part : Holds g h (IsMadeTo made)
     pub settled : h.in_transaction ≡ false
@@ -46,11 +46,11 @@ module _ {S : Type 0} (g : Ghosts S) (old new : Held S) where
   abbrev pub BeginsCompleted : World → Type 0
   BeginsCompleted w = HasCleanDisk (state g new) → WasCompleted g old new w
 
-  -- with tables that were put in order
+  -- the same with tables that were put in canonical order
   abbrev pub BeginsOrdered : World → Type 0
   BeginsOrdered w = HasCleanDisk (state g new) → WasOrdered g old new w
 
-  -- and with plans of schema 1 that were moved, which are so many
+  -- the same with plans of schema 1 that were migrated; `count` says how many
   abbrev pub BeginsAllMoved : World → ℕ → Type 0
   BeginsAllMoved w count =
       HasCleanDisk (state g new) → (count ≡ reported_count w.plans) × WasMoved g old new w
@@ -59,7 +59,7 @@ module _ {S : Type 0} (g : Ghosts S) (old new : Held S) where
   abbrev pub HadNone : TablesPresent → Type 0
   HadNone made = HasCleanDisk (state g new) → AreNoContent (tables_at made (state g old).now.trees)
 
-  -- or those of no content of schema 1
+  -- over a clean disk, the tables had the rows of no valid state of schema 1
   abbrev pub HadNoOld : TablesPresent → Type 0
   HadNoOld made = HasCleanDisk (state g new) → AreNoOldContent (tables_at made (state g old).now.trees)
 
@@ -69,8 +69,8 @@ module _ {S : Type 0} (g : Ghosts S) (old new : Held S) {V : Type 0} (result : R
   MakesWhole made =
       HasCleanDisk (state g new) → IsTrue (state g new).is_open → OnOk result (HasAllTables g made old new)
 
-  -- tables that are made so far are read: what an open connection gives of them, which of them it reports to
-  -- be invalid, and why it fails; nothing is changed
+  -- the tables `made` are read and not changed: what is returned of them (`Gives`), what holds of them if
+  -- they are reported to be invalid (`Refuses`), and why reading fails
   pub record IsRead (made : TablesPresent) (Gives : Tables → V → Type 0) (Refuses : Tables → Type 0) : Type 0
     where
       pub value : HasCleanDisk (state g new) → IfOk result (Gives (tables_at made (state g old).now.trees))
@@ -97,8 +97,9 @@ module _ {S : Type 0} (g : Ghosts S) (old new : Held S) {V : Type 0} (result : R
     pub shield : (state g old).IsShielded → (state g new).IsShielded
 
   module _ (world : V → World) (Begins : V → Type 0) where
-    -- tables without a row of schema 1, or with those alone, come to have the rows of a world: how it begins,
-    -- what is said of them if they are invalid, why it fails, and what is kept then
+    -- all tables come to be there, with the rows of a world in schema 2: how the world comes from what was
+    -- there (`Begins`), what holds if that is invalid (`Refuses`), why it fails, and what then stays
+    -- (`Keeps`)
     pub record IsSetUp (Refuses Keeps : Type 0) : Type 0 where
       pub begins : IfOk result Begins
       pub stands : IfOk result (λ v. Stands g new (world v))

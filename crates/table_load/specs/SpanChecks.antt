@@ -1,4 +1,4 @@
--- The rows of `span2` held against plans, one at a time.
+-- The rows of `span2` compared with plans, one at a time.
 use Rattle.std.specs.Prelude.{◌≡◌, ◌↔◌, ◌<◌, ◌^◌, ℕ, ◌+◌, Bool, true, List, [], ◌∷◌, ◌++◌, drop, length, map, MatchBool, IsTrue}
 use Rattle.std.specs.List.{AllByRecursion}
 use Rattle.sqlite_value.specs.Order.{Row}
@@ -10,15 +10,15 @@ use Rattle.row_codec.specs.SpanBounds.{IsKnownRow}
 use Rattle.row_codec.specs.Tables.{AreSpanRowsFrom, AreSpanRows}
 use Rattle.row_codec.specs.declared.span_bounds.SpanBounds.{SpanBounds}
 
--- rows are those of these slabs, of the plan's volume at a place, and then of its volumes from another place
--- on
+-- rows are those of the plan's slabs that are left: `slabs`, of the volume at `shown`, and then those of the
+-- volumes from `place` on
 abbrev pub AreRestOf : Filed → List Slab → ℕ → ℕ → List Row → Type 0
 AreRestOf p slabs shown place rows = MatchBool (is_live p.row.usage)
     ((more : List Row) × (rows ≡ map (slab_row p shown) slabs ++ more)
     × AreSpanRowsFrom p place (drop place p.row.area) more)
     (rows ≡ [])
 
--- and then those of other plans
+-- and then those of the plans after it
 abbrev pub AreAwaited : List Filed → List Slab → ℕ → ℕ → List Row → Type 0
 AreAwaited [] slabs shown place rows = rows ≡ []
 AreAwaited (p ∷ ps) slabs shown place rows =
@@ -33,7 +33,7 @@ pub record Place : Type 0 where
   pub shown : ℕ
   pub next : ℕ
 
--- before the rows of the plan after it
+-- the cursor before the rows of the next plan
 abbrev pub after_plan : Place → Place
 after_plan at = record { plan = at.plan + 1; place = 0; slabs = []; shown = at.shown; next = 0 }
 
@@ -41,7 +41,7 @@ after_plan at = record { plan = at.plan + 1; place = 0; slabs = []; shown = at.s
 abbrev pub Awaits : List Filed → Place → List Row → Type 0
 Awaits ps at rows = AreAwaited (drop at.plan ps) (drop at.next at.slabs) at.shown at.place rows
 
--- the same rows are to come
+-- before and after a step of the cursor, the same rows are still to come
 abbrev pub AwaitsAlike : List Filed → Place → Place → Type 0
 AwaitsAlike ps old new = (rows : List Row) → Awaits ps old rows ↔ Awaits ps new rows
 
@@ -74,14 +74,15 @@ IsEntered p old new found = MatchBool found
     ((new.plan ≡ old.plan) × (is_live p.row.usage ≡ true) × (new.next < length new.slabs))
     (new.plan ≡ old.plan + 1)
 
--- a row is the next, and those after it are to come; or no rows that begin with it are
+-- if `is`, `row` is the next of the rows to come, and the cursor has moved past it; else no rows to come
+-- begin with it
 abbrev pub IsNextRow : List Filed → Place → Place → Row → Bool → Type 0
 IsNextRow ps old new row is = MatchBool is
     ((rest : List Row) → Awaits ps old (row ∷ rest) ↔ Awaits ps new rest)
     ((rest : List Row) → ¬ Awaits ps old (row ∷ rest))
 
--- these rows were held against plans: whether rows that begin with them are the plans', how many they are,
--- and bounds on their spans
+-- these rows were compared with plans: `agree` says whether they are the plans' first rows, `count` how many
+-- they are, and `span_bounds` hold for their spans
 pub record HasChecked (ps : List Filed) (at : Place) (agree : Bool) (count : ℕ) (span_bounds : SpanBounds)
     (rows : List Row) : Type 0
   where

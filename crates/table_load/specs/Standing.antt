@@ -14,8 +14,8 @@ pub record IsDatabaseOf {S : Type 0} (g : Ghosts S) (h : Held S) (w : World) : T
   pub desk : IsDesk (state g h).now
   pub tables : AreTables (tables_of (state g h).now.trees) w
 
--- so it is while the disk has returned what was written and no fault has shut the connection; no transaction
--- is begun, and no statement is refused for its steps
+-- while the disk has returned what was written and no fault has shut the connection, the database has the
+-- rows of `w`; no transaction is begun, and the connection has no step limit
 pub record Stands {S : Type 0} (g : Ghosts S) (h : Held S) (w : World) : Type 0 where
   pub settled : h.in_transaction ≡ false
   pub unlimited : h.step_limit ≡ None

@@ -22,14 +22,14 @@ pub record HaveFewRows (ps : List Filed) : Type 0 where
   pub are : AreSpanRows ps spans
   pub few : length spans < 2 ^ 63
 
--- the rows of these plans can be added, those of one after those of the other
+-- the rows of these plans in `volume2` and `span2` can be added, those of one plan after those of the other
 pub record AreWritable (ps : List Filed) (db : Database) : Type 0 where
   pub volumes : AreNewVolumes (volume_rows ps) (cover_rows ps) db
   pub spans : List Row
   pub are : AreSpanRows ps spans
   pub new : AreNewSpans spans db
 
--- of plans within the limits, each with a key of its own, only the rows in `plan` are there
+-- plans are within the limits, each with a key of its own, and only their rows in `plan` are there
 pub record AreAwaited (ps : List Filed) (t : Tables) : Type 0 where
   pub within : AllByRecursion IsFiled ps
   pub keys : IsStrictlySortedBy filed_cmp ps
@@ -46,18 +46,18 @@ pub record AreNewKeys (width : ℕ) (rows stored shown : List Row) : Type 0 wher
   pub apart : HaveOwnKeys width rows
   pub free : AllByRecursion (λ r. LacksKey width r shown) rows
 
--- those of operators
+-- rows of operators can be added: none has the name of one that is there
 pub record AreNewOperators (ls : List Listed) (db : Database) : Type 0 where
   pub names : AllByRecursion (λ l. IsShort l.name) ls
   pub new : AreNewKeys 1 (map row_of_operator ls) (db.trees 0) (tables_of db.trees).operators
 
--- those of plans in `plan`, whose operators are there
+-- rows of plans can be added to `plan`: none has the key of one that is there, and their operators are there
 pub record AreNewHeads (ps : List Filed) (db : Database) : Type 0 where
   pub names : AllByRecursion (λ p. IsShort p.operator) ps
   pub new : AreNewKeys 2 (plan_rows ps) (db.trees 2) (tables_of db.trees).plans
   pub listed : AllByRecursion (λ r. HasKey 1 r (tables_of db.trees).operators) (plan_rows ps)
 
--- no row is there, and the content's are fewer than 2 ^ 63 in each table
+-- the tables have no row, and the state `w` has fewer than 2 ^ 63 rows for each
 pub record CanBeFilled (w : World) (db : Database) : Type 0 where
   pub content : IsContent w
   pub operators : length w.operators < 2 ^ 63

@@ -8,8 +8,8 @@ ghost use Rattle.table_load.specs.Files.{Finds, IsUnreached};
 use crate::path::{NotOpened, connect_over, open_pair, options, require_file, require_nothing};
 use sqlite::{Connection, FileFrom, FileStore, Start};
 
-/// Connects to the database in the files at `path`, which are made if they aren't there. `start` says what
-/// the files held.
+/// Connects to the database in the file at `path` and its WAL, which are made if they aren't there. `start`
+/// says what they held.
 ///
 /// # Errors
 ///
@@ -28,7 +28,7 @@ pub fn connect<S: Start>(
     connect_over(rt.alloc(), files, options)
 }
 
-/// As `connect`, but the database file has to exist.
+/// As `connect`, but the database file has to exist and must not be empty.
 ///
 /// # Errors
 ///
@@ -50,7 +50,7 @@ pub fn connect_there<S: Start>(
 ///
 /// # Errors
 ///
-/// Those of `connect`, and `Store` if there is something at the path.
+/// Those of `connect`, and `Store` if there is something at the path, or if that can't be known.
 pub fn connect_new<S: Start>(
     rt: &HostRuntime,
     path: &str,

@@ -53,7 +53,7 @@ impl CoverCheck {
         }
     }
 
-    // Compares the cover in `row`, and keeps the row without it.
+    // Compares the cover in `row`, its ninth column, with that of its volume, and keeps the other eight.
     fn add(&mut self, row: &Row) -> Result<(), AllocError>
         ensures { OnOk result ((rows : List Columns)
             → AreCompared self.old.volumes.items self.old.agree rows
@@ -84,7 +84,7 @@ impl RowVisitor for CoverCheck {
     }
 }
 
-// A row of the columns `places` of `row`. `values` is a buffer.
+// A row of those columns of `row` whose indexes are `places`. `values` is a buffer for them.
 fn columns_of(
     alloc: Global,
     values: &mut row::Row,
@@ -110,7 +110,8 @@ fn value_at(row: &Row, at: usize) -> ValueRef<'_>
     }
 }
 
-// Whether `agree` is true and `row`, a row of `volume2`, also has the cover of its volume.
+// Whether `agree` is true and `row`, a row of `volume2`, also has the cover of its volume. If `agree` is
+// false, no cover is computed.
 fn agree_with_next(alloc: Global, agree: bool, row: &Row) -> Result<bool, AllocError>
     ensures { IfOk result (λ all. IsTrue all ↔ (IsTrue agree × HasItsCover row.now)) }
 {
@@ -120,7 +121,7 @@ fn agree_with_next(alloc: Global, agree: bool, row: &Row) -> Result<bool, AllocE
     has_own_cover(alloc, row)
 }
 
-// Whether `row`, a row of `volume2`, has a valid volume with its canonical cover.
+// Whether `row`, a row of `volume2`, has a valid volume, from its fourth column on, with its canonical cover.
 fn has_own_cover(alloc: Global, row: &Row) -> Result<bool, AllocError>
     ensures { IfOk result (λ is. IsTrue is ↔ HasItsCover row.now) }
 {
@@ -132,7 +133,7 @@ fn has_own_cover(alloc: Global, row: &Row) -> Result<bool, AllocError>
     }
 }
 
-// Whether the column `canon` of `row` is the canonical cover of `volume`.
+// Whether the ninth column of `row`, `canon`, is the canonical cover of `volume`.
 fn has_cover_of(alloc: Global, row: &Row, volume: &Volume) -> Result<bool, AllocError>
     ensures { IfOk result (λ has. IsTrue has ↔ HasCoverOf volume.now row.now) }
 {
@@ -150,7 +151,8 @@ fn has_bytes_at(row: &Row, at: usize, bytes: &[u8]) -> bool
     }
 }
 
-/// Passes all rows of `volume2` to `check`, ordered by key; none if `made` doesn't have the table.
+/// Passes all rows of `volume2` to `check`, ordered by key; none if the table isn't among those that are
+/// there, `made`.
 ///
 /// # Errors
 ///

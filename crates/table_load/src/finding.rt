@@ -65,7 +65,7 @@ pub fn load_world<S: Alter>(
         (ShowsNoDesk S.Store connection.old connection.new)
         (ShowsOldRows S.Store connection.old connection.new)
         (StaysShown S.Store connection.old connection.new) }
-    ensures bounded { IfOk result (λ found. Knows found.1 found.0.world) }
+    ensures known { IfOk result (λ found. Knows found.1 found.0.world) }
     ensures crash { MayBecome S.Store connection.old connection.new IsCompletedAs }
 {
     let (made, old) = find_desk_tables(connection)?;
@@ -76,7 +76,7 @@ pub fn load_world<S: Alter>(
 }
 
 /// Which of the schema's tables there are, and whether they have rows of schema 1. `NotADesk` if there are
-/// others.
+/// other tables.
 pub(crate) fn find_desk_tables<S: Alter>(
     connection: &mut Connection<S>,
 ) -> Result<(TablesPresent, bool), OpenFault>
@@ -84,10 +84,10 @@ pub(crate) fn find_desk_tables<S: Alter>(
     ensures part { IfOk result (λ found. Holds S.Store connection.new (IsMadeTo found.0)) }
     ensures rows { IfOk result (λ found.
         Holds S.Store connection.new (HasRowsOld found.0 found.1)) }
-    ensures some { IfOk result (λ found. found.1 ≡ true → found.0 ≢ TablesPresent.Nothing) }
+    ensures has_table { IfOk result (λ found. found.1 ≡ true → found.0 ≢ TablesPresent.Nothing) }
     ensures refused { IfErr result (λ e. e ≡ OpenFault.NotADesk →
         ShowsNoDesk S.Store connection.old connection.new) }
-    ensures newer { IfErr result (λ e. e ≢ OpenFault.OldSchema) }
+    ensures no_old_schema { IfErr result (λ e. e ≢ OpenFault.OldSchema) }
     ensures cause { IfErr result (BlamesDatabase S.Store connection.old connection.new) }
     ensures reads { OnlyReads S.Store connection.old connection.new }
 {
@@ -101,7 +101,8 @@ pub(crate) fn find_desk_tables<S: Alter>(
     Ok((made, old))
 }
 
-/// Loads the state of a database without rows of schema 1, as `load_world` does. `made` are its tables.
+/// Loads the state of a database without rows of schema 1, as `load_world` does. `made` says which tables it
+/// has.
 pub(crate) fn load_or_create<S: Alter>(
     alloc: Global,
     connection: &mut Connection<S>,
@@ -114,7 +115,7 @@ pub(crate) fn load_or_create<S: Alter>(
         (λ found. BeginsWith S.Store connection.old connection.new found.0.world)
         (ShowsNoDesk S.Store connection.old connection.new)
         (StaysShown S.Store connection.old connection.new) }
-    ensures bounded { IfOk result (λ found. Knows found.1 found.0.world) }
+    ensures known { IfOk result (λ found. Knows found.1 found.0.world) }
     ensures crash { MayBecome S.Store connection.old connection.new IsCompletedAs }
 {
     match made {
@@ -126,6 +127,10 @@ pub(crate) fn load_or_create<S: Alter>(
 }
 
 /// Makes all tables in a database that has none; returns the empty state.
+///
+/// # Errors
+///
+/// `OutOfMemory` if memory runs out. `Store` if SQLite fails for another cause.
 pub fn create_tables<S: Alter>(connection: &mut Connection<S>) -> Result<GhostState, OpenFault>
     requires blank { ShowsPart S.Store connection.old TablesPresent.Nothing }
     requires unlimited { connection.old.step_limit ≡ None }
@@ -139,7 +144,8 @@ pub fn create_tables<S: Alter>(connection: &mut Connection<S>) -> Result<GhostSt
     Ok(GhostState::new())
 }
 
-// Loads the state from the tables that are there, and then makes the missing ones.
+// Loads the state from the tables that are there, `made`, and then makes the missing ones. If it fails, none
+// is made.
 // Long: five facts say which tables there are; one record says how it may end.
 #[tactic(auto, using(crate::proofs::lemmas::Opening::some_operators))]
 fn load_and_complete<S: Alter>(
@@ -151,13 +157,13 @@ fn load_and_complete<S: Alter>(
     requires new { Holds S.Store connection.old (HasNewRows made) }
     requires missing { made ≢ TablesPresent.All }
     requires ordered { made ≢ TablesPresent.Packed }
-    requires some { made ≢ TablesPresent.Nothing }
+    requires has_table { made ≢ TablesPresent.Nothing }
     requires unlimited { connection.old.step_limit ≡ None }
     ensures set_up { IsSetUp S.Store connection.old connection.new result (λ found. found.0.world)
         (λ found. BeginsCompleted S.Store connection.old connection.new found.0.world)
         (HadNone S.Store connection.old connection.new made)
         (StaysShown S.Store connection.old connection.new) }
-    ensures bounded { IfOk result (λ found. Knows found.1 found.0.world) }
+    ensures known { IfOk result (λ found. Knows found.1 found.0.world) }
     ensures crash { MayBecome S.Store connection.old connection.new IsCompletedAs }
 {
     let found = load_tables(alloc, connection, made)?;
@@ -165,7 +171,8 @@ fn load_and_complete<S: Alter>(
     Ok(found)
 }
 
-// Loads the state from the tables `made`; returns whether it has an operator, too.
+// Loads the state from the tables `made`; returns it with the indexes in memory, and whether it has an
+// operator.
 fn load_tables<S: Alter>(
     alloc: Global,
     connection: &mut Connection<S>,
@@ -175,7 +182,7 @@ fn load_tables<S: Alter>(
     requires new { Holds S.Store connection.old (HasNewRows made) }
     ensures read { IsRead S.Store connection.old connection.new result made
         (λ tables found. IsContentOf tables found.0.world) AreNoContent }
-    ensures bounded { IfOk result (λ found. Knows found.1 found.0.world) }
+    ensures known { IfOk result (λ found. Knows found.1 found.0.world) }
     ensures live { OnOk result (IsOpenIfClean S.Store connection.new) }
 {
     let (content, known) = load_content(alloc, connection, made)?;
@@ -195,7 +202,7 @@ pub(crate) fn load_content<S: Alter>(
         (λ tables found. IsContentOf tables found.0) AreNoContent }
     ensures content { IfOk result (λ found. IsContent found.0) }
     ensures few { IfOk result (λ found. HaveFewRows found.0.plans) }
-    ensures bounded { IfOk result (λ found. Knows found.1 found.0) }
+    ensures known { IfOk result (λ found. Knows found.1 found.0) }
     ensures live { OnOk result (IsOpenIfClean S.Store connection.new) }
 {
     one_shape();
@@ -227,7 +234,7 @@ pub(crate) fn parse_heads(
     Ok((operators, plans))
 }
 
-// As `parse_heads`, but `NotADesk` also unless `covered`: each volume had its own cover.
+// As `parse_heads`, but also `NotADesk` if `covered` is false: it says whether each volume had its own cover.
 fn parse_covered_heads(
     alloc: Global,
     heads: &TableRows,
@@ -247,8 +254,8 @@ fn parse_covered_heads(
     Ok((operators, plans))
 }
 
-// Whether operators and plans are in order, none twice, each plan's operator is there, and none has more than
-// `MAX_PLANS` plans.
+// Whether operators and plans are ordered by their keys, none twice, each plan's operator is there, and no
+// operator has more than `MAX_PLANS` plans.
 fn are_in_order(operators: &[ListedOperator], plans: &[FiledPlan]) -> bool
     ensures { IsTrue result ↔ AreListedInOrder operators.now plans.now }
 {
@@ -261,8 +268,8 @@ fn are_in_order(operators: &[ListedOperator], plans: &[FiledPlan]) -> bool
     have_operators_and_room(operators, plans)
 }
 
-/// The state of `operators` and of the plans in `check`, which was passed all rows of spans, with the indexes
-/// in memory. `NotADesk` if the rows aren't those of the plans.
+/// The state of `operators` and of the plans in `check`, with the indexes in memory. `check` has compared all
+/// rows of spans with these plans: `NotADesk` if they aren't the rows of the plans.
 pub(crate) fn finish_content(
     alloc: Global,
     operators: Vec<ListedOperator>,
@@ -273,7 +280,7 @@ pub(crate) fn finish_content(
         × (found.0.plans ≡ check.plans.items)) }
     ensures agree { (rows : List Values) → AreHeld check rows
         → OnOk result (AreSpanRows check.plans.items rows) }
-    ensures bounded { AreListedInOrder operators.items check.plans.items
+    ensures known { AreListedInOrder operators.items check.plans.items
         → IfOk result (λ found. Knows found.1 found.0) }
     ensures refused { IfErr result (λ e. e ≡ OpenFault.NotADesk → (rows : List Values)
         → AreHeld check rows → ¬ AreSpanRows check.plans.items rows) }
@@ -297,8 +304,9 @@ pub(crate) fn finish_content(
     Ok((content, known))
 }
 
-/// The rows of the tables of schema 2 without those of spans, ordered by key; none of tables that `made`
-/// doesn't have. Rows of `volume2` are without their covers; also returned is whether all of these are right.
+/// The rows of the tables of schema 2 but for spans, ordered by key; none of a table that isn't among those
+/// that are there, `made`. Rows of `volume2` are without their covers; also returned is whether each of these
+/// is that of its volume.
 #[tactic(auto, using(crate::proofs::lemmas::Frame::reads_then, crate::proofs::lemmas::Opening::part_on))]
 pub(crate) fn read_heads<S: Alter>(
     alloc: Global,
@@ -328,7 +336,8 @@ pub(crate) fn read_heads<S: Alter>(
     Ok((heads, check.agree))
 }
 
-/// Bounds that hold for what `span_bounds` do and for the span in `row`, if it has one.
+/// Bounds that hold for each span for which `span_bounds` hold, and for the span in the fourth and fifth
+/// columns of `row`, if they are integers.
 pub(crate) fn with_span_row(span_bounds: &SpanBounds, row: &Row) -> SpanBounds
     ensures kept { Keeps span_bounds.now result }
     ensures known { IsKnownRow result row.now }

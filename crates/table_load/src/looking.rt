@@ -56,11 +56,11 @@ pub fn read_stats<S: Alter>(
     connection: &mut Connection<S>,
 ) -> Result<DbStats, OpenFault>
     requires settled { connection.old.in_transaction ≡ false }
-    ensures value { IfOk result (λ holdings. (w : World) × AreHoldingsOf holdings w
-        × ShowsContent S.Store connection.old connection.new holdings.is_old w) }
+    ensures value { IfOk result (λ stats. (w : World) × AreHoldingsOf stats w
+        × ShowsContent S.Store connection.old connection.new stats.is_old w) }
     ensures refused { IfErr result (λ e. e ≡ OpenFault.NotADesk →
         ShowsNone S.Store connection.old connection.new) }
-    ensures newer { IfErr result (λ e. e ≢ OpenFault.OldSchema) }
+    ensures no_old_schema { IfErr result (λ e. e ≢ OpenFault.OldSchema) }
     ensures cause { IfErr result (BlamesDatabase S.Store connection.old connection.new) }
     ensures reads { OnlyReads S.Store connection.old connection.new }
 {
@@ -101,10 +101,10 @@ pub fn read_content<S: Alter>(
         ShowsContent S.Store connection.old connection.new found.2 found.0) }
     ensures content { IfOk result (λ found. IsContent found.0) }
     ensures few { IfOk result (λ found. HaveFewRows found.0.plans) }
-    ensures bounded { IfOk result (λ found. Knows found.1 found.0) }
+    ensures known { IfOk result (λ found. Knows found.1 found.0) }
     ensures refused { IfErr result (λ e. e ≡ OpenFault.NotADesk →
         ShowsNone S.Store connection.old connection.new) }
-    ensures newer { IfErr result (λ e. e ≢ OpenFault.OldSchema) }
+    ensures no_old_schema { IfErr result (λ e. e ≢ OpenFault.OldSchema) }
     ensures cause { IfErr result (BlamesDatabase S.Store connection.old connection.new) }
     ensures reads { OnlyReads S.Store connection.old connection.new }
 {
@@ -116,7 +116,8 @@ pub fn read_content<S: Alter>(
     Ok((content, known, old))
 }
 
-// Loads the state from the tables of schema 1 if `old`, else from those of schema 2.
+// Loads the state from the tables of schema 1 if `old`, else from those of schema 2; `made` says which tables
+// there are.
 #[tactic(auto, using(crate::proofs::lemmas::Opening::some_operators))]
 fn load_content_in_schema<S: Alter>(
     alloc: Global,
@@ -126,12 +127,12 @@ fn load_content_in_schema<S: Alter>(
 ) -> Result<(Content, MemoryIndex), OpenFault>
     requires part { ShowsPart S.Store connection.old made }
     requires rows { Holds S.Store connection.old (HasRowsOld made old) }
-    requires some { made ≢ TablesPresent.Nothing }
+    requires has_table { made ≢ TablesPresent.Nothing }
     ensures read { IsRead S.Store connection.old connection.new result made
         (λ tables found. IsContentIn old tables found.0) (AreNoContentIn old) }
     ensures content { IfOk result (λ found. IsContent found.0) }
     ensures few { IfOk result (λ found. HaveFewRows found.0.plans) }
-    ensures bounded { IfOk result (λ found. Knows found.1 found.0) }
+    ensures known { IfOk result (λ found. Knows found.1 found.0) }
 {
     if old {
         load_old_tables(alloc, connection, made)
@@ -140,14 +141,14 @@ fn load_content_in_schema<S: Alter>(
     }
 }
 
-// How many plans are not closed.
+// How many of `plans` are not closed.
 fn live_count(plans: &[FiledPlan]) -> usize
     ensures { result ≡ spec.live_count plans.now }
 {
     plans.iter().filter(|plan| is_live(plan)).count()
 }
 
-/// Whether a plan is not closed.
+/// Whether `plan` is not closed.
 pub(crate) fn is_live(plan: &FiledPlan) -> bool
     ensures { result ≡ is_live plan.now.row.usage }
 {

@@ -56,12 +56,13 @@ const OLD_MAX_VOLUMES: usize = 8;
 const OLD_MAX_COVER: usize = 256;
 
 /// Loads the state of a database, which it migrates if its rows are those of schema 1. It returns the state,
-/// the indexes in memory, and how many plans were migrated. A database of schema 2 is loaded by `load_world`.
+/// the indexes in memory, and how many plans were migrated: at most 2^32 - 1, and 0 for a database of
+/// schema 2, which is loaded as by `load_world`.
 ///
 /// # Errors
 ///
 /// `OutOfMemory` if memory runs out. `Store` if SQLite fails for another cause. `NotADesk` if there are
-/// other tables, or if the rows aren't those of a valid state in either schema. The rows stay then.
+/// other tables, or if the rows aren't those of a valid state in either schema. The rows stay in each case.
 pub fn load_or_migrate<S: Alter>(
     alloc: Global,
     connection: &mut Connection<S>,
@@ -71,7 +72,7 @@ pub fn load_or_migrate<S: Alter>(
         (λ moved. BeginsMoved S.Store connection.old connection.new moved.0.world moved.2)
         (ShowsNoContent S.Store connection.old connection.new) ⊥
         (KeepsRows S.Store connection.old connection.new) }
-    ensures bounded { IfOk result (λ moved. Knows moved.1 moved.0.world) }
+    ensures known { IfOk result (λ moved. Knows moved.1 moved.0.world) }
     ensures crash { MayBecome S.Store connection.old connection.new IsMovedOn }
 {
     let (made, old) = find_desk_tables(connection)?;
@@ -82,7 +83,7 @@ pub fn load_or_migrate<S: Alter>(
     Ok((kept, known, 0))
 }
 
-// Loads the state of schema 1, and migrates its rows.
+// Loads the state of a database of schema 1, and migrates its rows; returns what `load_or_migrate` does.
 #[tactic(auto, using(crate::proofs::lemmas::Opening::some_operators))]
 fn move_tables<S: Alter>(
     alloc: Global,
@@ -91,13 +92,13 @@ fn move_tables<S: Alter>(
 ) -> Result<(GhostState, MemoryIndex, u32), OpenFault>
     requires part { ShowsPart S.Store connection.old made }
     requires rows { Holds S.Store connection.old (HasRowsOld made true) }
-    requires some { made ≢ TablesPresent.Nothing }
+    requires has_table { made ≢ TablesPresent.Nothing }
     requires unlimited { connection.old.step_limit ≡ None }
     ensures set_up { IsSetUp S.Store connection.old connection.new result (λ moved. moved.0.world)
         (λ moved. BeginsAllMoved S.Store connection.old connection.new moved.0.world moved.2)
         (HadNoOld S.Store connection.old connection.new made)
         (KeepsRows S.Store connection.old connection.new) }
-    ensures bounded { IfOk result (λ moved. Knows moved.1 moved.0.world) }
+    ensures known { IfOk result (λ moved. Knows moved.1 moved.0.world) }
     ensures crash { MayBecome S.Store connection.old connection.new IsMovedAs }
 {
     let (content, known) = load_old_tables(alloc, connection, made)?;
@@ -107,7 +108,8 @@ fn move_tables<S: Alter>(
     Ok((GhostState::of(&content), known, count))
 }
 
-// Makes the missing tables, or rebuilds those of a packed file in canonical order. Rows of schema 1 stay.
+// Makes the tables that aren't among `made`, or rebuilds those of a packed file in canonical order. The rows
+// of schema 1 stay, and there are none of schema 2.
 fn complete_or_rebuild<S: Alter>(
     connection: &mut Connection<S>,
     made: TablesPresent,
@@ -132,7 +134,8 @@ fn complete_or_rebuild<S: Alter>(
     Ok(())
 }
 
-// Replaces the rows of schema 1 by those of `plans` in schema 2, in one transaction.
+// Replaces the rows of schema 1 by those of `plans` in schema 2, in one transaction. If it fails, the rows
+// stay.
 fn migrate_rows<S: Alter>(
     alloc: Global,
     connection: &mut Connection<S>,
@@ -157,7 +160,7 @@ fn migrate_rows<S: Alter>(
     Ok(())
 }
 
-// Removes the rows of schema 1, within a transaction.
+// Removes all rows of the tables `volume` and `span` of schema 1, within a transaction.
 fn empty_old_tables<S: Alter>(tx: &mut Transaction<'_, S>) -> Result<(), Error>
     requires desk { Holds S.Store tx.old.conn.now IsDesk }
     ensures same_reference { tx.new.conn.ghost_name ≡ tx.old.conn.ghost_name }
@@ -174,7 +177,7 @@ fn empty_old_tables<S: Alter>(tx: &mut Transaction<'_, S>) -> Result<(), Error>
     empty_old_spans(tx)
 }
 
-/// Adds the rows of volumes and spans of `plans` in schema 2, within a transaction.
+/// Adds the rows of `plans` in `volume2` and `span2`, within a transaction. Their rows in `plan` are there.
 pub fn write_plans<S: Alter>(
     alloc: Global,
     tx: &mut Transaction<'_, S>,
@@ -192,7 +195,7 @@ pub fn write_plans<S: Alter>(
     Ok(())
 }
 
-// Adds the rows of volumes and spans of `plan` in schema 2, within a transaction.
+// Adds the rows of `plan` in `volume2` and `span2`, within a transaction.
 fn write_plan<S: Alter>(
     alloc: Global,
     tx: &mut Transaction<'_, S>,
@@ -220,7 +223,8 @@ fn write_plan<S: Alter>(
     Ok(())
 }
 
-/// Loads the state whose rows the tables of schema 1 have; returns it with the indexes in memory.
+/// Loads the state whose rows the tables of schema 1 have; returns it with the indexes in memory. `NotADesk`
+/// if the rows aren't those of a valid state of schema 1, or if there are rows of schema 2.
 pub(crate) fn load_old_tables<S: Alter>(
     alloc: Global,
     connection: &mut Connection<S>,
@@ -231,7 +235,7 @@ pub(crate) fn load_old_tables<S: Alter>(
         (λ tables found. IsOldContentOf tables found.0) AreNoOldContent }
     ensures content { IfOk result (λ found. IsContent found.0) }
     ensures few { IfOk result (λ found. HaveFewRows found.0.plans) }
-    ensures bounded { IfOk result (λ found. Knows found.1 found.0) }
+    ensures known { IfOk result (λ found. Knows found.1 found.0) }
 {
     one_shape();
     let heads = read_old_heads_alone(alloc, connection, made)?;
@@ -241,7 +245,7 @@ pub(crate) fn load_old_tables<S: Alter>(
     finish_content(alloc, operators, check)
 }
 
-// As `read_old_heads`, but `NotADesk` if a table that only schema 2 has has a row.
+// As `read_old_heads`, but `NotADesk` if there is a row in a table of schema 2 alone.
 // Long: the value, and when each fault is reported, have a clause each.
 fn read_old_heads_alone<S: Alter>(
     alloc: Global,
@@ -256,7 +260,7 @@ fn read_old_heads_alone<S: Alter>(
     ensures live { OnOk result (IsOpenIfClean S.Store connection.new) }
     ensures refused { IfErr result (λ e. e ≡ OpenFault.NotADesk → HasCleanDisk (state S.Store connection.new)
         → ¬ HasNoNewRows (tables_at made (state S.Store connection.old).now.trees)) }
-    ensures newer { IfErr result (λ e. e ≢ OpenFault.OldSchema) }
+    ensures no_old_schema { IfErr result (λ e. e ≢ OpenFault.OldSchema) }
     ensures cause { IfErr result (BlamesReading S.Store connection.old connection.new) }
     ensures reads { OnlyReads S.Store connection.old connection.new }
 {
@@ -266,7 +270,7 @@ fn read_old_heads_alone<S: Alter>(
     read_old_heads(alloc, connection, made)
 }
 
-/// Whether the tables that only schema 2 has are empty.
+/// Whether the tables of schema 2 alone, so far as they are among `made`, are empty.
 #[tactic(auto, using(crate::proofs::lemmas::Frame::reads_then))]
 pub(crate) fn are_new_tables_empty<S: Alter>(
     connection: &mut Connection<S>,
@@ -284,8 +288,8 @@ pub(crate) fn are_new_tables_empty<S: Alter>(
     Ok(!has_rows)
 }
 
-/// The rows of the tables of schema 1 without those of spans, ordered by key; none of tables that `made`
-/// doesn't have.
+/// The rows of the tables of schema 1 but for spans, ordered by key; none of a table that isn't among those
+/// that are there, `made`.
 #[tactic(auto, using(crate::proofs::lemmas::Frame::reads_then, crate::proofs::lemmas::Opening::part_on))]
 pub(crate) fn read_old_heads<S: Alter>(
     alloc: Global,
@@ -313,7 +317,8 @@ pub(crate) fn read_old_heads<S: Alter>(
     })
 }
 
-// The operators and plans whose rows are `heads`, within the limits of schema 1. The spans aren't checked.
+// The operators and plans whose rows are `heads`; `NotADesk` if these aren't the rows of a valid state within
+// the limits of schema 1. The spans aren't checked.
 fn parse_old_heads(
     alloc: Global,
     heads: &TableRows,
@@ -332,7 +337,7 @@ fn parse_old_heads(
     Ok((operators, plans))
 }
 
-/// Whether all plans are within the limits of schema 1.
+/// Whether each plan is within the limits of schema 1 on the volumes of a plan and on their covers.
 pub(crate) fn are_within_old_limits(plans: &[FiledPlan]) -> Result<bool, AllocError>
     ensures { IfOk result (λ are. IsTrue are ↔ AllByRecursion (λ p. IsOldArea p.row.area) plans.now) }
 {
@@ -363,7 +368,8 @@ fn is_area_within_old_limits(volumes: &[Volume]) -> Result<bool, AllocError>
     Ok(true)
 }
 
-// Whether a volume's cover is within the limit of schema 1. That limits the covers of rectangles alone.
+// Whether the cover of `volume` is within the limit of schema 1. This limits the covers of rectangles alone:
+// for cell lists both schemas have the same limits.
 fn is_volume_within_old_limits(volume: &Volume) -> Result<bool, AllocError>
     ensures { IfOk result (λ is. IsTrue is ↔ IsOldShape volume.now.footprint) }
 {

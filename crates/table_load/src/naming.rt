@@ -111,7 +111,7 @@ fn name_part<D: Disk + Drop>(alloc: Global, mut connection: Connection<FileStore
     Named { part, connection }
 }
 
-/// The first invalid part of a database. None if there is none, or if the database can't be read.
+/// Finds the first invalid part of a database. None if there is none, or if the database can't be read.
 #[tactic(auto, using(crate::proofs::lemmas::Opening::some_operators, crate::proofs::NamedLemmas::new_named, crate::proofs::NamedLemmas::old_named))]
 pub fn first_fault<S: Alter>(alloc: Global, connection: &mut Connection<S>) -> Option<InvalidPart>
     requires settled { connection.old.in_transaction ≡ false }
@@ -133,7 +133,7 @@ pub fn first_fault<S: Alter>(alloc: Global, connection: &mut Connection<S>) -> O
     }
 }
 
-// The first invalid part of a database without rows of schema 1.
+// The first invalid part of a database without rows of schema 1, which has the tables `made`.
 #[tactic(auto, using(crate::proofs::lemmas::Frame::reads_then, crate::proofs::lemmas::Opening::part_on))]
 fn new_fault<S: Alter>(
     alloc: Global,
@@ -159,7 +159,7 @@ fn new_fault<S: Alter>(
     }
 }
 
-// The first invalid part of a database with rows of schema 1.
+// The first invalid part of a database with rows of schema 1, which has the tables `made`.
 #[tactic(auto, using(crate::proofs::lemmas::Opening::some_operators, crate::proofs::NamedLemmas::moving_named))]
 fn old_fault<S: Alter>(
     alloc: Global,
@@ -167,7 +167,7 @@ fn old_fault<S: Alter>(
     made: TablesPresent,
 ) -> Option<InvalidPart>
     requires part { ShowsPart S.Store connection.old made }
-    requires some { made ≢ TablesPresent.Nothing }
+    requires has_table { made ≢ TablesPresent.Nothing }
     ensures reads { OnlyReads S.Store connection.old connection.new }
     ensures shows { ShowsPartOf S.Store connection.old connection.new result (λ db.
         FailsMoving (tables_at made db.trees)) }
@@ -180,7 +180,7 @@ fn old_fault<S: Alter>(
     old_rows_fault(alloc, connection, made)
 }
 
-// The first invalid part among the rows of schema 1.
+// The first invalid part among the rows of schema 1; there are none of schema 2.
 #[tactic(auto, using(crate::proofs::lemmas::Frame::reads_then, crate::proofs::lemmas::Opening::part_on))]
 fn old_rows_fault<S: Alter>(
     alloc: Global,
@@ -241,8 +241,8 @@ fn fault_of_old_spans(mut check: SpanCheck) -> Option<InvalidPart>
     }
 }
 
-// The plans whose rows are `rows`; else the first invalid part, which is `volume` if it is the volumes, or
-// none if memory runs out.
+// The plans whose rows are `rows`; else the first invalid part, or None if memory runs out. `volume` is the
+// part that is named if the rows of volumes are invalid: `Volume` or `OldVolume`.
 fn plans_of(
     alloc: Global,
     rows: &TableRows,
@@ -272,7 +272,7 @@ fn plans_of(
     Ok(plans)
 }
 
-// The part whose rows were refused, if they are invalid; none if memory ran out.
+// The part `part`, whose rows were refused for `fault`, if they are invalid; None if memory ran out.
 fn if_no_desk(fault: RowFault, part: InvalidPart) -> Option<InvalidPart>
     ensures { result ≡ spec.if_no_desk fault part }
 {
@@ -282,7 +282,8 @@ fn if_no_desk(fault: RowFault, part: InvalidPart) -> Option<InvalidPart>
     }
 }
 
-// Which part is invalid if plans weren't read: `Plan` if one of `heads` isn't a row of `plan`, else `volume`.
+// Which part is invalid if no plans have these rows: `Plan` if one of `heads` isn't the row of a plan, else
+// `volume`, also if memory runs out.
 fn plan_or_volume(volume: InvalidPart, heads: &[Row]) -> InvalidPart
     ensures { (result ≡ volume) ⊎ ((result ≡ InvalidPart.Plan) × (¬ ArePlanHeads heads.now)) }
 {
@@ -292,9 +293,9 @@ fn plan_or_volume(volume: InvalidPart, heads: &[Row]) -> InvalidPart
     }
 }
 
-// Checks that each row is that of a plan in `plan`, whatever its volumes are; else `InvalidRows`.
+// Checks that each of `heads` is the row of a plan in `plan`, whatever its volumes are; else `InvalidRows`.
 fn check_plan_rows(heads: &[Row]) -> Result<(), RowFault>
-    ensures are { OnOk result (ArePlanHeads heads.now) }
+    ensures valid { OnOk result (ArePlanHeads heads.now) }
     ensures refused { IfErr result (λ e. e ≡ RowFault.InvalidRows → ¬ ArePlanHeads heads.now) }
 {
     let mut left = heads;
@@ -305,9 +306,10 @@ fn check_plan_rows(heads: &[Row]) -> Result<(), RowFault>
     Ok(())
 }
 
-// Checks that `head` is the row of a plan in `plan`, whatever its volumes are; else `InvalidRows`.
+// Checks that `head` is the row of a plan in `plan`, whatever its volumes are; else `InvalidRows`. Its third
+// column is the priority.
 fn check_plan_row(head: &Row) -> Result<(), RowFault>
-    ensures is { OnOk result (IsPlanHead head.now) }
+    ensures valid { OnOk result (IsPlanHead head.now) }
     ensures refused { IfErr result (λ e. e ≡ RowFault.InvalidRows → ¬ IsPlanHead head.now) }
 {
     let Some(operator) = operator_in(head) else {

@@ -28,7 +28,8 @@ use std::alloc::Global;
 use volume4d::laws::covers_are_few;
 
 /// Loads the state of a packed file without rows of schema 1, and rebuilds its tables in canonical order. It
-/// returns the state, the indexes in memory, and whether there is an operator.
+/// returns the state, the indexes in memory, and whether there is an operator. If it fails, the file stays
+/// packed.
 pub(crate) fn load_and_reorder<S: Alter>(
     alloc: Global,
     connection: &mut Connection<S>,
@@ -40,7 +41,7 @@ pub(crate) fn load_and_reorder<S: Alter>(
         (λ found. BeginsOrdered S.Store connection.old connection.new found.0.world)
         (HadNone S.Store connection.old connection.new TablesPresent.Packed)
         (StaysShown S.Store connection.old connection.new) }
-    ensures bounded { IfOk result (λ found. Knows found.1 found.0.world) }
+    ensures known { IfOk result (λ found. Knows found.1 found.0.world) }
     ensures crash { MayBecome S.Store connection.old connection.new IsCompletedAs }
 {
     let (content, known) = load_content(alloc, connection, TablesPresent::Packed)?;
@@ -50,7 +51,7 @@ pub(crate) fn load_and_reorder<S: Alter>(
 }
 
 // Rebuilds the tables in canonical order, with the rows of `plans` in `volume2` and `span2`, in one
-// transaction.
+// transaction. If it fails, the tables stay as they were.
 fn reorder_tables<S: Alter>(
     alloc: Global,
     connection: &mut Connection<S>,
@@ -76,7 +77,7 @@ fn reorder_tables<S: Alter>(
 }
 
 /// Rebuilds the tables of a packed file in canonical order, in one transaction. The rows of `volume2` and
-/// `span2` are lost.
+/// `span2` are lost. If it fails, the tables stay as they were.
 pub(crate) fn rebuild_alone<S: Alter>(connection: &mut Connection<S>) -> Result<(), OpenFault>
     requires part { ShowsPart S.Store connection.old TablesPresent.Packed }
     ensures done { HasCleanDisk (state S.Store connection.new)

@@ -18,10 +18,10 @@ use std::hash::{BuildHasher, RandomState};
 use std::io::ErrorKind;
 use std::snapshot::Snapshot;
 
-// Whether the pages of a new file get checksums, as by SQLite's cksumvfs.
+// Whether the pages of new files get checksums, as by SQLite's cksumvfs.
 const NEW_HAS_SUMS: bool = true;
 
-// How many frames the WAL has before it is checkpointed: what 20 to 60 changes write.
+// How many frames (pages written) the WAL has before it is checkpointed: what 20 to 60 changes write.
 const LOG_FRAMES: usize = 320;
 
 /// Why files were not opened. Only functions that try to open files make one.
@@ -41,7 +41,8 @@ impl<D: Disk> NotOpened<D> {
     }
 }
 
-/// Connects to the database in `files`. The error has the files as they were left.
+/// Connects to the database in `files`. The error has the files as they were left: `OutOfMemory` if memory
+/// runs out, and `Store` if SQLite fails for another cause.
 pub(crate) fn connect_over<D: Disk + Drop>(
     alloc: Global,
     files: Files<D>,
@@ -64,11 +65,11 @@ pub(crate) fn connect_over<D: Disk + Drop>(
     }
 }
 
-/// Checks that there is a file at `path`.
+/// Checks that there is a file at `path` that isn't empty.
 ///
 /// # Errors
 ///
-/// `Store` if there is none, or an empty one.
+/// `Store` if there is none, if it is empty, or if that can't be known.
 pub(crate) fn require_file<D: Disk>(rt: &HostRuntime, path: &str) -> Result<(), NotOpened<D>>
     ensures fault { IfErr result (λ it. IsUnread it.fault) }
     ensures left { IfErr result (λ it. it.left ≡ None) }
@@ -94,7 +95,9 @@ pub(crate) fn require_nothing<D: Disk>(rt: &HostRuntime, path: &str) -> Result<(
     }
 }
 
-/// Opens the database file at `path` and its WAL. Names that SQLite doesn't read as a path are refused.
+/// Opens the database file at `path` and its WAL, which are made if they aren't there. `start` says what they
+/// held. `Store` if `path` is a name that SQLite doesn't read as a path, or if they can't be opened;
+/// `OutOfMemory` if memory runs out.
 pub(crate) fn open_pair<S: Start>(
     rt: &HostRuntime,
     path: &str,
@@ -118,7 +121,8 @@ pub(crate) fn open_pair<S: Start>(
     }
 }
 
-/// The options of a connection. The seed for the salts of the WAL comes from the operating system.
+/// The options of a connection. The seed for the salts of the WAL comes from the operating system; `Store` if
+/// that fails.
 pub(crate) fn options<D: Disk>(rt: &HostRuntime) -> Result<Options, NotOpened<D>>
     ensures frames { IfOk result (λ options. options.checkpoint_frames ≡ log_frames) }
     ensures fault { IfErr result (λ it. IsUnread it.fault) }
@@ -136,7 +140,7 @@ pub(crate) fn options<D: Disk>(rt: &HostRuntime) -> Result<Options, NotOpened<D>
     }
 }
 
-// The error for files that were not both there, for the cause `fault`.
+// The error for the cause `fault`, if the files were not both open: it has no files.
 fn not_opened<D: Disk>(fault: OpenFault) -> NotOpened<D>
     ensures fault { result.fault ≡ fault }
     ensures left { result.left ≡ None }

@@ -38,7 +38,7 @@ use std::alloc::{AllocError, Global};
 use std::marker::Model;
 use volume4d::Slab;
 
-// The number of rows from which they aren't counted: no valid database has so many.
+// From how many rows on they aren't counted: no valid database has so many.
 const TOO_MANY: usize = (1 << 63) - 1;
 
 /// The place of the next expected row of spans: which slab of which volume of which plan it stands for.
@@ -68,7 +68,7 @@ impl Model for Cursor {
 }
 
 impl Cursor {
-    /// Before all rows.
+    // A cursor before the first row.
     fn new(alloc: Global) -> Cursor
         ensures { result ≡ record { plan = 0; place = 0; slabs = []; shown = 0; next = 0 } }
     {
@@ -81,7 +81,7 @@ impl Cursor {
         }
     }
 
-    // Moves to the next slab of the live plan `plan`; false if none is left.
+    // Moves to the next slab of the live plan `plan`, the current one; false if none is left.
     fn find_slab_in(&mut self, plan: &FiledPlan) -> Result<bool, AllocError>
         requires live { plan_spec.is_live plan.now.row.usage ≡ true }
         ensures same { OnOk result ((later : List Filed) (rows : List Columns)
@@ -105,7 +105,7 @@ impl Cursor {
         Ok(true)
     }
 
-    // Moves to the next plan.
+    // Moves to the first volume of the next plan.
     fn skip_plan(&mut self)
         requires { self.old.plan < 2 ^ 64 - 1 }
         ensures { self.new ≡ after_plan self.old }
@@ -149,7 +149,7 @@ impl Cursor {
         Ok(false)
     }
 
-    // Whether `row` is the next expected row; if it is, moves past it.
+    // Whether `row` is the next expected row: that of the next slab. If it is, moves past the slab.
     fn take_if_next(&mut self, plans: &[FiledPlan], row: &Row) -> Result<bool, AllocError>
         ensures { IfOk result (IsNextRow plans.now self.old self.new row.now) }
     {
@@ -177,7 +177,7 @@ impl Cursor {
 pub struct SpanCheck {
     pub plans: Vec<FiledPlan>,
     cursor: Cursor,
-    // whether the rows so far are those of the plans
+    // whether the rows so far are the first rows of the plans
     agree: bool,
     pub count: usize,
     pub span_bounds: SpanBounds,
@@ -198,7 +198,8 @@ impl SpanCheck {
         }
     }
 
-    // Counts `row`, adds it to the bounds, and compares it with the next expected row.
+    // Counts `row`, makes the span bounds hold for it, and compares it with the next expected row.
+    // `AllocError` also if there are too many rows to count.
     fn add(&mut self, row: &Row) -> Result<(), AllocError>
         ensures taken { OnOk result ((rows : List Columns) → AreHeld self.old rows
             → AreHeld self.new (rows ++ row.now ∷ [])) }
@@ -215,7 +216,7 @@ impl SpanCheck {
         Ok(())
     }
 
-    /// Whether the rows so far are all rows of the plans.
+    /// Whether the rows so far are exactly all rows that the plans have.
     ///
     /// # Errors
     ///
@@ -252,8 +253,8 @@ impl RowVisitor for SpanCheck {
     }
 }
 
-/// Passes all rows of the table of spans `table` to `check`, ordered by key; none if `made` doesn't have the
-/// table.
+/// Passes all rows of the table of spans `table` to `check`, ordered by key; none if the table isn't among
+/// those that are there, `made`.
 ///
 /// # Errors
 ///
@@ -284,7 +285,8 @@ pub(crate) fn take_spans<S: Alter>(
     }
 }
 
-/// The fault for an error of a query that is read row by row. Too many rows to count become `OutOfMemory`.
+/// The fault for an error of a query that is read row by row: `OutOfMemory` if memory ran out, or if there
+/// are too many rows to count; else `Store`.
 pub(crate) fn fault_of(error: Error) -> OpenFault
     ensures store { result ≡ OpenFault.Store → (error ≢ Error.SqliteFailure ErrorCode.OutOfMemory)
         × (error ≢ Error.SqliteFailure ErrorCode.TooBig) }

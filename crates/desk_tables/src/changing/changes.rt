@@ -34,12 +34,13 @@ use sqlite_trees::store::Alter;
 use volume4d::laws::covers_are_few;
 
 impl<S: Alter> DeskTables<S> {
-    /// Applies `change`, which has to fit the state, in one transaction; returns the span bounds after it.
+    /// Applies `change`, which has to fit the state, in one transaction. `span_bounds` hold before the
+    /// change; returned are those that hold after it.
     ///
     /// # Errors
     ///
-    /// `OutOfMemory` if memory runs out. `Store` if SQLite fails for another cause, or if the rows aren't
-    /// those of a plan. The tables then have the state that they had.
+    /// `OutOfMemory` if memory runs out. `Store` if SQLite fails for another cause, or if the row of a plan
+    /// to be closed isn't that of a plan. The tables then have the state that they had.
     pub(crate) fn make(
         &mut self,
         span_bounds: &SpanBounds,
@@ -84,8 +85,8 @@ impl<S: Alter> DeskTables<S> {
         advance_if_committed(&mut self.kept, committed, next, (), self.reported)
     }
 
-    // Stores a plan with its volumes and, if it is live, their spans; `next` is the state after it. It
-    // returns the span bounds after it.
+    // Stores the plan `row` with its volumes and, if it is live, their spans, instead of the plan of the same
+    // id; `next` is the state after it. It returns the span bounds after it.
     fn put(
         &mut self,
         span_bounds: &SpanBounds,
@@ -119,8 +120,9 @@ impl<S: Alter> DeskTables<S> {
         advance_if_committed(&mut self.kept, committed, next, after, self.reported)
     }
 
-    // Closes the operator's plan `id`: its spans are removed, and else only its usage changes. `next` is the
-    // state after it.
+    // Closes the operator's plan `id`: its spans are removed, and else only its usage changes. Its row is
+    // written whole, so its priority and the state of its aircraft are read first. `next` is the state after
+    // it.
     fn close(
         &mut self,
         operator: &Operator,
@@ -149,7 +151,7 @@ impl<S: Alter> DeskTables<S> {
         advance_if_committed(&mut self.kept, committed, next, (), self.reported)
     }
 
-    // Removes the operator's plans `ids`; `next` is the state after it.
+    // Removes the operator's plans `ids` with all their rows; `next` is the state after it.
     fn clear(
         &mut self,
         operator: &Operator,
@@ -166,7 +168,8 @@ impl<S: Alter> DeskTables<S> {
     }
 }
 
-// The priority in a row of `plan`, and the number that stands for the state of the aircraft.
+// The priority and the number that stands for the state of the aircraft in `head`, a row of `plan`: its third
+// and fifth columns. `Store` if they aren't those of a plan.
 fn numbers_in(head: &Row) -> Result<(u32, u32), StoreFault>
     ensures priority { IfOk result (λ found. column head.now 2 ≡ Int (pos found.0)) }
     ensures aircraft { IfOk result (λ found. column head.now 4 ≡ Int (pos found.1)) }
@@ -178,8 +181,8 @@ fn numbers_in(head: &Row) -> Result<(u32, u32), StoreFault>
     Ok((priority, aircraft))
 }
 
-// Returns `answer` if SQLite committed the change: the kept state becomes `next`. Else the state stays, and
-// SQLite's error is returned as a fault, an I/O error as `reported`.
+// If SQLite committed a change, as `committed` says, the state `kept` becomes `next`, and `answer` is
+// returned. Else the state stays, and SQLite's error is returned as a fault, an I/O error as `reported`.
 fn advance_if_committed<T: Copy>(
     kept: &mut GhostState,
     committed: Result<(), Error>,

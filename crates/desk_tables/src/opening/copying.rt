@@ -38,8 +38,8 @@ use table_load::finding::create_tables;
 use table_load::moving::write_plans;
 use volume4d::laws::covers_are_few;
 
-/// Makes a store with the state `content` over a connection to a database that has to have no table. The
-/// tables are made in one transaction, and all rows added in another.
+/// Makes a store with the state `content`, whose indexes in memory are `known`, over a connection to a
+/// database that has to have no table. The tables are made in one transaction, and all rows added in another.
 ///
 /// # Errors
 ///
@@ -56,7 +56,7 @@ pub(crate) fn store_of<S: Alter + Drop>(
     requires unlimited { connection.step_limit ≡ None }
     requires content { IsContent content.now }
     requires few { HaveFewRows content.now.plans }
-    requires bounded { Knows known content.now }
+    requires known { Knows known content.now }
     ensures value { IfOk result (λ store. store.world ≡ content.now) }
     ensures blank { IfOk result (λ store. HasCleanDisk (state S.Store store.held)
         → (state S.Store connection).now.schema ≡ blank_schema) }
@@ -70,7 +70,8 @@ pub(crate) fn store_of<S: Alter + Drop>(
     }
 }
 
-// Makes the tables in a database that has to have none, and adds all rows of `content`.
+// Makes the tables in a database that has to have none, and adds all rows of `content`; returns this state.
+// If it fails, there may be tables without rows.
 fn make_world<S: Alter>(
     alloc: Global,
     connection: &mut Connection<S>,
@@ -109,7 +110,7 @@ fn require_blank<S: Alter>(connection: &mut Connection<S>) -> Result<(), OpenFau
     Ok(())
 }
 
-// Adds the rows of `operators` and `plans`, in one transaction.
+// Adds all rows of `operators` and `plans`, in one transaction.
 // Long: success, failure and its cause, and the end of the transaction have a clause each.
 fn fill<S: Alter>(
     alloc: Global,
@@ -135,7 +136,7 @@ fn fill<S: Alter>(
     Ok(())
 }
 
-// Adds the rows of `operators` and `plans`, within a transaction.
+// Adds all rows of `operators` and `plans`, within a transaction.
 fn write_world<S: Alter>(
     alloc: Global,
     tx: &mut Transaction<'_, S>,
@@ -179,7 +180,7 @@ fn write_operators<S: Alter>(
     Ok(())
 }
 
-// Adds the row of an operator, within a transaction.
+// Adds the row of the operator `listed`, within a transaction.
 // Long: what it adds, and that there is room for the rows that the next calls add.
 fn write_operator<S: Alter>(
     tx: &mut Transaction<'_, S>,
@@ -220,7 +221,7 @@ fn write_heads<S: Alter>(tx: &mut Transaction<'_, S>, plans: &[FiledPlan]) -> Re
     Ok(())
 }
 
-// Adds the row of a plan in the table `plan`, within a transaction.
+// Adds the row of `plan` in the table `plan`, within a transaction.
 // Long: what it adds, and that there is room for the rows that the next calls add.
 fn write_head<S: Alter>(tx: &mut Transaction<'_, S>, plan: &FiledPlan) -> Result<(), OpenFault>
     requires under_way { IsUnderWay S.Store tx.old.conn.now }

@@ -190,7 +190,8 @@ pub fn look_at<S: Start>(
 }
 
 /// Copies the state of the database in the files at `path` into new files at `to`; returns the connection to
-/// the first, the store over the new ones, and its statistics. `start` and `other` say what these files held.
+/// the first, the store over the new ones, and its statistics. `start` says what the first files held, and
+/// `other` what the new ones held.
 /// In the first, no table or row is changed. If it fails, the new files may have a part of the copy.
 ///
 /// # Errors
@@ -216,7 +217,7 @@ pub fn copy_from<S: Start, N: Start>(
     }
 }
 
-// Makes the store with the state that was read, `found`, in new files at `to`.
+// Makes the store with the state that was read, `found`, in new files at `to`; `other` says what they held.
 fn copy_read<D: Disk + Drop, N: Start>(
     rt: &HostRuntime,
     found: ReadFiles<FileStore<D>>,
@@ -225,7 +226,7 @@ fn copy_read<D: Disk + Drop, N: Start>(
 ) -> Result<Copied<D, FileFrom<N>>, CopyFault<D, FileFrom<N>>>
     requires content { IsContent found.1 }
     requires few { HaveFewRows found.1.plans }
-    requires bounded { Knows found.2 found.1 }
+    requires known { Knows found.2 found.1 }
     ensures same { IfOk result (λ copied. copied.0 ≡ found.0) }
     ensures world { IfOk result (λ copied. copied.1.0.world ≡ found.1) }
     ensures counted { IfOk result (λ copied. AreHoldingsOf copied.1.1 found.1) }
@@ -241,7 +242,8 @@ fn copy_read<D: Disk + Drop, N: Start>(
     }
 }
 
-// Reads the state of the database in the files at `path`; returns it with the connection.
+// Reads the state of the database in the files at `path`; returns it with the connection. `start` says what
+// the files held.
 fn read_at<S: Start>(
     rt: &HostRuntime,
     path: &str,
@@ -250,7 +252,7 @@ fn read_at<S: Start>(
     ensures looks { IfOk result (λ found. LooksIn (image_at S.Start) found.0 found.3 found.1) }
     ensures content { IfOk result (λ found. IsContent found.1) }
     ensures few { IfOk result (λ found. HaveFewRows found.1.plans) }
-    ensures bounded { IfOk result (λ found. Knows found.2 found.1) }
+    ensures known { IfOk result (λ found. Knows found.2 found.1) }
     ensures fault { IfErr result (λ e. AreNotRead (image_at S.Start) e.fault e.connection) }
 {
     match connect_there(rt, path, start) {
@@ -272,7 +274,7 @@ fn read_connected<D: Disk + Drop>(
         LooksIn image found.0 found.3 found.1) }
     ensures content { IfOk result (λ found. IsContent found.1) }
     ensures few { IfOk result (λ found. HaveFewRows found.1.plans) }
-    ensures bounded { IfOk result (λ found. Knows found.2 found.1) }
+    ensures known { IfOk result (λ found. Knows found.2 found.1) }
     ensures fault { (image : Image) → Finds image connection → IfErr result (λ e.
         AreNotRead image e.fault e.connection) }
 {
@@ -285,7 +287,8 @@ fn read_connected<D: Disk + Drop>(
     }
 }
 
-// Makes a store with the state `content` in new files at `path`.
+// Makes a store with the state `content`, whose indexes in memory are `known`, in new files at `path`.
+// `start` says what they held.
 fn store_at<S: Start>(
     rt: &HostRuntime,
     path: &str,
@@ -295,7 +298,7 @@ fn store_at<S: Start>(
 ) -> Result<SqliteStore<FileStore<FileFrom<S>>>, FilesFault<FileFrom<S>>>
     requires content { IsContent content.now }
     requires few { HaveFewRows content.now.plans }
-    requires bounded { Knows known content.now }
+    requires known { Knows known content.now }
     ensures value { IfOk result (λ store. store.world ≡ content.now) }
     ensures made { IfOk result (λ store. IsMadeIn (image_at S.Start) store.held) }
     ensures left { IfOk result (λ store. IsSettledAt over_files store.held store.world) }
@@ -310,7 +313,8 @@ fn store_at<S: Start>(
     }
 }
 
-// Makes a store with the state `content` in the new files that `connection` has open.
+// Makes a store with the state `content`, whose indexes in memory are `known`, in the new files that
+// `connection` has open.
 fn store_files<D: Disk + Drop>(
     alloc: Global,
     connection: Connection<FileStore<D>>,
@@ -320,7 +324,7 @@ fn store_files<D: Disk + Drop>(
     requires fresh { IsNew connection }
     requires content { IsContent content.now }
     requires few { HaveFewRows content.now.plans }
-    requires bounded { Knows known content.now }
+    requires known { Knows known content.now }
     ensures value { IfOk result (λ store. store.world ≡ content.now) }
     ensures made { (image : Image) → Finds image connection → IfOk result (λ store.
         IsMadeIn image store.held) }

@@ -53,7 +53,7 @@ impl SqliteStore<FileStore<Ram>> {
     ///
     /// # Errors
     ///
-    /// `OutOfMemory` if memory runs out.
+    /// `OutOfMemory` if memory runs out: files in memory fail for no other cause.
     pub fn in_memory(alloc: Global) -> Result<SqliteStore<FileStore<Ram>>, OpenFault>
         ensures empty { IfOk result (λ store. store.world ≡ record { operators = []; plans = [] }) }
         ensures fault { IfErr result (λ e. e ≡ OpenFault.OutOfMemory) }
@@ -172,7 +172,7 @@ fn store_in_ram(alloc: Global) -> Result<SqliteStore<FileStore<Ram>>, OpenFault>
     }
 }
 
-// The bytes of a database without tables.
+// The bytes of a database without tables: `BLANK`, and zeros up to one page.
 fn blank_database(alloc: Global) -> Result<Vec<u8>, AllocError>
     ensures { IfOk result (λ page. page.items ≡ BLANK ++ replicate (PAGE - length BLANK) 0) }
 {
@@ -181,7 +181,7 @@ fn blank_database(alloc: Global) -> Result<Vec<u8>, AllocError>
     Ok(page)
 }
 
-// Makes an empty store over a connection to a database in memory that has to have no table.
+// Makes an empty store over a connection to a database in memory; `Store` if this has a table.
 fn store_over_blank<S: Alter + Drop>(
     alloc: Global,
     mut connection: Connection<S>,

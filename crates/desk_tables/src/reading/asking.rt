@@ -1,4 +1,5 @@
-//! The spans of other plans in a query region: one query for each range of leaves at which they may begin.
+//! The slabs of other plans that overlap an extent, read by one query for each range of leaves at which they
+//! may begin.
 
 ghost use Rattle.std.specs.Prelude.{◌<◌, IfSome, IsTrue, OnOk, length};
 ghost use Rattle.std.specs.List.{AllByRecursion};
@@ -23,7 +24,7 @@ use volume4d::{Held, Slab};
 
 impl<S: Alter> DeskTables<S> {
     /// Reads slabs that have, at each point of `extent`, the greatest priority of the live plans there that
-    /// `wanted` selects. The span bounds say at which leaves their spans may begin: no other row is read.
+    /// `wanted` selects. `span_bounds` say at which leaves their spans may begin: only such rows are read.
     ///
     /// # Errors
     ///
@@ -45,7 +46,7 @@ impl<S: Alter> DeskTables<S> {
         self.query_all(wanted, extent, &questions)
     }
 
-    // Runs all `questions`, and returns the slabs of one after those of the other.
+    // Runs `query_one` for each range of leaves in `queries`; returns the slabs that they find, in this order.
     #[tactic(auto, using(table_load::proofs::lemmas::Frame::reads_then))]
     fn query_all(
         &mut self,
@@ -68,8 +69,8 @@ impl<S: Alter> DeskTables<S> {
         Ok(helds)
     }
 
-    // Runs one query: the slabs whose spans begin at the leaves of `question` and may share a point with
-    // `extent`.
+    // Runs one query: it finds the slabs, of the plans that `wanted` selects, that begin at a leaf of the range
+    // `query` and overlap `extent`.
     fn query_one(
         &mut self,
         wanted: &Wanted,
@@ -90,7 +91,7 @@ impl<S: Alter> DeskTables<S> {
             Some(id) => {
                 let mut buffer = [0u8; 36];
                 let text = id.encode(&mut buffer);
-                let handed = rival_spans(
+                let queried = rival_spans(
                     &mut self.connection,
                     operator,
                     text,
@@ -98,23 +99,24 @@ impl<S: Alter> DeskTables<S> {
                     low,
                     &mut rivals,
                 );
-                slabs_if_read(handed, rivals, self.reported)
+                slabs_if_read(queried, rivals, self.reported)
             }
             None => {
-                let handed = other_spans(
+                let queried = other_spans(
                     &mut self.connection,
                     operator,
                     span_filter,
                     low,
                     &mut rivals,
                 );
-                slabs_if_read(handed, rivals, self.reported)
+                slabs_if_read(queried, rivals, self.reported)
             }
         }
     }
 }
 
-// States that `wanted` names the plan that it leaves out, if any, by a valid id. It changes nothing.
+// States for contracts that the id of the plan which `wanted` leaves out, if there is one, is valid. It
+// changes nothing.
 fn id_is_valid(wanted: &Wanted)
     ensures { IfSome wanted.now.id IsId }
 {

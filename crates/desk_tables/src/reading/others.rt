@@ -40,14 +40,14 @@ impl<S: Alter> DeskTables<S> {
             AreHeldByOthers self.old.world operator.now extents.now helds.items) }
     {
         let wanted = wanted_of_others(operator);
-        let room = if extents.len() < 2 {
+        let max_rows = if extents.len() < 2 {
             MAX_ROWS_AT_ONE
         } else {
             MAX_ROWS
         };
         if let Some(keys) = known
             .live
-            .wanted_plans(self.allocator(), &wanted, extents, room)?
+            .wanted_plans(self.allocator(), &wanted, extents, max_rows)?
         {
             return self.held_near(&keys, extents);
         }
@@ -77,7 +77,7 @@ impl<S: Alter> DeskTables<S> {
     }
 }
 
-// It selects the live plans of all operators but `operator`, of any priority.
+// The selection of the live plans of all operators but `operator`, of any priority.
 fn wanted_of_others(operator: &Operator) -> Wanted
     ensures { result ≡ record { operator = operator.now; id = None; least = 0 } }
 {

@@ -21,19 +21,19 @@ use s2_cover::Span;
 use sqlite_trees::store::Alter;
 use volume4d::{Held, Slab};
 
-/// For one extent, the most rows that are read by the keys of plans. If there are more, one query of the rows
-/// that are near costs less.
+/// For one extent, the most rows that are read by the keys of plans. If there are more, one query for the
+/// rows near the extent costs less.
 pub(crate) const MAX_ROWS_AT_ONE: usize = 160;
 
-/// The most rows that are read by the keys of plans if each extent would need a query, or if queries might
-/// read many rows. Reading so many takes half a second.
+/// The most rows that are read by the keys of plans if each extent would need a query of its own, or if
+/// queries might read many rows. Reading so many takes half a second.
 pub(crate) const MAX_ROWS: usize = 1 << 19;
 
 // How many leaves a short range of the curve has at most: as many as a cell of level 7.
 const MAX_SHORT: u64 = 1 << 46;
 
-// The most rows that are read by the keys of plans if queries are of a short range of the curve: there are
-// few rows there, and it costs less to read these one after the other.
+// The most rows that are read by the keys of plans if the queries are of a short range of the curve: there
+// are few rows there, and it costs less to read them all.
 const MAX_ROWS_BESIDE_SHORT: usize = 1 << 12;
 
 impl<S: Alter> DeskTables<S> {
@@ -85,7 +85,7 @@ impl<S: Alter> DeskTables<S> {
         Ok(helds)
     }
 
-    // Reads the slabs of the plan `key` that may overlap `extent`, if its priority is at least `least`.
+    // Reads the slabs of the plan `key` that overlap `extent`, if its priority is at least `least`.
     fn held_by_plan(
         &mut self,
         key: &PlanKey,
@@ -102,19 +102,19 @@ impl<S: Alter> DeskTables<S> {
         let mut buffer = [0u8; 36];
         let id = key.id.encode(&mut buffer);
         let span_filter = span_filter_of(extent, least);
-        let handed = plan_spans(
+        let queried = plan_spans(
             &mut self.connection,
             key.operator.as_str(),
             id,
             span_filter,
             &mut rivals,
         );
-        slabs_if_read(handed, rivals, self.reported)
+        slabs_if_read(queried, rivals, self.reported)
     }
 }
 
-/// The most rows that are read by the keys of plans, instead of by the queries `questions`. This only matters
-/// for speed.
+/// How many rows are read by the keys of plans at most. If there are more, `queries` are run instead. This only
+/// matters for speed.
 pub(crate) fn max_rows_beside(questions: &[Span]) -> usize
     ensures { result ≡ (if nat_le (leaves_begun questions.now) MAX_SHORT then MAX_ROWS_BESIDE_SHORT
         else MAX_ROWS) }
@@ -126,7 +126,7 @@ pub(crate) fn max_rows_beside(questions: &[Span]) -> usize
     }
 }
 
-// How many leaves the ranges of all queries have; it saturates.
+// How many leaves the ranges of all `queries` have together; the sum saturates.
 fn count_leaves(questions: &[Span]) -> u64
     ensures { result ≡ min (leaves_begun questions.now) (2 ^ 64 - 1) }
 {
@@ -137,7 +137,7 @@ fn count_leaves(questions: &[Span]) -> u64
     leaves
 }
 
-// Adds to `leaves` how many leaves the range of one query has; it saturates.
+// The sum of `leaves` and the number of leaves in the range `query`; it saturates.
 fn add_leaves(leaves: u64, question: &Span) -> u64
     ensures { result ≡ min (leaves + (question.now.last - question.now.first + 1)) (2 ^ 64 - 1) }
 {

@@ -32,7 +32,7 @@ use std::alloc::Global;
 use volume4d::{Held, Slab};
 
 impl<S: Alter> DeskTables<S> {
-    /// The row of `plan` of the operator's plan `id`; no row if it isn't stored.
+    /// The row of the table `plan` for the operator's plan `id`; no row if the plan isn't stored.
     ///
     /// # Errors
     ///
@@ -51,7 +51,7 @@ impl<S: Alter> DeskTables<S> {
         or_fault(answer, self.reported)
     }
 
-    // The rows of `volume2` of the operator's plan `id`, ordered by place.
+    // The rows of `volume2` of the operator's plan `id`, ordered by place; no row if the plan isn't stored.
     fn volumes(&mut self, operator: &Operator, id: &PlanId) -> Result<Vec<Row>, StoreFault>
         ensures { ReadsPlans S.Store self.old self.new result (λ rows. IsContent self.old.world
             × (rows.items ≡ volume_rows (own_of operator.now id.now self.old.world))) }
@@ -101,8 +101,8 @@ impl<S: Alter> DeskTables<S> {
     }
 
     /// Reads slabs that have, at each point of `extents`, the greatest priority of the live plans there that
-    /// `wanted` selects. The index in memory says whose volumes overlap `extents`: if these are few plans,
-    /// only their rows are read.
+    /// `wanted` selects. The index in memory, `known`, says whose volumes overlap `extents`: if these are few
+    /// plans, only their rows are read; else all rows near `extents`.
     ///
     /// # Errors
     ///
@@ -124,10 +124,10 @@ impl<S: Alter> DeskTables<S> {
         };
         let whole = whole_of(first, others);
         let questions = known.span_bounds.questions(self.allocator(), &whole)?;
-        let room = max_rows_beside(&questions);
+        let max_rows = max_rows_beside(&questions);
         if let Some(keys) = known
             .live
-            .wanted_plans(self.allocator(), wanted, extents, room)?
+            .wanted_plans(self.allocator(), wanted, extents, max_rows)?
         {
             return self.held_by_plans(&keys, wanted.least, &whole);
         }
@@ -135,8 +135,8 @@ impl<S: Alter> DeskTables<S> {
     }
 }
 
-// The plan whose row of `plan` is `head` and whose rows of `volume2`, from the column `lower` on, are in
-// `rows`. `Store` if they are not those of a valid plan.
+// The plan whose row of `plan` is `head` and whose rows of `volume2` are `rows`: their volumes are in the
+// columns from the fourth, `lower`, on. `Store` if they are not those of a valid plan.
 fn plan_of_rows(alloc: Global, head: &Row, rows: &[Row]) -> Result<PlanRow, StoreFault>
     ensures value { IfOk result (λ plan. (p : Plan) → IsId p.id → IsHead head.now p
         → AllByRecursion IsValidVolume p.area → AllZip (λ row v. IsVolumeAt row 3 v) rows.now p.area
@@ -149,8 +149,8 @@ fn plan_of_rows(alloc: Global, head: &Row, rows: &[Row]) -> Result<PlanRow, Stor
     plan_in(head, area)
 }
 
-// The plans that `collector` has, if the query passed all rows to it; else the fault, an I/O error as
-// `reported`.
+// The plans that `collector` has, if the query passed all rows to it: `taken` is what the query returned.
+// Else the fault for its error, an I/O error as `reported`.
 fn plans_if_read(
     taken: Result<(), Error>,
     collector: PlanCollector,
@@ -171,19 +171,19 @@ fn plans_if_read(
     }
 }
 
-// The slabs that `rivals` has, if the query passed all rows to it; else the fault, an I/O error as
-// `reported`.
+// The slabs that `rivals` has, if the query passed all rows to it: `queried` is what the query returned. Else
+// the fault for its error, an I/O error as `reported`.
 pub(crate) fn slabs_if_read(
-    handed: Result<(), Error>,
+    queried: Result<(), Error>,
     rivals: SpanCollector,
     reported: StoreFault,
 ) -> Result<Vec<Held>, StoreFault>
-    ensures whole { OnOk result (IsOk handed) }
+    ensures whole { OnOk result (IsOk queried) }
     ensures value { IfOk result (λ helds. helds.items ≡ rivals.helds.items) }
     ensures refused { IfErr result (λ e. e ≡ StoreFault.Store →
-        IsErrAnd handed (λ error. error ≢ Error.SqliteFailure ErrorCode.OutOfMemory)) }
+        IsErrAnd queried (λ error. error ≢ Error.SqliteFailure ErrorCode.OutOfMemory)) }
 {
-    match handed {
+    match queried {
         Ok(()) => Ok(rivals.finish()),
         Err(e) => Err(fault_reported(e, reported)),
     }

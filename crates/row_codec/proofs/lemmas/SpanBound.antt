@@ -135,7 +135,7 @@ module _ (span_bounds : SpanBounds) where
       let (rows, mine, same) = are.spans in
       all-permutation (HasKnownSpan span_bounds) rows t.spans same (plans_known w.plans rows h mine)
 
--- ---- the questions leave out no rival, and find no others
+-- ---- the queries leave out no rival, and find no others
 
 at_least_is : (a b : Bool) → is_ge (cond a Less (cond b Greater Equal)) ≡ not a
 at_least_is true b = refl

@@ -15,9 +15,9 @@ loop-volume-preserved c =
     let volume = c.volume-item.result in
     let asked = c.index-asked-at.result in
     let canon = c.index-canon-at.result in
-    let same = c.requires.same ∙ ap (map (λ v. footprint_bytes v.footprint))
+    let same = c.requires.asked ∙ ap (map (λ v. footprint_bytes v.footprint))
     (sym c.volumes-volumes.ensures.value) in
-    let covered = c.requires.covered ∙ ap (map (λ v. canon_bytes v.footprint))
+    let covered = c.requires.canon ∙ ap (map (λ v. canon_bytes v.footprint))
     (sym c.volumes-volumes.ensures.value) in
     let bytes = c.deref.ensures.value ∙ ap (λ b. b.items) c.index-asked-at.is
     ∙ ap (λ n. (get_or c.args.asked.now n asked).items) c.loop-volume.invariant.0
@@ -33,13 +33,13 @@ loop-volume-preserved c =
           ∙ volume_put p volumes i place c.volume-item.result c.volume-item.result
           (map volume_row_in c.loop-volume.rows.items) (volume_row_in c.volume_row.result) c.args.id.now
           c.deref.result.now
-          c.loop-volume-test.true c.volume-item.is c.loop-volume.invariant.0 c.requires.named bytes
+          c.loop-volume-test.true c.volume-item.is c.loop-volume.invariant.0 c.requires.id bytes
           c.loop-volume.invariant.1 c.volume_row.ensures.volume,
       ap (map cover_of) c.in_ok-push.ensures.items
           ∙ map_append cover_of c.loop-volume.rows.items (c.volume_row.result ∷ [])
           ∙ cover_put p volumes i place c.volume-item.result c.volume-item.result
           (map cover_of c.loop-volume.rows.items) (cover_of c.volume_row.result) c.args.id.now
           c.deref-in-loop-volume.result.now
-          c.loop-volume-test.true c.volume-item.is c.loop-volume.invariant.0 c.requires.named cover
+          c.loop-volume-test.true c.volume-item.is c.loop-volume.invariant.0 c.requires.id cover
           c.loop-volume.invariant.2 c.volume_row.ensures.cover,
     )

@@ -7,7 +7,7 @@ pub loop-row-preserved : goal.loop-row-preserved
 loop-row-preserved c =
     reads_more c.args.at c.args.rows.now c.loop-row.row-index c.row-item.result c.loop-row.volumes.items
     c.push.new.self.items c.in_ok-volume_in.field-0
-    c.loop-row-test.true c.row-item.is c.in_ok-volume_in.ensures.value c.in_ok-volume_in.ensures.is
+    c.loop-row-test.true c.row-item.is c.in_ok-volume_in.ensures.value c.in_ok-volume_in.ensures.valid
     c.in_ok-push.ensures.items c.loop-row.invariant
 
 ended : {m n : ℕ} → m ≤ n → n ≤ m → n ≡ m
@@ -19,8 +19,8 @@ returns-in-Some-clause-value c =
     ∙ c.loop-row.invariant.read vs hv h ∙ ap (λ n. take n vs)
     (ended c.loop-row-test.false c.loop-row.auto.row-index-end) ∙ all_read c.args.at c.args.rows.now vs h
 
-pub returns-in-Some-clause-are : goal.returns-in-Some-clause-are
-returns-in-Some-clause-are c =
+pub returns-in-Some-clause-valid : goal.returns-in-Some-clause-valid
+returns-in-Some-clause-valid c =
     all_stand c.args.at c.args.rows.now c.loop-row.row-index c.loop-row.volumes.items c.in-Some.area
     (ended c.loop-row-test.false c.loop-row.auto.row-index-end)
     (area_is c.loop-row.volumes.items c.in-Some.area c.in-Some.ensures) c.loop-row.invariant

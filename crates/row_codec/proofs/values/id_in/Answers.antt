@@ -17,8 +17,8 @@ returns-in_err-text-clause-refused c =
     on_err c.from_residual.result c.in_err-text.field-0.0 _ c.from_residual.ensures.1
     (λ e id is. c.in_err-text.ensures.refused e (id_text id) (id_is_text id))
 
-pub returns-in-Some-clause-is : goal.returns-in-Some-clause-is
-returns-in-Some-clause-is c = parsed_id c.deref.result.now c.in-Some.id c.in-Some.ensures
+pub returns-in-Some-clause-valid : goal.returns-in-Some-clause-valid
+returns-in-Some-clause-valid c = parsed_id c.deref.result.now c.in-Some.id c.in-Some.ensures
 
 pub returns-clause-refused : goal.returns-clause-refused
 returns-clause-refused c =

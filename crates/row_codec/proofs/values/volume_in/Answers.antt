@@ -56,8 +56,8 @@ returns-in_default-2-clause-refused c =
     (subst (λ bytes. (shape : Shape) → AreBytesOf bytes shape → ⊥) c.deref.ensures.value
     (rw c.in_default-2.is at c.in_ok-footprint.ensures))
 
-pub returns-in-Ok-try_new-clause-is : goal.returns-in-Ok-try_new-clause-is
-returns-in-Ok-try_new-clause-is c =
+pub returns-in-Ok-try_new-clause-valid : goal.returns-in-Ok-try_new-clause-valid
+returns-in-Ok-try_new-clause-valid c =
     let lower : SFits w32 c.in_ok-lower.lower = search rules in
     let upper : SFits w32 c.in_ok-upper.upper = search rules in
     let start : SFits w64 c.in_ok-start.start = search rules in

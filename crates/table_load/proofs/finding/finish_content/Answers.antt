@@ -7,8 +7,8 @@ use Rattle.row_codec.specs.Tables.{AreSpanRows}
 use Rattle.row_codec.proofs.lemmas.SpanBound.{bounds_of}
 use Rattle.table_load.proofs.finding.finish_content.Goals as goal
 
-pub returns-clause-bounded : goal.returns-clause-bounded
-returns-clause-bounded c order =
+pub returns-clause-known : goal.returns-clause-known
+returns-clause-known c order =
     let own = c.args.check in
     let new = c.agrees.new.self in
     let world : World = record { operators = c.args.operators.items; plans = new.plans.items } in

@@ -54,10 +54,10 @@ returns-clause-content g c =
     c.finish_content.result taken.taken.0 c.finish_content.ensures.value
     (c.finish_content.ensures.agree taken.taken.0 taken.taken.1)
 
-pub returns-clause-bounded : goal.returns-clause-bounded
-returns-clause-bounded g c =
+pub returns-clause-known : goal.returns-clause-known
+returns-clause-known g c =
     let ls = c.in_ok-operators.operators.items in
     let are = of_plans (AreParts c.in_ok-heads.heads ls) c.in_ok-operators.plans.items
     c.new-check.result.plans.items c.take_spans.new.check.plans.items c.in_ok-operators.ensures.value
     c.new-check.ensures.plans c.in_ok-take_spans.ensures.plans in
-    c.finish_content.ensures.bounded are.order
+    c.finish_content.ensures.known are.order

@@ -7,8 +7,8 @@ pub returns-in_err-made-clause-opened : goal.returns-in_err-made-clause-opened
 returns-in_err-made-clause-opened g c =
     let refused = c.in_err-made.ensures in
     refused_as g.S.Store c.args.connection.now c.find_desk_tables.new.connection c.from_residual.result _
-    c.from_residual.ensures.1 refused.refused refused.newer refused.cause refused.reads.kept refused.reads.limit
-    refused.reads.doubt refused.reads.shield
+    c.from_residual.ensures.1 refused.refused refused.no_old_schema refused.cause refused.reads.kept
+    refused.reads.limit refused.reads.doubt refused.reads.shield
 
 pub returns-clause-opened : goal.returns-clause-opened
 returns-clause-opened g c =

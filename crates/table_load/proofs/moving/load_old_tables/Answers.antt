@@ -13,7 +13,7 @@ returns-in_err-heads-clause-read g c =
     let heads = c.in_err-heads.ensures in
     refused_on g.S.Store c.args.made c.args.connection.now c.read_old_heads_alone.new.connection
     c.from_residual.result _ c.from_residual.ensures.1 heads.reads
-    (λ reported clean w old are. heads.refused reported clean are.new) heads.newer heads.cause
+    (λ reported clean w old are. heads.refused reported clean are.new) heads.no_old_schema heads.cause
 
 pub returns-in_err-operators-clause-read : goal.returns-in_err-operators-clause-read
 returns-in_err-operators-clause-read g c =
@@ -60,10 +60,10 @@ returns-clause-content g c =
     c.finish_content.result taken.taken.0 c.finish_content.ensures.value
     (c.finish_content.ensures.agree taken.taken.0 taken.taken.1)
 
-pub returns-clause-bounded : goal.returns-clause-bounded
-returns-clause-bounded g c =
+pub returns-clause-known : goal.returns-clause-known
+returns-clause-known g c =
     let ls = c.in_ok-operators.operators.items in
     let are = of_plans (AreOldParts c.in_ok-heads.heads ls) c.in_ok-operators.plans.items
     c.new-check.result.plans.items c.take_spans.new.check.plans.items c.in_ok-operators.ensures.value
     c.new-check.ensures.plans c.in_ok-take_spans.ensures.plans in
-    c.finish_content.ensures.bounded are.parts.order
+    c.finish_content.ensures.known are.parts.order

@@ -14,7 +14,7 @@ returns-in_err-made-clause-opened g c =
     let new = c.find_desk_tables.new.connection in
     let refused = c.in_err-made.ensures in
     refused_as g.S.Store old new c.from_residual.result _ c.from_residual.ensures.1
-    (λ is. none_unmoved g.S.Store old new (refused.refused is)) refused.newer refused.cause
+    (λ is. none_unmoved g.S.Store old new (refused.refused is)) refused.no_old_schema refused.cause
     (λ clean live. inl (refused.reads.kept clean live)) refused.reads.limit refused.reads.doubt
     refused.reads.shield
 

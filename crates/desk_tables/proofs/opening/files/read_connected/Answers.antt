@@ -13,7 +13,7 @@ returns-in-Err-clause-fault g c =
       opened = λ clean. finds.first (was clean);
       fresh = c.requires.fresh;
       none = c.in-Err.ensures.refused;
-      newer = c.in-Err.ensures.newer;
+      newer = c.in-Err.ensures.no_old_schema;
       cause = disk_blamed over_files c.args.connection c.read_content.new.connection _
           c.requires.fresh.unlimited c.in-Err.ensures.cause;
       reads = c.in-Err.ensures.reads;

@@ -13,11 +13,11 @@ use Rattle.desk_tables.proofs.tables.DeskTables.held_by_plan.Goals as goal
 pub returns-clause-read : goal.returns-clause-read
 returns-clause-read g c =
     let old = c.self.inside.connection in
-    let new = c.plan_spans-handed.new.connection in
-    let answers = c.plan_spans-handed.ensures.answers in
+    let new = c.plan_spans-queried.new.connection in
+    let answers = c.plan_spans-queried.ensures.answers in
     rw (← c.self.view_is) (record {
       value = λ clean.
-          on_whole _ c.plan_spans-handed.result c.slabs_if_read.result c.slabs_if_read.ensures.whole
+          on_whole _ c.plan_spans-queried.result c.slabs_if_read.result c.slabs_if_read.ensures.whole
           (answers.value clean) (λ handed.
           (let (rows, by_texts, taken) = handed in
           let spans = (tables_of (state g.S.Store old).now.trees).spans in
@@ -37,7 +37,7 @@ returns-clause-read g c =
           (let standing = c.self.invariant.standing (omega (arith, answers.reads.doubt, clean))
           (answers.reads.kept clean live).was_open in
           spans_blamed g.S.Store old new c.self.invariant.unlimited _ c.self.inside.kept.world
-          standing.content standing.tables c.plan_spans-handed.result (why is)
+          standing.content standing.tables c.plan_spans-queried.result (why is)
           (answers.cause clean live)));
       same = refl;
       reads = answers.reads;
@@ -48,5 +48,5 @@ returns-clause-id g c = parsed_id c.encode-id.result.now c.args.key.now.id c.enc
 
 pub invariant_of-self : goal.invariant_of-self
 invariant_of-self g c =
-    still_stands g.S.Store c.self.inside.connection c.plan_spans-handed.new.connection
-    c.self.inside.kept.world c.self.invariant c.plan_spans-handed.ensures.answers.reads
+    still_stands g.S.Store c.self.inside.connection c.plan_spans-queried.new.connection
+    c.self.inside.kept.world c.self.invariant c.plan_spans-queried.ensures.answers.reads

@@ -15,8 +15,8 @@ use Rattle.desk_tables.proofs.tables.DeskTables.query_one.Goals as goal
 pub returns-in-Some-clause-read : goal.returns-in-Some-clause-read
 returns-in-Some-clause-read g c =
     let old = c.self.inside.connection in
-    let new = c.rival_spans-handed.new.connection in
-    let answers = c.rival_spans-handed.ensures.answers in
+    let new = c.rival_spans-queried.new.connection in
+    let answers = c.rival_spans-queried.ensures.answers in
     let question = c.args.question.now in
     let wanted = c.args.wanted.now in
     let spans = (tables_of (state g.S.Store old).now.trees).spans in
@@ -26,7 +26,7 @@ returns-in-Some-clause-read g c =
       value = λ clean.
           subst (λ own. IfOk c.slabs_if_read.result (λ helds. HaveTaken
           (is_another_from wanted.operator own reach first) spans helds.items)) (sym c.in-Some.is)
-          (on_whole _ c.rival_spans-handed.result c.slabs_if_read.result c.slabs_if_read.ensures.whole
+          (on_whole _ c.rival_spans-queried.result c.slabs_if_read.result c.slabs_if_read.ensures.whole
           (answers.value clean) (λ handed.
           (let (rows, by_texts, taken) = handed in
           let name = c.as_str-operator.result.now in
@@ -48,7 +48,7 @@ returns-in-Some-clause-read g c =
           (let standing = c.self.invariant.standing (omega (arith, answers.reads.doubt, clean))
           (answers.reads.kept clean live).was_open in
           spans_blamed g.S.Store old new c.self.invariant.unlimited _ c.self.inside.kept.world
-          standing.content standing.tables c.rival_spans-handed.result (why is)
+          standing.content standing.tables c.rival_spans-queried.result (why is)
           (answers.cause clean live)));
       same = refl;
       reads = answers.reads;
@@ -56,14 +56,14 @@ returns-in-Some-clause-read g c =
 
 pub invariant_of-self : goal.invariant_of-self
 invariant_of-self g c =
-    still_stands g.S.Store c.self.inside.connection c.rival_spans-handed.new.connection
-    c.self.inside.kept.world c.self.invariant c.rival_spans-handed.ensures.answers.reads
+    still_stands g.S.Store c.self.inside.connection c.rival_spans-queried.new.connection
+    c.self.inside.kept.world c.self.invariant c.rival_spans-queried.ensures.answers.reads
 
 pub returns-in-None-clause-read : goal.returns-in-None-clause-read
 returns-in-None-clause-read g c =
     let old = c.self.inside.connection in
-    let new = c.other_spans-handed.new.connection in
-    let answers = c.other_spans-handed.ensures.answers in
+    let new = c.other_spans-queried.new.connection in
+    let answers = c.other_spans-queried.ensures.answers in
     let question = c.args.question.now in
     let wanted = c.args.wanted.now in
     let spans = (tables_of (state g.S.Store old).now.trees).spans in
@@ -73,7 +73,7 @@ returns-in-None-clause-read g c =
       value = λ clean.
           subst (λ own. IfOk c.slabs_if_read-in-None.result (λ helds. HaveTaken
           (is_another_from wanted.operator own reach first) spans helds.items)) (sym c.in-None.is)
-          (on_whole _ c.other_spans-handed.result c.slabs_if_read-in-None.result c.slabs_if_read-in-None.ensures.whole
+          (on_whole _ c.other_spans-queried.result c.slabs_if_read-in-None.result c.slabs_if_read-in-None.ensures.whole
           (answers.value clean) (λ handed.
           (let (rows, by_texts, taken) = handed in
           let name = c.as_str-operator.result.now in
@@ -93,7 +93,7 @@ returns-in-None-clause-read g c =
           (let standing = c.self.invariant.standing (omega (arith, answers.reads.doubt, clean))
           (answers.reads.kept clean live).was_open in
           spans_blamed g.S.Store old new c.self.invariant.unlimited _ c.self.inside.kept.world
-          standing.content standing.tables c.other_spans-handed.result (why is)
+          standing.content standing.tables c.other_spans-queried.result (why is)
           (answers.cause clean live)));
       same = refl;
       reads = answers.reads;
@@ -101,5 +101,5 @@ returns-in-None-clause-read g c =
 
 pub invariant_of-self-in-None : goal.invariant_of-self-in-None
 invariant_of-self-in-None g c =
-    still_stands g.S.Store c.self.inside.connection c.other_spans-handed.new.connection
-    c.self.inside.kept.world c.self.invariant c.other_spans-handed.ensures.answers.reads
+    still_stands g.S.Store c.self.inside.connection c.other_spans-queried.new.connection
+    c.self.inside.kept.world c.self.invariant c.other_spans-queried.ensures.answers.reads

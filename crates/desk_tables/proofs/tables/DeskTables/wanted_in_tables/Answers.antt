@@ -19,14 +19,14 @@ returns g c =
           let questions = c.in_ok-questions.questions.items in
           let tables = tables_of (state g.S.Store c.args.self.now.held).now.trees in
           let live = opened (subst (λ (qs : List Span). 0 < length qs) (sym c.deref.ensures.value)
-          c.in_ok-questions.ensures.some) in
+          c.in_ok-questions.ensures.not_empty) in
           let standing = c.allocator.ensures.standing (omega (arith, read.reads.doubt, clean)) live in
           let mine = subst (λ qs. HaveTakenAll (is_asked wanted extent) qs tables.spans helds.items)
           c.deref.ensures.value taken in
           are_wanted tables c.args.self.now.world wanted.operator wanted.id wanted.least extent
           c.args.span_bounds.now questions helds.items c.id_is_valid.ensures
           standing.content standing.tables c.requires
-          c.in_ok-questions.ensures.whole c.in_ok-questions.ensures.within mine));
+          c.in_ok-questions.ensures.complete c.in_ok-questions.ensures.within mine));
       cause = read.cause;
       same = read.same;
       reads = read.reads;
